@@ -1,0 +1,7 @@
+-- The definitions that the contracts of `numbers` cite: a file for each function or family of functions.
+pub mod Order
+pub mod Floor
+pub mod Ceiling
+pub mod Away
+pub mod Root
+pub mod Nearer

@@ -13,9 +13,9 @@ use lib.Ieee.Fits.{down-pos}
 use lib.Ieee.Positive.{num, den, positive, den-pos, own-value}
 use Rattle.numbers.specs.Order.{magnitudeOf}
 use Rattle.numbers.specs.Away.{roundAway}
-use Rattle.numbers.proofs.Tests.{yes, no, lt-says, not-lt-says}
-use Rattle.numbers.proofs.Sums.{sum-at}
-use Rattle.numbers.proofs.Wholes.{Small, Stays, not-number, endless, whole, counted, counted-value, counted-sum, counted-less, counted-signed, step, step-value, sign-of, cut-small}
+use Rattle.numbers.proofs.Tests.{holds, fails, lt-says, not-lt-says}
+use Rattle.numbers.proofs.ExactSums.{sum-at}
+use Rattle.numbers.proofs.WholeLaws.{Small, Stays, not-number, endless, whole, counted, counted-value, counted-sum, counted-less, counted-signed, step, step-value, sign-of, cut-small}
 
 pub away-stays : {v : Float} → Stays v → v ≡ roundAway v
 unfolding roundAway
@@ -104,8 +104,8 @@ away-positive v part s h =
     let next : HasValue (add binary64 part (fin false 1 (pos 0))) false (q + 1) 1 =
     subst (λ (x : Float). HasValue x false (q + 1) 1) (sym (counted-sum q 1 part (fin false 1 (pos 0)) has (refl, refl))) (counted-value false (q + 1) (omega arith)) in
     go q (lt v half) next
-    (λ (t : lt v half ≡ true). away-down (num v) (den v) (den-pos v) (lt-says v half (num v) (den v) (q * 2 + 1) 2 (den-pos v) (zero-lt-suc 1) (own-value v (s .above-zero)) halfway (yes _ t)))
-    (λ (t : lt v half ≡ false). away-up (num v) (den v) (den-pos v) (not-lt-says v half (num v) (den v) (q * 2 + 1) 2 (den-pos v) (zero-lt-suc 1) (own-value v (s .above-zero)) halfway (no _ t)))
+    (λ (t : lt v half ≡ true). away-down (num v) (den v) (den-pos v) (lt-says v half (num v) (den v) (q * 2 + 1) 2 (den-pos v) (zero-lt-suc 1) (own-value v (s .above-zero)) halfway (holds _ t)))
+    (λ (t : lt v half ≡ false). away-up (num v) (den v) (den-pos v) (not-lt-says v half (num v) (den v) (q * 2 + 1) 2 (den-pos v) (zero-lt-suc 1) (own-value v (s .above-zero)) halfway (fails _ t)))
     ∙ sym (away-is v (s .above-zero))
   where
     back : (q : ℕ) → q + 1 - 1 ≡ q

@@ -11,8 +11,8 @@ use lib.Ieee.Fits.{down-pos}
 use lib.Ieee.Exact.{HasValue}
 use lib.Ieee.Positive.{num, den, positive, den-pos}
 use Rattle.numbers.specs.Ceiling.{ceilingOf}
-use Rattle.numbers.proofs.Tests.{yes, no, over-whole, not-over-whole}
-use Rattle.numbers.proofs.Wholes.{Small, Stays, not-number, endless, whole, counted, counted-value, counted-sum, step, step-value, cut-small, ceil-more, ceil-same}
+use Rattle.numbers.proofs.Tests.{holds, fails, over-whole, not-over-whole}
+use Rattle.numbers.proofs.WholeLaws.{Small, Stays, not-number, endless, whole, counted, counted-value, counted-sum, step, step-value, cut-small, ceil-more, ceil-same}
 
 pub ceiling-low : (v : Float) → lt (fin false 0 (pos 0)) v ≡ false → 0 ≡ ceilingOf v
 unfolding ceilingOf lt
@@ -20,7 +20,7 @@ ceiling-low nan p = refl
 ceiling-low (inf true) p = refl
 ceiling-low (inf false) p = absurd (true≢false p)
 ceiling-low (fin true m e) p = refl
-ceiling-low (fin false m e) p = none (m * up e) (down e) (down-pos e) (nltb→le (0 * down e) (m * up e * 1) (no (ltb (0 * down e) (m * up e * 1)) p))
+ceiling-low (fin false m e) p = none (m * up e) (down e) (down-pos e) (nltb→le (0 * down e) (m * up e * 1) (fails (ltb (0 * down e) (m * up e * 1)) p))
   where
     none : (x d : ℕ) → 0 < d → x * 1 ≤ 0 * d → 0 ≡ min ((x + (d - 1)) / d) (2 ^ 64 - 1)
     none x d D h = let q : (x + (d - 1)) / d ≡ 0 = div-eq-of-lt (less x d D h) in omega arith
@@ -58,7 +58,7 @@ ceiling-high nan p l = absurd (true≢false (sym p))
 ceiling-high (inf true) p l = absurd (true≢false (sym p))
 ceiling-high (inf false) p l = refl
 ceiling-high (fin true m e) p l = absurd (true≢false (sym p))
-ceiling-high (fin false m e) p l = capped (m * up e) (down e) (down-pos e) (nltb→le (m * up e * 1) (2 ^ 64 * down e) (no (ltb (m * up e * 1) (2 ^ 64 * down e)) l))
+ceiling-high (fin false m e) p l = capped (m * up e) (down e) (down-pos e) (nltb→le (m * up e * 1) (2 ^ 64 * down e) (fails (ltb (m * up e * 1) (2 ^ 64 * down e)) l))
   where
     capped : (x d : ℕ) → 0 < d → 2 ^ 64 * d ≤ x * 1 → 2 ^ 64 - 1 ≡ min ((x + (d - 1)) / d) (2 ^ 64 - 1)
     capped x d D h = let q : 2 ^ 64 ≤ (x + (d - 1)) / d = le-div-iff-mul-le D .1 (more x d h) in omega arith
@@ -76,8 +76,8 @@ ceiling-part v part s h =
     counted-sum q (step (lt part v)) part _ has (step-value (lt part v))
     ∙ ap (λ (n : ℕ). counted false n)
     (go (lt part v)
-    (λ (t : lt part v ≡ true). over-whole v part q (s .above-zero) has (yes _ t))
-    (λ (t : lt part v ≡ false). not-over-whole v part q (s .above-zero) has (no _ t)))
+    (λ (t : lt part v ≡ true). over-whole v part q (s .above-zero) has (holds _ t))
+    (λ (t : lt part v ≡ false). not-over-whole v part q (s .above-zero) has (fails _ t)))
   where
     add-zero : (n : ℕ) → n + 0 ≡ n
     add-zero n = omega arith

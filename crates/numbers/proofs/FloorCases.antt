@@ -13,9 +13,9 @@ use lib.Ieee.Positive.{num, den, positive, den-pos, own-value}
 use Rattle.numbers.specs.Order.{magnitudeOf}
 use Rattle.numbers.specs.Floor.{floorOf, clampedFloor}
 use Rattle.numbers.proofs.Values.{below-power}
-use Rattle.numbers.proofs.Tests.{yes, no, positive-under, under-whole, over-whole, not-over-whole, not-lt-says, lt-says}
-use Rattle.numbers.proofs.Sums.{neg-value}
-use Rattle.numbers.proofs.Wholes.{Small, Stays, not-number, endless, whole, counted, counted-value, counted-less, counted-lower, counted-signed, cast-value, step, step-value, sign-of, cut-small, ceil-more, ceil-same}
+use Rattle.numbers.proofs.Tests.{holds, fails, positive-under, under-whole, over-whole, not-over-whole, not-lt-says, lt-says}
+use Rattle.numbers.proofs.ExactSums.{neg-value}
+use Rattle.numbers.proofs.WholeLaws.{Small, Stays, not-number, endless, whole, counted, counted-value, counted-less, counted-lower, counted-signed, whole-value, step, step-value, sign-of, cut-small, ceil-more, ceil-same}
 
 -- ---- `floor`
 
@@ -72,8 +72,8 @@ floor-minus m e s cut h =
     counted-lower q (step (lt (fin true m e) cut)) cut _ h (step-value (lt (fin true m e) cut))
     ∙ ap (λ (n : ℕ). counted true n)
     (go (lt (fin true m e) cut)
-    (λ (t : lt (fin true m e) cut ≡ true). over-whole v (neg cut) q (s .above-zero) k (yes _ (sym (opposite m e cut q h) ∙ t)))
-    (λ (t : lt (fin true m e) cut ≡ false). not-over-whole v (neg cut) q (s .above-zero) k (no _ (sym (opposite m e cut q h) ∙ t))))
+    (λ (t : lt (fin true m e) cut ≡ true). over-whole v (neg cut) q (s .above-zero) k (holds _ (sym (opposite m e cut q h) ∙ t)))
+    (λ (t : lt (fin true m e) cut ≡ false). not-over-whole v (neg cut) q (s .above-zero) k (fails _ (sym (opposite m e cut q h) ∙ t))))
   where
     go : (b : Bool) → (b ≡ true → m * up e / down e * down e < m * up e) → (b ≡ false → m * up e ≤ m * up e / down e * down e) → m * up e / down e + step b ≡ (m * up e + (down e - 1)) / down e
     go true y n = sym (ceil-more (m * up e) (down e) (down-pos e) (y refl))
@@ -109,7 +109,7 @@ clamped-low nan count p = refl
 clamped-low (inf true) count p = refl
 clamped-low (inf false) count p = absurd (true≢false p)
 clamped-low (fin true m e) count p = refl
-clamped-low (fin false m e) count p = none (m * up e) (down e) count (down-pos e) (nltb→le (0 * down e) (m * up e * 1) (no (ltb (0 * down e) (m * up e * 1)) p))
+clamped-low (fin false m e) count p = none (m * up e) (down e) count (down-pos e) (nltb→le (0 * down e) (m * up e * 1) (fails (ltb (0 * down e) (m * up e * 1)) p))
   where
     none : (x d c : ℕ) → 0 < d → x * 1 ≤ 0 * d → 0 ≡ min (x / d) (c - 1)
     none x d c D h = let z : x ≡ 0 = omega arith in let q : x / d ≡ 0 = ap (λ (y : ℕ). y / d) z ∙ div-eq-of-lt D in omega arith
@@ -120,7 +120,7 @@ clamped-high nan w count p h l = absurd (true≢false (sym p))
 clamped-high (inf true) w count p h l = absurd (true≢false (sym p))
 clamped-high (inf false) w count p h l = refl
 clamped-high (fin true m e) w count p h l = absurd (true≢false (sym p))
-clamped-high (fin false m e) w count p h l = capped (m * up e / down e) (count - 1) (le-div-iff-mul-le (down-pos e) .1 (subst (λ (x : ℕ). (count - 1) * down e ≤ x) (mul-one (m * up e)) (not-lt-says (fin false m e) w (m * up e) (down e) (count - 1) 1 (down-pos e) (zero-lt-suc 0) (refl, refl) h (no _ l))))
+clamped-high (fin false m e) w count p h l = capped (m * up e / down e) (count - 1) (le-div-iff-mul-le (down-pos e) .1 (subst (λ (x : ℕ). (count - 1) * down e ≤ x) (mul-one (m * up e)) (not-lt-says (fin false m e) w (m * up e) (down e) (count - 1) 1 (down-pos e) (zero-lt-suc 0) (refl, refl) h (fails _ l))))
   where
     capped : (x n : ℕ) → n ≤ x → n ≡ min x n
     capped x n h = omega arith
@@ -144,8 +144,8 @@ pub record Within (v : Float) (count : ℕ) : Type 0 where
 pub within : (v : Float) (count : ℕ) → count < 2 ^ 32 → lt (fin false 0 (pos 0)) v ≡ true → lt v (ofInt binary64 (pos (count - 1))) ≡ true → Within v count
 within v count C p l =
     let w = ofInt binary64 (pos (count - 1)) in
-    let q = positive-under v w (yes _ p) (yes _ l) in
-    let h : num v < (count - 1) * den v = under-whole v w (count - 1) q (cast-value (count - 1) (few count C)) (yes _ l) in
+    let q = positive-under v w (holds _ p) (holds _ l) in
+    let h : num v < (count - 1) * den v = under-whole v w (count - 1) q (whole-value (count - 1) (few count C)) (holds _ l) in
     record {
       above-zero = q;
       before-last = div-lt-iff-lt-mul (den-pos v) .1 h;

@@ -11,9 +11,9 @@ use lib.Ieee.Exact.{HasValue}
 use lib.Ieee.Fits.{round-fits}
 use lib.Ieee.Order.{round-mono}
 use lib.Ieee.Positive.{num, den, positive, den-pos, own-value, positive-of-value, values-of-le, between}
-use Rattle.numbers.proofs.Tests.{yes, no, under-whole, not-under-whole}
-use Rattle.numbers.proofs.Sums.{sum-at}
-use Rattle.numbers.proofs.Wholes.{Small, counted, counted-value, counted-less, cut-small, whole-beyond}
+use Rattle.numbers.proofs.Tests.{holds, fails, under-whole, not-under-whole}
+use Rattle.numbers.proofs.ExactSums.{sum-at}
+use Rattle.numbers.proofs.WholeLaws.{Small, counted, counted-value, counted-less, cut-small, whole-beyond}
 
 -- a sum that is rounded to a whole number n, q + 2 ^ 52 or one more
 record Moved (x : Float) (q : ℕ) : Type 0 where
@@ -90,8 +90,8 @@ part-of v near s h =
     let e : near ≡ counted false k = h ∙ counted-less (m .n) (2 ^ 52) _ (fin false 1 (pos 52)) (omega arith) (m .value) (refl, refl) in
     let val : HasValue near false k 1 = subst (λ (x : Float). HasValue x false k 1) (sym e) (counted-value false k (omega arith)) in
     go q k (omega arith) (omega arith) val (lt v near)
-    (λ (t : lt v near ≡ true). under-whole v near k (s .above-zero) val (yes _ t))
-    (λ (t : lt v near ≡ false). not-under-whole v near k (s .above-zero) val (no _ t))
+    (λ (t : lt v near ≡ true). under-whole v near k (s .above-zero) val (holds _ t))
+    (λ (t : lt v near ≡ false). not-under-whole v near k (s .above-zero) val (fails _ t))
     (div-mul-le-self (num v) (den v)) (lt-div-mul-add (den-pos v))
   where
     same : (q k d a : ℕ) → q ≤ k → k ≤ q + 1 → k * d ≤ a → a < q * d + d → k ≡ q

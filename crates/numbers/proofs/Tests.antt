@@ -1,23 +1,24 @@
 -- Tests on floats as facts: on fractions of whole numbers, for values above zero. Assumes nothing.
 use mathlib.Core.Path.{_≡_, refl, sym, ap, _∙_, subst}
 use Prim.Native.Nat.{ℕ, zero, suc, _+_, _-_, _*_, _/_, _%_, _^_, _≤_, _<_, zero-le, min}
-use native.Mathlib.Nat.{lt-of-not-le, not-le-of-lt, mul-one, zero-lt-suc}
+use native.Mathlib.Nat.{le-of-lt, le-of-eq, eq-of-mul-eq-mul-right, zero-mul, lt-of-not-le, not-le-of-lt, mul-one, zero-lt-suc}
 use native.Mathlib.Omega.{arith}
-use mathlib.Core.Bool.{Bool, true, false, not, true≢false}
+use mathlib.Core.Bool.{Bool, true, false, not, _&&_, _||_, true≢false}
+use mathlib.Core.Logic.{_⊎_, inl, inr}
 use lib.IntN.{ℤ, pos, negsuc}
-use lib.Dec.{T, ltb, ltb→lt, lt→ltb, nltb→le}
-use lib.Ieee.{Float, nan, inf, fin, up, down, lt}
+use lib.Dec.{T, ltb, eqb, eqb→eq, ltb→lt, lt→ltb, nltb→le}
+use lib.Ieee.{Float, nan, inf, fin, up, down, lt, le}
 use lib.Ieee.Exact.{HasValue}
-use lib.Ieee.Fits.{down-pos}
+use lib.Ieee.Fits.{down-pos, and-l, and-r}
 use lib.Ieee.Order.{transfer}
 use lib.Ieee.Positive.{num, den, positive, den-pos, own-value}
 use Rattle.numbers.proofs.Values.{above-minus-one}
 
-pub yes : (b : Bool) → b ≡ true → T b
-yes b e = subst T (sym e) tt
+pub holds : (b : Bool) → b ≡ true → T b
+holds b e = subst T (sym e) tt
 
-pub no : (b : Bool) → b ≡ false → T (not b)
-no b e = subst (λ (x : Bool). T (not x)) (sym e) tt
+pub fails : (b : Bool) → b ≡ false → T (not b)
+fails b e = subst (λ (x : Bool). T (not x)) (sym e) tt
 
 nothing : (x y : ℕ) → T (ltb (0 * y) (0 * x * 1)) → ⊥
 nothing x y t = let h : 0 * y < 0 * x * 1 = ltb→lt (0 * y) (0 * x * 1) t in omega arith
@@ -81,3 +82,26 @@ not-over-whole v w n p h t = subst (λ (x : ℕ). x ≤ n * den v) (mul-one (num
 
 pub not-under-whole : (v w : Float) (n : ℕ) → T (positive v) → HasValue w false n 1 → T (not (lt v w)) → n * den v ≤ num v
 not-under-whole v w n p h t = subst (λ (x : ℕ). n * den v ≤ x) (mul-one (num v)) (not-lt-says v w (num v) (den v) n 1 (den-pos v) (zero-lt-suc 0) (own-value v p) h t)
+
+-- x = a / c is at most y = b / d
+or-cases : (a b : Bool) → T (a || b) → T a ⊎ T b
+or-cases true b t = inl tt
+or-cases false b t = inr t
+
+pub le-says : (m : ℕ) (e : ℤ) (n : ℕ) (g : ℤ) → T (le (fin false m e) (fin false n g)) → m * up e * down g ≤ n * up g * down e
+unfolding le
+le-says m e n g t = elim (or-cases (ltb A B) (eqb A B && true) t) [ inl l ↦ le-of-lt (ltb→lt A B l) | inr r ↦ le-of-eq (eqb→eq A B (and-l (eqb A B) true r)) ]
+  where
+    A : ℕ
+    A = m * up e * down g
+
+    B : ℕ
+    B = n * up g * down e
+
+-- what is clear of sign and at most something with a sign is zero
+pub le-minus : (m : ℕ) (e : ℤ) (n : ℕ) (g : ℤ) → T (le (fin false m e) (fin true n g)) → m * up e ≡ 0
+unfolding le
+le-minus m e n g t = eq-of-mul-eq-mul-right (down g) (down-pos g) (m * up e) 0 (eqb→eq A 0 (and-r (eqb A (n * up g * down e)) (eqb A 0) t) ∙ sym (zero-mul (down g)))
+  where
+    A : ℕ
+    A = m * up e * down g

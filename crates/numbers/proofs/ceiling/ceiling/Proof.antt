@@ -5,8 +5,8 @@ use native.Mathlib.Omega.{arith}
 use lib.Dec.{T}
 use lib.Ieee.{Float, binary64, fits, ofBits, add, inUnsigned, toUnsigned}
 use lib.Ieee.Positive.{num, den, den-pos}
-use Rattle.numbers.proofs.Tests.{yes, past-minus-one}
-use Rattle.numbers.proofs.Wholes.{Small, small, ceil-small, cast-back, stays-above}
+use Rattle.numbers.proofs.Tests.{holds, past-minus-one}
+use Rattle.numbers.proofs.WholeLaws.{Small, small, ceil-small, cast-back, stays-above}
 use Rattle.numbers.proofs.CeilingCases.{ceiling-part, ceiling-within, ceiling-stays, ceiling-high, ceiling-low}
 use borrow.Author.Needs.{needs}
 use Rattle.numbers.proofs.ceiling.ceiling.Statement.{statement}
@@ -22,7 +22,7 @@ held c = subst T (sym (c .good .0 .1)) tt
 
 fine : (c : tie.After-whole-part) → Small (c .before .before .before .args .v)
 unfolding ofBits
-fine c = small _ (yes _ (c .before .before .if1 .taken)) (yes _ (c .before .if2 .taken))
+fine c = small _ (holds _ (c .before .before .if1 .taken)) (holds _ (c .before .if2 .taken))
 
 -- the first whole number that is not below v
 abbrev above : Float → ℕ
@@ -40,7 +40,7 @@ back c =
 -- src/ceiling.rt:12:17
 whole-part-requires : tie.Need-whole-part-requires
 unfolding ofBits
-whole-part-requires c κs = (yes _ (c .before .if1 .taken), yes _ (c .if2 .taken))
+whole-part-requires c κs = (holds _ (c .before .if1 .taken), holds _ (c .if2 .taken))
 
 -- src/ceiling.rt:13:28
 one-if-above-requires : tie.Need-one-if-above-requires
@@ -61,7 +61,7 @@ returns c =
 -- src/ceiling.rt:16:13
 truncating-f64-to-u64-requires : tie.Need-truncating-f64-to-u64-requires
 unfolding ofBits
-truncating-f64-to-u64-requires c κs = (past-minus-one _ (c .before .before .if1 .taken), yes _ (c .if3 .taken))
+truncating-f64-to-u64-requires c κs = (past-minus-one _ (c .before .before .if1 .taken), holds _ (c .if3 .taken))
 
 -- src/ceiling.rt:16:13
 returns-2 : tie.Need-returns-2

@@ -6,8 +6,8 @@ use lib.Dec.{T}
 use lib.Ieee.{binary64, ofBits, inUnsigned, toUnsigned}
 use lib.Ieee.Positive.{num, den}
 use Rattle.numbers.specs.Floor.{clampedFloor}
-use Rattle.numbers.proofs.Tests.{yes}
-use Rattle.numbers.proofs.Wholes.{cast-back, cast-value}
+use Rattle.numbers.proofs.Tests.{holds}
+use Rattle.numbers.proofs.WholeLaws.{cast-back, whole-value}
 use Rattle.numbers.proofs.FloorCases.{Within, within, clamped-none, clamped-low, clamped-high, clamped-within}
 use borrow.Author.Needs.{needs}
 use Rattle.numbers.proofs.floor.clamped_floor.Statement.{statement}
@@ -41,7 +41,7 @@ int-to-float-if3 c = search needs
 -- src/floor.rt:31:20
 whole-part-requires : tie.Need-whole-part-requires
 unfolding ofBits
-whole-part-requires c κs = (yes _ (c .before .before .before .if1 .taken), fine c .small)
+whole-part-requires c κs = (holds _ (c .before .before .before .if1 .taken), fine c .small)
 
 -- src/floor.rt:31:20
 float-to-int-result : tie.Need-float-to-int-result
@@ -54,7 +54,7 @@ returns-2 c = let w = fine (c .before .before) in back (c .before) .1 ∙ clampe
 -- src/floor.rt:33:9
 returns-3 : tie.Need-returns-3
 unfolding ofBits
-returns-3 c = clamped-high _ _ _ (c .before .before .before .if1 .taken) (cast-value _ (omega arith)) (c .if3 .left)
+returns-3 c = clamped-high _ _ _ (c .before .before .before .if1 .taken) (whole-value _ (omega arith)) (c .if3 .left)
 
 -- src/floor.rt:22:1
 returns-4 : tie.Need-returns-4

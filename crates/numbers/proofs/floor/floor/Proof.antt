@@ -7,8 +7,8 @@ use lib.Dec.{T}
 use lib.Ieee.{Float, fin, binary64, fits, ofBits, lt, sub, mul, neg}
 use lib.Ieee.Positive.{num, den}
 use Rattle.numbers.specs.Order.{magnitudeOf}
-use Rattle.numbers.proofs.Tests.{yes}
-use Rattle.numbers.proofs.Wholes.{Small, small, counted, stays-large, stays-small}
+use Rattle.numbers.proofs.Tests.{holds}
+use Rattle.numbers.proofs.WholeLaws.{Small, small, counted, stays-large, stays-small}
 use Rattle.numbers.proofs.FloorCases.{floor-stays, floor-of}
 use borrow.Author.Needs.{needs}
 use Rattle.numbers.proofs.floor.floor.Statement.{statement}
@@ -26,7 +26,7 @@ held c = subst T (sym (c .good .0 .1)) tt
 -- the size lies above zero and below 2 ^ 52
 fine : (c : tie.Then2) → Small (magnitudeOf (c .before .before .before .args .v))
 unfolding ofBits
-fine c = small _ (subst (λ (x : Float). T (lt (fin false 0 (pos 0)) x)) (c .before .before .magnitude .ensures) (yes _ (c .before .if1 .taken))) (subst (λ (x : Float). T (lt x (fin false 1 (pos 52)))) (c .before .before .magnitude .ensures) (yes _ (c .if2 .taken)))
+fine c = small _ (subst (λ (x : Float). T (lt (fin false 0 (pos 0)) x)) (c .before .before .magnitude .ensures) (holds _ (c .before .if1 .taken))) (subst (λ (x : Float). T (lt x (fin false 1 (pos 52)))) (c .before .before .magnitude .ensures) (holds _ (c .if2 .taken)))
 
 -- src/floor.rt:11:9
 magnitude-requires : tie.Need-magnitude-requires
@@ -39,7 +39,7 @@ unit-requires c κs = search needs
 -- src/floor.rt:14:33
 whole-part-requires : tie.Need-whole-part-requires
 unfolding ofBits
-whole-part-requires c κs = (yes _ (c .before .before .if1 .taken), yes _ (c .before .if2 .taken))
+whole-part-requires c κs = (holds _ (c .before .before .if1 .taken), holds _ (c .before .if2 .taken))
 
 -- src/floor.rt:15:26
 one-if-above-requires : tie.Need-one-if-above-requires

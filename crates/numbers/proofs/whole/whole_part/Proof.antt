@@ -1,7 +1,7 @@
 -- `numbers::whole::whole_part` meets its contract. Assumes nothing.
 use mathlib.Core.Path.{_≡_, refl, sym, ap, _∙_, subst}
 use lib.Ieee.{binary64, ofBits, sub}
-use Rattle.numbers.proofs.Wholes.{small}
+use Rattle.numbers.proofs.WholeLaws.{small}
 use Rattle.numbers.proofs.PartCases.{part-of}
 use borrow.Author.Needs.{needs}
 use Rattle.numbers.proofs.whole.whole_part.Statement.{statement}

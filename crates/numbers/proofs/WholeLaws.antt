@@ -1,7 +1,8 @@
 -- Whole numbers as floats: sums and tests that are exact, the whole part of a value below 2 ^ 52, and the values that are whole already. Assumes nothing.
 use mathlib.Core.Path.{_≡_, refl, sym, ap, _∙_, subst}
 use Prim.Native.Nat.{ℕ, zero, suc, _+_, _-_, _*_, _/_, _^_, _≤_, _<_, min}
-use native.Mathlib.Nat.{le-trans, le-of-eq, lt-of-lt-of-le, lt-irrefl, mul-one, one-mul, mul-pos, add-mul, zero-lt-suc, mul-le-mul-right, mul-le-mul-left, div-eq-of-lt-le, div-mul-le-self, lt-div-mul-add, div-lt-iff-lt-mul}
+use native.Mathlib.Nat.{le-trans, le-of-eq, lt-of-lt-of-le, lt-of-not-le, mul-one, one-mul, mul-pos, add-mul, zero-lt-suc, mul-le-mul-right, mul-le-mul-left, div-eq-of-lt-le, div-mul-le-self, lt-div-mul-add, div-lt-iff-lt-mul}
+use native.Mathlib.Decide.{decLe}
 use native.Mathlib.Omega.{arith}
 use mathlib.Core.Bool.{Bool, true, false, not, cond, true≢false}
 use lib.IntN.{ℤ, pos, negsuc}
@@ -14,8 +15,8 @@ use lib.Ieee.Fits.{down-pos, up-pos}
 use lib.Ieee.Positive.{num, den, positive, den-pos, own-value}
 use Rattle.numbers.specs.Order.{magnitudeOf}
 use Rattle.numbers.proofs.Values.{round-back, fits-says, cut-value, above-minus-one, below-power}
-use Rattle.numbers.proofs.Tests.{yes, no, positive-under, under-whole}
-use Rattle.numbers.proofs.Sums.{sum-at, difference-at, lower-at, unit-at}
+use Rattle.numbers.proofs.Tests.{holds, fails, positive-under, under-whole}
+use Rattle.numbers.proofs.ExactSums.{sum-at, difference-at, lower-at, unit-at}
 
 -- ---- a whole number as a float
 
@@ -35,9 +36,9 @@ pub cast-asks : (n : ℕ) → n ≤ 2 ^ 53 → T (inFloat binary64 (pos n))
 unfolding inFloat
 cast-asks n h = le→leb n (2 ^ 53) h
 
-pub cast-value : (n : ℕ) → n ≤ 2 ^ 53 → HasValue (ofInt binary64 (pos n)) false n 1
+pub whole-value : (n : ℕ) → n ≤ 2 ^ 53 → HasValue (ofInt binary64 (pos n)) false n 1
 unfolding ofInt
-cast-value n h = round-whole binary64 false n h
+whole-value n h = round-whole binary64 false n h
 
 -- and taken back
 pub cast-back : (w n : ℕ) (r : Float) → r ≡ counted false n → n ≤ 2 ^ 53 → n < 2 ^ w → T (inUnsigned binary64 w r) × (toUnsigned w r ≡ n)
@@ -195,14 +196,14 @@ stays-above (inf s) t p l = endless s
 stays-above (fin true m e) t p l = absurd (true≢false (sym p))
 stays-above (fin false zero e) t p l = stays-zero false e t
 stays-above (fin false (suc m) e) t p l =
-    stays-beyond false m e t (subst (λ (x : ℕ). 2 ^ 52 * down e ≤ x) (mul-one (suc m * up e)) (nltb→le (suc m * up e * 1) (2 ^ 52 * down e) (no (ltb (suc m * up e * 1) (2 ^ 52 * down e)) l)))
+    stays-beyond false m e t (subst (λ (x : ℕ). 2 ^ 52 * down e ≤ x) (mul-one (suc m * up e)) (nltb→le (suc m * up e * 1) (2 ^ 52 * down e) (fails (ltb (suc m * up e * 1) (2 ^ 52 * down e)) l)))
 
 pub stays-small : (v : Float) → T (fits binary64 v) → lt (fin false 0 (pos 0)) (magnitudeOf v) ≡ false → Stays v
 unfolding lt magnitudeOf
 stays-small nan t p = not-number
 stays-small (inf s) t p = endless s
 stays-small (fin s zero e) t p = stays-zero s e t
-stays-small (fin s (suc m) e) t p = absurd (T-not (ltb (0 * down e) (suc m * up e * 1)) (no (ltb (0 * down e) (suc m * up e * 1)) p) (lt→ltb (0 * down e) (suc m * up e * 1) (above (down e) (suc m * up e) (mul-pos (zero-lt-suc m) (up-pos e)))))
+stays-small (fin s (suc m) e) t p = absurd (T-not (ltb (0 * down e) (suc m * up e * 1)) (fails (ltb (0 * down e) (suc m * up e * 1)) p) (lt→ltb (0 * down e) (suc m * up e * 1) (above (down e) (suc m * up e) (mul-pos (zero-lt-suc m) (up-pos e)))))
   where
     above : (d x : ℕ) → 0 < x → 0 * d < x * 1
     above d x h = omega arith
@@ -213,4 +214,22 @@ stays-large nan t l = not-number
 stays-large (inf s) t l = endless s
 stays-large (fin s zero e) t l = stays-zero s e t
 stays-large (fin s (suc m) e) t l =
-    stays-beyond s m e t (subst (λ (x : ℕ). 2 ^ 52 * down e ≤ x) (mul-one (suc m * up e)) (nltb→le (suc m * up e * 1) (2 ^ 52 * down e) (no (ltb (suc m * up e * 1) (2 ^ 52 * down e)) l)))
+    stays-beyond s m e t (subst (λ (x : ℕ). 2 ^ 52 * down e ≤ x) (mul-one (suc m * up e)) (nltb→le (suc m * up e * 1) (2 ^ 52 * down e) (fails (ltb (suc m * up e * 1) (2 ^ 52 * down e)) l)))
+
+-- ---- a whole number made from a value of the format is one
+
+-- n is at most 2 ^ 53 where the value is below 2 ^ 52, and is the value where that has no fraction
+pub exact-whole : (s : Bool) (m : ℕ) (e : ℤ) (n : ℕ) → T (fits binary64 (fin s m e)) → (m * up e < 2 ^ 52 * down e → n ≤ 2 ^ 53) → (down e ≡ 1 → n ≡ m * up e) → HasValue (counted s n) s n 1
+exact-whole s m e n t small same = go m t small same (decLe (2 ^ 52 * down e) (m * up e))
+  where
+    go : (m : ℕ) → T (fits binary64 (fin s m e)) → (m * up e < 2 ^ 52 * down e → n ≤ 2 ^ 53) → (down e ≡ 1 → n ≡ m * up e) → Dec (2 ^ 52 * down e ≤ m * up e) → HasValue (counted s n) s n 1
+    go m t small same (no h) = counted-value s n (small (lt-of-not-le h))
+    go zero t small same (yes h) = absurd (none (up e) (down e) (down-pos e) h)
+      where
+        none : (u d : ℕ) → 0 < d → 4503599627370496 * d ≤ 0 * u → ⊥
+        none u d D h = omega arith
+    go (suc m) t small same (yes h) =
+        let d = no-fraction s m e t h in
+        let k : n ≡ suc m * up e = same d in
+        subst (λ (x : ℕ). HasValue (counted s x) s x 1) (sym k)
+        (subst (λ (x : Float). HasValue x s (suc m * up e) 1) (sym (round-back binary64 s (suc m) e (suc m * up e) 1 t (zero-lt-suc 0) (ap (λ (x : ℕ). suc m * up e * x) (sym d)))) (refl, ap (λ (x : ℕ). suc m * up e * x) (sym d)))

@@ -1,4 +1,5 @@
 -- Document 01, "Domain", and the checks of its refusals 1, 2, 3, 8, 9 and 12, in its words. Definitions only.
+use mathlib.Core.Path.{_≡_}
 use Prim.Native.Nat.{ℕ, zero, suc, _*_}
 use mathlib.Core.Bool.{Bool, true, false, _&&_, _||_}
 use mathlib.Core.List.{List}
@@ -41,24 +42,33 @@ lines x₀ y₀ x₁ y₁ = record { «start_x» = x₀; «start_y» = y₀; «e
 abbrev pub count : Lines → ℕ
 count ls = length (ls .«start_x»)
 
+-- the four slices have one length
+pub record Alike (ls : Lines) : Type 0 where
+  pub «start-y» : length (ls .«start_y») ≡ count ls
+  pub «end-x» : length (ls .«end_x») ≡ count ls
+  pub «end-y» : length (ls .«end_y») ≡ count ls
+
 -- the coordinates of line i obey the rule
 unfoldable pub lineFits : Lines → ℕ → Bool
 lineFits ls i = segment (getD (ls .«start_x») i nan) (getD (ls .«start_y») i nan) (getD (ls .«end_x») i nan) (getD (ls .«end_y») i nan)
 
 -- ---- the grid record
 
+-- a count of a grid that has cells
+abbrev pub counts : ℕ → Bool
+counts n = leb 1 n && leb n 4004
+
 -- the counts: both 0, or each 1 to 4,004 with product at most 1,002,001
 unfoldable pub shape : ℕ → ℕ → Bool
-shape cols rows =
-    (eqb cols 0 && eqb rows 0)
-    || ((leb 1 cols && leb cols 4004) && (leb 1 rows && leb rows 4004) && leb (rows * cols) 1002001)
+shape cols rows = (eqb cols 0 && eqb rows 0) || (counts cols && (counts rows && leb (rows * cols) 1002001))
 
--- fit: both minima obey the coordinate rule, cell_size is from a quarter of 1e-6 to 2e9, and the counts are as above
+-- a cell size: from a quarter of 1e-6 to 2e9
+unfoldable pub sizeFits : Float → Bool
+sizeFits s = le (round binary64 false 1 4000000) s && le s (round binary64 false 2000000000 1)
+
+-- fit: both minima obey the coordinate rule, the cell size and the counts are as above
 unfoldable pub fit : Grid → Bool
-fit g =
-    point (g .«min_x») (g .«min_y»)
-    && (le (round binary64 false 1 4000000) (g .«cell_size») && le (g .«cell_size») (round binary64 false 2000000000 1))
-    && shape (g .cols) (g .rows)
+fit g = point (g .«min_x») (g .«min_y») && (sizeFits (g .«cell_size») && shape (g .cols) (g .rows))
 
 -- ---- the checks, each with document 01's number and value
 
@@ -94,13 +104,15 @@ segmentCheck x₀ y₀ x₁ y₁ = unless (segment x₀ y₀ x₁ y₁) 1 0
 unfoldable pub gridCheck : Grid → Check
 gridCheck g = unless (fit g) 8 0
 
--- 12: snap size (0, or 1e-6 to 1e6) or strategy (0 or 1) unfit
+-- a snap size: 0, or 1e-6 to 1e6
+unfoldable pub snapSize : Float → Bool
+snapSize size =
+    eq size (round binary64 false 0 1)
+    || (le (round binary64 false 1 1000000) size && le size (round binary64 false 1000000 1))
+
+-- 12: snap size or strategy (0 or 1) unfit
 unfoldable pub snapCheck : Float → ℕ → Check
-snapCheck size strategy =
-    unless
-    ((eq size (round binary64 false 0 1) || (le (round binary64 false 1 1000000) size && le size (round binary64 false 1000000 1)))
-    && leb strategy 1)
-    12 0
+snapCheck size strategy = unless (snapSize size && leb strategy 1) 12 0
 
 -- 9: a cell beyond its end; the value is the row
 unfoldable pub cellCheck : Grid → ℕ → ℕ → Check

@@ -1,4 +1,6 @@
 // The grid record, its axes, and the checks of document 01's domain. Every crate above cites these.
+pub mod axes;
+pub mod checks;
 
 // A uniform grid: its lower corner, the size of its cells, and how many there are each way.
 pub struct Grid {

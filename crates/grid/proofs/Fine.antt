@@ -48,8 +48,10 @@ alike-says ls h =
   where
     sy : Bool
     sy = eqb (length (ls .«start_y»)) (count ls)
+
     ex : Bool
     ex = eqb (length (ls .«end_x»)) (count ls)
+
     ey : Bool
     ey = eqb (length (ls .«end_y»)) (count ls)
 

@@ -1,3 +1,4 @@
--- `Slices` is what the public promises cite; `Inside` is what the private functions promise to one another.
+-- `Slices` is what the public promises cite; `Lists` has the words of the laws; `Inside` is what the private functions promise.
 pub mod Slices
+pub mod Lists
 pub mod Inside

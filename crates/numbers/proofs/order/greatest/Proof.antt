@@ -1,5 +1,5 @@
 -- `numbers::order::greatest` meets its contract. Assumes nothing.
-use Rattle.numbers.proofs.OrderLaws.{greatest-first, greatest-second, greatest-not-number}
+use Rattle.numbers.proofs.OrderCases.{greatest-first, greatest-second, greatest-not-number}
 use Rattle.numbers.proofs.order.greatest.Statement.{statement}
 use Rattle.numbers.proofs.order.greatest.Tie as tie
 use Rattle.numbers.proofs.order.greatest.Reads as reads

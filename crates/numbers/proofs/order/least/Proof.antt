@@ -1,5 +1,5 @@
 -- `numbers::order::least` meets its contract. Assumes nothing.
-use Rattle.numbers.proofs.OrderLaws.{least-first, least-second, least-not-number}
+use Rattle.numbers.proofs.OrderCases.{least-first, least-second, least-not-number}
 use Rattle.numbers.proofs.order.least.Statement.{statement}
 use Rattle.numbers.proofs.order.least.Tie as tie
 use Rattle.numbers.proofs.order.least.Reads as reads

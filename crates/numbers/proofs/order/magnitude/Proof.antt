@@ -2,7 +2,7 @@
 use mathlib.Core.Path.{sym, subst}
 use lib.Dec.{T}
 use lib.Ieee.{binary64, ofBits, fits}
-use Rattle.numbers.proofs.OrderLaws.{magnitude-flips, magnitude-stays}
+use Rattle.numbers.proofs.OrderCases.{magnitude-flips, magnitude-stays}
 use Rattle.numbers.proofs.order.magnitude.Statement.{statement}
 use Rattle.numbers.proofs.order.magnitude.Tie as tie
 use Rattle.numbers.proofs.order.magnitude.Reads as reads

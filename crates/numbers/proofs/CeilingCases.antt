@@ -3,14 +3,16 @@ use mathlib.Core.Path.{_≡_, refl, sym, ap, _∙_, subst}
 use Prim.Native.Nat.{ℕ, zero, suc, _+_, _-_, _*_, _/_, _^_, _≤_, _<_, min}
 use native.Mathlib.Nat.{mul-one, zero-lt-suc, div-eq-of-lt, le-div-iff-mul-le, le-trans}
 use native.Mathlib.Omega.{arith}
-use mathlib.Core.Bool.{Bool, true, false, not, true≢false}
+use mathlib.Core.Bool.{Bool, true, false, not, cond, true≢false}
 use lib.IntN.{ℤ, pos, negsuc}
 use lib.Dec.{T, ltb, nltb→le}
-use lib.Ieee.{Float, nan, inf, fin, binary64, up, down, lt, toUnsigned}
+use lib.Ieee.{Float, nan, inf, fin, binary64, up, down, lt, add, toUnsigned}
 use lib.Ieee.Fits.{down-pos}
-use lib.Ieee.Positive.{num, den, positive}
+use lib.Ieee.Exact.{HasValue}
+use lib.Ieee.Positive.{num, den, positive, den-pos}
 use Rattle.numbers.specs.Ceiling.{ceilingOf}
-use Rattle.numbers.proofs.WholeLaws.{Stays, not-number, endless, whole, no}
+use Rattle.numbers.proofs.Tests.{yes, no, over-whole, not-over-whole}
+use Rattle.numbers.proofs.Wholes.{Small, Stays, not-number, endless, whole, counted, counted-value, counted-sum, step, step-value, cut-small, ceil-more, ceil-same}
 
 pub ceiling-low : (v : Float) → lt (fin false 0 (pos 0)) v ≡ false → 0 ≡ ceilingOf v
 unfolding ceilingOf lt
@@ -63,3 +65,23 @@ ceiling-high (fin false m e) p l = capped (m * up e) (down e) (down-pos e) (nltb
       where
         more : (x d : ℕ) → 2 ^ 64 * d ≤ x * 1 → 2 ^ 64 * d ≤ x + (d - 1)
         more x d h = omega arith
+
+-- the whole part, and one more where v is above it
+pub ceiling-part : (v part : Float) → Small v → part ≡ counted false (num v / den v)
+    → add binary64 part (cond (lt part v) (fin false 1 (pos 0)) (fin false 0 (pos 0))) ≡ counted false ((num v + (den v - 1)) / den v)
+ceiling-part v part s h =
+    let q = num v / den v in
+    let small : q < 2 ^ 52 = cut-small v s in
+    let has : HasValue part false q 1 = subst (λ (x : Float). HasValue x false q 1) (sym h) (counted-value false q (omega arith)) in
+    counted-sum q (step (lt part v)) part _ has (step-value (lt part v))
+    ∙ ap (λ (n : ℕ). counted false n)
+    (go (lt part v)
+    (λ (t : lt part v ≡ true). over-whole v part q (s .above-zero) has (yes _ t))
+    (λ (t : lt part v ≡ false). not-over-whole v part q (s .above-zero) has (no _ t)))
+  where
+    add-zero : (n : ℕ) → n + 0 ≡ n
+    add-zero n = omega arith
+
+    go : (b : Bool) → (b ≡ true → num v / den v * den v < num v) → (b ≡ false → num v ≤ num v / den v * den v) → num v / den v + step b ≡ (num v + (den v - 1)) / den v
+    go true y n = sym (ceil-more (num v) (den v) (den-pos v) (y refl))
+    go false y n = add-zero (num v / den v) ∙ sym (ceil-same (num v) (den v) (den-pos v) (n refl))

@@ -4,7 +4,7 @@ use super::{answers, float, rounder, slices, word, Kind, JUNK};
 use crate::cases;
 use crate::model::{self, Coordinates, MOST_LINES, SCRATCH};
 use crate::oracle;
-use crate::random::Random;
+use crate::random::{nudged, Random};
 use crate::Line;
 
 #[derive(Clone)]
@@ -216,6 +216,18 @@ pub fn fixed(seed: u64) -> Vec<(&'static str, Case)> {
         ("no lines", Case { offsets: Room::Exactly(0), ..ample(vec![]) }),
         ("no lines", Case { offsets: Room::Exactly(1), items: Room::Exactly(0), globals: Room::Exactly(0), ..ample(vec![]) }),
     ];
+    // 500 lines in a cell, and 501: only those are too many
+    for n in [500, 501] {
+        all.push(("500 and 501 in a cell", ample(vec![[0.25, 0.25, 0.75, 0.75]; n])));
+        let mut spread: Vec<Line> = vec![[0.1, 0.1, 0.1, 0.1]; n];
+        spread.push([100.0, 100.0, 100.0, 100.0]);
+        all.push(("500 and 501 in a cell", ample(spread)));
+    }
+    // an area of exactly 1e-9 stays
+    for w in [1e-9, nudged(1e-9, -1), nudged(1e-9, 1)] {
+        all.push(("area near 1e-9", ample(vec![[0.0, 0.0, w, 1.0], [0.0, 0.5, w, 0.25]])));
+        all.push(("area near 1e-9", ample(vec![[0.0, 0.0, 1.0, 0.0], [0.0, w, 1.0, w]])));
+    }
     let most = cases::year(&mut r, MOST_LINES + 1);
     all.push(("65,537 lines", ample(most.clone())));
     all.push(("65,536 lines", ample(most[..MOST_LINES].to_vec())));

@@ -1,0 +1,3 @@
+-- Laws of compressed tables, over any walk.
+pub mod Laws
+pub mod Lists

@@ -1,0 +1,33 @@
+-- The states of the two passes that fill a table, when the lists have grown to f on their way to F. Definitions only.
+use mathlib.Core.Path.{_≡_}
+use mathlib.Core.Bool.{cond}
+use mathlib.Core.List.{List}
+use Prim.Native.Nat.{ℕ, suc, _+_, _-_, _≤_, _<_}
+use lib.Dec.{leb}
+use lib.ListN.{length, getD}
+use Rattle.slices.specs.Lists.{Rising, Below}
+use Rattle.csr.specs.Tables.{sum, start, itemsOf, offsetsOf}
+
+-- each line's cells are below the number of cells, and increase
+pub record Walks (W : ℕ → List ℕ) (n cells : ℕ) : Type 0 where
+  pub rises : (i : ℕ) → i < n → Rising 0 (W i)
+  pub below : (i : ℕ) → i < n → Below cells (W i)
+
+-- the first pass: how long each list is
+pub record Counted (f : ℕ → List ℕ) (offsets : List ℕ) : Type 0 where
+  pub count-is : (c : ℕ) → getD offsets c 0 ≡ length (f c)
+
+-- the running sums of g up to n, and 0 beyond
+unfoldable pub runAt : (ℕ → ℕ) → ℕ → ℕ → ℕ
+runAt g n c = cond (leb c n) (sum g c) 0
+
+-- the second pass: the write pointer of each cell stands past what is put, which is f, and beyond all lists there is 0
+pub record Placed (F : ℕ → List ℕ) (cells : ℕ) (f : ℕ → List ℕ) (offsets items : List ℕ) : Type 0 where
+  pub ptr : (c : ℕ) → getD offsets c 0 ≡ runAt (λ c. length (F c)) cells c + length (f c)
+  pub put : (c k : ℕ) → k < length (f c) → getD items (start F c + k) 0 ≡ getD (f c) k 0
+  pub rest : (p : ℕ) → start F cells ≤ p → getD items p 0 ≡ 0
+
+-- the table of the lists F: each list in its place, one after another, and zero beyond
+pub record Table (F : ℕ → List ℕ) (cells : ℕ) (offsets items : List ℕ) : Type 0 where
+  pub items-are : items ≡ itemsOf F cells (length items)
+  pub offsets-are : offsets ≡ offsetsOf F cells (length offsets)

@@ -1,0 +1,4 @@
+-- Laws of `grid`, for its own proofs and for the crates above.
+pub mod Bools
+pub mod Fine
+pub mod Shapes

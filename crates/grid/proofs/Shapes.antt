@@ -1,0 +1,90 @@
+-- What a fit grid's counts say. Assumes nothing.
+use mathlib.Core.Path.{_≡_, refl, sym, ap, _∙_}
+use mathlib.Core.Bool.{Bool, true, false, _&&_, _||_}
+use Prim.Native.Nat.{ℕ, zero, suc, _+_, _*_, _^_, _≤_, _<_}
+use native.Mathlib.Nat.{mul-le-mul-left, mul-le-mul-right, le-trans}
+use native.Mathlib.Omega.{arith}
+use borrow.Author.Tests.{eqb-true, leb-true, ne-eqb}
+use lib.Dec.{leb, eqb}
+use lib.Ieee.{Float, binary64, round, le}
+use Rattle.grid.specs.declared.Grid.{Grid}
+use Rattle.grid.specs.Domain.{coordinate, point, counts, shape, sizeFits, fit}
+use Rattle.grid.proofs.Bools.{and-left, and-right, or-false}
+
+-- two counts within 4,004 have a product of 32 bits
+pub small-product : (a b : ℕ) → a ≤ 4004 → b ≤ 4004 → a * b < 2 ^ 32
+small-product a b h k = let u : a * b ≤ 4004 * 4004 = le-trans (mul-le-mul-right b h) (mul-le-mul-left 4004 k) in omega arith
+
+pub count-within : (a : ℕ) → counts a ≡ true → a ≤ 4004
+count-within a h = leb-true _ _ (and-right (leb 1 a) (leb a 4004) h)
+
+-- ---- the test, case by case
+
+pub shape-none : (cols rows : ℕ) → cols ≡ 0 → eqb rows 0 ≡ shape cols rows
+unfolding shape
+shape-none cols rows h = rw h (sym (or-false (eqb rows 0)))
+
+module _ (cols rows : ℕ) (some : cols ≡ 0 → ⊥) where
+  pub shape-wide : counts cols ≡ false → false ≡ shape cols rows
+  unfolding shape
+  shape-wide h = rw (ne-eqb cols 0 some, h)
+
+  pub shape-high : counts cols ≡ true → counts rows ≡ false → false ≡ shape cols rows
+  unfolding shape
+  shape-high h k = rw (ne-eqb cols 0 some, h, k)
+
+  pub shape-cells : counts cols ≡ true → counts rows ≡ true → leb (rows * cols) 1002001 ≡ shape cols rows
+  unfolding shape
+  shape-cells h k = rw (ne-eqb cols 0 some, h, k)
+
+-- ---- what it says
+
+pub record Shape (cols rows : ℕ) : Type 0 where
+  pub wide : cols ≤ 4004
+  pub high : rows ≤ 4004
+  pub cells : rows * cols ≤ 1002001
+  pub alike : 0 < cols → 0 < rows
+  pub alike' : 0 < rows → 0 < cols
+
+pub shape-says : (cols rows : ℕ) → shape cols rows ≡ true → Shape cols rows
+unfolding shape
+shape-says cols rows h = go (eqb cols 0 && eqb rows 0) refl h
+  where
+    go : (b : Bool) → (eqb cols 0 && eqb rows 0) ≡ b → (b || (counts cols && (counts rows && leb (rows * cols) 1002001))) ≡ true → Shape cols rows
+    go true e k =
+        let x : cols ≡ 0 = eqb-true cols 0 (and-left (eqb cols 0) (eqb rows 0) e) in
+        let y : rows ≡ 0 = eqb-true rows 0 (and-right (eqb cols 0) (eqb rows 0) e) in
+        record { wide = omega arith; high = omega arith; cells = rw (x, y) (omega arith); alike = λ l. absurd (omega arith); alike' = λ l. absurd (omega arith) }
+    go false e k =
+        let a : counts cols ≡ true = and-left (counts cols) (counts rows && leb (rows * cols) 1002001) k in
+        let r : (counts rows && leb (rows * cols) 1002001) ≡ true = and-right (counts cols) (counts rows && leb (rows * cols) 1002001) k in
+        let b : counts rows ≡ true = and-left (counts rows) (leb (rows * cols) 1002001) r in
+        let x : 1 ≤ cols = leb-true 1 cols (and-left (leb 1 cols) (leb cols 4004) a) in
+        let y : 1 ≤ rows = leb-true 1 rows (and-left (leb 1 rows) (leb rows 4004) b) in
+        record {
+          wide = count-within cols a;
+          high = count-within rows b;
+          cells = leb-true (rows * cols) 1002001 (and-right (counts rows) (leb (rows * cols) 1002001) r);
+          alike = λ l. omega arith;
+          alike' = λ l. omega arith;
+        }
+
+pub record Fit (g : Grid) : Type 0 where
+  pub «min-x» : coordinate (g .«min_x») ≡ true
+  pub «min-y» : coordinate (g .«min_y») ≡ true
+  pub size : sizeFits (g .«cell_size») ≡ true
+  pub counts : Shape (g .cols) (g .rows)
+
+pub fit-says : (g : Grid) → fit g ≡ true → Fit g
+unfolding fit point
+fit-says g h =
+    let p = coordinate (g .«min_x») && coordinate (g .«min_y») in
+    let s = sizeFits (g .«cell_size») in
+    let k : (s && shape (g .cols) (g .rows)) ≡ true = and-right p (s && shape (g .cols) (g .rows)) h in
+    let m : p ≡ true = and-left p (s && shape (g .cols) (g .rows)) h in
+    record {
+      «min-x» = and-left (coordinate (g .«min_x»)) (coordinate (g .«min_y»)) m;
+      «min-y» = and-right (coordinate (g .«min_x»)) (coordinate (g .«min_y»)) m;
+      size = and-left s (shape (g .cols) (g .rows)) k;
+      counts = shape-says (g .cols) (g .rows) (and-right s (shape (g .cols) (g .rows)) k);
+    }

@@ -1,0 +1,86 @@
+-- `grid::checks::check_coordinates` meets its contract. Assumes nothing.
+use mathlib.Core.Path.{sym, _∙_}
+use borrow.Author.Tests.{not-true, not-false}
+use Prim.Native.Nat.{_-_}
+use native.Mathlib.Omega.{arith}
+use borrow.Author.Needs.{needs}
+use lib.ListN.{length}
+use Rattle.grid.specs.Domain.{lines, lineFits}
+use Rattle.grid.proofs.Fine.{Searched, searched-none, searched-more, searched-bad, searched-over}
+use Rattle.grid.proofs.checks.check_coordinates.Statement.{statement}
+use Rattle.grid.proofs.checks.check_coordinates.Tie as tie
+
+abbrev Inv-loop : tie.InvT-loop
+Inv-loop start-x start-y end-x end-y i₀ i = Searched (lines start-x start-y end-x end-y) i
+
+abbrev μ-loop : tie.MeasureT-loop
+μ-loop start-x start-y end-x end-y i₀ i = length start-x - i
+
+loop-holds : tie.Need-loop-holds Inv-loop μ-loop
+loop-holds c = searched-none _ (c .before .before .before .before .pre)
+
+mul-is-segment : tie.Need-mul-is-segment Inv-loop μ-loop
+mul-is-segment c = omega arith
+
+shared-slice-read-is-segment : tie.Need-shared-slice-read-is-segment Inv-loop μ-loop
+shared-slice-read-is-segment c = omega arith
+
+mul-is-segment-2 : tie.Need-mul-is-segment-2 Inv-loop μ-loop
+mul-is-segment-2 c = omega arith
+
+shared-slice-read-is-segment-2 : tie.Need-shared-slice-read-is-segment-2 Inv-loop μ-loop
+shared-slice-read-is-segment-2 c = omega arith
+
+mul-is-segment-3 : tie.Need-mul-is-segment-3 Inv-loop μ-loop
+mul-is-segment-3 c = omega arith
+
+shared-slice-read-is-segment-3 : tie.Need-shared-slice-read-is-segment-3 Inv-loop μ-loop
+shared-slice-read-is-segment-3 c = omega arith
+
+mul-is-segment-4 : tie.Need-mul-is-segment-4 Inv-loop μ-loop
+mul-is-segment-4 c = omega arith
+
+shared-slice-read-is-segment-4 : tie.Need-shared-slice-read-is-segment-4 Inv-loop μ-loop
+shared-slice-read-is-segment-4 c = omega arith
+
+is-segment-requires : tie.Need-is-segment-requires Inv-loop μ-loop
+is-segment-requires c κs = search needs
+
+returns : tie.Need-returns Inv-loop μ-loop
+unfolding lineFits
+returns c = searched-bad (c .before .before .before .before .before .before .before .loop .inv) (omega arith) (sym (c .before .is-segment .ensures) ∙ not-true _ (c .if1 .taken))
+
+add-i : tie.Need-add-i Inv-loop μ-loop
+add-i c = omega arith
+
+loop-less : tie.Need-loop-less Inv-loop μ-loop
+loop-less c = omega arith
+
+loop-again : tie.Need-loop-again Inv-loop μ-loop
+unfolding lineFits
+loop-again c = searched-more (c .before .before .before .before .before .before .before .loop .inv) (omega arith) (sym (c .before .is-segment .ensures) ∙ not-false _ (c .if1 .left))
+
+returns-2 : tie.Need-returns-2 Inv-loop μ-loop
+returns-2 c = searched-over (c .before .loop .inv) (omega arith)
+
+pub check-coordinates-spec : {M : Type 1} → statement M
+check-coordinates-spec =
+    tie.close
+    (tie.spec
+    Inv-loop
+    μ-loop
+    loop-holds
+    mul-is-segment
+    shared-slice-read-is-segment
+    mul-is-segment-2
+    shared-slice-read-is-segment-2
+    mul-is-segment-3
+    shared-slice-read-is-segment-3
+    mul-is-segment-4
+    shared-slice-read-is-segment-4
+    is-segment-requires
+    returns
+    add-i
+    loop-less
+    loop-again
+    returns-2)

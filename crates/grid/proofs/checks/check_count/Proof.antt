@@ -1,0 +1,15 @@
+-- `grid::checks::check_count` meets its contract. Assumes nothing.
+use Rattle.grid.specs.Domain.{countCheck}
+use borrow.Author.Needs.{needs}
+use Rattle.grid.proofs.checks.check_count.Statement.{statement}
+use Rattle.grid.proofs.checks.check_count.Tie as tie
+
+refuse-unless-requires : tie.Need-refuse-unless-requires
+refuse-unless-requires c κs = search needs
+
+returns : tie.Need-returns
+unfolding countCheck
+returns c = cc
+
+pub check-count-spec : {M : Type 1} → statement M
+check-count-spec = tie.close (tie.spec refuse-unless-requires returns)

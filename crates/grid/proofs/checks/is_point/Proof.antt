@@ -1,0 +1,23 @@
+-- `grid::checks::is_point` meets its contract. Assumes nothing.
+use Rattle.grid.specs.Domain.{point}
+use borrow.Author.Needs.{needs}
+use Rattle.grid.proofs.checks.is_point.Statement.{statement}
+use Rattle.grid.proofs.checks.is_point.Tie as tie
+
+is-coordinate-requires : tie.Need-is-coordinate-requires
+is-coordinate-requires c κs = search needs
+
+is-coordinate-requires-2 : tie.Need-is-coordinate-requires-2
+is-coordinate-requires-2 c κs = search needs
+
+returns : tie.Need-returns
+unfolding point
+returns c = rw (← c .before .before .is-coordinate .ensures, c .before .if1 .taken) (cc)
+
+returns-2 : tie.Need-returns-2
+unfolding point
+returns-2 c = rw (← c .before .is-coordinate .ensures, c .if1 .left)
+
+pub is-point-spec : {M : Type 1} → statement M
+is-point-spec =
+    tie.close (tie.spec is-coordinate-requires is-coordinate-requires-2 returns returns-2)

@@ -1,0 +1,40 @@
+-- An axis of a grid: columns and rows follow one rule, said here once. Each float step rounds once, in the written order. Definitions only.
+use Prim.Native.Nat.{ℕ}
+use mathlib.Core.Bool.{Bool, false}
+use lib.IntN.{pos}
+use lib.Ieee.{Float, binary64, round, ofInt, add, sub, mul, div, le}
+use Rattle.numbers.specs.Order.{magnitudeOf}
+use Rattle.numbers.specs.Floor.{clampedFloor}
+use Rattle.numbers.specs.Away.{roundAway}
+use Rattle.grid.specs.declared.Grid.{Grid}
+use Rattle.grid.specs.declared.Axis.{Axis}
+
+-- the two axes of a grid
+abbrev pub xAxis : Grid → Axis
+xAxis g = record { low = g .«min_x»; size = g .«cell_size»; count = g .cols }
+
+abbrev pub yAxis : Grid → Axis
+yAxis g = record { low = g .«min_y»; size = g .«cell_size»; count = g .rows }
+
+-- (coordinate - min) / cell_size
+unfoldable pub scaledOn : Axis → Float → Float
+scaledOn a v = div binary64 (sub binary64 v (a .low)) (a .size)
+
+-- the index of a coordinate: the floor of that, clamped to 0 .. count - 1
+unfoldable pub indexOn : Axis → Float → ℕ
+indexOn a v = clampedFloor (scaledOn a v) (a .count)
+
+-- the boundary i, which is the low edge of index i: min + i x cell_size
+unfoldable pub lowOn : Axis → ℕ → Float
+lowOn a i = add binary64 (a .low) (mul binary64 (ofInt binary64 (pos i)) (a .size))
+
+-- the high edge of index i: its low edge + cell_size
+unfoldable pub highOn : Axis → ℕ → Float
+highOn a i = add binary64 (lowOn a i) (a .size)
+
+-- a value is on a boundary if it differs by at most 1e-12 from itself rounded half away from zero
+unfoldable pub nearWhole : Float → Bool
+nearWhole v = le (magnitudeOf (sub binary64 v (roundAway v))) (round binary64 false 1 1000000000000)
+
+unfoldable pub boundaryOn : Axis → Float → Bool
+boundaryOn a v = nearWhole (scaledOn a v)

@@ -1,0 +1,228 @@
+// The checks of document 01's domain: each answers `Fine`, or the refusal that is due.
+use crate::Check;
+use crate::Grid;
+use crate::Refusal;
+ghost use mathlib.Core.Path.{_≡_};
+ghost use mathlib.Core.Bool.{false, _&&_};
+ghost use Prim.Native.Nat.{_≤_};
+ghost use lib.Dec.{leb, ltb, eqb};
+ghost use lib.Ieee.{binary64, round, le};
+ghost use lib.ListN.{length};
+ghost use Rattle.grid.specs.Refusals.{unless, refusal};
+ghost use Rattle.grid.specs.Domain.{coordinate, point, segment, lines, Alike, lineFits, counts, shape, sizeFits, fit, lengthsCheck, scratchCheck, countCheck, coordinatesFrom, coordinatesCheck, pointCheck, segmentCheck, gridCheck, snapSize, snapCheck, cellCheck, linesCheck};
+
+// Refuses, with a number and a value, where the test fails.
+pub fn refuse_unless(ok: bool, number: u32, value: u64) -> Check
+    ensures { λ r. ⌜ r ≡ unless ok number value ⌝ }
+{
+    if ok {
+        return Check::Fine;
+    }
+    Check::Refused(Refusal { number, value })
+}
+
+// Finite, of magnitude at most 1e9.
+pub fn is_coordinate(v: f64) -> bool
+    ensures { λ r. ⌜ r ≡ coordinate v ⌝ }
+{
+    numbers::order::magnitude(v) <= 1e9
+}
+
+pub fn is_point(x: f64, y: f64) -> bool
+    ensures { λ r. ⌜ r ≡ point x y ⌝ }
+{
+    if is_coordinate(x) {
+        return is_coordinate(y);
+    }
+    false
+}
+
+pub fn is_segment(start_x: f64, start_y: f64, end_x: f64, end_y: f64) -> bool
+    ensures { λ r. ⌜ r ≡ segment «start_x» «start_y» «end_x» «end_y» ⌝ }
+{
+    if is_point(start_x, start_y) {
+        return is_point(end_x, end_y);
+    }
+    false
+}
+
+fn is_count(n: u32) -> bool
+    ensures { λ r. ⌜ r ≡ counts n ⌝ }
+{
+    if 1 <= n {
+        return n <= 4004;
+    }
+    false
+}
+
+// The counts of a fit grid: both 0, or each 1 to 4,004 with product at most 1,002,001.
+pub fn is_shape(cols: u32, rows: u32) -> bool
+    ensures { λ r. ⌜ r ≡ shape cols rows ⌝ }
+{
+    if cols == 0 {
+        return rows == 0;
+    }
+    if is_count(cols) {
+        if is_count(rows) {
+            return rows * cols <= 1002001;
+        }
+        return false;
+    }
+    false
+}
+
+// The largest and the smallest cell size of a fit grid.
+fn is_cell_size(v: f64) -> bool
+    ensures { λ r. ⌜ r ≡ sizeFits v ⌝ }
+{
+    if 0.25e-6 <= v {
+        return v <= 2e9;
+    }
+    false
+}
+
+pub fn is_fit(grid: Grid) -> bool
+    ensures { λ r. ⌜ r ≡ fit grid ⌝ }
+{
+    if is_point(grid.min_x, grid.min_y) {
+        if is_cell_size(grid.cell_size) {
+            return is_shape(grid.cols, grid.rows);
+        }
+        return false;
+    }
+    false
+}
+
+pub fn check_point(x: f64, y: f64) -> Check
+    ensures { λ r. ⌜ r ≡ pointCheck x y ⌝ }
+{
+    refuse_unless(is_point(x, y), 1, 0)
+}
+
+pub fn check_segment(start_x: f64, start_y: f64, end_x: f64, end_y: f64) -> Check
+    ensures { λ r. ⌜ r ≡ segmentCheck «start_x» «start_y» «end_x» «end_y» ⌝ }
+{
+    refuse_unless(is_segment(start_x, start_y, end_x, end_y), 1, 0)
+}
+
+pub fn check_grid(grid: Grid) -> Check
+    ensures { λ r. ⌜ r ≡ gridCheck grid ⌝ }
+{
+    refuse_unless(is_fit(grid), 8, 0)
+}
+
+pub fn check_scratch(n: usize) -> Check
+    ensures { λ r. ⌜ r ≡ scratchCheck n ⌝ }
+{
+    refuse_unless(16384 <= n, 3, 0)
+}
+
+pub fn check_count(n: usize) -> Check
+    ensures { λ r. ⌜ r ≡ countCheck n ⌝ }
+{
+    refuse_unless(n <= 65536, 2, n as u64)
+}
+
+// A snap size is 0, or 1e-6 to 1e6; a strategy is 0 (Grid) or 1 (GeosCompat).
+fn is_snap_size(size: f64) -> bool
+    ensures { λ r. ⌜ r ≡ snapSize size ⌝ }
+{
+    if size == 0.0 {
+        return true;
+    }
+    if 1e-6 <= size {
+        return size <= 1e6;
+    }
+    false
+}
+
+fn is_snap(size: f64, strategy: u32) -> bool
+    ensures { λ r. ⌜ r ≡ (snapSize size && leb strategy 1) ⌝ }
+{
+    if is_snap_size(size) {
+        return strategy <= 1;
+    }
+    false
+}
+
+pub fn check_snap(size: f64, strategy: u32) -> Check
+    ensures { λ r. ⌜ r ≡ snapCheck size strategy ⌝ }
+{
+    refuse_unless(is_snap(size, strategy), 12, 0)
+}
+
+fn is_cell(grid: Grid, row: u32, col: u32) -> bool
+    ensures { λ r. ⌜ r ≡ (ltb row (grid .rows) && ltb col (grid .cols)) ⌝ }
+{
+    if row < grid.rows {
+        return col < grid.cols;
+    }
+    false
+}
+
+pub fn check_cell(grid: Grid, row: u32, col: u32) -> Check
+    ensures { λ r. ⌜ r ≡ cellCheck grid row col ⌝ }
+{
+    refuse_unless(is_cell(grid, row, col), 9, row as u64)
+}
+
+fn all_are(n: usize, a: usize, b: usize, c: usize) -> bool
+    ensures { λ r. ⌜ r ≡ (eqb a n && (eqb b n && eqb c n)) ⌝ }
+{
+    if a == n {
+        if b == n {
+            return c == n;
+        }
+        return false;
+    }
+    false
+}
+
+// The coordinate slices have one length.
+pub fn check_lengths(start_x: &[f64], start_y: &[f64], end_x: &[f64], end_y: &[f64]) -> Check
+    ensures { λ r. ⌜ r ≡ lengthsCheck (lines (now («start_x» .entry)) (now («start_y» .entry)) (now («end_x» .entry)) (now («end_y» .entry))) ⌝ }
+{
+    refuse_unless(
+        all_are(start_x.len(), start_y.len(), end_x.len(), end_y.len()),
+        3,
+        0,
+    )
+}
+
+// The first line with a coordinate that breaks the rule. The slices have one length.
+fn check_coordinates(start_x: &[f64], start_y: &[f64], end_x: &[f64], end_y: &[f64]) -> Check
+    requires { ⌜ Alike (lines (now «start_x») (now «start_y») (now «end_x») (now «end_y»)) ⌝ }
+    ensures { λ r. ⌜ r ≡ coordinatesCheck (lines (now («start_x» .entry)) (now («start_y» .entry)) (now («end_x» .entry)) (now («end_y» .entry))) ⌝ }
+{
+    let mut i = 0;
+    while i < start_x.len() {
+        if !is_segment(start_x[i], start_y[i], end_x[i], end_y[i]) {
+            return Check::Refused(Refusal {
+                number: 1,
+                value: i as u64,
+            });
+        }
+        i += 1;
+    }
+    Check::Fine
+}
+
+// What every call that is lent lines checks first: 3, 2, 1.
+pub fn check_lines(start_x: &[f64], start_y: &[f64], end_x: &[f64], end_y: &[f64]) -> Check
+    ensures { λ r. ⌜ r ≡ linesCheck (lines (now («start_x» .entry)) (now («start_y» .entry)) (now («end_x» .entry)) (now («end_y» .entry))) ⌝ }
+{
+    let n = start_x.len();
+    if !all_are(n, start_y.len(), end_x.len(), end_y.len()) {
+        return Check::Refused(Refusal {
+            number: 3,
+            value: 0,
+        });
+    }
+    if 65536 < n {
+        return Check::Refused(Refusal {
+            number: 2,
+            value: n as u64,
+        });
+    }
+    check_coordinates(start_x, start_y, end_x, end_y)
+}

@@ -1,0 +1,9 @@
+-- `Words`: laws of numbers in bytes. `Patterns`: which bit patterns are a NaN's. `Axes`: laws of the coordinates and points at a position.
+-- `Stores`: laws of a slice that is written from its start on. `Fields`: what each field decides. `LineStrings`: points are found exactly in the bytes of a LineString.
+pub mod Words
+pub mod Patterns
+pub mod Stores
+pub mod Axes
+pub mod Fields
+pub mod LineStrings
+pub mod Readings

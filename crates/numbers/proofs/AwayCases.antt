@@ -1,10 +1,10 @@
 -- The cases of `round_half_away`. Assumes nothing.
 use mathlib.Core.Path.{_≡_, refl, sym, ap, _∙_, subst}
-use Prim.Native.Nat.{ℕ, zero, suc, _+_, _-_, _*_, _/_, _^_, _≤_, _<_, zero-le}
-use native.Mathlib.Nat.{le-trans, le-of-eq, le-of-lt, lt-of-lt-of-le, mul-one, one-mul, mul-comm, mul-assoc, mul-left-comm, mul-right-comm, mul-pos, mul-lt-mul-of-pos-right, add-mul, zero-lt-suc, div-eq-of-lt-le, div-mul-le-self, lt-div-mul-add, div-lt-iff-lt-mul}
+use Prim.Native.Nat.{ℕ, _+_, _-_, _*_, _/_, _^_, _≤_, _<_, zero-le}
+use native.Mathlib.Nat.{le-of-lt, lt-of-lt-of-le, mul-assoc, mul-left-comm, mul-right-comm, mul-pos, mul-lt-mul-of-pos-right, add-mul, zero-lt-suc, div-eq-of-lt-le, div-mul-le-self, lt-div-mul-add, div-lt-iff-lt-mul}
 use native.Mathlib.Omega.{arith}
-use mathlib.Core.Bool.{Bool, true, false, not, cond, true≢false}
-use lib.IntN.{ℤ, pos, negsuc}
+use mathlib.Core.Bool.{Bool, true, false, cond}
+use lib.IntN.{pos, negsuc}
 use lib.Dec.{T, lit≤}
 use lib.Pow.{pow-pos}
 use lib.Ieee.{Float, nan, inf, fin, binary64, up, down, round, lt, add, sub, mul}
@@ -14,8 +14,8 @@ use lib.Ieee.Positive.{num, den, positive, den-pos, own-value}
 use Rattle.numbers.specs.Order.{magnitudeOf}
 use Rattle.numbers.specs.Away.{roundAway}
 use Rattle.numbers.proofs.Tests.{holds, fails, lt-says, not-lt-says}
-use Rattle.numbers.proofs.ExactSums.{sum-at}
-use Rattle.numbers.proofs.WholeLaws.{Small, Stays, not-number, endless, whole, counted, counted-value, counted-sum, counted-less, counted-signed, step, step-value, sign-of, cut-small}
+use Rattle.numbers.proofs.Sums.{sum-at}
+use Rattle.numbers.proofs.WholeLaws.{Small, Stays, not-number, endless, whole, counted, counted-value, counted-sum, counted-less, counted-signed, sign-of, cut-small}
 
 pub away-stays : {v : Float} → Stays v → v ≡ roundAway v
 unfolding roundAway

@@ -1,10 +1,10 @@
 -- The cases of `ceiling`. Assumes nothing.
 use mathlib.Core.Path.{_≡_, refl, sym, ap, _∙_, subst}
-use Prim.Native.Nat.{ℕ, zero, suc, _+_, _-_, _*_, _/_, _^_, _≤_, _<_, min}
-use native.Mathlib.Nat.{mul-one, zero-lt-suc, div-eq-of-lt, le-div-iff-mul-le, le-trans}
+use Prim.Native.Nat.{ℕ, _+_, _-_, _*_, _/_, _^_, _≤_, _<_, min}
+use native.Mathlib.Nat.{div-eq-of-lt, le-div-iff-mul-le}
 use native.Mathlib.Omega.{arith}
-use mathlib.Core.Bool.{Bool, true, false, not, cond, true≢false}
-use lib.IntN.{ℤ, pos, negsuc}
+use mathlib.Core.Bool.{Bool, true, false, cond, true≢false}
+use lib.IntN.{pos}
 use lib.Dec.{T, ltb, nltb→le}
 use lib.Ieee.{Float, nan, inf, fin, binary64, up, down, lt, add, toUnsigned}
 use lib.Ieee.Fits.{down-pos}

@@ -1,12 +1,12 @@
 -- Laws of `ceilingOf`, for the crates above. `HasValue v false a c` says that v is a / c, with a plus sign, and `Cover a c q` that
 -- q - 1 < a / c ≤ q. Assumes nothing.
-use mathlib.Core.Path.{_≡_, refl, sym, ap, _∙_, subst}
+use mathlib.Core.Path.{_≡_, refl, sym, subst}
 use Prim.Native.Nat.{ℕ, zero, suc, _+_, _-_, _*_, _/_, _^_, _≤_, _<_, min, zero-le}
-use native.Mathlib.Nat.{le-trans, le-of-eq, mul-one, one-mul, mul-le-mul-right, zero-lt-suc, lt-of-mul-lt-mul-right, lt-of-not-le, lt-of-lt-of-le, lt-of-le-of-lt, add-mul}
+use native.Mathlib.Nat.{le-trans, le-of-eq, one-mul, mul-le-mul-right, zero-lt-suc, lt-of-mul-lt-mul-right, lt-of-not-le, lt-of-lt-of-le, add-mul}
 use native.Mathlib.Decide.{decLe}
 use native.Mathlib.Omega.{arith}
-use mathlib.Core.Bool.{Bool, true, false, true≢false}
-use lib.IntN.{ℤ, pos, negsuc}
+use mathlib.Core.Bool.{true, false, true≢false}
+use lib.IntN.{pos}
 use lib.Dec.{T}
 use lib.Ieee.{Float, nan, inf, fin, up, down, lt, le}
 use lib.Ieee.Exact.{HasValue}

@@ -1,11 +1,11 @@
 -- The cases of `floor` and `clamped_floor`. Assumes nothing.
 use mathlib.Core.Path.{_≡_, refl, sym, ap, _∙_, subst}
-use Prim.Native.Nat.{ℕ, zero, suc, _+_, _-_, _*_, _/_, _^_, _≤_, _<_, min}
-use native.Mathlib.Nat.{lt-of-lt-of-le, le-of-lt, le-trans, not-le-of-lt, mul-one, zero-lt-suc, div-one, div-eq-of-lt, div-mul-le-self, div-lt-iff-lt-mul, le-div-iff-mul-le, mul-le-mul-right}
+use Prim.Native.Nat.{ℕ, _+_, _-_, _*_, _/_, _^_, _≤_, _<_, min}
+use native.Mathlib.Nat.{lt-of-lt-of-le, not-le-of-lt, mul-one, zero-lt-suc, div-one, div-eq-of-lt, div-mul-le-self, div-lt-iff-lt-mul, le-div-iff-mul-le, mul-le-mul-right}
 use native.Mathlib.Omega.{arith}
-use mathlib.Core.Bool.{Bool, true, false, not, cond, true≢false}
-use lib.IntN.{ℤ, pos, negsuc}
-use lib.Dec.{T, ltb, nltb→le, ltb→lt, lt→ltb}
+use mathlib.Core.Bool.{Bool, true, false, cond, true≢false}
+use lib.IntN.{ℤ, pos}
+use lib.Dec.{T, ltb, nltb→le}
 use lib.Ieee.{Float, nan, inf, fin, binary64, up, down, round, neg, lt, sub, mul, ofInt}
 use lib.Ieee.Exact.{HasValue}
 use lib.Ieee.Fits.{down-pos}
@@ -13,8 +13,8 @@ use lib.Ieee.Positive.{num, den, positive, den-pos, own-value}
 use Rattle.numbers.specs.Order.{magnitudeOf}
 use Rattle.numbers.specs.Floor.{floorOf, clampedFloor}
 use Rattle.numbers.proofs.Values.{below-power}
-use Rattle.numbers.proofs.Tests.{holds, fails, positive-under, under-whole, over-whole, not-over-whole, not-lt-says, lt-says}
-use Rattle.numbers.proofs.ExactSums.{neg-value}
+use Rattle.numbers.proofs.Tests.{holds, fails, positive-under, under-whole, over-whole, not-over-whole, not-lt-says}
+use Rattle.numbers.proofs.Sums.{neg-value}
 use Rattle.numbers.proofs.WholeLaws.{Small, Stays, not-number, endless, whole, counted, counted-value, counted-less, counted-lower, counted-signed, whole-value, step, step-value, sign-of, cut-small, ceil-more, ceil-same}
 
 -- ---- `floor`

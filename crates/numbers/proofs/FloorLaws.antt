@@ -1,21 +1,26 @@
 -- Laws of `clampedFloor` and `floorOf`, for the crates above. A value is given as a fraction, `HasValue v s a c`: v is a / c, with a minus sign
 -- where s is true. `Part a c q` says q ≤ a / c < q + 1, and `Cover a c q` says q - 1 < a / c ≤ q. Assumes nothing.
 use mathlib.Core.Path.{_≡_, refl, sym, ap, _∙_, subst}
-use Prim.Native.Nat.{ℕ, zero, suc, _+_, _-_, _*_, _/_, _^_, _≤_, _<_, min, zero-le}
-use native.Mathlib.Nat.{le-trans, le-of-eq, le-of-lt, lt-of-lt-of-le, mul-one, zero-lt-suc, div-one, div-eq-of-lt, div-lt-iff-lt-mul, le-div-iff-mul-le}
+use Prim.Native.Nat.{ℕ, _+_, _-_, _*_, _/_, _^_, _≤_, _<_, min, zero-le}
+use native.Mathlib.Nat.{le-trans, le-of-eq, mul-one, one-mul, zero-lt-suc, div-one, div-eq-of-lt, div-lt-iff-lt-mul, le-div-iff-mul-le}
 use native.Mathlib.Omega.{arith}
-use mathlib.Core.Bool.{Bool, true, false, true≢false}
-use lib.IntN.{ℤ, pos, negsuc}
+use mathlib.Core.Bool.{true, false, true≢false}
+use lib.IntN.{ℤ, pos}
 use lib.Dec.{T}
-use lib.Ieee.{Float, nan, inf, fin, binary64, up, down, lt, le, fits}
+use lib.Ieee.{Float, nan, inf, fin, binary64, up, down, round, neg, lt, le, fits}
 use lib.Ieee.Exact.{HasValue}
 use lib.Ieee.Fits.{down-pos}
 use lib.Ieee.Nearest.{div-same}
+use lib.Ieee.Order.{round-mono}
 use Rattle.numbers.specs.Floor.{floorOf, clampedFloor}
-use Rattle.numbers.proofs.Fractions.{Part, Cover, part-by, cover-by, cover-same, div-le}
-use Rattle.numbers.proofs.Tests.{le-says, le-minus}
+use Rattle.numbers.proofs.Fractions.{Part, Cover, part-by, cover-by, cover-same, cover-mono, div-le}
+use Rattle.numbers.proofs.Values.{neg-round}
+use Rattle.numbers.proofs.Tests.{le-says, le-minus, minus-le}
 use Rattle.numbers.proofs.WholeLaws.{counted, exact-whole, ceil-small}
 use Rattle.numbers.proofs.FloorCases.{clamped-low}
+use Rattle.numbers.proofs.FloatOrder.{number, float-le-trans, le-neg, le-number, least-of-all, greatest-of-all}
+use Rattle.numbers.proofs.FloatSum as FloatSum
+use Rattle.numbers.proofs.FloatSum.{round-number}
 
 -- ---- the clamped floor
 
@@ -125,3 +130,57 @@ floor-minus (fin true m e) a c t C h = record {
 
     same : (n : ℕ) → (n + (1 - 1)) / 1 ≡ n
     same n = omega arith
+
+floor-number : (v : Float) → T (number v) → T (number (floorOf v))
+unfolding floorOf
+floor-number nan p = p
+floor-number (inf s) p = tt
+floor-number (fin false m e) p = round-number binary64 false (m * up e / down e) 1 (zero-lt-suc 0)
+floor-number (fin true m e) p = round-number binary64 true ((m * up e + (down e - 1)) / down e) 1 (zero-lt-suc 0)
+
+-- the first whole number that is not below m * 2 ^ e
+abbrev above : ℕ → ℤ → ℕ
+above m e = (m * up e + (down e - 1)) / down e
+
+-- a larger value has no smaller floor
+pub floor-mono : (v w : Float) → T (le v w) → T (le (floorOf v) (floorOf w))
+unfolding floorOf
+floor-mono nan w h = absurd (unfold le in h)
+floor-mono (inf true) w h = least-of-all (floorOf w) (floor-number w (le-number (inf true) w h))
+floor-mono (inf false) nan h = absurd (unfold le in h)
+floor-mono (inf false) (inf t) h = h
+floor-mono (inf false) (fin t n g) h = absurd (unfold le in h)
+floor-mono (fin s m e) nan h = absurd (unfold le in h)
+floor-mono (fin s m e) (inf true) h = absurd (unfold le in h)
+floor-mono (fin s m e) (inf false) h = greatest-of-all (floorOf (fin s m e)) (floor-number (fin s m e) tt)
+floor-mono (fin false m e) (fin false n g) h =
+    round-mono binary64 (m * up e / down e) 1 (n * up g / down g) 1 (zero-lt-suc 0) (zero-lt-suc 0)
+    (rw (mul-one, mul-one) (div-le (m * up e) (down e) (n * up g) (down g) (down-pos e) (down-pos g) (le-says m e n g h)))
+floor-mono (fin true m e) (fin false n g) h =
+    rw (← neg-round binary64 false (above m e) 1)
+    (float-le-trans (neg (counted false (above m e))) (fin true 0 (pos 0)) (counted false (n * up g / down g))
+    (unfold neg in le-neg (fin false 0 (pos 0)) (counted false (above m e)) (FloatSum.zero-le binary64 (above m e) 1 (zero-lt-suc 0)))
+    (float-le-trans (fin true 0 (pos 0)) (fin false 0 (pos 0)) (counted false (n * up g / down g)) (unfold le in tt) (FloatSum.zero-le binary64 (n * up g / down g) 1 (zero-lt-suc 0))))
+floor-mono (fin true m e) (fin true n g) h =
+    rw (← neg-round binary64 false (above m e) 1, ← neg-round binary64 false (above n g) 1)
+    (le-neg (counted false (above n g)) (counted false (above m e))
+    (round-mono binary64 (above n g) 1 (above m e) 1 (zero-lt-suc 0) (zero-lt-suc 0)
+    (rw (mul-one, mul-one)
+    (le-trans
+    (cover-mono (n * up g) (down g) (m * up e) (down e) (above n g) (above m e) 1 (down-pos g) (down-pos e)
+    (le-trans (le-says n g m e (unfold neg in le-neg (fin true m e) (fin true n g) h)) (le-of-eq (sym (one-mul (m * up e * down g)))))
+    (cover-by (n * up g) (down g) (down-pos g)) (cover-by (m * up e) (down e) (down-pos e)))
+    (le-of-eq (one-mul (above m e)))))))
+floor-mono (fin false m e) (fin true n g) h =
+    let a = le-minus m e n g h in
+    let b = minus-le m e n g h in
+    rw (none (m * up e) (down e) (down-pos e) a, none-above (n * up g) (down g) (down-pos g) b) (unfold round le in tt)
+  where
+    none : (x d : ℕ) → 0 < d → x ≡ 0 → x / d ≡ 0
+    none x d D h = ap (λ (y : ℕ). y / d) h ∙ div-eq-of-lt D
+
+    none-above : (x d : ℕ) → 0 < d → x ≡ 0 → (x + (d - 1)) / d ≡ 0
+    none-above x d D h = ap (λ (y : ℕ). (y + (d - 1)) / d) h ∙ div-eq-of-lt (less d D)
+      where
+        less : (d : ℕ) → 0 < d → 0 + (d - 1) < d
+        less d D = omega arith

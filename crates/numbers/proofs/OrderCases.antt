@@ -1,14 +1,14 @@
 -- The cases of `least`, `greatest` and `magnitude`. Assumes nothing.
 use mathlib.Core.Path.{_≡_, refl, sym, ap, _∙_, subst}
-use Prim.Native.Nat.{ℕ, zero, suc, _+_, _-_, _*_, _^_, _≤_, _<_}
-use native.Mathlib.Nat.{mul-one, one-mul, zero-mul, mul-pos, zero-lt-suc}
+use Prim.Native.Nat.{ℕ, zero, suc, _+_, _-_, _*_, _<_}
+use native.Mathlib.Nat.{mul-one, one-mul, zero-mul}
 use native.Mathlib.Omega.{arith}
 use mathlib.Core.Bool.{Bool, true, false, not, cond, _&&_, _||_, Bool·beq, true≢false}
 use mathlib.Core.Logic.{_⊎_, inl, inr}
-use lib.IntN.{ℤ, pos, negsuc}
+use lib.IntN.{ℤ, pos}
 use lib.Dec.{T, T-not, ltb, eqb, eqb-refl, eqb→eq, ltb→lt, lt→ltb}
-use lib.Ieee.{Float, nan, inf, fin, binary64, up, down, round, sum, neg, sub, lt, eq, le, ne, isNan, fits}
-use lib.Ieee.Fits.{down-pos, up-pos, and-l}
+use lib.Ieee.{Float, nan, inf, fin, binary64, up, down, round, sub, lt, le, ne, isNan, fits}
+use lib.Ieee.Fits.{down-pos, and-l}
 use Rattle.numbers.specs.Order.{leastOf, greatestOf, magnitudeOf}
 use Rattle.numbers.proofs.Values.{round-back}
 

@@ -1,10 +1,10 @@
 -- What `whole_part` computes: v + 2 ^ 52 is rounded to a whole number, which is 2 ^ 52 more than the whole part of v or than the next. Assumes nothing.
 use mathlib.Core.Path.{_≡_, refl, sym, ap, _∙_, subst}
-use Prim.Native.Nat.{ℕ, zero, suc, _+_, _-_, _*_, _/_, _^_, _≤_, _<_}
-use native.Mathlib.Nat.{le-trans, le-of-eq, lt-of-lt-of-le, lt-of-le-of-lt, lt-of-not-le, mul-one, add-mul, mul-pos, zero-lt-suc, div-mul-le-self, lt-div-mul-add, mul-le-mul-right}
+use Prim.Native.Nat.{ℕ, _+_, _-_, _*_, _/_, _^_, _≤_, _<_}
+use native.Mathlib.Nat.{le-trans, le-of-eq, lt-of-not-le, mul-one, add-mul, zero-lt-suc, div-mul-le-self, lt-div-mul-add, mul-le-mul-right}
 use native.Mathlib.Omega.{arith}
-use mathlib.Core.Bool.{Bool, true, false, not, cond, true≢false}
-use lib.IntN.{ℤ, pos, negsuc}
+use mathlib.Core.Bool.{Bool, true, false, cond}
+use lib.IntN.{pos}
 use lib.Dec.{T}
 use lib.Ieee.{Float, fin, binary64, round, lt, le, add, sub, fits}
 use lib.Ieee.Exact.{HasValue}
@@ -12,7 +12,7 @@ use lib.Ieee.Fits.{round-fits}
 use lib.Ieee.Order.{round-mono}
 use lib.Ieee.Positive.{num, den, positive, den-pos, own-value, positive-of-value, values-of-le, between}
 use Rattle.numbers.proofs.Tests.{holds, fails, under-whole, not-under-whole}
-use Rattle.numbers.proofs.ExactSums.{sum-at}
+use Rattle.numbers.proofs.Sums.{sum-at}
 use Rattle.numbers.proofs.WholeLaws.{Small, counted, counted-value, counted-less, cut-small, whole-beyond}
 
 -- a sum that is rounded to a whole number n, q + 2 ^ 52 or one more

@@ -1,11 +1,11 @@
--- Tests on floats as facts: on fractions of whole numbers, for values above zero. Assumes nothing.
-use mathlib.Core.Path.{_≡_, refl, sym, ap, _∙_, subst}
-use Prim.Native.Nat.{ℕ, zero, suc, _+_, _-_, _*_, _/_, _%_, _^_, _≤_, _<_, zero-le, min}
+-- Tests on floats as facts on fractions: `HasValue x false a c` says that x is a / c. Assumes nothing.
+use mathlib.Core.Path.{_≡_, refl, sym, _∙_, subst}
+use Prim.Native.Nat.{ℕ, zero, suc, _*_, _≤_, _<_}
 use native.Mathlib.Nat.{le-of-lt, le-of-eq, eq-of-mul-eq-mul-right, zero-mul, lt-of-not-le, not-le-of-lt, mul-one, zero-lt-suc}
 use native.Mathlib.Omega.{arith}
 use mathlib.Core.Bool.{Bool, true, false, not, _&&_, _||_, true≢false}
 use mathlib.Core.Logic.{_⊎_, inl, inr}
-use lib.IntN.{ℤ, pos, negsuc}
+use lib.IntN.{ℤ, pos}
 use lib.Dec.{T, ltb, eqb, eqb→eq, ltb→lt, lt→ltb, nltb→le}
 use lib.Ieee.{Float, nan, inf, fin, up, down, lt, le}
 use lib.Ieee.Exact.{HasValue}
@@ -98,10 +98,22 @@ le-says m e n g t = elim (or-cases (ltb A B) (eqb A B && true) t) [ inl l ↦ le
     B : ℕ
     B = n * up g * down e
 
--- what is clear of sign and at most something with a sign is zero
+-- a value with a plus sign that is at most one with a minus sign: both are zero
 pub le-minus : (m : ℕ) (e : ℤ) (n : ℕ) (g : ℤ) → T (le (fin false m e) (fin true n g)) → m * up e ≡ 0
 unfolding le
 le-minus m e n g t = eq-of-mul-eq-mul-right (down g) (down-pos g) (m * up e) 0 (eqb→eq A 0 (and-r (eqb A (n * up g * down e)) (eqb A 0) t) ∙ sym (zero-mul (down g)))
   where
     A : ℕ
     A = m * up e * down g
+
+pub minus-le : (m : ℕ) (e : ℤ) (n : ℕ) (g : ℤ) → T (le (fin false m e) (fin true n g)) → n * up g ≡ 0
+unfolding le
+minus-le m e n g t =
+    eq-of-mul-eq-mul-right (down e) (down-pos e) (n * up g) 0
+    (sym (eqb→eq A B (and-l (eqb A B) (eqb A 0) t)) ∙ eqb→eq A 0 (and-r (eqb A B) (eqb A 0) t) ∙ sym (zero-mul (down e)))
+  where
+    A : ℕ
+    A = m * up e * down g
+
+    B : ℕ
+    B = n * up g * down e

@@ -1,22 +1,22 @@
 -- Whole numbers as floats: sums and tests that are exact, the whole part of a value below 2 ^ 52, and the values that are whole already. Assumes nothing.
 use mathlib.Core.Path.{_≡_, refl, sym, ap, _∙_, subst}
-use Prim.Native.Nat.{ℕ, zero, suc, _+_, _-_, _*_, _/_, _^_, _≤_, _<_, min}
-use native.Mathlib.Nat.{le-trans, le-of-eq, lt-of-lt-of-le, lt-of-not-le, mul-one, one-mul, mul-pos, add-mul, zero-lt-suc, mul-le-mul-right, mul-le-mul-left, div-eq-of-lt-le, div-mul-le-self, lt-div-mul-add, div-lt-iff-lt-mul}
+use Prim.Native.Nat.{ℕ, zero, suc, _+_, _-_, _*_, _/_, _^_, _≤_, _<_}
+use native.Mathlib.Nat.{le-trans, le-of-eq, lt-of-not-le, mul-one, mul-pos, add-mul, zero-lt-suc, mul-le-mul-right, mul-le-mul-left, div-eq-of-lt-le, div-mul-le-self, lt-div-mul-add, div-lt-iff-lt-mul}
 use native.Mathlib.Decide.{decLe}
 use native.Mathlib.Omega.{arith}
-use mathlib.Core.Bool.{Bool, true, false, not, cond, true≢false}
+use mathlib.Core.Bool.{Bool, true, false, cond, true≢false}
 use lib.IntN.{ℤ, pos, negsuc}
-use lib.Dec.{T, T-not, ltb, leb, eqb, eqb→eq, ltb→lt, lt→ltb, le→leb, nltb→le, lit≤}
+use lib.Dec.{T, T-not, ltb, eqb, eqb→eq, ltb→lt, lt→ltb, le→leb, nltb→le}
 use lib.Pow.{pow-mono}
 use lib.Ieee.{Float, nan, inf, fin, binary64, up, down, round, lt, add, sub, mul, fits, ofInt, inFloat, inUnsigned, toUnsigned}
 use lib.Ieee.Back.{round-whole, unsigned-back}
 use lib.Ieee.Exact.{HasValue}
 use lib.Ieee.Fits.{down-pos, up-pos}
-use lib.Ieee.Positive.{num, den, positive, den-pos, own-value}
+use lib.Ieee.Positive.{num, den, positive, den-pos}
 use Rattle.numbers.specs.Order.{magnitudeOf}
-use Rattle.numbers.proofs.Values.{round-back, fits-says, cut-value, above-minus-one, below-power}
-use Rattle.numbers.proofs.Tests.{holds, fails, positive-under, under-whole}
-use Rattle.numbers.proofs.ExactSums.{sum-at, difference-at, lower-at, unit-at}
+use Rattle.numbers.proofs.Values.{round-back, fits-says}
+use Rattle.numbers.proofs.Tests.{fails, positive-under, under-whole}
+use Rattle.numbers.proofs.Sums.{sum-at, difference-at, lower-at, unit-at}
 
 -- ---- a whole number as a float
 
@@ -130,19 +130,8 @@ sign-of true m e s = surely (ltb 0 (m * up e * 1 + 0 * down e)) (lt→ltb 0 (m *
     some : (x d : ℕ) → 0 < x → 0 < x * 1 + 0 * d
     some x d h = omega arith
 
--- what a cut to 64 bits asks, and what it gives
-module _ (v : Float) (s : Small v) where
-  within : num v < 2 ^ 64 * den v
-  within = lt-of-lt-of-le (s .below) (mul-le-mul-right (den v) (lit≤ tt))
-
-  pub cut-asks : T (lt (fin true 1 (pos 0)) v) × T (lt v (fin false 1 (pos 64)))
-  cut-asks = (above-minus-one v (num v) (den v) (own-value v (s .above-zero)), below-power 64 v (num v) (den v) (den-pos v) within (own-value v (s .above-zero)))
-
-  pub cut-gives : toUnsigned 64 v ≡ num v / den v
-  cut-gives = cut-value 64 v (num v) (den v) (den-pos v) within (own-value v (s .above-zero))
-
-  pub cut-small : num v / den v < 2 ^ 52
-  cut-small = div-lt-iff-lt-mul (den-pos v) .1 (s .below)
+pub cut-small : (v : Float) → Small v → num v / den v < 2 ^ 52
+cut-small v s = div-lt-iff-lt-mul (den-pos v) .1 (s .below)
 
 -- ---- values that are whole already
 

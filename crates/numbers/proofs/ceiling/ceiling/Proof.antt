@@ -1,6 +1,6 @@
 -- `numbers::ceiling::ceiling` meets its contract. Assumes nothing.
-use mathlib.Core.Path.{_≡_, refl, sym, ap, _∙_, subst}
-use Prim.Native.Nat.{ℕ, _+_, _-_, _*_, _/_, _^_, _≤_, _<_}
+use mathlib.Core.Path.{_≡_, sym, ap, _∙_, subst}
+use Prim.Native.Nat.{ℕ, _+_, _-_, _/_, _^_, _≤_}
 use native.Mathlib.Omega.{arith}
 use lib.Dec.{T}
 use lib.Ieee.{Float, binary64, fits, ofBits, add, inUnsigned, toUnsigned}
@@ -11,11 +11,6 @@ use Rattle.numbers.proofs.CeilingCases.{ceiling-part, ceiling-within, c
 use borrow.Author.Needs.{needs}
 use Rattle.numbers.proofs.ceiling.ceiling.Statement.{statement}
 use Rattle.numbers.proofs.ceiling.ceiling.Tie as tie
-use Rattle.numbers.proofs.ceiling.ceiling.Reads as reads
-use Rattle.numbers.proofs.ceiling.ceiling.Lts as lts
-use Rattle.numbers.proofs.whole.one_if_above.Reads as one-if-above-reads
-use Rattle.numbers.proofs.whole.whole_part.Reads as whole-part-reads
-use Rattle.std.proofs.num.truncating_f64_to_u64.Reads as truncating-f64-to-u64-reads
 
 held : (c : tie.Start) → T (fits binary64 (c .args .v))
 held c = subst T (sym (c .good .0 .1)) tt
@@ -37,20 +32,16 @@ back c =
     let h : above v ≤ 2 ^ 52 = ceil-small (num v) (den v) (den-pos v) (s .below) in
     cast-back 64 (above v) _ (ap (add binary64 _) (c .one-if-above .ensures) ∙ ceiling-part v _ s (c .before .whole-part .ensures)) (omega arith) (omega arith)
 
--- src/ceiling.rt:12:17
 whole-part-requires : tie.Need-whole-part-requires
 unfolding ofBits
 whole-part-requires c κs = (holds _ (c .before .if1 .taken), holds _ (c .if2 .taken))
 
--- src/ceiling.rt:13:28
 one-if-above-requires : tie.Need-one-if-above-requires
 one-if-above-requires c κs = search needs
 
--- src/ceiling.rt:13:20
 float-to-int-result : tie.Need-float-to-int-result
 float-to-int-result c = back (c .before) .0
 
--- src/ceiling.rt:13:13
 returns : tie.Need-returns
 returns c =
     let v = c .before .before .before .before .before .args .v in
@@ -58,22 +49,18 @@ returns c =
     let h : above v ≤ 2 ^ 52 = ceil-small (num v) (den v) (den-pos v) (s .below) in
     back (c .before) .1 ∙ ceiling-within v (s .above-zero) (omega arith)
 
--- src/ceiling.rt:16:13
 truncating-f64-to-u64-requires : tie.Need-truncating-f64-to-u64-requires
 unfolding ofBits
 truncating-f64-to-u64-requires c κs = (past-minus-one _ (c .before .before .if1 .taken), holds _ (c .if3 .taken))
 
--- src/ceiling.rt:16:13
 returns-2 : tie.Need-returns-2
 unfolding ofBits
 returns-2 c = c .truncating-f64-to-u64 .ensures ∙ ceiling-stays (stays-above _ (held (c .before .before .before .before)) (c .before .before .before .if1 .taken) (c .before .before .if2 .left))
 
--- src/ceiling.rt:18:9
 returns-3 : tie.Need-returns-3
 unfolding ofBits
 returns-3 c = ceiling-high _ (c .before .before .if1 .taken) (c .if3 .left)
 
--- src/ceiling.rt:7:1
 returns-4 : tie.Need-returns-4
 unfolding ofBits
 returns-4 c = ceiling-low _ (c .if1 .left)

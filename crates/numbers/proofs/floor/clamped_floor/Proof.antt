@@ -1,6 +1,6 @@
 -- `numbers::floor::clamped_floor` meets its contract. Assumes nothing.
-use mathlib.Core.Path.{_≡_, refl, sym, ap, _∙_, subst}
-use Prim.Native.Nat.{ℕ, _+_, _-_, _*_, _/_, _^_, _≤_, _<_}
+use mathlib.Core.Path.{_≡_, sym, _∙_, subst}
+use Prim.Native.Nat.{ℕ, _/_}
 use native.Mathlib.Omega.{arith}
 use lib.Dec.{T}
 use lib.Ieee.{binary64, ofBits, inUnsigned, toUnsigned}
@@ -12,9 +12,6 @@ use Rattle.numbers.proofs.FloorCases.{Within, within, clamped-none, cla
 use borrow.Author.Needs.{needs}
 use Rattle.numbers.proofs.floor.clamped_floor.Statement.{statement}
 use Rattle.numbers.proofs.floor.clamped_floor.Tie as tie
-use Rattle.numbers.proofs.floor.clamped_floor.Reads as reads
-use Rattle.numbers.proofs.floor.clamped_floor.Lts as lts
-use Rattle.numbers.proofs.whole.whole_part.Reads as whole-part-reads
 
 fine : (c : tie.Then3) → Within (c .before .before .before .before .args .v) (c .before .before .before .before .args .count)
 unfolding ofBits
@@ -26,37 +23,29 @@ back c =
     let w = fine (c .before) in
     cast-back 32 _ _ (c .whole-part .ensures) (omega arith) (omega arith)
 
--- src/floor.rt:27:13
 returns : tie.Need-returns
 returns c = subst (λ (n : ℕ). 0 ≡ clampedFloor (c .before .before .args .v) n) (sym (c .if2 .taken)) (clamped-none _)
 
--- src/floor.rt:29:20
 sub-last : tie.Need-sub-last
 sub-last c = search needs
 
--- src/floor.rt:30:16
 int-to-float-if3 : tie.Need-int-to-float-if3
 int-to-float-if3 c = search needs
 
--- src/floor.rt:31:20
 whole-part-requires : tie.Need-whole-part-requires
 unfolding ofBits
 whole-part-requires c κs = (holds _ (c .before .before .before .if1 .taken), fine c .small)
 
--- src/floor.rt:31:20
 float-to-int-result : tie.Need-float-to-int-result
 float-to-int-result c = back (c .before) .0
 
--- src/floor.rt:31:13
 returns-2 : tie.Need-returns-2
 returns-2 c = let w = fine (c .before .before) in back (c .before) .1 ∙ clamped-within _ _ (w .above-zero) (omega arith)
 
--- src/floor.rt:33:9
 returns-3 : tie.Need-returns-3
 unfolding ofBits
 returns-3 c = clamped-high _ _ _ (c .before .before .before .if1 .taken) (whole-value _ (omega arith)) (c .if3 .left)
 
--- src/floor.rt:22:1
 returns-4 : tie.Need-returns-4
 unfolding ofBits
 returns-4 c = clamped-low _ _ (c .if1 .left)

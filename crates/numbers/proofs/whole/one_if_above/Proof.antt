@@ -2,15 +2,11 @@
 use lib.Ieee.{ofBits}
 use Rattle.numbers.proofs.whole.one_if_above.Statement.{statement}
 use Rattle.numbers.proofs.whole.one_if_above.Tie as tie
-use Rattle.numbers.proofs.whole.one_if_above.Reads as reads
-use Rattle.numbers.proofs.whole.one_if_above.Lts as lts
 
--- src/whole.rt:23:9
 returns : tie.Need-returns
 unfolding ofBits
 returns c = rw (c .if1 .taken)
 
--- src/whole.rt:19:1
 returns-2 : tie.Need-returns-2
 unfolding ofBits
 returns-2 c = rw (c .if1 .left)

@@ -1,11 +1,10 @@
 -- Sums, differences and a change of sign of floats whose values are known, over any format. Assumes nothing.
-use mathlib.Core.Path.{_≡_, refl, sym, ap, _∙_, subst}
-use Prim.Native.Nat.{ℕ, zero, suc, _+_, _-_, _*_, _^_, _≤_, _<_}
-use native.Mathlib.Nat.{le-trans, le-of-eq, not-le-of-lt, mul-one, one-mul, mul-pos, mul-assoc, mul-comm, mul-left-comm, add-mul, mul-sub, zero-lt-suc}
-use native.Mathlib.Omega.{arith}
+use mathlib.Core.Path.{_≡_, refl, sym, ap, _∙_}
+use Prim.Native.Nat.{ℕ, _+_, _-_, _*_, _≤_, _<_}
+use native.Mathlib.Nat.{not-le-of-lt, one-mul, mul-pos, mul-assoc, mul-comm, mul-left-comm, add-mul, mul-sub}
 use mathlib.Core.Bool.{Bool, true, false, not, cond, true≢false}
-use lib.IntN.{ℤ, pos, negsuc}
-use lib.Dec.{T, ltb, lt→ltb, ltb→lt}
+use lib.IntN.{pos}
+use lib.Dec.{T, ltb, ltb→lt}
 use lib.Ieee.{Float, nan, inf, fin, Format, up, down, round, neg, add, sub, mul}
 use lib.Ieee.Exact.{HasValue}
 use lib.Ieee.Fits.{down-pos}

@@ -5,9 +5,9 @@ ghost use Prim.Native.Nat.{_+_, _*_, _-_, _^_, _≤_, _<_};
 ghost use mathlib.Core.List.{List, [], _∷_, _++_, map};
 ghost use lib.ListN.{length, take, replicate};
 ghost use lib.Ieee.{binary64, ofBits};
-ghost use Rattle.wkb.specs.Bytes.{littleNumber, numberAt, numbersAt};
+ghost use Rattle.wkb.specs.Bytes.{littleNumber, numberAt};
 ghost use Rattle.wkb.specs.Reading.{orderOf, nought, ReadAs};
-ghost use Rattle.wkb.specs.Checked.{CheckedAs};
+ghost use Rattle.wkb.specs.Steps.{numbersAt, CheckedAs};
 
 // Which byte of a number comes first: the most significant one, or the least significant one.
 pub enum Order {
@@ -119,12 +119,12 @@ fn check(bytes: &[u8]) -> Checked
     }
     let end = 9 + 16 * count;
     if len < end {
-        return Checked::Fault(len);
+        Checked::Fault(len)
+    } else if end < len {
+        Checked::Fault(end)
+    } else {
+        Checked::Line { order, count }
     }
-    if end < len {
-        return Checked::Fault(end);
-    }
-    Checked::Line { order, count }
 }
 
 // Writes zero from `from` on.

@@ -5,7 +5,8 @@ use Prim.Native.Nat.{ℕ, _+_, _*_, _-_, _≤_, _<_}
 use native.Mathlib.Omega.{arith}
 use lib.Ieee.{Float, binary64, ofBits}
 use lib.ListN.{length, take, set, replicate}
-use Rattle.wkb.specs.Bytes.{numberAt, numbersAt}
+use Rattle.wkb.specs.Bytes.{numberAt}
+use Rattle.wkb.specs.Steps.{numbersAt}
 use Rattle.wkb.specs.Reading.{nought}
 use Rattle.wkb.specs.declared.Order.{Order}
 use Rattle.wkb.proofs.Axes.{axis-more}

@@ -6,7 +6,7 @@ use native.Mathlib.Omega.{arith}
 use borrow.Author.Needs.{needs}
 use lib.ListN.{length}
 use Rattle.wkb.specs.Reading.{found, refused}
-use Rattle.wkb.specs.Checked.{LineAt, CheckedAs}
+use Rattle.wkb.specs.Steps.{LineAt, CheckedAs}
 use Rattle.wkb.specs.declared.Order.{Order}
 use Rattle.wkb.specs.declared.Checked.{Checked}
 use Rattle.wkb.specs.declared.Checked.the-variants.{Line, Fault}

@@ -2,7 +2,7 @@
 use mathlib.Core.Path.{_≡_, refl, sym, ap, _∙_, subst}
 use mathlib.Core.Bool.{Bool, true, false, _&&_}
 use mathlib.Core.List.{List}
-use Prim.Native.Nat.{ℕ, zero, suc, _+_, _*_, _≤_, _<_}
+use Prim.Native.Nat.{ℕ, _+_, _*_, _≤_, _<_}
 use native.Mathlib.Omega.{arith}
 use lib.ListN.{length, getD}
 use lib.Dec.{T, leb, eqb}
@@ -145,13 +145,13 @@ field-passed bs start end right next h =
     let b = passed right 11 start next (a .1) in
     (leb-true end (length bs) (a .0), b .0, b .1)
 
--- the points ps were found, n of them in the order o
-pub record Points (bs : List ℕ) (o : Order) (n : ℕ) (ps : List Point) : Type 0 where
+-- every field is right, and the points, n of them in the order o, are ps
+pub record AllRight (bs : List ℕ) (o : Order) (n : ℕ) (ps : List Point) : Type 0 where
   pub counted : Counted bs o n
   pub whole : length bs ≡ 9 + 16 * n
   pub are : pointsAt o n 9 bs ≡ ps
 
-pub found-points : (bs : List ℕ) (ps : List Point) → found bs ≡ points ps → Points bs (orderOf (getD bs 0 0)) (numberAt (orderOf (getD bs 0 0)) 4 5 bs) ps
+pub found-points : (bs : List ℕ) (ps : List Point) → found bs ≡ points ps → AllRight bs (orderOf (getD bs 0 0)) (numberAt (orderOf (getD bs 0 0)) 4 5 bs) ps
 unfolding found typeField countField pointsField
 found-points bs ps h =
     let b = getD bs 0 0 in

@@ -2,7 +2,7 @@
 // order, the type 2, the number of points, the points.
 ghost use mathlib.Core.Path.{_≡_};
 ghost use Prim.Native.Nat.{_+_, _*_, _-_, _^_, _≤_, _<_};
-ghost use mathlib.Core.List.{List, [], _∷_, _++_, map};
+ghost use mathlib.Core.List.{[], _∷_, _++_, map};
 ghost use lib.ListN.{length, take, replicate};
 ghost use lib.Ieee.{binary64, ofBits};
 ghost use Rattle.wkb.specs.Bytes.{littleNumber, numberAt};
@@ -87,7 +87,8 @@ fn order_of(b: u8) -> Order
     if b == 0 { Order::Big } else { Order::Little }
 }
 
-// Looks at the fields in order, and writes nothing.
+// Looks at the fields in order, and writes nothing. A field that the input does not hold whole is a
+// fault at the end of input, and one that is wrong at its first byte.
 fn check(bytes: &[u8]) -> Checked
     ensures { λ r. ⌜ CheckedAs (now (bytes .entry)) r ⌝ }
 {

@@ -1,7 +1,6 @@
 -- `wkb::number_of_4` meets its contract: the sum is the definition's own. Assumes nothing.
 use native.Mathlib.Omega.{arith}
 use Rattle.wkb.specs.Bytes.{littleNumber}
-use borrow.Author.Needs.{needs}
 use Rattle.wkb.proofs.number_of_4.Statement.{statement}
 use Rattle.wkb.proofs.number_of_4.Tie as tie
 

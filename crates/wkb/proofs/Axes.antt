@@ -2,12 +2,13 @@
 -- Assumes nothing.
 use mathlib.Core.Path.{_≡_, refl, sym, ap, _∙_}
 use mathlib.Core.List.{List, [], _∷_, _++_, map}
-use Prim.Native.Nat.{ℕ, zero, suc, _+_, _*_, _≤_, _<_}
+use Prim.Native.Nat.{ℕ, zero, suc, _+_, _*_}
 use native.Mathlib.Omega.{arith}
 use native.Mathlib.Numerals.{add-one}
 use lib.ListN.{length}
 use lib.Ieee.{Float}
-use Rattle.wkb.specs.Bytes.{Point, numberAt, numbersAt, pointsAt}
+use Rattle.wkb.specs.Bytes.{Point, numberAt, pointsAt}
+use Rattle.wkb.specs.Steps.{numbersAt}
 use Rattle.wkb.specs.declared.Order.{Order}
 
 module _ (o : Order) (bs : List ℕ) where

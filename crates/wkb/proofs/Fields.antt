@@ -2,28 +2,28 @@
 use mathlib.Core.Path.{_≡_, refl, sym, ap, _∙_, subst}
 use mathlib.Core.Bool.{Bool, true, false, _&&_}
 use mathlib.Core.List.{List}
-use Prim.Native.Nat.{ℕ, zero, suc, _+_, _*_, _≤_, _<_}
+use Prim.Native.Nat.{ℕ, _+_, _*_, _≤_, _<_}
 use native.Mathlib.Omega.{arith}
 use lib.ListN.{length, getD}
 use lib.Dec.{T, leb, eqb}
 use borrow.Author.Tests.{le-leb, lt-leb, eq-eqb, ne-eqb, leb-true, eqb-true}
 use Rattle.wkb.specs.Bytes.{Point, numberAt, pointsAt}
-use Rattle.wkb.specs.Reading.{Found, points, refused, unless, field, orderOf, pointsField, countField, typeField, found}
+use Rattle.wkb.specs.Reading.{Found, points, refused, refuseUnless, field, orderOf, pointsField, countField, typeField, found}
 use Rattle.wkb.specs.declared.Order.{Order}
 
 -- ---- one field
 
 module _ (bs : List ℕ) (start end : ℕ) (right : Bool) (next : Found) where
   field-cut : length bs < end → field bs start end right next ≡ refused 11 (length bs)
-  unfolding field unless
+  unfolding field refuseUnless
   field-cut h = rw (lt-leb end (length bs) h)
 
   field-wrong : end ≤ length bs → right ≡ false → field bs start end right next ≡ refused 11 start
-  unfolding field unless
+  unfolding field refuseUnless
   field-wrong h e = rw (le-leb end (length bs) h, e)
 
   field-right : end ≤ length bs → right ≡ true → field bs start end right next ≡ next
-  unfolding field unless
+  unfolding field refuseUnless
   field-right h e = rw (le-leb end (length bs) h, e)
 
 -- ---- the order, named by the first byte
@@ -115,11 +115,11 @@ module _ {bs : List ℕ} {o : Order} {n : ℕ} (h : Counted bs o n) where
   points-cut k = to-points ∙ field-cut bs 9 (9 + 16 * n) _ _ k
 
   pub points-more : 9 + 16 * n < length bs → found bs ≡ refused 11 (9 + 16 * n)
-  unfolding pointsField unless
+  unfolding pointsField refuseUnless
   points-more k = to-points ∙ field-right bs 9 (9 + 16 * n) _ _ (omega arith) refl ∙ rw (lt-leb (length bs) (9 + 16 * n) k)
 
   pub points-right : length bs ≡ 9 + 16 * n → found bs ≡ points (pointsAt o n 9 bs)
-  unfolding pointsField unless
+  unfolding pointsField refuseUnless
   points-right k =
       to-points ∙ field-right bs 9 (9 + 16 * n) _ _ (omega arith) refl ∙ rw (le-leb (length bs) (9 + 16 * n) (omega arith))
 
@@ -129,8 +129,8 @@ module _ {bs : List ℕ} {o : Order} {n : ℕ} (h : Counted bs o n) where
 pub apart : {A : Type 0} {f : Found} {k v : ℕ} {ps : List Point} → f ≡ refused k v → f ≡ points ps → A
 apart e d = let z : _≡_ {A = ℕ} 0 1 = cc in absurd (omega arith)
 
-passed : (t : Bool) (k v : ℕ) (next : Found) {ps : List Point} → unless t k v next ≡ points ps → (t ≡ true) × (next ≡ points ps)
-unfolding unless
+passed : (t : Bool) (k v : ℕ) (next : Found) {ps : List Point} → refuseUnless t k v next ≡ points ps → (t ≡ true) × (next ≡ points ps)
+unfolding refuseUnless
 passed true k v next h = (refl, h)
 passed false k v next h = apart refl h
 
@@ -141,17 +141,17 @@ both false t h = let z : _≡_ {A = Bool} false true = h in absurd (subst T (sym
 field-passed : (bs : List ℕ) (start end : ℕ) (right : Bool) (next : Found) {ps : List Point} → field bs start end right next ≡ points ps → (end ≤ length bs) × (right ≡ true) × (next ≡ points ps)
 unfolding field
 field-passed bs start end right next h =
-    let a = passed (leb end (length bs)) 11 (length bs) (unless right 11 start next) h in
+    let a = passed (leb end (length bs)) 11 (length bs) (refuseUnless right 11 start next) h in
     let b = passed right 11 start next (a .1) in
     (leb-true end (length bs) (a .0), b .0, b .1)
 
--- the points ps were found, n of them in the order o
-pub record Points (bs : List ℕ) (o : Order) (n : ℕ) (ps : List Point) : Type 0 where
+-- every field is right, and the points, n of them in the order o, are ps
+pub record AllRight (bs : List ℕ) (o : Order) (n : ℕ) (ps : List Point) : Type 0 where
   pub counted : Counted bs o n
   pub whole : length bs ≡ 9 + 16 * n
   pub are : pointsAt o n 9 bs ≡ ps
 
-pub found-points : (bs : List ℕ) (ps : List Point) → found bs ≡ points ps → Points bs (orderOf (getD bs 0 0)) (numberAt (orderOf (getD bs 0 0)) 4 5 bs) ps
+pub found-points : (bs : List ℕ) (ps : List Point) → found bs ≡ points ps → AllRight bs (orderOf (getD bs 0 0)) (numberAt (orderOf (getD bs 0 0)) 4 5 bs) ps
 unfolding found typeField countField pointsField
 found-points bs ps h =
     let b = getD bs 0 0 in
@@ -160,7 +160,7 @@ found-points bs ps h =
     let f1 = field-passed bs 0 1 (leb b 1) (typeField o bs) h in
     let f2 = field-passed bs 1 5 (eqb (numberAt o 4 1 bs) 2) (countField o n bs) (f1 .2) in
     let f3 = field-passed bs 5 9 (leb 1 n && leb n 1024) (pointsField o n bs) (f2 .2) in
-    let f4 = field-passed bs 9 (9 + 16 * n) true (unless (leb (length bs) (9 + 16 * n)) 11 (9 + 16 * n) (points (pointsAt o n 9 bs))) (f3 .2) in
+    let f4 = field-passed bs 9 (9 + 16 * n) true (refuseUnless (leb (length bs) (9 + 16 * n)) 11 (9 + 16 * n) (points (pointsAt o n 9 bs))) (f3 .2) in
     let f5 = passed (leb (length bs) (9 + 16 * n)) 11 (9 + 16 * n) (points (pointsAt o n 9 bs)) (f4 .2) in
     let range = both (leb 1 n) (leb n 1024) (f3 .1) in
     record {

@@ -7,17 +7,17 @@ use native.Mathlib.Omega.{arith}
 use lib.ListN.{length, take, drop, getD, length-append, length-drop, take-append-drop, drop-of-length-le}
 use lib.Seq.{drop-cons, drop-drop, length-take-le, take-at, drop-at}
 use Rattle.wkb.specs.Bytes.{orderByte, wordBytes, Point, pointBytes, pointsBytes, lineBytes, Patterns, LineString, number, numberAt, pointsAt}
-use Rattle.wkb.specs.Reading.{Found, points, orderOf, found}
+use Rattle.wkb.specs.Reading.{points, orderOf, found}
 use Rattle.wkb.specs.declared.Order.{Order}
 use Rattle.wkb.specs.declared.Order.the-variants.{Big, Little}
 use Rattle.wkb.proofs.Words.{Small, small-take, small-drop, length-word, number-word, word-number, at-below}
 use Rattle.wkb.proofs.Axes.{length-points}
-use Rattle.wkb.proofs.Fields.{Ordered, Typed, Counted, points-right, found-points}
+use Rattle.wkb.proofs.Fields.{Counted, points-right, found-points}
 
 -- ---- a number at a position
 
 -- what stands at a position, as a number's bytes and what follows them
-split-word : (o : Order) (k at : ℕ) (bs : List ℕ) → Small bs → at + k ≤ length bs → drop at bs ≡ wordBytes o k (numberAt o k at bs) ++ drop (at + k) bs
+pub split-word : (o : Order) (k at : ℕ) (bs : List ℕ) → Small bs → at + k ≤ length bs → drop at bs ≡ wordBytes o k (numberAt o k at bs) ++ drop (at + k) bs
 unfolding numberAt
 split-word o k at bs s h =
     let n : length (take k (drop at bs)) ≡ k = length-take-le k (drop at bs) (rw (length-drop at bs) (omega arith)) in
@@ -30,7 +30,7 @@ pub record Stands (o : Order) (k at v : ℕ) (bs rest : List ℕ) : Type 0 where
   pub value : numberAt o k at bs ≡ v
   pub after : drop (at + k) bs ≡ rest
 
-read-word : (o : Order) (k at v : ℕ) (bs rest : List ℕ) → v < 256 ^ k → drop at bs ≡ wordBytes o k v ++ rest → Stands o k at v bs rest
+pub read-word : (o : Order) (k at v : ℕ) (bs rest : List ℕ) → v < 256 ^ k → drop at bs ≡ wordBytes o k v ++ rest → Stands o k at v bs rest
 unfolding numberAt
 read-word o k at v bs rest h e = record {
   value = ap (λ (l : List ℕ). number o (take k l)) e ∙ ap (number o) (take-at (wordBytes o k v) rest k (length-word o k v)) ∙ number-word o k v h;
@@ -39,7 +39,8 @@ read-word o k at v bs rest h e = record {
 
 -- ---- a list of points at a position
 
-length-points-bytes : (o : Order) (ps : List Point) → length (pointsBytes o ps) ≡ 16 * length ps
+-- a point has 16 bytes
+pub length-points-bytes : (o : Order) (ps : List Point) → length (pointsBytes o ps) ≡ 16 * length ps
 unfolding pointsBytes pointBytes
 length-points-bytes o [] = refl
 length-points-bytes o (p ∷ ps) =
@@ -100,7 +101,7 @@ byte-back (suc zero) h = refl
 byte-back (suc (suc b)) h = absurd (omega arith)
 
 -- what has its fields right and ends with its last point is a LineString of the points that are read
-whole-line : (o : Order) (n : ℕ) (bs : List ℕ) → Small bs → Counted bs o n → length bs ≡ 9 + 16 * n → LineString bs (pointsAt o n 9 bs)
+pub whole-line : (o : Order) (n : ℕ) (bs : List ℕ) → Small bs → Counted bs o n → length bs ≡ 9 + 16 * n → LineString bs (pointsAt o n 9 bs)
 unfolding lineBytes
 whole-line o n bs s h e =
     let ps = pointsAt o n 9 bs in

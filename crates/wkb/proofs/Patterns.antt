@@ -1,11 +1,11 @@
 -- Which bit patterns of 64 bits are a NaN's: those that, without the sign, lie above infinity's. Assumes nothing.
-use mathlib.Core.Path.{_≡_, refl, sym, ap, _∙_}
-use mathlib.Core.Bool.{Bool, true, false, not, cond, _&&_}
-use Prim.Native.Nat.{ℕ, zero, suc, _+_, _*_, _/_, _%_, _^_, _≤_, _<_}
+use mathlib.Core.Path.{_≡_, ap, _∙_}
+use mathlib.Core.Bool.{false, not}
+use Prim.Native.Nat.{ℕ, _*_, _/_, _%_, _^_, _≤_, _<_}
 use native.Mathlib.Omega.{arith}
 use native.Mathlib.Decide.{ℕ-discrete}
 use lib.Dec.{T, leb, eqb}
-use lib.Ieee.{Float, nan, inf, binary64, ofFields, ofBits, nanBits}
+use lib.Ieee.{nan, binary64, ofFields, ofBits, nanBits}
 use borrow.Author.Tests.{eq-eqb, ne-eqb}
 
 -- infinity's pattern is 2047 * 2 ^ 52

@@ -1,17 +1,14 @@
 -- The reader's promise from its parts: after a refusal, and after points were read. Assumes nothing.
 use mathlib.Core.Path.{_≡_, sym, ap, _∙_}
-use mathlib.Core.Bool.{Bool, true, false, _&&_}
 use mathlib.Core.List.{List, _++_, map}
-use Prim.Native.Nat.{ℕ, _+_, _*_, _-_, _≤_, _<_}
-use lib.Dec.{leb, eqb}
+use Prim.Native.Nat.{ℕ, _-_, _≤_, _<_}
 use lib.Ieee.{Float, binary64, ofBits}
 use lib.ListN.{length, replicate}
 use borrow.Author.Tests.{le-leb, lt-leb, eq-eqb, ne-eqb}
-use Rattle.wkb.specs.Bytes.{Point, numbersAt, pointsAt}
-use Rattle.wkb.specs.Reading.{Found, points, refused, unless, found, outcome, answerOf, leftIn, nought, ReadAs}
-use Rattle.wkb.specs.Checked.{LineAt}
+use Rattle.wkb.specs.Bytes.{pointsAt}
+use Rattle.wkb.specs.Reading.{Found, points, refused, refuseUnless, found, outcome, answerOf, leftIn, nought, ReadAs}
+use Rattle.wkb.specs.Steps.{numbersAt, LineAt}
 use Rattle.wkb.specs.declared.Order.{Order}
-use Rattle.wkb.specs.declared.Read.{Read}
 use Rattle.wkb.specs.declared.Read.the-variants.{Points, Refused}
 use Rattle.wkb.proofs.Words.{Small}
 use Rattle.wkb.proofs.Axes.{length-points, axis-x, axis-y}
@@ -21,15 +18,15 @@ use Rattle.wkb.proofs.LineStrings.{sound, complete}
 
 module _ (m n : ℕ) (bs : List ℕ) where
   pub unequal : (m ≡ n → ⊥) → outcome m n bs ≡ refused 3 0
-  unfolding outcome unless
+  unfolding outcome refuseUnless
   unequal h = rw (ne-eqb m n h)
 
   pub short : m ≡ n → m < 1024 → outcome m n bs ≡ refused 3 0
-  unfolding outcome unless
+  unfolding outcome refuseUnless
   short e h = rw (eq-eqb m n e, lt-leb 1024 m h)
 
   pub room : m ≡ n → 1024 ≤ m → outcome m n bs ≡ found bs
-  unfolding outcome unless
+  unfolding outcome refuseUnless
   room e h = rw (eq-eqb m n e, le-leb 1024 m h)
 
 -- ---- the promise

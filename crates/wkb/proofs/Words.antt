@@ -1,13 +1,12 @@
 -- Laws of numbers in bytes: a number and its bytes give each other, in either order and at any width; and how 4 and 8 bytes at a
 -- position are read. Assumes nothing.
 use mathlib.Core.Path.{_≡_, refl, sym, ap, _∙_, subst}
-use Prim.Native.Nat.{ℕ, zero, suc, _+_, _-_, _*_, _/_, _%_, _^_, _≤_, _<_}
-use native.Mathlib.Nat.{pow-succ', le-of-suc-le-suc, zero-lt-suc, add-suc, add-zero}
-use native.Mathlib.Numerals.{add-one}
+use Prim.Native.Nat.{ℕ, zero, suc, _+_, _*_, _/_, _%_, _^_, _≤_, _<_}
+use native.Mathlib.Nat.{pow-succ'}
 use native.Mathlib.Omega.{arith}
 use mathlib.Core.List.{List, [], _∷_, _++_, reverse, reverse-cons, reverse-reverse}
-use lib.ListN.{length, take, drop, getD, length-append, length-reverse, length-take, length-drop}
-use lib.Seq.{drop-cons, take-add, drop-drop, length-take-le}
+use lib.ListN.{length, take, drop, getD, length-reverse, length-drop}
+use lib.Seq.{take-nil, drop-nil, drop-cons, take-add, drop-drop, length-take-le}
 use Rattle.wkb.specs.Bytes.{littleBytes, wordBytes, littleNumber, number, numberAt}
 use Rattle.wkb.specs.declared.Order.{Order}
 use Rattle.wkb.specs.declared.Order.the-variants.{Big, Little}
@@ -32,20 +31,12 @@ small-reverse [] s = tt
 small-reverse (b ∷ bs) s = rw (reverse-cons b bs) (small-append (reverse bs) (b ∷ []) (small-reverse bs (s .1)) (s .0, tt))
 
 pub small-take : (k : ℕ) (bs : List ℕ) → Small bs → Small (take k bs)
-small-take k [] s = subst Small (sym (nil k)) tt
-  where
-    nil : (k : ℕ) → _≡_ {A = List ℕ} (take k []) []
-    nil zero = refl
-    nil (suc k) = refl
+small-take k [] s = subst Small (sym (take-nil k)) tt
 small-take zero (b ∷ bs) s = tt
 small-take (suc k) (b ∷ bs) s = (s .0, small-take k bs (s .1))
 
 pub small-drop : (k : ℕ) (bs : List ℕ) → Small bs → Small (drop k bs)
-small-drop k [] s = subst Small (sym (nil k)) tt
-  where
-    nil : (k : ℕ) → _≡_ {A = List ℕ} (drop k []) []
-    nil zero = refl
-    nil (suc k) = refl
+small-drop k [] s = subst Small (sym (drop-nil k)) tt
 small-drop zero (b ∷ bs) s = s
 small-drop (suc k) (b ∷ bs) s = small-drop k bs (s .1)
 

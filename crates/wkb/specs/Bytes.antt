@@ -62,6 +62,7 @@ unfoldable pub littleNumber : List ℕ → ℕ
 littleNumber [] = 0
 littleNumber (b ∷ bs) = b + 256 * littleNumber bs
 
+-- the same in either order
 unfoldable pub number : Order → List ℕ → ℕ
 number Big bs = littleNumber (reverse bs)
 number Little bs = littleNumber bs
@@ -69,11 +70,6 @@ number Little bs = littleNumber bs
 -- the number in the k bytes from a position on
 unfoldable pub numberAt : Order → ℕ → ℕ → List ℕ → ℕ
 numberAt o k at bs = number o (take k (drop at bs))
-
--- n numbers of 8 bytes, 16 bytes from one to the next: one coordinate of each of n points
-unfoldable pub numbersAt : Order → ℕ → ℕ → List ℕ → List ℕ
-numbersAt o zero at bs = []
-numbersAt o (suc n) at bs = numberAt o 8 at bs ∷ numbersAt o n (at + 16) bs
 
 -- the n points from a position on
 unfoldable pub pointsAt : Order → ℕ → ℕ → List ℕ → List Point

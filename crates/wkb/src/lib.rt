@@ -2,12 +2,12 @@
 // order, the type 2, the number of points, the points.
 ghost use mathlib.Core.Path.{_≡_};
 ghost use Prim.Native.Nat.{_+_, _*_, _-_, _^_, _≤_, _<_};
-ghost use mathlib.Core.List.{List, [], _∷_, _++_, map};
+ghost use mathlib.Core.List.{[], _∷_, _++_, map};
 ghost use lib.ListN.{length, take, replicate};
 ghost use lib.Ieee.{binary64, ofBits};
-ghost use Rattle.wkb.specs.Bytes.{littleNumber, numberAt, numbersAt};
+ghost use Rattle.wkb.specs.Bytes.{littleNumber, numberAt};
 ghost use Rattle.wkb.specs.Reading.{orderOf, nought, ReadAs};
-ghost use Rattle.wkb.specs.Checked.{CheckedAs};
+ghost use Rattle.wkb.specs.Steps.{numbersAt, CheckedAs};
 
 // Which byte of a number comes first: the most significant one, or the least significant one.
 pub enum Order {
@@ -87,7 +87,8 @@ fn order_of(b: u8) -> Order
     if b == 0 { Order::Big } else { Order::Little }
 }
 
-// Looks at the fields in order, and writes nothing.
+// Looks at the fields in order, and writes nothing. A field that the input does not hold whole is a
+// fault at the end of input, and one that is wrong at its first byte.
 fn check(bytes: &[u8]) -> Checked
     ensures { λ r. ⌜ CheckedAs (now (bytes .entry)) r ⌝ }
 {
@@ -119,12 +120,12 @@ fn check(bytes: &[u8]) -> Checked
     }
     let end = 9 + 16 * count;
     if len < end {
-        return Checked::Fault(len);
+        Checked::Fault(len)
+    } else if end < len {
+        Checked::Fault(end)
+    } else {
+        Checked::Line { order, count }
     }
-    if end < len {
-        return Checked::Fault(end);
-    }
-    Checked::Line { order, count }
 }
 
 // Writes zero from `from` on.

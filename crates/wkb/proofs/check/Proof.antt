@@ -70,7 +70,7 @@ check-spec =
     tie.close
     (tie.spec
     returns
-    (λ c. search needs)
+    (λ c. omega arith)
     returns-2
     (λ c κs. search needs)
     returns-3
@@ -80,8 +80,8 @@ check-spec =
     (λ c κs. search needs)
     returns-6
     returns-7
-    (λ c. search needs)
-    (λ c. search needs)
+    (λ c. omega arith)
+    (λ c. omega arith)
     returns-8
     returns-9
     returns-10)

@@ -1,7 +1,6 @@
 -- `wkb::number_of_4` meets its contract: the sum is the definition's own. Assumes nothing.
 use native.Mathlib.Omega.{arith}
 use Rattle.wkb.specs.Bytes.{littleNumber}
-use borrow.Author.Needs.{needs}
 use Rattle.wkb.proofs.number_of_4.Statement.{statement}
 use Rattle.wkb.proofs.number_of_4.Tie as tie
 
@@ -13,14 +12,14 @@ pub number-of-4-spec : {M : Type 1} → statement M
 number-of-4-spec =
     tie.close
     (tie.spec
-    (λ c κs. search needs)
-    (λ c κs. search needs)
-    (λ c κs. search needs)
-    (λ c κs. search needs)
-    (λ c. search needs)
-    (λ c. search needs)
-    (λ c. search needs)
-    (λ c. search needs)
-    (λ c. search needs)
-    (λ c. search needs)
+    (λ c κs. tt)
+    (λ c κs. tt)
+    (λ c κs. tt)
+    (λ c κs. tt)
+    (λ c. omega arith)
+    (λ c. omega arith)
+    (λ c. omega arith)
+    (λ c. omega arith)
+    (λ c. omega arith)
+    (λ c. omega arith)
     returns)

@@ -1,11 +1,12 @@
 -- `wkb::read_axis` meets its contract. The invariant: the coordinates of the first i points stand at the start. Assumes nothing.
-use mathlib.Core.Path.{_≡_, refl, ap, sym, _∙_}
-use mathlib.Core.List.{List, map, _++_, _∷_, []}
+use mathlib.Core.Path.{_≡_, refl, _∙_}
+use mathlib.Core.List.{List, map, _++_}
 use Prim.Native.Nat.{ℕ, _+_, _*_, _-_, _≤_, _<_}
 use native.Mathlib.Omega.{arith}
 use lib.Ieee.{Float, binary64, ofBits}
 use lib.ListN.{length, take, set, replicate}
-use Rattle.wkb.specs.Bytes.{numberAt, numbersAt}
+use Rattle.wkb.specs.Bytes.{numberAt}
+use Rattle.wkb.specs.Steps.{numbersAt}
 use Rattle.wkb.specs.Reading.{nought}
 use Rattle.wkb.specs.declared.Order.{Order}
 use Rattle.wkb.proofs.Axes.{axis-more}

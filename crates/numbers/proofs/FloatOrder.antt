@@ -236,6 +236,17 @@ le-neg (fin s m e) (fin t n d) h =
 
 -- ---- what a comparison shows
 
+pub lt-le : (x y : Float) → lt x y ≡ true → T (le x y)
+unfolding le
+lt-le x y h = or-l (lt x y) (eq x y) (subst T (sym h) tt)
+
+pub le-self : (x : Float) → T (number x) → T (le x x)
+unfolding le lt eq
+le-self nan h = absurd h
+le-self (inf true) h = tt
+le-self (inf false) h = tt
+le-self (fin s m e) h = signed-of s (m * up e * down e) s (m * up e * down e) (omega arith)
+
 pub le-number : (x y : Float) → T (le x y) → T (number y)
 unfolding le lt eq
 le-number nan y h = absurd h

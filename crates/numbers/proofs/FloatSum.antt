@@ -35,7 +35,7 @@ le-zero f a c C h = subst (λ (z : Float). T (le (round f false a c) z)) (zero-i
     none a c h = omega arith
 
 -- a rounded fraction below zero
-below-zero : (f : Format) (a c : ℕ) → 0 < c → T (le (round f true a c) (fin true 0 (pos 0)))
+pub below-zero : (f : Format) (a c : ℕ) → 0 < c → T (le (round f true a c) (fin true 0 (pos 0)))
 unfolding neg
 below-zero f a c C = rw (← neg-round f false a c) (le-neg (fin false 0 (pos 0)) (round f false a c) (zero-le f a c C))
 
@@ -78,7 +78,7 @@ module _ (f : Format) (P N C P' N' C' : ℕ) (pC : 0 < C) (pC' : 0 < C') (h : P 
           let b : y * C ≤ 0 * C = omega arith in
           (le-of-mul-le-mul-right a pC', le-of-mul-le-mul-right b pC)
 
-  rounds-mono : (z z' : Float) → Rounds f z P N C → Rounds f z' P' N' C' → T (le z z')
+  pub rounds-mono : (z z' : Float) → Rounds f z P N C → Rounds f z' P' N' C' → T (le z z')
   rounds-mono z z' (over k e) (over k' e') = rw (e, e') (round-mono f (P - N) C (P' - N') C' pC pC' (over-cross k k'))
   rounds-mono z z' (short k e) (short k' e') =
       rw (e, e', ← neg-round f false (N - P) C, ← neg-round f false (N' - P') C')

@@ -1,13 +1,13 @@
 -- A quotient by a value above zero is the exact quotient, rounded once, and keeps the order of the dividend. Assumes nothing.
 use mathlib.Core.Path.{_≡_, refl, ap, _∙_}
 use mathlib.Core.Bool.{Bool, true, false, cond}
-use Prim.Native.Nat.{ℕ, zero, suc, _+_, _-_, _*_, _≤_, _<_}
+use Prim.Native.Nat.{ℕ, _+_, _*_, _≤_, _<_}
 use native.Mathlib.Nat.{mul-pos, mul-le-mul-right}
 use native.Mathlib.Omega.{arith}
-use lib.Dec.{T, ltb, eqb, ltb→lt, eqb→eq}
+use lib.Dec.{T, eqb, ltb→lt, eqb→eq}
 use lib.IntN.{ℤ}
 use lib.Ieee.{Float, nan, inf, fin, Format, up, down, unlike, round, div, le}
-use lib.Ieee.Fits.{up-pos, down-pos}
+use lib.Ieee.Fits.{up-pos}
 use lib.Ieee.Scale.{finite}
 use lib.Ieee.Positive.{num, den, den-pos, positive}
 use Rattle.numbers.proofs.FloatOrder.{plus, minus, le→cross}
@@ -36,7 +36,7 @@ div-rounds f (inf s) y p q = absurd p
 div-rounds f (fin false m e) y p q = over (omega arith) (div-is f false m e y q ∙ ap (λ (n : ℕ). round f false n (num y * down e)) (omega arith))
 div-rounds f (fin true m e) y p q = short (omega arith) (div-is f true m e y q ∙ ap (λ (n : ℕ). round f true n (num y * down e)) (omega arith))
 
-num-pos : (y : Float) → T (positive y) → 0 < num y
+pub num-pos : (y : Float) → T (positive y) → 0 < num y
 num-pos nan p = absurd p
 num-pos (inf s) p = absurd p
 num-pos (fin true m e) p = absurd p

@@ -1,19 +1,18 @@
 -- A sum of floats keeps the order of its first summand, and of its second: it is the exact sum, a signed fraction, rounded once, and
 -- rounding keeps the order. Overflow to an infinity is included. Assumes nothing.
-use mathlib.Core.Path.{_≡_, refl, sym, ap, ap₂, _∙_, subst, subst₂}
-use mathlib.Core.Bool.{Bool, true, false, not, _&&_, cond, Bool·beq}
-use Prim.Native.Nat.{ℕ, zero, suc, _+_, _-_, _*_, _≤_, _<_}
+use mathlib.Core.Path.{_≡_, refl, sym, ap, _∙_, subst}
+use mathlib.Core.Bool.{Bool, true, false, not, _&&_, cond}
+use Prim.Native.Nat.{ℕ, _+_, _-_, _*_, _≤_, _<_}
 use native.Mathlib.Nat.{add-comm, mul-comm, mul-pos, mul-le-mul-right, le-of-mul-le-mul-right}
 use native.Mathlib.Omega.{arith}
 use lib.Dec.{T, ltb, ltb→lt, nltb→le}
-use lib.IntN.{ℤ, pos}
+use lib.IntN.{pos}
 use lib.Ieee.{Float, nan, inf, fin, Format, binary32, binary64, up, down, round, neg, sum, add, le}
-use lib.Ieee.Fits.{down-pos}
 use lib.Ieee.Order.{round-mono}
 use lib.Ieee.Scale.{finite}
 use lib.Ieee.Positive.{den, den-pos}
 use Rattle.numbers.proofs.Values.{neg-round}
-use Rattle.numbers.proofs.FloatOrder.{number, above, under, plus, minus, Cross, le→cross, cross→le, float-le-trans, le-neg, le-number, least-of-all, greatest-of-all, neg-number}
+use Rattle.numbers.proofs.FloatOrder.{number, above, under, plus, minus, le→cross, float-le-trans, le-neg, le-number, least-of-all, greatest-of-all, neg-number}
 
 -- ---- the sign of a rounded fraction
 

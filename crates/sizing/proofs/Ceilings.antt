@@ -1,14 +1,15 @@
 -- The ceiling of a value with a clear sign: the first whole number that is not below it. Assumes nothing.
-use mathlib.Core.Path.{_≡_, refl, sym, ap, _∙_}
+use mathlib.Core.Path.{_≡_, refl}
 use mathlib.Core.Bool.{true, false}
-use Prim.Native.Nat.{ℕ, zero, suc, _+_, _-_, _*_, _/_, _%_, _^_, _≤_, _<_, min}
-use native.Mathlib.Nat.{le-trans, div-lt-iff-lt-mul, le-div-iff-mul-le, div-add-mod', mod-lt}
+use Prim.Native.Nat.{ℕ, _+_, _-_, _*_, _/_, _^_, _≤_, _<_, min}
+use native.Mathlib.Nat.{div-lt-iff-lt-mul, le-div-iff-mul-le, div-add-mod', mod-lt}
 use native.Mathlib.Omega.{arith}
 use lib.Dec.{T}
-use lib.Ieee.{Float, nan, inf, fin, up, down}
+use lib.Ieee.{Float, nan, inf, fin}
 use lib.Ieee.Positive.{num, den, den-pos, positive}
 use Rattle.numbers.specs.Ceiling.{ceilingOf}
-use Rattle.sizing.proofs.Plain.{nonneg, nonneg-of-positive, num-pos}
+use Rattle.numbers.proofs.FloatQuotient.{num-pos}
+use Rattle.sizing.proofs.Plain.{nonneg, nonneg-of-positive}
 
 -- ---- over plain numbers
 

@@ -1,13 +1,13 @@
 -- How many cells of a size a width takes: from 1 to 1,001 times j for a size after halvings by j, and at most twice as many for the half. Assumes nothing.
-use mathlib.Core.Path.{_≡_, refl, sym, ap, _∙_, subst}
-use mathlib.Core.Bool.{Bool, true, false}
-use Prim.Native.Nat.{ℕ, zero, suc, _+_, _-_, _*_, _/_, _^_, _≤_, _<_, min}
+use mathlib.Core.Path.{_≡_, refl, sym, subst}
+use mathlib.Core.Bool.{true, false}
+use Prim.Native.Nat.{ℕ, _*_, _/_, _^_, _≤_, _<_}
 use native.Mathlib.Nat.{le-trans, le-of-eq, mul-one, mul-pos, mul-assoc, mul-le-mul-right, mul-le-mul-left, le-of-mul-le-mul-right}
 use native.Mathlib.Omega.{arith}
 use lib.Dec.{T, lit≤, lit<}
-use lib.IntN.{pos, negsuc}
+use lib.IntN.{negsuc}
 use lib.Pow.{pow-pos}
-use lib.Ieee.{Float, nan, inf, fin, Format, binary64, prec, low, size, round, div, le}
+use lib.Ieee.{Float, nan, inf, fin, binary64, size, round, div, le}
 use lib.Ieee.Exact.{HasValue}
 use lib.Ieee.Order.{round-mono}
 use lib.Ieee.Back.{round-whole}
@@ -18,7 +18,8 @@ use Rattle.sizing.specs.Size.{halfOf}
 use Rattle.sizing.specs.Counts.{countOn}
 use Rattle.sizing.proofs.Constants.{two, two-is}
 use Rattle.sizing.proofs.Reach.{Spans}
-use Rattle.sizing.proofs.Plain.{nonneg, own-value, nonneg-of-value, nonneg-of-positive, num-pos, div-at, nonneg-under, values-of-le, Times}
+use Rattle.numbers.proofs.FloatQuotient.{num-pos}
+use Rattle.sizing.proofs.Plain.{nonneg, own-value, nonneg-of-value, nonneg-of-positive, div-at, nonneg-under, values-of-le, Times}
 use Rattle.sizing.proofs.Width.{stretched, Stretched, stretched-is}
 use Rattle.sizing.proofs.Halving.{Sized, half-low, half-sized, times-half, one-value, twice-value}
 use Rattle.sizing.proofs.Ceilings.{ceiling-most, ceiling-above, ceiling-some}

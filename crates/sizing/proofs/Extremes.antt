@@ -1,5 +1,5 @@
 -- The lesser and the greater of two floats: one of the two, and, of two that are no NaN, not above, or not below, either. Assumes nothing.
-use mathlib.Core.Path.{_≡_, refl, sym, subst}
+use mathlib.Core.Path.{_≡_, refl}
 use mathlib.Core.Bool.{Bool, true, false, cond}
 use lib.Dec.{T}
 use lib.Ieee.{Float, nan, inf, fin, lt, le, isNan}

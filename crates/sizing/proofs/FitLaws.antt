@@ -2,19 +2,18 @@
 -- So no caller sees refusal 8 on a grid that a build returns. Assumes nothing.
 use mathlib.Core.Path.{_≡_, refl, sym, ap, _∙_, subst}
 use mathlib.Core.Bool.{Bool, true, false, _&&_}
-use Prim.Native.Nat.{ℕ, zero, suc, _+_, _-_, _*_, _^_, _≤_, _<_, min}
+use Prim.Native.Nat.{ℕ, zero, suc, _+_, _-_, _*_, _^_, _≤_, _<_}
 use native.Mathlib.Nat.{le-trans, mul-le-mul, mul-le-mul-left, pow-succ'}
 use native.Mathlib.Numerals.{add-one}
 use native.Mathlib.Omega.{arith}
 use borrow.Author.Tests.{le-leb}
 use lib.Dec.{T, leb}
-use lib.ListN.{length, getD}
+use lib.ListN.{getD}
 use lib.IntN.{negsuc}
 use lib.Ieee.{Float, nan, fin, binary64, round, div, le}
 use lib.Ieee.Positive.{num, den}
 use Rattle.numbers.specs.Order.{magnitudeOf}
 use Rattle.numbers.specs.Ceiling.{ceilingOf}
-use Rattle.grid.specs.declared.Grid.{Grid}
 use Rattle.grid.specs.Domain.{Lines, count, coordinate, point, segment, lineFits, counts, shape, sizeFits, fit}
 use Rattle.grid.proofs.Bools.{and-left, and-right, and-both}
 use Rattle.grid.proofs.Shapes.{shape-cells}
@@ -28,7 +27,7 @@ use Rattle.sizing.proofs.Reach.{Lie, Spans, lowest-obeys, reach-spans}
 use Rattle.sizing.proofs.Plain.{nonneg-of-positive, cross→le}
 use Rattle.sizing.proofs.Width.{stretched}
 use Rattle.sizing.proofs.Halving.{Sized, half-sized}
-use Rattle.sizing.proofs.CountLaws.{Across, count-exact, count-most, count-some, count-twice, half-across}
+use Rattle.sizing.proofs.CountLaws.{count-exact, count-most, count-some, count-twice, half-across}
 use Rattle.sizing.proofs.SizeLaws.{SizedOn, first-sized}
 
 holds : (b : Bool) → T b → b ≡ true

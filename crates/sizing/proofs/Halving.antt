@@ -1,42 +1,27 @@
 -- To halve a cell size is exact, and what is K times the size is 2 K times its half; a quotient by the half is twice the quotient. Assumes nothing.
-use mathlib.Core.Path.{_≡_, refl, sym, ap, ap₂, _∙_, subst}
-use mathlib.Core.Bool.{Bool, true, false, not, _&&_}
-use Prim.Native.Nat.{ℕ, zero, suc, _+_, _-_, _*_, _/_, _%_, _^_, _≤_, _<_}
-use native.Mathlib.Nat.{le-trans, le-of-eq, le-of-lt, le-of-suc-le-suc, lt-of-lt-of-le, lt-of-le-of-lt, lt-of-not-le, not-le-of-lt, mul-comm, mul-assoc, mul-left-comm, mul-right-comm, mul-one, one-mul, mul-le-mul-right, mul-le-mul-left, mul-lt-mul-of-pos-right, lt-of-mul-lt-mul-right, le-of-mul-le-mul-right, mul-pos, pow-succ', pow-suc, lt-irrefl}
+use mathlib.Core.Path.{_≡_, refl, sym, ap, _∙_, subst}
+use mathlib.Core.Bool.{true, false}
+use Prim.Native.Nat.{ℕ, zero, suc, _+_, _-_, _*_, _/_, _^_, _≤_, _<_}
+use native.Mathlib.Nat.{le-trans, le-of-eq, le-of-lt, mul-assoc, mul-one, one-mul, mul-le-mul-right, mul-le-mul-left, mul-lt-mul-of-pos-right, lt-of-mul-lt-mul-right, le-of-mul-le-mul-right, mul-pos, pow-succ', pow-suc, lt-irrefl}
 use native.Mathlib.Omega.{arith}
-use lib.Dec.{T, leb, ltb, eqb, leb→le, ltb→lt, lit≤, lit<}
-use lib.Pow.{pow-pos, pow-add, pow-lt}
+use lib.Dec.{T, ltb→lt, lit≤, lit<}
+use lib.Pow.{pow-pos, pow-add}
 use lib.IntN.{ℤ, pos, negsuc}
-use lib.Ieee.{Float, nan, inf, fin, Format, binary32, binary64, prec, emax, low, size, fits, round, add, div, le, up, down}
-use lib.Ieee.Fits.{up-pos, down-pos, and-l, and-r, div-fits}
+use lib.Ieee.{Float, nan, inf, fin, Format, binary32, binary64, prec, emax, low, size, fits, round, div, up, down}
+use lib.Ieee.Fits.{down-pos, div-fits}
 use lib.Ieee.Exact.{HasValue, round-exact}
-use lib.Ieee.Scale.{round-same, grid, grid-scale, finite}
+use lib.Ieee.Scale.{grid, grid-scale, finite}
 use lib.Ieee.Positive.{num, den, den-pos, positive, value→cross, positive-of-value}
+use Rattle.numbers.proofs.Values.{fits-says, pow-le-back}
+use Rattle.numbers.proofs.FloatQuotient.{num-pos}
 use Rattle.sizing.specs.Size.{halfOf}
 use Rattle.sizing.proofs.Constants.{two, two-is}
-use Rattle.sizing.proofs.Plain.{nonneg, own-value, nonneg-of-positive, num-pos, div-at, round-value, Times}
-
--- ---- what it takes to fit
-pub fits-parts : (f : Format) (m : ℕ) (e : ℤ) → 0 < m → T (fits f (fin false m e)) → (m < 2 ^ prec f) × (down e ≤ 2 ^ low f) × (m * up e < 2 ^ suc (emax f) * down e)
-unfolding fits
-fits-parts f zero e M t = absurd (lt-irrefl 0 M)
-fits-parts f (suc m) e M t =
-    let a : Bool = eqb (suc m % 2) 1 in
-    let b : Bool = ltb (suc m) (2 ^ prec f) in
-    let c : Bool = leb (down e) (2 ^ low f) in
-    let d : Bool = ltb (suc m * up e) (2 ^ suc (emax f) * down e) in (
-      ltb→lt (suc m) (2 ^ prec f) (and-r a b (and-l (a && b) c (and-l (a && b && c) d t))),
-      leb→le (down e) (2 ^ low f) (and-r (a && b) c (and-l (a && b && c) d t)),
-      ltb→lt (suc m * up e) (2 ^ suc (emax f) * down e) (and-r (a && b && c) d t),
-    )
+use Rattle.sizing.proofs.Plain.{nonneg, own-value, nonneg-of-positive, div-at, round-value, Times}
 
 -- ---- 2 ^ e / 2 is a whole number of the format's smallest values, if 2 * down e is at most 2 ^ l
 low-pos : (f : Format) → 0 < low f
 low-pos binary32 = lit< tt
 low-pos binary64 = lit< tt
-
-pow-cancel : (i j : ℕ) → 2 ^ i ≤ 2 ^ j → i ≤ j
-pow-cancel i j h = le-of-suc-le-suc (lt-of-not-le (λ (g : suc j ≤ i). not-le-of-lt (pow-lt g) h))
 
 up-one : (k l : ℕ) → 0 < l → k + l ≡ suc (k + (l - 1))
 up-one k l h = omega arith
@@ -48,7 +33,7 @@ shift : (l : ℕ) → 0 < l → (e : ℤ) → 2 * down e ≤ 2 ^ l → (j : ℕ)
 shift l h (pos k) d = (k + (l - 1), sym (pow-add 2 k l) ∙ ap (λ (z : ℕ). 2 ^ z) (up-one k l h) ∙ pow-suc 2 (k + (l - 1)))
 shift l h (negsuc k) d =
     let j = l - suc (suc k) in
-    let g : suc (suc k) ≤ l = pow-cancel (suc (suc k)) l (le-trans (le-of-eq (pow-succ' 2 (suc k))) d) in
+    let g : suc (suc k) ≤ l = pow-le-back (suc (suc k)) l (le-trans (le-of-eq (pow-succ' 2 (suc k))) d) in
     (j, one-mul (2 ^ l) ∙ ap (λ (z : ℕ). 2 ^ z) (back l k g) ∙ pow-add 2 j (suc (suc k)) ∙ ap (λ (z : ℕ). 2 ^ j * z) (pow-succ' 2 (suc k)))
 
 under-top : (x d t l u : ℕ) → 0 < d → u * l ≡ x * (2 * d) → u < t * d → 0 < l → x < l * t
@@ -58,8 +43,10 @@ under-top x d t l u D e h L =
     omega (arith, lt-of-mul-lt-mul-right d b)
 
 half-round : (f : Format) (m : ℕ) (e : ℤ) → 0 < m → T (fits f (fin false m e)) → 2 * down e ≤ 2 ^ low f → HasValue (round f false (m * up e) (2 * down e)) false (m * up e) (2 * down e)
-half-round f m e M t h =
-    let p = fits-parts f m e M t in
+half-round f zero e M t h = absurd (lt-irrefl 0 M)
+half-round f (suc n) e M t h =
+    let m = suc n in
+    let p = fits-says f false n e t in
     let s = shift (low f) (low-pos f) e h in
     let j = s .0 in
     let q : m * up e * 2 ^ low f ≡ m * 2 ^ j * (2 * down e) = mul-assoc m (up e) (2 ^ low f) ∙ ap (λ (z : ℕ). m * z) (s .1) ∙ sym (mul-assoc m (2 ^ j) (2 * down e)) in
@@ -84,18 +71,18 @@ low-enough f nan X dx p t pX h k = absurd p
 low-enough f (inf b) X dx p t pX h k = absurd p
 low-enough f (fin true m e) X dx p t pX h k = absurd p
 low-enough f (fin false m (pos j)) X dx p t pX h k = two-le-low f
-low-enough f (fin false m (negsuc j)) X dx p t pX h k =
-    scale (2 ^ suc j) m (2 ^ prec f) X dx (2 ^ low f) pX h (le-of-lt (fits-parts f m (negsuc j) (ltb→lt 0 m p) t .0)) k
+low-enough f (fin false zero (negsuc j)) X dx p t pX h k = absurd p
+low-enough f (fin false (suc m) (negsuc j)) X dx p t pX h k = scale (2 ^ suc j) (suc m) (2 ^ prec f) X dx (2 ^ low f) pX h (le-of-lt (fits-says f false m (negsuc j) t .0)) k
 
--- ---- s / 2, exactly, for a divisor `two` that is 2
-module _ (f : Format) (two : Float) (two+ : T (positive two)) (two-is : HasValue two false 2 1) where
-  pub half-value : (s : Float) → T (positive s) → T (fits f s) → 2 * den s ≤ 2 ^ low f → HasValue (div f s two) false (num s) (2 * den s)
+-- ---- s / 2, exactly, for a divisor b that is 2
+module _ (f : Format) (b : Float) (b+ : T (positive b)) (b-is : HasValue b false 2 1) where
+  pub half-value : (s : Float) → T (positive s) → T (fits f s) → 2 * den s ≤ 2 ^ low f → HasValue (div f s b) false (num s) (2 * den s)
   half-value nan p t h = absurd p
   half-value (inf b) p t h = absurd p
   half-value (fin true m e) p t h = absurd p
   half-value (fin false m e) p t h =
       subst (λ (z : Float). HasValue z false (m * up e) (2 * down e))
-      (sym (div-at f (fin false m e) two (m * up e) (down e) 2 1 two+ (down-pos e) (lit< tt) (refl, refl) two-is ∙ ap (λ (z : ℕ). round f false z (2 * down e)) (mul-one (m * up e))))
+      (sym (div-at f (fin false m e) b (m * up e) (down e) 2 1 b+ (down-pos e) (lit< tt) (refl, refl) b-is ∙ ap (λ (z : ℕ). round f false z (2 * down e)) (mul-one (m * up e))))
       (half-round f m e (ltb→lt 0 m p) t h)
 
   -- x / s and x / (s / 2), rounded, in units: the second is twice the first
@@ -109,27 +96,27 @@ module _ (f : Format) (two : Float) (two+ : T (positive two)) (two-is : HasValue
     one-is : div f x s ≡ round f false (num x * den s) (num s * den x)
     one-is = div-at f x s (num x) (den x) (num s) (den s) s+ (den-pos x) (num-pos s s+) (own-value x x+) (own-value s (nonneg-of-positive s s+))
 
-    two-times : (a d : ℕ) → a * (2 * d) ≡ a * d * 2 ^ 1
-    two-times a d = omega arith
+    times-two : (a d : ℕ) → a * (2 * d) ≡ a * d * 2 ^ 1
+    times-two a d = omega arith
 
-    half-pos : T (positive (div f s two))
-    half-pos = positive-of-value (div f s two) (num s) (2 * den s) (half-value s s+ s-fits s-low) (num-pos s s+)
+    half-pos : T (positive (div f s b))
+    half-pos = positive-of-value (div f s b) (num s) (2 * den s) (half-value s s+ s-fits s-low) (num-pos s s+)
 
-    twice-is : div f x (div f s two) ≡ round f false (num x * den s * 2 ^ 1) (num s * den x)
+    twice-is : div f x (div f s b) ≡ round f false (num x * den s * 2 ^ 1) (num s * den x)
     twice-is =
-        div-at f x (div f s two) (num x) (den x) (num s) (2 * den s) half-pos (den-pos x) (num-pos s s+) (own-value x x+) (half-value s s+ s-fits s-low)
-        ∙ ap (λ (z : ℕ). round f false z (num s * den x)) (two-times (num x) (den s))
+        div-at f x (div f s b) (num x) (den x) (num s) (2 * den s) half-pos (den-pos x) (num-pos s s+) (own-value x x+) (half-value s s+ s-fits s-low)
+        ∙ ap (λ (z : ℕ). round f false z (num s * den x)) (times-two (num x) (den s))
 
     pub one-value : T (finite (div f x s)) → HasValue (div f x s) false quot (2 ^ low f)
     one-value t = subst (λ (z : Float). HasValue z false quot (2 ^ low f)) (sym one-is) (round-value f (num x * den s) (num s * den x) (subst (λ (z : Float). T (finite z)) one-is t))
 
     -- in the normal range
-    module _ (normal : prec f ≤ size (num x * den s * 2 ^ low f / (num s * den x))) (fine : T (finite (div f x (div f s two)))) where
-      pub twice-value : HasValue (div f x (div f s two)) false (quot * 2) (2 ^ low f)
+    module _ (normal : prec f ≤ size (num x * den s * 2 ^ low f / (num s * den x))) (fine : T (finite (div f x (div f s b)))) where
+      pub twice-value : HasValue (div f x (div f s b)) false (quot * 2) (2 ^ low f)
       twice-value =
           let a = num x * den s in
           let c = num s * den x in
-          subst (λ (z : ℕ). HasValue (div f x (div f s two)) false z (2 ^ low f)) (grid-scale f a c 1 bottom normal)
+          subst (λ (z : ℕ). HasValue (div f x (div f s b)) false z (2 ^ low f)) (grid-scale f a c 1 bottom normal)
           (subst (λ (z : Float). HasValue z false (grid f (a * 2 ^ 1) c) (2 ^ low f)) (sym twice-is) (round-value f (a * 2 ^ 1) c (subst (λ (z : Float). T (finite z)) twice-is fine)))
 
 -- ---- a cell size after halvings

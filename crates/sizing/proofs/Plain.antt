@@ -1,22 +1,22 @@
 -- The values that are finite with a clear sign, zero included, each as a fraction `num` / `den`: their order, their sum, and their quotient by a value
 -- above zero. Assumes nothing.
-use mathlib.Core.Path.{_≡_, refl, sym, ap, ap₂, _∙_, subst, subst₂}
-use mathlib.Core.Logic.{_⊎_, inl, inr}
-use Prim.Native.Nat.{ℕ, zero, suc, _+_, _-_, _*_, _/_, _%_, _^_, _≤_, _<_}
-use native.Mathlib.Nat.{le-refl, le-trans, le-of-eq, le-of-lt, mul-comm, mul-assoc, mul-left-comm, mul-right-comm, add-mul, mul-add, mul-le-mul-right, mul-le-mul-left, mul-pos, mul-mul-mul-comm, zero-mul, eq-of-mul-eq-mul-right, lt-irrefl}
+use mathlib.Core.Path.{_≡_, refl, sym, ap, ap₂, _∙_}
+use Prim.Native.Nat.{ℕ, _+_, _-_, _*_, _^_, _≤_, _<_}
+use native.Mathlib.Nat.{le-trans, le-of-eq, mul-comm, mul-assoc, mul-left-comm, mul-pos, zero-mul, eq-of-mul-eq-mul-right}
 use native.Mathlib.Omega.{arith}
-use mathlib.Core.Bool.{Bool, true, false, not, _&&_, _||_, cond, true≢false}
-use lib.IntN.{ℤ, pos, negsuc}
-use lib.Dec.{T, lit<, ltb, eqb, leb, eqb→eq, ltb→lt, lt→ltb, nltb→le}
-use lib.Pow.{pow-pos}
-use lib.Ieee.{Float, nan, inf, fin, Format, binary32, binary64, up, down, round, sum, add, mul, div, le, lt, eq, low}
-use lib.Ieee.Fits.{up-pos, down-pos, and-l, and-r}
+use mathlib.Core.Bool.{Bool, true, false, not, _&&_, cond, true≢false}
+use lib.IntN.{ℤ, pos}
+use lib.Dec.{T, lit<, ltb, ltb→lt, lt→ltb}
+use lib.Ieee.{Float, nan, inf, fin, Format, up, down, round, sum, add, div, le, low}
+use lib.Ieee.Fits.{up-pos, down-pos}
 use lib.Ieee.Exact.{HasValue}
-use lib.Ieee.Order.{transfer, le-of-values, round-mono}
+use lib.Ieee.Order.{transfer, le-of-values}
 use lib.Ieee.Scale.{round-same, round-val, round-under, grid, finite}
 use lib.Ieee.Positive.{num, den, den-pos, positive, value→cross}
+use Rattle.numbers.proofs.Sums.{sum-at}
+use Rattle.numbers.proofs.FloatOrder as Signed
 use Rattle.numbers.proofs.FloatSum.{zero-le}
-use Rattle.numbers.proofs.FloatQuotient.{div-is}
+use Rattle.numbers.proofs.FloatQuotient.{num-pos, div-is}
 
 abbrev pub nonneg : Float → Bool
 nonneg nan = false
@@ -41,29 +41,18 @@ nonneg-of-positive (inf s) p = absurd p
 nonneg-of-positive (fin true m e) p = absurd p
 nonneg-of-positive (fin false m e) p = tt
 
-pub num-pos : (x : Float) → T (positive x) → 0 < num x
-num-pos nan p = absurd p
-num-pos (inf s) p = absurd p
-num-pos (fin true m e) p = absurd p
-num-pos (fin false m e) p = mul-pos (ltb→lt 0 m p) (up-pos e)
-
 -- ---- the order
-or-split : (a b : Bool) → T (a || b) → T a ⊎ T b
-or-split true b t = inl tt
-or-split false b t = inr t
-
-pub lt-or-eq : (a b : ℕ) → T (ltb a b || (eqb a b && true)) → a ≤ b
-lt-or-eq a b t = elim (or-split (ltb a b) (eqb a b && true) t) [ inl u ↦ le-of-lt (ltb→lt a b u) | inr u ↦ le-of-eq (eqb→eq a b (and-l (eqb a b) true u)) ]
-
 pub le→cross : (x y : Float) → T (nonneg x) → T (nonneg y) → T (le x y) → num x * den y ≤ num y * den x
-unfolding le
 le→cross nan y p q h = absurd p
 le→cross (inf s) y p q h = absurd p
 le→cross (fin true m e) y p q h = absurd p
 le→cross (fin false m e) nan p q h = absurd q
 le→cross (fin false m e) (inf t) p q h = absurd q
 le→cross (fin false m e) (fin true n d) p q h = absurd q
-le→cross (fin false m e) (fin false n d) p q h = lt-or-eq (m * up e * down d) (n * up d * down e) h
+le→cross (fin false m e) (fin false n d) p q h = let k = Signed.le→cross (fin false m e) (fin false n d) tt tt h in omega arith
+
+pub cross→le : (x y : Float) → T (nonneg x) → T (nonneg y) → num x * den y ≤ num y * den x → T (le x y)
+cross→le x y p q h = le-of-values x y (num x) (den x) (num y) (den y) (den-pos x) (den-pos y) (own-value x p) (own-value y q) h
 
 pub values-of-le : (x y : Float) (a c b d : ℕ) → HasValue x false a c → HasValue y false b d → T (le x y) → a * d ≤ b * c
 values-of-le x y a c b d h k l =
@@ -72,14 +61,7 @@ values-of-le x y a c b d h k l =
 
 -- ---- the sum
 pub add-is : (f : Format) (x y : Float) → T (nonneg x) → T (nonneg y) → add f x y ≡ round f false (num x * den y + num y * den x) (den x * den y)
-unfolding add
-add-is f nan y p q = absurd p
-add-is f (inf s) y p q = absurd p
-add-is f (fin true m e) y p q = absurd p
-add-is f (fin false m e) nan p q = absurd q
-add-is f (fin false m e) (inf t) p q = absurd q
-add-is f (fin false m e) (fin true n d) p q = absurd q
-add-is f (fin false m e) (fin false n d) p q = refl
+add-is f x y p q = sum-at f false x y (num x) (den x) (num y) (den y) (den-pos x) (den-pos y) (own-value x p) (own-value y q)
 
 -- ---- the quotient by a value above zero
 div-own : (f : Format) (x y : Float) → T (nonneg x) → T (positive y) → div f x y ≡ round f false (num x * den y) (num y * den x)
@@ -117,9 +99,6 @@ squeeze (fin t m e) hi p a b = tt
 
 pub finite-under : (f : Format) (a c : ℕ) (hi : Float) → 0 < c → T (nonneg hi) → T (le (round f false a c) hi) → T (finite (round f false a c))
 finite-under f a c hi C p h = squeeze (round f false a c) hi p (zero-le f a c C) h
-
-pub cross→le : (x y : Float) → T (nonneg x) → T (nonneg y) → num x * den y ≤ num y * den x → T (le x y)
-cross→le x y p q h = le-of-values x y (num x) (den x) (num y) (den y) (den-pos x) (den-pos y) (own-value x p) (own-value y q) h
 
 pub nonneg-under : (f : Format) (a c : ℕ) (hi : Float) → 0 < c → T (nonneg hi) → T (le (round f false a c) hi) → T (nonneg (round f false a c))
 nonneg-under f a c hi C p h = nonneg-of-value (round f false a c) (grid f a c) (2 ^ low f) (round-value f a c (finite-under f a c hi C p h))
@@ -160,15 +139,11 @@ first-zero : (m u : ℕ) → 0 < u → m * u ≡ 0 → m ≡ 0
 first-zero m u U h = eq-of-mul-eq-mul-right u U m 0 (h ∙ sym (zero-mul u))
 
 -- a value with a set sign that is at least zero is minus zero
-cancel : (x d m u : ℕ) → x ≡ m * u * 1 → x ≡ 0 → m * u ≡ 0
-cancel x d m u a b = omega arith
-
 pub neg-zero-of : (m : ℕ) (e : ℤ) → T (le (fin false 0 (pos 0)) (fin true m e)) → m ≡ 0
-unfolding le
 neg-zero-of m e h =
-    let a = 0 * 1 * down e in
-    first-zero m (up e) (up-pos e)
-    (cancel a 0 m (up e) (eqb→eq a (m * up e * 1) (and-l (eqb a (m * up e * 1)) (eqb a 0) h)) (eqb→eq a 0 (and-r (eqb a (m * up e * 1)) (eqb a 0) h)))
+    let k = Signed.le→cross (fin false 0 (pos 0)) (fin true m e) tt tt h in
+    let z : m * up e ≡ 0 = omega arith in
+    first-zero m (up e) (up-pos e) z
 
 -- ---- x is at most K times s
 abbrev pub Times : Float → Float → ℕ → Type 0

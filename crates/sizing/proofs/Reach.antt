@@ -1,20 +1,20 @@
 -- The bounds of lines that obey the coordinate rule: they obey it too, every coordinate lies between them, and they are from 0 to 2e9 apart.
 -- Assumes nothing.
-use mathlib.Core.Path.{_≡_, refl, sym, ap, _∙_, subst}
-use mathlib.Core.Bool.{Bool, true, false, not, _&&_, cond, true≢false}
+use mathlib.Core.Path.{_≡_, refl, sym, _∙_, subst}
+use mathlib.Core.Bool.{Bool, true, false, not, true≢false}
 use mathlib.Core.List.{List}
-use Prim.Native.Nat.{ℕ, zero, suc, _+_, _-_, _*_, _^_, _≤_, _<_}
+use Prim.Native.Nat.{ℕ, zero, suc, _-_, _*_, _≤_, _<_}
 use native.Mathlib.Nat.{lt-irrefl, mul-pos, eq-or-lt-of-le}
 use native.Mathlib.Omega.{arith}
-use mathlib.Core.Logic.{_⊎_, inl, inr}
+use mathlib.Core.Logic.{inl, inr}
 use lib.ListN.{getD}
 use lib.Dec.{T, ltb, ltb→lt}
-use lib.IntN.{ℤ, pos}
-use lib.Ieee.{Float, nan, inf, fin, binary64, up, down, round, neg, sum, add, sub, lt, le, eq}
+use lib.IntN.{ℤ}
+use lib.Ieee.{Float, nan, inf, fin, binary64, up, down, round, neg, sum, add, sub, lt, le}
 use lib.Ieee.Fits.{down-pos}
 use lib.Ieee.Scale.{finite}
 use Rattle.numbers.specs.Order.{leastOf, greatestOf, magnitudeOf}
-use Rattle.numbers.proofs.FloatOrder.{number, cross→le, float-le-trans, at-most, le-neg, lt-le}
+use Rattle.numbers.proofs.FloatOrder.{number, cross→le, float-le-trans, at-most, le-neg}
 use Rattle.numbers.proofs.FloatSum.{zero-le, add-mono, add-swap}
 use Rattle.grid.specs.Domain.{coordinate}
 use Rattle.sizing.specs.Bounds.{picked, lowest, highest, reach}

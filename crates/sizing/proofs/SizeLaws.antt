@@ -1,23 +1,23 @@
 -- The first cell size of lines that reach from 0 to 2e9 each way: from 1e-6 to 2e9, and at least a thousandth of the width and of the height.
 -- Assumes nothing.
-use mathlib.Core.Path.{_≡_, refl, sym, ap, _∙_, subst}
-use mathlib.Core.Bool.{Bool, true, false, not, cond, true≢false}
-use Prim.Native.Nat.{ℕ, zero, suc, _+_, _-_, _*_, _/_, _^_, _≤_, _<_}
-use native.Mathlib.Nat.{le-trans, le-of-eq, mul-one, mul-pos, mul-assoc, mul-comm, mul-le-mul, mul-le-mul-right, mul-le-mul-left, le-of-mul-le-mul-right}
+use mathlib.Core.Path.{_≡_, refl, sym, subst}
+use mathlib.Core.Bool.{Bool, true, false, cond}
+use Prim.Native.Nat.{ℕ, zero, suc, _*_, _^_, _≤_, _<_}
+use native.Mathlib.Nat.{le-trans, le-of-eq, mul-one, mul-pos, mul-le-mul, mul-le-mul-right, le-of-mul-le-mul-right}
 use native.Mathlib.Omega.{arith}
-use lib.Dec.{T, ltb, ltb→lt, lit≤, lit<}
-use lib.IntN.{ℤ, pos, negsuc}
+use lib.Dec.{T, lit≤, lit<}
+use lib.IntN.{pos, negsuc}
 use lib.Pow.{pow-pos}
 use lib.Ieee.{Float, nan, inf, fin, binary64, up, down, unlike, fits, round, ofInt, mul, div, lt, le}
 use lib.Ieee.Exact.{HasValue}
+use lib.Ieee.Back.{round-whole}
 use lib.Ieee.Order.{round-mono, le-of-values}
-use lib.Ieee.Fits.{down-pos, mul-fits, div-fits, round-fits}
-use lib.Ieee.Scale.{round-same, finite}
-use lib.Ieee.Positive.{num, den, den-pos, positive, positive-finite, positive-of-value, between, above-of-le}
+use lib.Ieee.Fits.{div-fits}
+use lib.Ieee.Scale.{finite}
+use lib.Ieee.Positive.{num, den, den-pos, positive, positive-of-value, between}
 use Rattle.numbers.specs.Order.{greatestOf}
 use Rattle.numbers.specs.Root.{root}
 use Rattle.numbers.specs.Nearer.{count, plain, above}
-use Rattle.numbers.proofs.WholeLaws.{whole-value}
 use Rattle.numbers.proofs.Correct.{root-above, exactly}
 use Rattle.numbers.proofs.RootFacts.{root-mono, root-square}
 use Rattle.numbers.proofs.FloatOrder.{number, float-le-trans, at-most, le-number}
@@ -25,10 +25,10 @@ use Rattle.numbers.proofs.FloatSum.{below-zero, round-number}
 use Rattle.numbers.proofs.FloatQuotient.{div-mono}
 use Rattle.sizing.specs.declared.Extent.{Extent}
 use Rattle.sizing.specs.Size.{areaOf, firstSize}
-use Rattle.sizing.proofs.Constants.{nought, 1e-9, 1e-9-is, 1e-6, 1e-6-is, thousand, thousand-is, 2e9, 2e9-is}
+use Rattle.sizing.proofs.Constants.{nought, 1e-9, 1e-9-is, 1e-6, 1e-6-is, thousand, thousand-is, 2e9}
 use Rattle.sizing.proofs.Extremes.{greatest-one, greatest-over}
 use Rattle.sizing.proofs.Reach.{Spans}
-use Rattle.sizing.proofs.Plain.{nonneg, own-value, nonneg-of-positive, num-pos, le→cross, values-of-le, div-at, neg-zero-of}
+use Rattle.sizing.proofs.Plain.{own-value, nonneg-of-positive, le→cross, values-of-le, div-at, neg-zero-of}
 use Rattle.sizing.proofs.Width.{width-times}
 use Rattle.sizing.proofs.Halving.{Sized}
 use Rattle.sizing.proofs.CountLaws.{Across}
@@ -140,7 +140,8 @@ product-area w h p q l = let f = mul-is w h (p .fine) (q .fine) in go (f .0) (f 
 -- n lines
 module _ (n : ℕ) (N : 1 ≤ n) (few : n ≤ 65536) where
   lines-is : HasValue (ofInt binary64 (pos n)) false n 1
-  lines-is = whole-value n (le-trans few (lit≤ tt))
+  unfolding ofInt
+  lines-is = round-whole binary64 false n (le-trans few (lit≤ tt))
 
   lines-area : Area (ofInt binary64 (pos n))
   lines-area =

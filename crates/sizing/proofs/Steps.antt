@@ -1,11 +1,11 @@
 -- The steps of the code, as the definitions say them: its literals, the bounds line by line, the area by cases, the first size. Assumes nothing.
-use mathlib.Core.Path.{_≡_, refl, sym, ap, ap₂, _∙_}
+use mathlib.Core.Path.{_≡_, refl, ap, ap₂, _∙_}
 use mathlib.Core.Bool.{true, false}
 use mathlib.Core.List.{List}
 use Prim.Native.Nat.{ℕ, _+_, _-_, _*_, _^_, _≤_, _<_, min}
 use native.Mathlib.Numerals.{add-one}
 use native.Mathlib.Omega.{arith}
-use lib.ListN.{length, getD}
+use lib.ListN.{getD}
 use lib.IntN.{pos}
 use lib.Ieee.{Float, nan, binary64, round, ofBits, ofInt, neg, add, sub, mul, div, lt}
 use Rattle.numbers.specs.Order.{leastOf, greatestOf}

@@ -1,24 +1,21 @@
 -- A width, stretched by 1e-9, is at most 1,001 times a cell size that is at least a thousandth of the width and at least 1e-6. Each rounding adds at
 -- most a millionth, and 1,001 leaves room for three. Assumes nothing.
-use mathlib.Core.Path.{_≡_, refl, sym, ap, ap₂, _∙_, subst, subst₂}
-use mathlib.Core.Logic.{_⊎_, inl, inr}
+use mathlib.Core.Path.{_≡_, refl, sym, ap, _∙_, subst}
 use mathlib.Core.Bool.{Bool, true, false, not}
-use Prim.Native.Nat.{ℕ, zero, suc, _+_, _-_, _*_, _/_, _%_, _^_, _≤_, _<_}
-use native.Mathlib.Nat.{le-refl, le-trans, le-of-eq, le-of-lt, mul-comm, mul-assoc, mul-left-comm, mul-right-comm, add-mul, mul-add, mul-one, mul-le-mul-right, mul-le-mul-left, le-of-mul-le-mul-right, mul-pos, mul-mul-mul-comm, lt-irrefl}
+use Prim.Native.Nat.{ℕ, _+_, _-_, _*_, _^_, _≤_, _<_}
+use native.Mathlib.Nat.{le-trans, le-of-eq, mul-assoc, mul-left-comm, mul-one, mul-le-mul-right, mul-le-mul-left, le-of-mul-le-mul-right, mul-pos}
 use native.Mathlib.Omega.{arith}
 use lib.Dec.{T, leb, leb→le, nleb→lt, lit≤, lit<}
 use lib.Pow.{pow-pos}
-use lib.Ieee.{Float, nan, inf, fin, Format, binary32, binary64, round, add, div, le, low, up, down}
+use lib.Ieee.{Float, nan, inf, fin, Format, binary32, binary64, round, add, div, le, low}
 use lib.Ieee.Exact.{HasValue}
-use lib.Ieee.Order.{round-mono}
-use lib.Ieee.Scale.{round-same, grid, finite}
-use lib.Ieee.Positive.{num, den, den-pos, positive, positive-finite, value→cross, between}
-use lib.IntN.{ℤ, pos, negsuc}
+use lib.Ieee.Scale.{grid, finite}
+use lib.Ieee.Positive.{num, den, den-pos, positive, positive-finite, between}
 use Rattle.numbers.proofs.FloatSum.{add-mono}
 use Rattle.sizing.proofs.Constants.{nought, 1e-9, 1e-9-is, 1e-6, thousand, 2e9}
 use Rattle.sizing.proofs.Reach.{Spans}
 use Rattle.sizing.proofs.Rounding.{half, grid-over-any, grid-under-any}
-use Rattle.sizing.proofs.Plain.{nonneg, le→cross, finite-under, nonneg-under, nonneg-of-positive, own-value, values-of-le, add-is, div-at, round-value, num-pos, cross→le, neg-zero-add, neg-zero-of, Times, times-of-values}
+use Rattle.sizing.proofs.Plain.{nonneg, le→cross, finite-under, nonneg-of-positive, own-value, values-of-le, add-is, div-at, round-value, cross→le, neg-zero-add, neg-zero-of, Times, times-of-values}
 
 -- ---- the arithmetic, over plain numbers
 -- a relative error of 1 / (2 h) is one of 1 / q

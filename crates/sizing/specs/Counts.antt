@@ -1,6 +1,6 @@
 -- Document 01, "The build": the grid of a cell size, and the grid of no lines. Definitions only.
 use Prim.Native.Nat.{ℕ, _-_, _^_, min}
-use mathlib.Core.Bool.{true, false}
+use mathlib.Core.Bool.{false}
 use lib.Ieee.{Float, binary64, round, add, div}
 use Rattle.numbers.specs.Ceiling.{ceilingOf}
 use Rattle.grid.specs.declared.Grid.{Grid}

@@ -1,12 +1,12 @@
--- The bounds of lines that obey the coordinate rule: they obey it too, every coordinate lies between them, and they are from 0 to 2e9 apart.
--- Assumes nothing.
+-- The bounds of lines that obey the coordinate rule: they obey it too, each is a coordinate of some line, every coordinate lies between them, and they
+-- are from 0 to 2e9 apart. Assumes nothing.
 use mathlib.Core.Path.{_≡_, refl, sym, _∙_, subst}
 use mathlib.Core.Bool.{Bool, true, false, not, true≢false}
 use mathlib.Core.List.{List}
 use Prim.Native.Nat.{ℕ, zero, suc, _-_, _*_, _≤_, _<_}
 use native.Mathlib.Nat.{lt-irrefl, mul-pos, eq-or-lt-of-le}
 use native.Mathlib.Omega.{arith}
-use mathlib.Core.Logic.{inl, inr}
+use mathlib.Core.Logic.{_⊎_, inl, inr}
 use lib.ListN.{getD}
 use lib.Dec.{T, ltb, ltb→lt}
 use lib.IntN.{ℤ}
@@ -60,6 +60,10 @@ coordinate-says (fin s m e) h = of-size s m e (subst (λ (z : Float). T (le (fin
 abbrev pub Lie : List Float → List Float → ℕ → Type 0
 Lie starts ends n = (i : ℕ) → i < n → (coordinate (getD starts i nan) ≡ true) × (coordinate (getD ends i nan) ≡ true)
 
+-- v is a coordinate of one of the first n lines
+abbrev pub Among : List Float → List Float → ℕ → Float → Type 0
+Among starts ends n v = (i : ℕ) × (i < n) × ((v ≡ getD starts i nan) ⊎ (v ≡ getD ends i nan))
+
 number-at : (v : Float) → coordinate v ≡ true → T (number v)
 number-at v h = number-of v (coordinate-says v h .fine)
 
@@ -108,6 +112,17 @@ module _ (pick : Float → Float → Float) (none : Float) (R : Float → Float 
             (through (all (suc n)) (all n) (getD starts i nan) (o .0) (w .0), through (all (suc n)) (all n) (getD ends i nan) (o .0) (w .1))
       ]
 
+  here-among : (n : ℕ) → Among starts ends (suc n) (here n)
+  here-among n = let l : n < suc n = omega arith in one (Among starts ends (suc n)) (getD starts n nan) (getD ends n nan) (n, l, inl refl) (n, l, inr refl)
+
+  pub picked-among : (n : ℕ) → Lie starts ends (suc n) → Among starts ends (suc n) (all (suc n))
+  unfolding picked
+  picked-among zero h = subst (Among starts ends 1) (sym (first (here 0) (here-obeys 0 h))) (here-among 0)
+  picked-among (suc n) h =
+      let a = picked-among n (fewer-lie (suc n) h) in
+      let l : a .0 < suc (suc n) = let k = a .1 in omega arith in
+      one (Among starts ends (suc (suc n))) (all (suc n)) (here (suc n)) (a .0, l, a .2) (here-among (suc n))
+
 -- ---- the least and the greatest
 
 -- the largest finite value is above every coordinate
@@ -150,7 +165,17 @@ module _ (starts ends : List Float) (n : ℕ) (h : Lie starts ends (suc n)) wher
       rw bottom-is
       (picked-obeys greatestOf (neg top) (λ x y. T (le y x)) (λ x y z a b. float-le-trans z y x b a) greatest-one greatest-over (unfold neg in tt) greatest-first starts ends n h)
 
-  -- the law of the bounds: each coordinate lies between them
+  -- the law of the bounds: each of them is a coordinate of some line, and every coordinate lies between them
+  pub lowest-among : Among starts ends (suc n) (lowest starts ends (suc n))
+  unfolding lowest
+  lowest-among = rw top-is (picked-among leastOf top (λ x y. T (le x y)) float-le-trans least-one least-under tt least-first starts ends n h)
+
+  pub highest-among : Among starts ends (suc n) (highest starts ends (suc n))
+  unfolding highest
+  highest-among =
+      rw bottom-is
+      (picked-among greatestOf (neg top) (λ x y. T (le y x)) (λ x y z a b. float-le-trans z y x b a) greatest-one greatest-over (unfold neg in tt) greatest-first starts ends n h)
+
   module _ (i : ℕ) (l : i < suc n) where
     pub lowest-below : T (le (lowest starts ends (suc n)) (getD starts i nan)) × T (le (lowest starts ends (suc n)) (getD ends i nan))
     unfolding lowest

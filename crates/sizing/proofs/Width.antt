@@ -1,5 +1,5 @@
--- A width, stretched by 1e-9, is at most 1,001 times a cell size that is at least a thousandth of the width and at least 1e-6. Each rounding adds at
--- most a millionth, and 1,001 leaves room for three. Assumes nothing.
+-- A width, stretched by 1e-9, is at most 1,001 times a cell size that is at least a thousandth of the width, and at least 1e-6. The stretch is a
+-- thousandth of the least size, and a rounding changes a value by less than a millionth of it, so 1,001 has room. Assumes nothing.
 use mathlib.Core.Path.{_≡_, refl, sym, ap, _∙_, subst}
 use mathlib.Core.Bool.{Bool, true, false, not}
 use Prim.Native.Nat.{ℕ, _+_, _-_, _*_, _^_, _≤_, _<_}
@@ -39,8 +39,7 @@ core : (a b c d e t x : ℕ) → a * 1000000 ≤ (b + t) * 1000001 + 1000000 * e
     → d ≤ c → x ≤ c → 999 * t ≤ x → 1000000 * e ≤ x → a ≤ 1001 * c
 core a b c d e t x e1 e2 e3 e4 e5 e6 = omega arith
 
--- g / l is w + t rounded, v / l is w / 1000 rounded, and s is at least v and at least x; t is at most x / 999 and x is a million units at least
--- each fact times the other denominators
+-- each fact of `main`, below, times the other denominators
 m1 : (g l W dw T' dt z : ℕ) → g * (dw * dt) * 1000000 ≤ (W * dt + T' * dw) * l * 1000000 + (W * dt + T' * dw) * l + 1000000 * (dw * dt)
     → g * dw * dt * z * 1000000 ≤ (W * l * dt * z + T' * l * dw * z) * 1000001 + 1000000 * (dw * dt * z)
 m1 g l W dw T' dt z h = omega (arith, mul-le-mul-right z h)

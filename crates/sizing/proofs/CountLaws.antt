@@ -12,8 +12,9 @@ use lib.Ieee.Exact.{HasValue}
 use lib.Ieee.Order.{round-mono}
 use lib.Ieee.Back.{round-whole}
 use lib.Ieee.Scale.{grid, finite, normal-of-fraction}
-use lib.Ieee.Positive.{num, den, den-pos, positive, above-of-le, value→cross}
+use lib.Ieee.Positive.{num, den, den-pos, positive, above-of-le}
 use Rattle.numbers.specs.Ceiling.{ceilingOf}
+use Rattle.numbers.proofs.CeilingLaws.{ceiling-most, ceiling-some, ceiling-times}
 use Rattle.sizing.specs.Size.{halfOf}
 use Rattle.sizing.specs.Counts.{countOn}
 use Rattle.sizing.proofs.Constants.{two, two-is}
@@ -22,7 +23,6 @@ use Rattle.numbers.proofs.FloatQuotient.{num-pos}
 use Rattle.sizing.proofs.Plain.{nonneg, own-value, nonneg-of-value, nonneg-of-positive, div-at, nonneg-under, values-of-le, Times}
 use Rattle.sizing.proofs.Width.{stretched, Stretched, stretched-is}
 use Rattle.sizing.proofs.Halving.{Sized, half-low, half-sized, times-half, one-value, twice-value}
-use Rattle.sizing.proofs.Ceilings.{ceiling-most, ceiling-above, ceiling-some}
 
 -- ---- the quotient of a stretched width by a size
 
@@ -78,10 +78,10 @@ module _ (x s : Float) (j K : ℕ) (p : Stretched x) (z : Sized j s) (small : K 
   quot-above = above-positive (div binary64 x s) quot-clear (rw quot-is (subst (λ (v : Float). T (le v (round binary64 false (num x * den s) (num s * den x)))) tiny-is (round-mono binary64 1 (2 ^ 62) (num x * den s) (num s * den x) (lit< tt) bottom far)))
 
   pub quot-most-ceiling : ceilingOf (div binary64 x s) ≤ K
-  quot-most-ceiling = ceiling-most (div binary64 x s) K quot-clear quot-under
+  quot-most-ceiling = let q = div binary64 x s in ceiling-most q (num q) (den q) K (den-pos q) (own-value q quot-clear) quot-under
 
   pub quot-some-ceiling : 1 ≤ ceilingOf (div binary64 x s)
-  quot-some-ceiling = ceiling-some (div binary64 x s) quot-above
+  quot-some-ceiling = let q = div binary64 x s in ceiling-some q (num q) (den q) (den-pos q) (own-value q quot-clear) (num-pos q quot-above)
 
   pub quot-finite : T (finite (div binary64 x s))
   quot-finite = nonneg-finite (div binary64 x s) quot-clear
@@ -99,14 +99,6 @@ module _ (x s : Float) (j K : ℕ) (p : Stretched x) (z : Sized j s) (small : K 
       digits b a h r l u v = omega (arith, mul-le-mul-left h u, mul-le-mul-left a v)
 
 -- ---- and by its half
-
--- y is g / l and v is 2 g / l: if y is at most k then v is at most 2 k
-through-units : (ny dy nv dv l g k : ℕ) → 0 < l → 0 < dy → ny * l ≡ g * dy → nv * l ≡ g * 2 * dv → ny ≤ k * dy → nv ≤ 2 * k * dv
-through-units ny dy nv dv l g k L D a b h =
-    let c : g * dy ≤ k * l * dy = omega (arith, mul-le-mul-right l h) in
-    let d : g ≤ k * l = le-of-mul-le-mul-right c D in
-    let e : nv * l ≤ 2 * k * dv * l = omega (arith, mul-le-mul-right dv d) in
-    le-of-mul-le-mul-right e L
 
 module _ (x s : Float) (j K : ℕ) (p : Stretched x) (z : Sized j s) (few : j ≤ 2) (small : 2 * K ≤ 2 ^ 53) (t : Times x s K) where
   small' : K ≤ 2 ^ 53
@@ -129,9 +121,10 @@ module _ (x s : Float) (j K : ℕ) (p : Stretched x) (z : Sized j s) (few : j �
       let twice : HasValue v false (q * 2) (2 ^ 1074) =
       subst (λ (h : Float). HasValue (div binary64 x h) false (q * 2) (2 ^ 1074)) (sym same-half)
       (twice-value binary64 two tt (refl, refl) x s x+ s+ (z .held) (half-low j s z few) (quot-normal x s j K p z small' t) fine) in
-      ceiling-most v (2 * ceilingOf y) (nonneg-of-value v (q * 2) (2 ^ 1074) twice)
-      (through-units (num y) (den y) (num v) (den v) (2 ^ 1074) q (ceilingOf y) (pow-pos 1074) (den-pos y) (value→cross y q (2 ^ 1074) one) (value→cross v (q * 2) (2 ^ 1074) twice)
-      (ceiling-above y K (nonneg-of-value y q (2 ^ 1074) one) (quot-under x s j K p z small' t) (omega arith)))
+      ceiling-times y v q (2 ^ 1074) (q * 2) (2 ^ 1074) 2 (pow-pos 1074) (pow-pos 1074) (lit< tt) one twice (double q (2 ^ 1074))
+    where
+      double : (q l : ℕ) → q * 2 * l ≤ 2 * (q * l)
+      double q l = omega arith
 
 -- ---- the counts of an axis
 

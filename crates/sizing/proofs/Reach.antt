@@ -1,7 +1,7 @@
 -- The bounds of lines that obey the coordinate rule: they obey it too, each is a coordinate of some line, every coordinate lies between them, and they
 -- are from 0 to 2e9 apart. Assumes nothing.
-use mathlib.Core.Path.{_≡_, refl, sym, _∙_, subst}
-use mathlib.Core.Bool.{Bool, true, false, not, true≢false}
+use mathlib.Core.Path.{_≡_, refl, sym, subst}
+use mathlib.Core.Bool.{Bool, true, false, not}
 use mathlib.Core.List.{List}
 use Prim.Native.Nat.{ℕ, zero, suc, _-_, _*_, _≤_, _<_}
 use native.Mathlib.Nat.{lt-irrefl, mul-pos, eq-or-lt-of-le}
@@ -9,12 +9,12 @@ use native.Mathlib.Omega.{arith}
 use mathlib.Core.Logic.{_⊎_, inl, inr}
 use lib.ListN.{getD}
 use lib.Dec.{T, ltb, ltb→lt}
-use lib.IntN.{ℤ}
-use lib.Ieee.{Float, nan, inf, fin, binary64, up, down, round, neg, sum, add, sub, lt, le}
+use lib.Ieee.{Float, nan, inf, fin, binary64, up, down, neg, sum, add, sub, lt, le}
 use lib.Ieee.Fits.{down-pos}
 use lib.Ieee.Scale.{finite}
 use Rattle.numbers.specs.Order.{leastOf, greatestOf, magnitudeOf}
-use Rattle.numbers.proofs.FloatOrder.{number, cross→le, float-le-trans, at-most, le-neg}
+use Rattle.numbers.proofs.OrderLaws.{magnitude-finite, magnitude-within}
+use Rattle.numbers.proofs.FloatOrder.{number, float-le-trans, at-most, le-neg}
 use Rattle.numbers.proofs.FloatSum.{zero-le, add-mono, add-swap}
 use Rattle.grid.specs.Domain.{coordinate}
 use Rattle.sizing.specs.Bounds.{picked, lowest, highest, reach}
@@ -33,26 +33,12 @@ number-of nan t = absurd t
 number-of (inf s) t = absurd t
 number-of (fin s m e) t = tt
 
--- a value below its size, and above its size's negative
-under-size : (m : ℕ) (e : ℤ) → T (le (fin true m e) (fin false m e))
-under-size m e = cross→le (fin true m e) (fin false m e) tt tt (omega arith)
-
-of-size : (s : Bool) (m : ℕ) (e : ℤ) → T (le (fin false m e) 1e9) → Coordinate (fin s m e)
-unfolding neg
-of-size false m e h =
-    let x = fin false m e in
-    let y = fin true m e in
-    record { fine = tt; above = float-le-trans (neg 1e9) y x (le-neg x 1e9 h) (under-size m e); below = h }
-of-size true m e h =
-    let x = fin false m e in
-    let y = fin true m e in
-    record { fine = tt; above = le-neg x 1e9 h; below = float-le-trans y x 1e9 (under-size m e) h }
-
 pub coordinate-says : (v : Float) → coordinate v ≡ true → Coordinate v
-unfolding coordinate magnitudeOf
-coordinate-says nan h = absurd (true≢false (sym h ∙ unfold le in refl))
-coordinate-says (inf s) h = absurd (true≢false (sym h ∙ unfold le round in refl))
-coordinate-says (fin s m e) h = of-size s m e (subst (λ (z : Float). T (le (fin false m e) z)) 1e9-is (subst T (sym h) tt))
+unfolding coordinate
+coordinate-says v h =
+    let k : T (le (magnitudeOf v) 1e9) = subst (λ (z : Float). T (le (magnitudeOf v) z)) 1e9-is (subst T (sym h) tt) in
+    let w = magnitude-within v 1e9 tt k in
+    record { fine = magnitude-finite v 1e9 tt k; above = w .0; below = w .1 }
 
 -- ---- both bounds at once: of two numbers `pick` takes the one that comes first in the order R, and `none` comes last
 

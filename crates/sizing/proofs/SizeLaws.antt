@@ -3,7 +3,7 @@
 use mathlib.Core.Path.{_≡_, refl, sym, subst}
 use mathlib.Core.Bool.{Bool, true, false, cond}
 use Prim.Native.Nat.{ℕ, zero, suc, _*_, _^_, _≤_, _<_}
-use native.Mathlib.Nat.{le-trans, le-of-eq, mul-one, mul-pos, mul-le-mul, mul-le-mul-right, le-of-mul-le-mul-right}
+use native.Mathlib.Nat.{le-trans, le-of-eq, mul-one, mul-pos, mul-le-mul, mul-le-mul-right}
 use native.Mathlib.Omega.{arith}
 use lib.Dec.{T, lit≤, lit<}
 use lib.IntN.{pos, negsuc}
@@ -17,9 +17,9 @@ use lib.Ieee.Scale.{finite}
 use lib.Ieee.Positive.{num, den, den-pos, positive, positive-of-value, between}
 use Rattle.numbers.specs.Order.{greatestOf}
 use Rattle.numbers.specs.Root.{root}
-use Rattle.numbers.specs.Nearer.{count, plain, above}
-use Rattle.numbers.proofs.Correct.{root-above, exactly}
-use Rattle.numbers.proofs.RootFacts.{root-mono, root-square}
+use Rattle.numbers.specs.Nearer.{plain, above}
+use Rattle.numbers.proofs.Correct.{root-above}
+use Rattle.numbers.proofs.RootFacts.{root-order, root-square}
 use Rattle.numbers.proofs.FloatOrder.{number, float-le-trans, at-most, le-number}
 use Rattle.numbers.proofs.FloatSum.{below-zero, round-number}
 use Rattle.numbers.proofs.FloatQuotient.{div-mono}
@@ -28,7 +28,7 @@ use Rattle.sizing.specs.Size.{areaOf, firstSize}
 use Rattle.sizing.proofs.Constants.{nought, 1e-9, 1e-9-is, 1e-6, 1e-6-is, thousand, thousand-is, 2e9}
 use Rattle.sizing.proofs.Extremes.{greatest-one, greatest-over}
 use Rattle.sizing.proofs.Reach.{Spans}
-use Rattle.sizing.proofs.Plain.{own-value, nonneg-of-positive, le→cross, values-of-le, div-at, neg-zero-of}
+use Rattle.sizing.proofs.Plain.{own-value, nonneg-of-positive, le→cross, div-at, neg-zero-of}
 use Rattle.sizing.proofs.Width.{width-times}
 use Rattle.sizing.proofs.Halving.{Sized}
 use Rattle.sizing.proofs.CountLaws.{Across}
@@ -52,20 +52,10 @@ above-is (fin true m e) p = absurd p
 above-is (fin false zero e) p = absurd p
 above-is (fin false (suc m) e) p = tt
 
-plain-is : (v : Float) → T (positive v) → T (plain v)
-plain-is nan p = absurd p
-plain-is (inf s) p = absurd p
-plain-is (fin true m e) p = absurd p
-plain-is (fin false m e) p = tt
-
 plain-number : (v : Float) → T (plain v) → T (number v)
 plain-number nan p = absurd p
 plain-number (inf s) p = absurd p
 plain-number (fin s m e) p = tt
-
--- the order, in units of the smallest value, l of which make 1
-units-of : (a b l : ℕ) → 0 < l → a * l ≤ b * l → a ≤ b
-units-of a b l L h = le-of-mul-le-mul-right h L
 
 record Target (r : Float) : Type 0 where
   held : T (fits binary64 r)
@@ -76,14 +66,7 @@ root-target : (v : Float) → T (fits binary64 v) → Rooted v → Target (root 
 root-target v t h =
     let a = above-is v (h .above-zero) in
     let r = root-above v t a in
-    let u : count v * 2 ^ 1074 ≤ count 4e18 * 2 ^ 1074 = values-of-le v 4e18 (count v) (2 ^ 1074) (count 4e18) (2 ^ 1074) (exactly v t (plain-is v (h .above-zero))) (exactly 4e18 (unfold fits in tt) tt) (h .most) in
-    let m : count (root v) ≤ count (root 4e18) = root-mono v 4e18 t a (unfold fits in tt) tt (units-of (count v) (count 4e18) (2 ^ 1074) (pow-pos 1074) u) in
-    let k : count (root v) ≤ count 2e9 = subst (λ (z : Float). count (root v) ≤ count z) root-of-4e18 m in
-    record {
-      held = r .0;
-      real = plain-number (root v) (r .1);
-      most = le-of-values (root v) 2e9 (count (root v)) (2 ^ 1074) (count 2e9) (2 ^ 1074) (pow-pos 1074) (pow-pos 1074) (exactly (root v) (r .0) (r .1)) (exactly 2e9 (unfold fits in tt) tt) (mul-le-mul-right (2 ^ 1074) k);
-    }
+    record { held = r .0; real = plain-number (root v) (r .1); most = subst (λ (z : Float). T (le (root v) z)) root-of-4e18 (root-order v 4e18 t a (unfold fits in tt) tt (h .most)) }
 
 -- ---- the area, or the number of lines in its stead: from 1e-9 to 4e18
 

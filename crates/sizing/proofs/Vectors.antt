@@ -1,7 +1,7 @@
 -- Document 01's measured builds, from the definitions: the first grid of one line, of a point, and of the sample's four lines. Assumes nothing.
 use mathlib.Core.Path.{_≡_, refl}
-use mathlib.Core.Bool.{true, false}
-use mathlib.Core.List.{List, [], _∷_}
+use mathlib.Core.Bool.{false}
+use mathlib.Core.List.{[], _∷_}
 use Prim.Native.Nat.{ℕ}
 use lib.IntN.{pos}
 use lib.Ieee.{Float, fin, lt, isNan, sub, round, ofInt, mul, add, div}

@@ -1,4 +1,5 @@
-//! compare [--seed S] [--cases N] [KIND..]: the port beside the Rust, kind by kind. Without kinds, all of them; without N, a full run of each.
+//! compare [--seed S] [--cases N | --share P] [KIND..]: the port beside the Rust, kind by kind. Without kinds, all of them; without N, a full run
+//! of each, or P hundredths of one.
 //! Ends with status 1 at the first difference.
 
 use beside::kinds::{self, build, numbers, own, snap, visit, walk, wkb};
@@ -17,21 +18,22 @@ const KINDS: [(&str, u64); 8] = [
 
 fn main() {
     let mut words = std::env::args().skip(1);
-    let (mut seed, mut cases, mut asked) = (1, None, Vec::new());
+    let (mut seed, mut cases, mut share, mut asked) = (1, None, 100, Vec::new());
     while let Some(word) = words.next() {
         let mut number = || words.next().and_then(|w| w.replace('_', "").parse().ok()).unwrap_or_else(|| stop(&format!("{word} needs a number")));
         match word.as_str() {
             "--seed" => seed = number(),
             "--cases" => cases = Some(number()),
+            "--share" => share = number(),
             kind if KINDS.iter().any(|k| k.0 == kind) => asked.push(word),
-            _ => stop(&format!("compare [--seed S] [--cases N] [KIND..], with KIND one of {}", KINDS.map(|k| k.0).join(" "))),
+            _ => stop(&format!("compare [--seed S] [--cases N | --share P] [KIND..], with KIND one of {}", KINDS.map(|k| k.0).join(" "))),
         }
     }
     for (kind, full) in KINDS {
         if !asked.is_empty() && !asked.iter().any(|a| a == kind) {
             continue;
         }
-        let n = cases.unwrap_or(full);
+        let n = cases.unwrap_or(full * share / 100).max(1);
         let begun = std::time::Instant::now();
         let right = match kind {
             "sample" => sample(),

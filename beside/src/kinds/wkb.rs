@@ -46,6 +46,7 @@ impl Kind for Wkb {
     type Case = Case;
     const NAME: &'static str = "wkb";
     const PORT: bool = cfg!(feature = "wkb");
+    const RUST: bool = false;
 
     fn draw(r: &mut Random) -> (&'static str, Case) {
         let n = match r.below(8) {

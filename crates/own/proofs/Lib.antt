@@ -1,0 +1,4 @@
+pub mod Order
+pub mod Sum
+pub mod Tests
+pub mod Measured

@@ -1,12 +1,13 @@
 -- Document 01, "Ownership and snapping": the owner of a point is the first cell in row order that owns it; if there is none the point is
 -- outside the grid. Definitions only.
-use Prim.Native.Nat.{ℕ, zero, suc, _*_, _/_, _%_}
+use mathlib.Core.Path.{_≡_}
+use Prim.Native.Nat.{ℕ, zero, suc, _*_, _/_, _%_, _≤_}
 use mathlib.Core.Bool.{Bool, true, false}
 use lib.Ieee.{Float}
 use Rattle.grid.specs.declared.Grid.{Grid}
 use Rattle.grid.specs.declared.Axis.{Axis}
 use Rattle.grid.specs.Refusals.{andThen}
-use Rattle.grid.specs.Domain.{pointCheck, gridCheck}
+use Rattle.grid.specs.Domain.{coordinate, sizeFits, pointCheck, gridCheck}
 use Rattle.snap.specs.Answer.{unlessRefused}
 use Rattle.own.specs.declared.Found.{Found}
 use Rattle.own.specs.declared.Found.the-variants.{At, Nowhere}
@@ -27,6 +28,13 @@ firstFrom test (suc left) k = orElse (test k) k (firstFrom test left (suc k))
 unfoldable pub firstOn : Axis → Float → Found
 unfolding firstFrom
 firstOn a p = firstFrom (λ i. ownsOn a i p) (a .count) 0
+
+-- what the search along an axis asks: that of a fit grid, and a coordinate
+pub record Searchable (a : Axis) (p : Float) : Type 0 where
+  pub low : coordinate (a .low) ≡ true
+  pub size : sizeFits (a .size) ≡ true
+  pub few : a .count ≤ 4004
+  pub point : coordinate p ≡ true
 
 -- in row order cell k is the column k % cols of the row k / cols
 abbrev pub cellOf : ℕ → Found → Owner

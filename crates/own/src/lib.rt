@@ -10,6 +10,7 @@ ghost use mathlib.Core.Path.{_≡_};
 ghost use mathlib.Core.Bool.{_&&_};
 ghost use Rattle.grid.specs.Axes.{xAxis, yAxis};
 ghost use Rattle.own.specs.Own.{ownsPoint, holdsOn, ownsOverlap, owned, pointAnswer, overlapAnswer};
+ghost use Rattle.own.specs.Owner.{Searchable, ownerOf, ownerAnswer};
 
 // Whether a cell owns what it was asked about, or the refusal that is due.
 pub enum Owned {
@@ -125,4 +126,35 @@ pub fn overlap_owned(
             answer(owns_overlap(grid, row, col, snapped_x, snapped_y))
         },
     }
+}
+
+// The first column that owns x, and the first row that owns y: ownership goes axis by axis, so theirs is the first cell.
+fn first_cell(grid: Grid, x: f64, y: f64) -> Owner
+    requires { ⌜ Searchable (xAxis grid) x ⌝ ∗ ⌜ Searchable (yAxis grid) y ⌝ }
+    ensures { λ r. ⌜ r ≡ ownerOf grid x y ⌝ }
+{
+    let across = axis::first(grid.x_axis(), x);
+    let Found::At(col) = across else {
+        return Owner::Outside;
+    };
+    let along = axis::first(grid.y_axis(), y);
+    let Found::At(row) = along else {
+        return Owner::Outside;
+    };
+    Owner::Cell { row, col }
+}
+
+// The first cell in row order that owns a point. Refuses by 1, 8.
+pub fn owner_of(grid: Grid, x: f64, y: f64) -> Owner
+    ensures { λ r. ⌜ r ≡ ownerAnswer grid x y ⌝ }
+{
+    let point = grid::checks::check_point(x, y);
+    if let Check::Refused(r) = point {
+        return Owner::Refused(r);
+    }
+    let fit = grid::checks::check_grid(grid);
+    if let Check::Refused(r) = fit {
+        return Owner::Refused(r);
+    }
+    first_cell(grid, x, y)
 }

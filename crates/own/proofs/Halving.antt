@@ -22,6 +22,18 @@ pub record Halved (a : Axis) (p : Float) (low high : ℕ) : Type 0 where
   pub passed : (j : ℕ) → j < low → lt p (highOn a j) ≡ false
   pub ahead : (suc high ≡ a .count) ⊎ (lt p (highOn a high) ≡ true)
 
+-- ---- the test as Bools: l is "low <= p", t is "p < high", n is "the last index" and e is "p = high"
+
+not-past : (l t n e : Bool) → t ≡ false → n ≡ false → (l && (t || (n && e))) ≡ false
+not-past true t n e h k = rw (h, k)
+not-past false t n e h k = refl
+
+not-low : (l t n : Bool) → t ≡ true → (l && (t || n)) ≡ false → l ≡ false
+not-low true t n h k = rw h at k
+not-low false t n h k = refl
+
+-- ---- the search
+
 pub empty-axis : (a : Axis) (p : Float) → a .count ≡ 0 → Nowhere ≡ firstOn a p
 unfolding firstOn firstFrom
 empty-axis a p h = rw h
@@ -51,11 +63,7 @@ module _ (a : Axis) (p : Float) (asks : Searchable a p) where
   -- an index before the last whose high edge p has reached does not own it
   behind : (j : ℕ) → suc j < a .count → lt p (highOn a j) ≡ false → owns j ≡ false
   unfolding ownsOn owns
-  behind j l t = rw (t, ne-eqb (suc j) (a .count) (λ e. omega arith)) (off (le (lowOn a j) p))
-    where
-      off : (b : Bool) → (b && false) ≡ false
-      off true = refl
-      off false = refl
+  behind j l t = not-past (le (lowOn a j) p) (lt p (highOn a j)) (eqb (suc j) (a .count)) (eq p (highOn a j)) t (ne-eqb (suc j) (a .count) (λ e. omega arith))
 
   -- an index whose low edge p is under does not own it
   under : (j : ℕ) → le (lowOn a j) p ≡ false → owns j ≡ false
@@ -65,11 +73,7 @@ module _ (a : Axis) (p : Float) (asks : Searchable a p) where
   -- where p is below the high edge, only the low edge can fail
   only-low : (i : ℕ) → lt p (highOn a i) ≡ true → owns i ≡ false → le (lowOn a i) p ≡ false
   unfolding ownsOn owns
-  only-low i t h = go (le (lowOn a i) p) (rw t at h)
-    where
-      go : (b : Bool) → (b && true) ≡ false → b ≡ false
-      go true k = k
-      go false k = refl
+  only-low i t h = not-low (le (lowOn a i) p) (lt p (highOn a i)) _ t h
 
   module _ (i high : ℕ) (h : Halved a p i high) (met : high ≤ i) where
     inside : i < a .count

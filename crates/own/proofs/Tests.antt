@@ -10,33 +10,55 @@ use Rattle.grid.specs.declared.Axis.{Axis}
 use Rattle.grid.specs.Axes.{lowOn, highOn}
 use Rattle.own.specs.Own.{ownsOn, holdsOn}
 
+-- ---- the tests as Bools: l is "low <= p", t is "p < high", n is "the last index" and e is "p = high"
+
+within : (l t n : Bool) → l ≡ true → t ≡ true → true ≡ (l && (t || n))
+within l t n h k = rw (h, k)
+
+at-last : (l t n e : Bool) → l ≡ true → t ≡ false → n ≡ true → e ≡ (l && (t || (n && e)))
+at-last l t n e h k m = rw (h, k, m)
+
+past : (l t n e : Bool) → l ≡ true → t ≡ false → n ≡ false → false ≡ (l && (t || (n && e)))
+past l t n e h k m = rw (h, k, m)
+
+over : (l t : Bool) → l ≡ true → t ≡ (l && t)
+over l t h = rw h
+
+short : (l t : Bool) → l ≡ false → false ≡ (l && t)
+short l t h = rw h
+
+-- ---- on an axis
+
 module _ (a : Axis) (i : ℕ) (p lo : Float) (l : lo ≡ lowOn a i) where
   -- below the low edge
   pub owns-under : le lo p ≡ false → false ≡ ownsOn a i p
   unfolding ownsOn
-  owns-under h = rw (← l, h)
+  owns-under h = short (le (lowOn a i) p) _ (rw l at h)
 
   pub holds-under : le lo p ≡ false → false ≡ holdsOn a i p
   unfolding holdsOn
-  holds-under h = rw (← l, h)
+  holds-under h = short (le (lowOn a i) p) _ (rw l at h)
 
   module _ (hi : Float) (u : hi ≡ highOn a i) (h : le lo p ≡ true) where
     pub holds-over : lt p hi ≡ holdsOn a i p
     unfolding holdsOn
-    holds-over = rw (← u, ← l, h)
+    holds-over = ap (λ (z : Float). lt p z) u ∙ over (le (lowOn a i) p) (lt p (highOn a i)) (rw l at h)
 
     pub owns-within : lt p hi ≡ true → true ≡ ownsOn a i p
     unfolding ownsOn
-    owns-within k = rw (← u, ← l, h, k)
+    owns-within k = within (le (lowOn a i) p) (lt p (highOn a i)) _ (rw l at h) (rw u at k)
 
     -- on or over the high edge: the last index takes the edge itself
     pub owns-last : lt p hi ≡ false → i + 1 ≡ a .count → eq p hi ≡ ownsOn a i p
     unfolding ownsOn
-    owns-last k e = rw (← u, ← l, h, k, eq-eqb (suc i) (a .count) (sym (add-one i) ∙ e))
+    owns-last k e =
+        ap (λ (z : Float). eq p z) u
+        ∙ at-last (le (lowOn a i) p) (lt p (highOn a i)) (eqb (suc i) (a .count)) (eq p (highOn a i)) (rw l at h) (rw u at k) (eq-eqb (suc i) (a .count) (sym (add-one i) ∙ e))
 
     pub owns-past : lt p hi ≡ false → (i + 1 ≡ a .count → ⊥) → false ≡ ownsOn a i p
     unfolding ownsOn
-    owns-past k e = rw (← u, ← l, h, k, ne-eqb (suc i) (a .count) (λ x. e (add-one i ∙ x)))
+    owns-past k e =
+        past (le (lowOn a i) p) (lt p (highOn a i)) (eqb (suc i) (a .count)) (eq p (highOn a i)) (rw l at h) (rw u at k) (ne-eqb (suc i) (a .count) (λ x. e (add-one i ∙ x)))
 
 -- ---- one axis after the other, by either test: u and v are what the two answer
 

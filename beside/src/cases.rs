@@ -124,8 +124,10 @@ pub fn bad(r: &mut Random) -> f64 {
 }
 
 /// A year on a bench: n legs of orbits that loop through temperature (kelvin) and frequency (parts per billion), and drift.
+/// More legs are more orbits, and each in shorter legs, so that a leg crosses as many cells of the finer grid.
 pub fn year(r: &mut Random, n: usize) -> Vec<Line> {
-    let legs = 11.0;
+    let legs = (0.7 * (n as f64).sqrt()).max(8.0);
+    let noise = 4.0 / (n as f64).sqrt().max(8.0);
     let point = |i: usize, noise: (f64, f64)| {
         let phase = i as f64 / legs * std::f64::consts::TAU;
         let season = i as f64 / n as f64 * std::f64::consts::TAU;
@@ -137,7 +139,7 @@ pub fn year(r: &mut Random, n: usize) -> Vec<Line> {
     let mut at = point(0, (0.0, 0.0));
     (1..=n)
         .map(|i| {
-            let to = point(i, (r.between(-0.2, 0.2), r.between(-0.1, 0.1)));
+            let to = point(i, (r.between(-noise, noise), r.between(-noise, noise)));
             let line = [at.0, at.1, to.0, to.1];
             at = to;
             line
@@ -237,6 +239,22 @@ pub fn lines(r: &mut Random, most: usize) -> (&'static str, Vec<Line>) {
             let mut end = || r.pick(&[1e9, -1e9, nudged(1e9, -1), 0.0, -0.0, 5e-324, 1e-9, 999999999.5]);
             let all = (0..n.min(200)).map(|_| [end(), end(), end(), end()]);
             ("largest", all.collect())
+        }
+        12 if r.once_in(2) => {
+            // k by k cells, and lines a hair long across the grid's high edge, which is 0: a walk that steps past the last column
+            // with an endless t_max never ends
+            let k = 2 + r.below(11);
+            let w = r.pick(&[1e9, 1e8, 536870912.0, 1e9 - 1.0]);
+            let turned = r.once_in(2);
+            let mut all = vec![[-w, -w, -w, 0.0], [-w, 0.0, 0.0, -w]];
+            while (all.len() as u64) < k * k {
+                let mut hair = || r.pick(&[0.0, -5e-324, -1e-323, -w / 2.0]);
+                let (a, b) = (hair(), hair());
+                let mut edge = || if r.once_in(4) { -w * r.unit() } else { -w + r.below(k + 1) as f64 * (w / k as f64) };
+                let (c, d) = (edge(), edge());
+                all.push(if turned { [c, a, d, b] } else { [a, c, b, d] });
+            }
+            ("hair", all)
         }
         12 => {
             // whole numbers: many equal ends, many corners

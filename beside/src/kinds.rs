@@ -18,6 +18,8 @@ pub trait Kind {
     const NAME: &'static str;
     /// Whether the port takes part.
     const PORT: bool;
+    /// Whether the Rust has such a function.
+    const RUST: bool = true;
     /// The shape's name, and the case.
     fn draw(r: &mut Random) -> (&'static str, Self::Case);
     /// What the answer was, in a word or two; or how two answers differ.
@@ -45,7 +47,13 @@ pub fn run<K: Kind>(seed: u64, cases: u64, fixed: Vec<(&'static str, K::Case)>) 
         }
         total += 1;
     }
-    println!("{}: {total} cases, {}: no difference", K::NAME, if K::PORT { "port, Rust and model" } else { "Rust and model, no port yet" });
+    let sides = match (K::PORT, K::RUST) {
+        (true, true) => "port, Rust and model",
+        (true, false) => "port and model",
+        (false, true) => "Rust and model, no port yet",
+        (false, false) => "the model alone, no port yet",
+    };
+    println!("{}: {total} cases, {sides}: no difference", K::NAME);
     let mut shapes: BTreeMap<&str, Vec<String>> = BTreeMap::new();
     for ((shape, answer), count) in counts {
         shapes.entry(shape).or_default().push(format!("{answer} {count}"));

@@ -104,7 +104,7 @@ impl Kind for Build {
             && case.lines.len() <= MOST_LINES
             && case.lines.iter().flatten().all(|&v| model::coordinate_fits(v));
         let tables = if inside { model::tables(columns.coordinates(), usize::MAX) } else { Err((0, 0)) };
-        let needed = tables.as_ref().map_or([0; 3], |t| [t.most_offsets, t.items.len(), t.globals.len()]);
+        let needed = tables.as_ref().map_or([4096, 64, 8], |t| [t.most_offsets, t.items.len(), t.globals.len()]);
         let sizes = [case.offsets.of(needed[0]), case.items.of(needed[1]), case.globals.of(needed[2]), case.scratch];
 
         let mut wanted: Option<Left> = None;

@@ -180,7 +180,7 @@ impl Kind for Own {
 
 /// The first cell in row order that the Rust says owns the point. Every cell is asked where they are few; else the cells of the rows
 /// and columns near the point's own, which rounding cannot leave.
-fn scan(g: &Grid, x: f64, y: f64) -> [u64; 3] {
+pub fn scan(g: &Grid, x: f64, y: f64) -> [u64; 3] {
     let mut owners = Owners::new(g);
     let near = |low: f64, p: f64, count: u32| {
         if g.cols * g.rows <= 400 {

@@ -46,6 +46,7 @@ impl Kind for Wkb {
     type Case = Case;
     const NAME: &'static str = "wkb";
     const PORT: bool = cfg!(feature = "wkb");
+    const RUST: bool = false;
 
     fn draw(r: &mut Random) -> (&'static str, Case) {
         let n = match r.below(8) {
@@ -82,7 +83,8 @@ impl Kind for Wkb {
             let (mut x, mut y) = (vec![junk; c.x], vec![junk; c.y]);
             let mut out = [u64::MAX; 8];
             let number = entry(&c.bytes, &mut x, &mut y, &mut out);
-            let bits = |v: &[f64]| v.iter().map(|v| v.to_bits()).collect::<Vec<_>>();
+            // every pattern of a NaN is the one NaN
+            let bits = |v: &[f64]| v.iter().map(|v| if v.is_nan() { u64::MAX } else { v.to_bits() }).collect::<Vec<_>>();
             let got = (number, vec![out[0]], bits(&x), bits(&y));
             let w = wanted.get_or_insert_with(|| got.clone());
             answers(who, (w.0, &w.1), (got.0, &got.1))?;

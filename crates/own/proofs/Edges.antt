@@ -1,13 +1,13 @@
 -- On an axis of a fit grid a larger index has no smaller low edge and no smaller high edge. So "low <= p" holds of the indexes up to
 -- some index, and "p < high" of those from some index on. Assumes nothing.
-use mathlib.Core.Path.{_≡_, refl, sym, ap, _∙_, subst}
-use mathlib.Core.Bool.{Bool, true, false, _&&_, true≢false}
-use Prim.Native.Nat.{ℕ, _*_, _^_, _≤_, _<_}
-use native.Mathlib.Nat.{mul-assoc, mul-right-comm, mul-pos, mul-le-mul-right, le-trans}
+use mathlib.Core.Path.{_≡_, refl, sym, ap, subst}
+use mathlib.Core.Bool.{Bool, true, false, true≢false}
+use Prim.Native.Nat.{ℕ, _*_, _≤_}
+use native.Mathlib.Nat.{mul-pos, mul-le-mul-right, le-trans}
 use native.Mathlib.Omega.{arith}
 use lib.Dec.{T, lit≤}
 use lib.IntN.{pos}
-use lib.Ieee.{Float, nan, inf, fin, Format, binary64, prec, up, down, round, ofInt, add, mul, lt, le, eq}
+use lib.Ieee.{Float, nan, inf, fin, Format, binary64, up, down, round, ofInt, mul, lt, le, eq}
 use lib.Ieee.Exact.{HasValue}
 use lib.Ieee.Back.{round-whole}
 use lib.Ieee.Fits.{down-pos}

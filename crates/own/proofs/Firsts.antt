@@ -1,14 +1,12 @@
 -- The first number that passes a test, by what it is: it passes, and none before it does. And in row order: where a cell passes if its
 -- column and its row do, the first cell is that of the first column and the first row. Assumes nothing.
 use mathlib.Core.Path.{_≡_, refl, sym, ap, ap₂, _∙_}
-use mathlib.Core.Logic.{_⊎_, inl, inr}
 use mathlib.Core.Bool.{Bool, true, false, _&&_}
 use Prim.Native.Nat.{ℕ, zero, suc, _+_, _*_, _/_, _%_, _≤_, _<_}
 use native.Mathlib.Nat.{zero-add, mod-lt, mod-eq-of-lt, div-eq-of-lt, div-add-mod', div-lt-iff-lt-mul, mul-add-div-right, mul-add-mod-self-right, mul-le-mul-right}
 use native.Mathlib.Omega.{arith}
 use lib.Dec.{eqb}
 use borrow.Author.Tests.{eqb-true, eqb-false}
-use Rattle.own.specs.declared.Found.{Found}
 use Rattle.own.specs.declared.Found.the-variants.{At, Nowhere}
 use Rattle.own.specs.Owner.{orElse, firstFrom}
 

@@ -2,8 +2,8 @@
 -- p < high edge, or else the last. That index is the first owner, if it owns p; else there is none. Assumes nothing.
 use mathlib.Core.Path.{_≡_, refl, sym, ap, _∙_}
 use mathlib.Core.Logic.{_⊎_, inl, inr, ⊎-elim}
-use mathlib.Core.Bool.{Bool, true, false, _&&_, _||_, true≢false}
-use Prim.Native.Nat.{ℕ, suc, _+_, _-_, _/_, _≤_, _<_}
+use mathlib.Core.Bool.{Bool, true, false, _&&_, _||_}
+use Prim.Native.Nat.{ℕ, suc, _+_, _-_, _≤_, _<_}
 use native.Mathlib.Omega.{arith}
 use borrow.Author.Tests.{ne-eqb, ltb-true, ltb-false, eqb-true, eqb-false}
 use lib.Dec.{eqb, ltb}
@@ -14,8 +14,9 @@ use Rattle.own.specs.declared.Found.the-variants.{At, Nowhere}
 use Rattle.own.specs.Own.{ownsOn}
 use Rattle.own.specs.Owner.{firstFrom, firstOn, Searchable}
 use Rattle.own.proofs.Edges.{over-before, under-after}
-use Rattle.own.proofs.Firsts.{First, None, first-at, first-none}
+use Rattle.own.proofs.Firsts.{None, first-at, first-none}
 
+-- the indexes left: p has reached the high edge of all before them, and is below that of the last of them, unless the axis ends there
 pub record Halved (a : Axis) (p : Float) (low high : ℕ) : Type 0 where
   pub order : low ≤ high
   pub inside : high < a .count

@@ -1,6 +1,6 @@
 -- Document 01, "Measured points": P7 and P8, and P7 to P10 as one table. Assumes nothing.
-use mathlib.Core.Path.{_≡_, refl}
-use mathlib.Core.Bool.{true, false}
+use mathlib.Core.Path.{refl}
+use mathlib.Core.Bool.{false}
 use mathlib.Core.List.{List, [], _∷_, _++_}
 use Prim.Native.Nat.{ℕ}
 use lib.Ieee.{Float, binary64, round, ofInt, add, mul, lt, le, eq}
@@ -13,7 +13,7 @@ use Rattle.snap.specs.Answer.{unlessRefused}
 use Rattle.snap.proofs.Measured.{Row, Hold, joined, p9·10, p9·10-hold}
 use Rattle.own.specs.declared.Owned.{Owned}
 use Rattle.own.specs.declared.Owned.the-variants.{Yes, No}
-use Rattle.own.specs.Own.{ownsOn, ownsPoint, pointAnswer}
+use Rattle.own.specs.Own.{ownsOn, ownsPoint, placeCheck, pointAnswer}
 
 -- the grid at 0, 0 with cell_size 1, 4 by 4
 abbrev pub four : Grid
@@ -30,7 +30,7 @@ p7·8 =
     ∷ []
 
 pub p7·8-hold : Hold p7·8
-unfolding pointAnswer unlessRefused andThen pointCheck gridCheck cellCheck unless point coordinate fit sizeFits shape magnitudeOf ownsPoint ownsOn lowOn highOn round ofInt add mul le lt eq
+unfolding pointAnswer unlessRefused andThen placeCheck pointCheck gridCheck cellCheck unless point coordinate fit sizeFits shape magnitudeOf ownsPoint ownsOn lowOn highOn round ofInt add mul le lt eq
 p7·8-hold = (refl, (refl, (refl, tt)))
 
 -- ---- the table

@@ -1,5 +1,5 @@
 -- The owner of a point, from the first column and the first row that own it, and what the checks say for their search. Assumes nothing.
-use mathlib.Core.Path.{_≡_, refl, sym, ap, ap₂, _∙_}
+use mathlib.Core.Path.{_≡_, sym, ap, ap₂, _∙_}
 use mathlib.Core.Bool.{Bool, _&&_}
 use Prim.Native.Nat.{ℕ, _+_, _*_, _/_, _%_}
 use lib.Ieee.{Float}
@@ -9,13 +9,13 @@ use Rattle.grid.specs.declared.Check.the-variants.{Fine}
 use Rattle.grid.specs.Axes.{xAxis, yAxis}
 use Rattle.grid.specs.Domain.{coordinate, point, fit, pointCheck, gridCheck}
 use Rattle.grid.proofs.Bools.{and-left, and-right}
-use Rattle.grid.proofs.Fine.{unless-fine}
+use Rattle.grid.proofs.Fine.{unless-fine, then-left, then-right}
 use Rattle.grid.proofs.Shapes.{fit-says}
 use Rattle.own.specs.declared.Found.{Found}
 use Rattle.own.specs.declared.Found.the-variants.{At, Nowhere}
 use Rattle.own.specs.declared.Owner.the-variants.{Cell, Outside}
-use Rattle.own.specs.Own.{ownsOn, ownsPoint}
-use Rattle.own.specs.Owner.{firstFrom, firstOn, Searchable, cellOf, ownerOf}
+use Rattle.own.specs.Own.{ownsOn, ownsPoint, placeCheck}
+use Rattle.own.specs.Owner.{firstOn, Searchable, cellOf, ownerOf}
 use Rattle.own.proofs.Firsts.{first-at, first-none, at-first, none-first, no-column, no-row, column-is, row-is, first-cell}
 
 -- what the search asks, and what it answers, on an axis that was read off the grid
@@ -54,11 +54,11 @@ module _ (g : Grid) (x y : Float) where
 
 -- ---- what the checks say of the two axes
 
-pub searchable : (g : Grid) (x y : Float) → pointCheck x y ≡ Fine → gridCheck g ≡ Fine → Searchable (xAxis g) x × Searchable (yAxis g) y
-unfolding pointCheck gridCheck point
-searchable g x y p q =
-    let xy = unless-fine (coordinate x && coordinate y) 1 0 p in
-    let fits = fit-says g (unless-fine (fit g) 8 0 q) in (
+pub searchable : (g : Grid) (x y : Float) → placeCheck g x y ≡ Fine → Searchable (xAxis g) x × Searchable (yAxis g) y
+unfolding placeCheck pointCheck gridCheck point
+searchable g x y h =
+    let xy = unless-fine (coordinate x && coordinate y) 1 0 (then-left _ _ h) in
+    let fits = fit-says g (unless-fine (fit g) 8 0 (then-right _ _ h)) in (
       record { low = fits .«min-x»; size = fits .size; few = fits .counts .wide; point = and-left (coordinate x) (coordinate y) xy },
       record { low = fits .«min-y»; size = fits .size; few = fits .counts .high; point = and-right (coordinate x) (coordinate y) xy },
     )

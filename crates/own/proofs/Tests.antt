@@ -1,14 +1,20 @@
--- The cases of the ownership tests, as the code takes them. lo and hi are the edges of index i. Assumes nothing.
-use mathlib.Core.Path.{_≡_, refl, sym, ap, _∙_}
+-- The cases of the ownership tests and of the first check, as the code takes them. lo and hi are the edges of index i. Assumes nothing.
+use mathlib.Core.Path.{_≡_, sym, ap, _∙_}
 use mathlib.Core.Bool.{Bool, true, false, _&&_, _||_}
 use Prim.Native.Nat.{ℕ, suc, _+_}
 use native.Mathlib.Numerals.{add-one}
 use borrow.Author.Tests.{eq-eqb, ne-eqb}
 use lib.Dec.{eqb}
 use lib.Ieee.{Float, lt, le, eq}
+use Rattle.grid.specs.declared.Grid.{Grid}
 use Rattle.grid.specs.declared.Axis.{Axis}
+use Rattle.grid.specs.declared.Refusal.{Refusal}
+use Rattle.grid.specs.declared.Check.the-variants.{Fine, Refused}
+use Rattle.grid.specs.Refusals.{andThen}
+use Rattle.grid.specs.Domain.{pointCheck, gridCheck}
+use Rattle.grid.proofs.Fine.{then-left}
 use Rattle.grid.specs.Axes.{lowOn, highOn}
-use Rattle.own.specs.Own.{ownsOn, holdsOn}
+use Rattle.own.specs.Own.{ownsOn, holdsOn, placeCheck}
 
 -- ---- the tests as Bools: l is "low <= p", t is "p < high", n is "the last index" and e is "p = high"
 
@@ -82,3 +88,18 @@ by-cell u p q row e h r = rw (← e, h, eq-eqb row 0 r)
 
 pub by-neither : (u p q : Bool) (row : ℕ) → u ≡ p → u ≡ false → (row ≡ 0 → ⊥) → false ≡ (p || (eqb row 0 && q))
 by-neither u p q row e h r = rw (← e, h, ne-eqb row 0 r)
+
+-- ---- the check of the point, then that of the grid
+
+module _ (g : Grid) (x y : Float) where
+  pub place-refused : (r : Refusal) → pointCheck x y ≡ Refused r → Refused r ≡ placeCheck g x y
+  unfolding placeCheck andThen
+  place-refused r h = rw h
+
+  pub place-rest : pointCheck x y ≡ Fine → gridCheck g ≡ placeCheck g x y
+  unfolding placeCheck andThen
+  place-rest h = rw h
+
+  pub place-point : placeCheck g x y ≡ Fine → pointCheck x y ≡ Fine
+  unfolding placeCheck
+  place-point h = then-left (pointCheck x y) (gridCheck g) h

@@ -6,6 +6,7 @@ use lib.Dec.{eqb}
 use lib.Ieee.{Float, lt, le, eq}
 use Rattle.grid.specs.declared.Grid.{Grid}
 use Rattle.grid.specs.declared.Axis.{Axis}
+use Rattle.grid.specs.declared.Check.{Check}
 use Rattle.grid.specs.Axes.{xAxis, yAxis, lowOn, highOn}
 use Rattle.grid.specs.Refusals.{andThen}
 use Rattle.grid.specs.Domain.{pointCheck, gridCheck, snapCheck, cellCheck}
@@ -40,14 +41,18 @@ abbrev pub owned : Bool → Owned
 owned true = Yes
 owned false = No
 
+-- 1, then 8: what every call here checks first
+unfoldable pub placeCheck : Grid → Float → Float → Check
+placeCheck g x y = andThen (pointCheck x y) (gridCheck g)
+
 -- after refusals 1, 8 and 9
 unfoldable pub pointAnswer : Grid → ℕ → ℕ → Float → Float → Owned
 pointAnswer g row col x y =
-    unlessRefused (andThen (pointCheck x y) (andThen (gridCheck g) (cellCheck g row col))) Refused
+    unlessRefused (andThen (placeCheck g x y) (cellCheck g row col)) Refused
     (owned (ownsPoint g row col x y))
 
 -- after refusals 1, 8, 12 and 9
 unfoldable pub overlapAnswer : Grid → ℕ → ℕ → Float → Float → Float → ℕ → Owned
 overlapAnswer g row col x y size strategy =
-    unlessRefused (andThen (pointCheck x y) (andThen (gridCheck g) (andThen (snapCheck size strategy) (cellCheck g row col)))) Refused
+    unlessRefused (andThen (placeCheck g x y) (andThen (snapCheck size strategy) (cellCheck g row col))) Refused
     (owned (ownsOverlap g row col (snapOf size strategy x) (snapOf size strategy y)))

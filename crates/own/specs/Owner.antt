@@ -6,14 +6,13 @@ use mathlib.Core.Bool.{Bool, true, false}
 use lib.Ieee.{Float}
 use Rattle.grid.specs.declared.Grid.{Grid}
 use Rattle.grid.specs.declared.Axis.{Axis}
-use Rattle.grid.specs.Refusals.{andThen}
-use Rattle.grid.specs.Domain.{coordinate, sizeFits, pointCheck, gridCheck}
+use Rattle.grid.specs.Domain.{coordinate, sizeFits}
 use Rattle.snap.specs.Answer.{unlessRefused}
 use Rattle.own.specs.declared.Found.{Found}
 use Rattle.own.specs.declared.Found.the-variants.{At, Nowhere}
 use Rattle.own.specs.declared.Owner.{Owner}
 use Rattle.own.specs.declared.Owner.the-variants.{Cell, Outside, Refused}
-use Rattle.own.specs.Own.{ownsOn, ownsPoint}
+use Rattle.own.specs.Own.{ownsOn, ownsPoint, placeCheck}
 
 -- the first of the `left` numbers from k on that passes a test
 abbrev pub orElse : Bool → ℕ → Found → Found
@@ -48,4 +47,4 @@ ownerOf g x y = cellOf (g .cols) (firstFrom (λ k. ownsPoint g (k / g .cols) (k 
 
 -- after refusals 1 and 8
 unfoldable pub ownerAnswer : Grid → Float → Float → Owner
-ownerAnswer g x y = unlessRefused (andThen (pointCheck x y) (gridCheck g)) Refused (ownerOf g x y)
+ownerAnswer g x y = unlessRefused (placeCheck g x y) Refused (ownerOf g x y)

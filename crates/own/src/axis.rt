@@ -6,7 +6,7 @@ ghost use Rattle.own.specs.Own.{ownsOn, holdsOn};
 ghost use Rattle.own.specs.Owner.{Searchable, firstOn};
 
 // Of a point: the high edge of the last index counts too.
-pub fn owns(axis: Axis, i: u32, p: f64) -> bool
+pub(crate) fn owns(axis: Axis, i: u32, p: f64) -> bool
     ensures { λ r. ⌜ r ≡ ownsOn axis i p ⌝ }
 {
     if axis.low_edge(i) <= p {
@@ -23,7 +23,7 @@ pub fn owns(axis: Axis, i: u32, p: f64) -> bool
 }
 
 // Of a collinear overlap: no high edge counts.
-pub fn holds(axis: Axis, i: u32, p: f64) -> bool
+pub(crate) fn holds(axis: Axis, i: u32, p: f64) -> bool
     ensures { λ r. ⌜ r ≡ holdsOn axis i p ⌝ }
 {
     if axis.low_edge(i) <= p {
@@ -34,7 +34,7 @@ pub fn holds(axis: Axis, i: u32, p: f64) -> bool
 
 // The first index that owns p. The edges keep their order along the axis, so the first index with p below its high edge, or else the
 // last, is found by halving; if that index does not own p, none does.
-pub fn first(axis: Axis, p: f64) -> Found
+pub(crate) fn first(axis: Axis, p: f64) -> Found
     requires { ⌜ Searchable axis p ⌝ }
     ensures { λ r. ⌜ r ≡ firstOn axis p ⌝ }
 {

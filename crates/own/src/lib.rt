@@ -9,7 +9,7 @@ use snap::Snapped;
 ghost use mathlib.Core.Path.{_≡_};
 ghost use mathlib.Core.Bool.{_&&_};
 ghost use Rattle.grid.specs.Axes.{xAxis, yAxis};
-ghost use Rattle.own.specs.Own.{ownsPoint, holdsOn, ownsOverlap, owned, pointAnswer, overlapAnswer};
+ghost use Rattle.own.specs.Own.{ownsPoint, holdsOn, ownsOverlap, placeCheck, owned, pointAnswer, overlapAnswer};
 ghost use Rattle.own.specs.Owner.{Searchable, ownerOf, ownerAnswer};
 
 // Whether a cell owns what it was asked about, or the refusal that is due.
@@ -30,6 +30,17 @@ pub enum Owner {
 pub enum Found {
     At(u32),
     Nowhere,
+}
+
+// 1, then 8.
+fn check_place(grid: Grid, x: f64, y: f64) -> Check
+    ensures { λ r. ⌜ r ≡ placeCheck grid x y ⌝ }
+{
+    let point = grid::checks::check_point(x, y);
+    if let Check::Refused(r) = point {
+        return Check::Refused(r);
+    }
+    grid::checks::check_grid(grid)
 }
 
 fn answer(yes: bool) -> Owned
@@ -77,12 +88,8 @@ fn owns_overlap(grid: Grid, row: u32, col: u32, x: f64, y: f64) -> bool
 pub fn point_owned(grid: Grid, row: u32, col: u32, x: f64, y: f64) -> Owned
     ensures { λ r. ⌜ r ≡ pointAnswer grid row col x y ⌝ }
 {
-    let point = grid::checks::check_point(x, y);
-    if let Check::Refused(r) = point {
-        return Owned::Refused(r);
-    }
-    let fit = grid::checks::check_grid(grid);
-    if let Check::Refused(r) = fit {
+    let place = check_place(grid, x, y);
+    if let Check::Refused(r) = place {
         return Owned::Refused(r);
     }
     let cell = grid::checks::check_cell(grid, row, col);
@@ -104,12 +111,8 @@ pub fn overlap_owned(
 ) -> Owned
     ensures { λ r. ⌜ r ≡ overlapAnswer grid row col x y size strategy ⌝ }
 {
-    let point = grid::checks::check_point(x, y);
-    if let Check::Refused(r) = point {
-        return Owned::Refused(r);
-    }
-    let fit = grid::checks::check_grid(grid);
-    if let Check::Refused(r) = fit {
+    let place = check_place(grid, x, y);
+    if let Check::Refused(r) = place {
         return Owned::Refused(r);
     }
     let end = snap::snap_point(x, y, size, strategy);
@@ -148,12 +151,8 @@ fn first_cell(grid: Grid, x: f64, y: f64) -> Owner
 pub fn owner_of(grid: Grid, x: f64, y: f64) -> Owner
     ensures { λ r. ⌜ r ≡ ownerAnswer grid x y ⌝ }
 {
-    let point = grid::checks::check_point(x, y);
-    if let Check::Refused(r) = point {
-        return Owner::Refused(r);
-    }
-    let fit = grid::checks::check_grid(grid);
-    if let Check::Refused(r) = fit {
+    let place = check_place(grid, x, y);
+    if let Check::Refused(r) = place {
         return Owner::Refused(r);
     }
     first_cell(grid, x, y)

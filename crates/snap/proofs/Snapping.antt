@@ -1,5 +1,5 @@
 -- What the answer of `snap_point` tells whoever has checked the point already. Assumes nothing.
-use mathlib.Core.Path.{_≡_, refl, sym, ap, _∙_}
+use mathlib.Core.Path.{_≡_, refl, sym, _∙_}
 use Prim.Native.Nat.{ℕ}
 use native.Mathlib.Omega.{arith}
 use lib.Ieee.{Float}
@@ -7,7 +7,6 @@ use Rattle.grid.specs.declared.Refusal.{Refusal}
 use Rattle.grid.specs.declared.Check.{Check}
 use Rattle.grid.specs.declared.Check.the-variants.{Fine, Refused}
 use Rattle.grid.specs.Domain.{pointCheck, snapCheck}
-use Rattle.snap.specs.declared.Snapped.{Snapped}
 use Rattle.snap.specs.declared.Snapped.the-variants.{Point}
 use Rattle.snap.specs.declared.Snapped.the-variants as snapped-variants
 use Rattle.snap.specs.Answer.{unlessRefused}

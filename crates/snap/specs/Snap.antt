@@ -1,6 +1,6 @@
 -- Document 01, "Ownership and snapping", its second paragraph. Each float step rounds once, in the written order. Definitions only.
 use Prim.Native.Nat.{ℕ}
-use mathlib.Core.Bool.{Bool, false, cond}
+use mathlib.Core.Bool.{false, cond}
 use lib.Dec.{eqb}
 use lib.Ieee.{Float, nan, inf, fin, binary64, round, add, mul, div, eq}
 use Rattle.numbers.specs.Away.{roundAway}

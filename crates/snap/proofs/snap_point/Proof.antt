@@ -1,5 +1,5 @@
 -- `snap::snap_point` meets its contract: the first check that refuses gives the answer, else the two coordinates do. Assumes nothing.
-use mathlib.Core.Path.{_≡_, refl, sym, ap₂, _∙_}
+use mathlib.Core.Path.{sym, ap₂, _∙_}
 use Rattle.snap.specs.declared.Snapped.the-variants.{Point}
 use Rattle.snap.specs.Snap.{snapAnswer}
 use Rattle.snap.proofs.Answers.{refused-first, fine-first, refused-last, fine-last}

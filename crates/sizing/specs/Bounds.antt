@@ -1,0 +1,38 @@
+-- Document 01, "The build": the bounds over all endpoints. Definitions only.
+use Prim.Native.Nat.{ℕ, zero, suc, _-_, _*_, _^_, min}
+use mathlib.Core.Bool.{true, false}
+use mathlib.Core.List.{List}
+use lib.ListN.{length, getD}
+use lib.Ieee.{Float, nan, binary64, round, sub}
+use Rattle.numbers.specs.Order.{leastOf, greatestOf}
+use Rattle.grid.specs.Domain.{Lines}
+use Rattle.sizing.specs.declared.Extent.{Extent}
+
+-- One axis: the least and the greatest coordinate of the first n lines, of which line i goes from entry i of the starts to entry i of the ends.
+-- With no lines they are the largest finite value, (2 ^ 53 - 1) * 2 ^ 971, and its negative.
+unfoldable pub lowest : List Float → List Float → ℕ → Float
+lowest starts ends zero = round binary64 false ((2 ^ 53 - 1) * 2 ^ 971) 1
+lowest starts ends (suc i) = leastOf (lowest starts ends i) (leastOf (getD starts i nan) (getD ends i nan))
+
+unfoldable pub highest : List Float → List Float → ℕ → Float
+highest starts ends zero = round binary64 true ((2 ^ 53 - 1) * 2 ^ 971) 1
+highest starts ends (suc i) = greatestOf (highest starts ends i) (greatestOf (getD starts i nan) (getD ends i nan))
+
+-- how far they are apart: the greatest less the least
+unfoldable pub reach : List Float → List Float → ℕ → Float
+reach starts ends n = sub binary64 (highest starts ends n) (lowest starts ends n)
+
+-- the lines that every slice has
+abbrev pub whole : Lines → ℕ
+whole ls = min (min (length (ls .«start_x»)) (length (ls .«start_y»))) (min (length (ls .«end_x»)) (length (ls .«end_y»)))
+
+-- the lower corner of all lines, and how far they reach from it: each axis for itself
+unfoldable pub extentOf : Lines → Extent
+unfolding lowest reach
+extentOf ls =
+    record {
+      «min_x» = lowest (ls .«start_x») (ls .«end_x») (whole ls);
+      «min_y» = lowest (ls .«start_y») (ls .«end_y») (whole ls);
+      width = reach (ls .«start_x») (ls .«end_x») (whole ls);
+      height = reach (ls .«start_y») (ls .«end_y») (whole ls);
+    }

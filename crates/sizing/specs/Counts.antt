@@ -1,0 +1,28 @@
+-- Document 01, "The build": the grid of a cell size, and the grid of no lines. Definitions only.
+use Prim.Native.Nat.{ℕ, _-_, _^_, min}
+use mathlib.Core.Bool.{true, false}
+use lib.Ieee.{Float, binary64, round, add, div}
+use Rattle.numbers.specs.Ceiling.{ceilingOf}
+use Rattle.grid.specs.declared.Grid.{Grid}
+use Rattle.sizing.specs.declared.Extent.{Extent}
+
+-- How many cells of a size an axis takes: the ceiling of (width + 1e-9) / cell_size. A count has 32 bits; no count of a build comes near that
+-- (`count-exact` of proofs/).
+unfoldable pub countOn : Float → Float → ℕ
+countOn width size = min (ceilingOf (div binary64 (add binary64 width (round binary64 false 1 1000000000)) size)) (2 ^ 32 - 1)
+
+-- the grid of a cell size: rows as columns
+unfoldable pub gridOf : Extent → Float → Grid
+unfolding countOn
+gridOf e size =
+    record {
+      «min_x» = e .«min_x»;
+      «min_y» = e .«min_y»;
+      «cell_size» = size;
+      cols = countOn (e .width) size;
+      rows = countOn (e .height) size;
+    }
+
+-- no lines: minima 0, cell_size 1, 0 by 0
+unfoldable pub emptyGrid : Grid
+emptyGrid = record { «min_x» = round binary64 false 0 1; «min_y» = round binary64 false 0 1; «cell_size» = round binary64 false 1 1; cols = 0; rows = 0 }

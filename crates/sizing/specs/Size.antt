@@ -1,0 +1,26 @@
+-- Document 01, "The build": the first cell size, and half of a cell size. Each float step rounds once, in the written order. Definitions only.
+use Prim.Native.Nat.{ℕ}
+use mathlib.Core.Bool.{true, false, cond}
+use lib.IntN.{pos}
+use lib.Ieee.{Float, binary64, round, ofInt, mul, div, lt}
+use Rattle.numbers.specs.Order.{greatestOf}
+use Rattle.numbers.specs.Root.{root}
+use Rattle.sizing.specs.declared.Extent.{Extent}
+
+-- area = width x height; below 1e-9 it becomes the number of lines (1e-9 itself stays)
+unfoldable pub areaOf : Extent → ℕ → Float
+areaOf e n =
+    let area = mul binary64 (e .width) (e .height) in
+    cond (lt area (round binary64 false 1 1000000000)) (ofInt binary64 (pos n)) area
+
+-- the largest of the square root of area / n, max(width, height) / 1000, and 1e-6
+unfoldable pub firstSize : Extent → ℕ → Float
+unfolding areaOf
+firstSize e n =
+    greatestOf
+    (greatestOf (root (div binary64 (areaOf e n) (ofInt binary64 (pos n)))) (div binary64 (greatestOf (e .width) (e .height)) (round binary64 false 1000 1)))
+    (round binary64 false 1 1000000)
+
+-- half of a cell size
+unfoldable pub halfOf : Float → Float
+halfOf size = div binary64 size (round binary64 false 2 1)

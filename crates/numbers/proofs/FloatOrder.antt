@@ -1,13 +1,12 @@
 -- The order of floats that are no NaN: it is total and transitive, and `lt` is its strict part. Finite values are compared as signed
 -- fractions: x is (plus x - minus x) / den x, where one of the two parts is 0. Assumes nothing.
-use mathlib.Core.Path.{_≡_, refl, sym, ap, _∙_, subst}
+use mathlib.Core.Path.{_≡_, refl, sym, subst}
 use mathlib.Core.Logic.{_⊎_, inl, inr}
-use mathlib.Core.Bool.{Bool, true, false, not, _&&_, _||_, cond, true≢false}
-use Prim.Native.Nat.{ℕ, zero, suc, _+_, _-_, _*_, _≤_, _<_}
-use native.Mathlib.Nat.{le-of-lt, le-of-eq, mul-le-mul-right, le-of-mul-le-mul-right, eq-or-lt-of-le}
+use mathlib.Core.Bool.{Bool, true, false, not, _&&_, _||_, true≢false}
+use Prim.Native.Nat.{ℕ, _+_, _*_, _≤_, _<_}
+use native.Mathlib.Nat.{mul-le-mul-right, le-of-mul-le-mul-right}
 use native.Mathlib.Omega.{arith}
-use lib.Dec.{T, ltb, eqb, ltb→lt, lt→ltb, nltb→le, eqb→eq}
-use lib.IntN.{ℤ}
+use lib.Dec.{T, ltb, eqb, ltb→lt, nltb→le, eqb→eq}
 use lib.Ieee.{Float, nan, inf, fin, up, down, neg, below, level, lt, le, eq}
 use lib.Ieee.Fits.{and-l, and-r, and-i, eq→eqb}
 use lib.Ieee.Scale.{finite}
@@ -235,6 +234,17 @@ le-neg (fin s m e) (fin t n d) h =
     signed-of (not t) b (not s) a (omega arith)
 
 -- ---- what a comparison shows
+
+pub lt-le : (x y : Float) → lt x y ≡ true → T (le x y)
+unfolding le
+lt-le x y h = or-l (lt x y) (eq x y) (subst T (sym h) tt)
+
+pub le-self : (x : Float) → T (number x) → T (le x x)
+unfolding le lt eq
+le-self nan h = absurd h
+le-self (inf true) h = tt
+le-self (inf false) h = tt
+le-self (fin s m e) h = signed-of s (m * up e * down e) s (m * up e * down e) (omega arith)
 
 pub le-number : (x y : Float) → T (le x y) → T (number y)
 unfolding le lt eq

@@ -1,19 +1,18 @@
 -- A sum of floats keeps the order of its first summand, and of its second: it is the exact sum, a signed fraction, rounded once, and
 -- rounding keeps the order. Overflow to an infinity is included. Assumes nothing.
-use mathlib.Core.Path.{_≡_, refl, sym, ap, ap₂, _∙_, subst, subst₂}
-use mathlib.Core.Bool.{Bool, true, false, not, _&&_, cond, Bool·beq}
-use Prim.Native.Nat.{ℕ, zero, suc, _+_, _-_, _*_, _≤_, _<_}
+use mathlib.Core.Path.{_≡_, refl, sym, ap, _∙_, subst}
+use mathlib.Core.Bool.{Bool, true, false, not, _&&_, cond}
+use Prim.Native.Nat.{ℕ, _+_, _-_, _*_, _≤_, _<_}
 use native.Mathlib.Nat.{add-comm, mul-comm, mul-pos, mul-le-mul-right, le-of-mul-le-mul-right}
 use native.Mathlib.Omega.{arith}
 use lib.Dec.{T, ltb, ltb→lt, nltb→le}
-use lib.IntN.{ℤ, pos}
+use lib.IntN.{pos}
 use lib.Ieee.{Float, nan, inf, fin, Format, binary32, binary64, up, down, round, neg, sum, add, le}
-use lib.Ieee.Fits.{down-pos}
 use lib.Ieee.Order.{round-mono}
 use lib.Ieee.Scale.{finite}
 use lib.Ieee.Positive.{den, den-pos}
 use Rattle.numbers.proofs.Values.{neg-round}
-use Rattle.numbers.proofs.FloatOrder.{number, above, under, plus, minus, Cross, le→cross, cross→le, float-le-trans, le-neg, le-number, least-of-all, greatest-of-all, neg-number}
+use Rattle.numbers.proofs.FloatOrder.{number, above, under, plus, minus, le→cross, float-le-trans, le-neg, le-number, least-of-all, greatest-of-all, neg-number}
 
 -- ---- the sign of a rounded fraction
 
@@ -35,7 +34,7 @@ le-zero f a c C h = subst (λ (z : Float). T (le (round f false a c) z)) (zero-i
     none a c h = omega arith
 
 -- a rounded fraction below zero
-below-zero : (f : Format) (a c : ℕ) → 0 < c → T (le (round f true a c) (fin true 0 (pos 0)))
+pub below-zero : (f : Format) (a c : ℕ) → 0 < c → T (le (round f true a c) (fin true 0 (pos 0)))
 unfolding neg
 below-zero f a c C = rw (← neg-round f false a c) (le-neg (fin false 0 (pos 0)) (round f false a c) (zero-le f a c C))
 
@@ -78,7 +77,7 @@ module _ (f : Format) (P N C P' N' C' : ℕ) (pC : 0 < C) (pC' : 0 < C') (h : P 
           let b : y * C ≤ 0 * C = omega arith in
           (le-of-mul-le-mul-right a pC', le-of-mul-le-mul-right b pC)
 
-  rounds-mono : (z z' : Float) → Rounds f z P N C → Rounds f z' P' N' C' → T (le z z')
+  pub rounds-mono : (z z' : Float) → Rounds f z P N C → Rounds f z' P' N' C' → T (le z z')
   rounds-mono z z' (over k e) (over k' e') = rw (e, e') (round-mono f (P - N) C (P' - N') C' pC pC' (over-cross k k'))
   rounds-mono z z' (short k e) (short k' e') =
       rw (e, e', ← neg-round f false (N - P) C, ← neg-round f false (N' - P') C')

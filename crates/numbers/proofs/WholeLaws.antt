@@ -1,90 +1,75 @@
--- A float above zero among the whole numbers: tests on floats as facts on fractions, and the whole numbers on either side. Assumes nothing.
+-- Whole numbers as floats: sums and tests that are exact, the whole part of a value below 2 ^ 52, and the values that are whole already. Assumes nothing.
 use mathlib.Core.Path.{_≡_, refl, sym, ap, _∙_, subst}
-use Prim.Native.Nat.{ℕ, zero, suc, _+_, _-_, _*_, _/_, _%_, _^_, _≤_, _<_, zero-le, min}
-use native.Mathlib.Nat.{le-trans, le-of-eq, lt-of-lt-of-le, lt-of-le-of-lt, lt-of-not-le, not-le-of-lt, le-of-lt, mul-one, one-mul, mul-pos, add-mul, zero-lt-suc, mul-le-mul-right, mul-le-mul-left, lt-irrefl, div-eq-of-lt-le, div-mul-le-self, lt-div-mul-add, div-lt-iff-lt-mul}
+use Prim.Native.Nat.{ℕ, zero, suc, _+_, _-_, _*_, _/_, _^_, _≤_, _<_}
+use native.Mathlib.Nat.{le-trans, le-of-eq, lt-of-not-le, mul-one, mul-pos, add-mul, zero-lt-suc, mul-le-mul-right, mul-le-mul-left, div-eq-of-lt-le, div-mul-le-self, lt-div-mul-add, div-lt-iff-lt-mul}
+use native.Mathlib.Decide.{decLe}
 use native.Mathlib.Omega.{arith}
-use mathlib.Core.Bool.{Bool, true, false, not, true≢false}
+use mathlib.Core.Bool.{Bool, true, false, cond, true≢false}
 use lib.IntN.{ℤ, pos, negsuc}
-use lib.Dec.{T, ltb, leb, ltb→lt, lt→ltb, le→leb, nltb→le, T-not, eqb, eqb→eq, lit≤}
+use lib.Dec.{T, T-not, ltb, eqb, eqb→eq, ltb→lt, lt→ltb, le→leb, nltb→le}
 use lib.Pow.{pow-mono}
-use lib.Ieee.{Float, nan, inf, fin, binary64, up, down, round, lt, fits, ofInt, inFloat, inUnsigned, toUnsigned}
+use lib.Ieee.{Float, nan, inf, fin, binary64, up, down, round, lt, add, sub, mul, fits, ofInt, inFloat, inUnsigned, toUnsigned}
 use lib.Ieee.Back.{round-whole, unsigned-back}
 use lib.Ieee.Exact.{HasValue}
 use lib.Ieee.Fits.{down-pos, up-pos}
-use lib.Ieee.Order.{transfer}
-use lib.Ieee.Positive.{num, den, positive, den-pos, own-value}
-use Rattle.numbers.proofs.Values.{round-back, fits-says, cut-value, above-minus-one, below-power}
+use lib.Ieee.Positive.{num, den, positive, den-pos}
+use Rattle.numbers.specs.Order.{magnitudeOf}
+use Rattle.numbers.proofs.Values.{round-back, fits-says}
+use Rattle.numbers.proofs.Tests.{fails, positive-under, under-whole}
+use Rattle.numbers.proofs.Sums.{sum-at, difference-at, lower-at, unit-at}
 
--- ---- tests on floats, as facts
+-- ---- a whole number as a float
 
-pub yes : (b : Bool) → b ≡ true → T b
-yes b e = subst T (sym e) tt
+-- n with the sign s: exact up to 2 ^ 53
+abbrev pub counted : Bool → ℕ → Float
+counted s n = round binary64 s n 1
 
-pub no : (b : Bool) → b ≡ false → T (not b)
-no b e = subst (λ (x : Bool). T (not x)) (sym e) tt
+pub counted-value : (s : Bool) (n : ℕ) → n ≤ 2 ^ 53 → HasValue (counted s n) s n 1
+counted-value s n h = round-whole binary64 s n h
 
-nothing : (x y : ℕ) → T (ltb (0 * y) (0 * x * 1)) → ⊥
-nothing x y t = let h : 0 * y < 0 * x * 1 = ltb→lt (0 * y) (0 * x * 1) t in omega arith
+-- as the cast of an integer writes it
+pub cast-is : (n : ℕ) → ofInt binary64 (pos n) ≡ counted false n
+unfolding ofInt
+cast-is n = refl
 
--- nothing is above the infinity
-none-above : (w : Float) → T (lt (inf false) w) → ⊥
-unfolding lt
-none-above nan t = t
-none-above (inf s) t = t
-none-above (fin s m e) t = t
+pub cast-asks : (n : ℕ) → n ≤ 2 ^ 53 → T (inFloat binary64 (pos n))
+unfolding inFloat
+cast-asks n h = le→leb n (2 ^ 53) h
 
-pub positive-under : (v w : Float) → T (lt (fin false 0 (pos 0)) v) → T (lt v w) → T (positive v)
-unfolding lt
-positive-under nan w p l = absurd p
-positive-under (inf false) w p l = absurd (none-above w l)
-positive-under (inf true) w p l = absurd p
-positive-under (fin true m e) w p l = absurd p
-positive-under (fin false zero e) w p l = absurd (nothing (up e) (down e) p)
-positive-under (fin false (suc m) e) w p l = lt→ltb 0 (suc m) (zero-lt-suc m)
+pub whole-value : (n : ℕ) → n ≤ 2 ^ 53 → HasValue (ofInt binary64 (pos n)) false n 1
+unfolding ofInt
+whole-value n h = round-whole binary64 false n h
 
-pub past-minus-one : (v : Float) → lt (fin false 0 (pos 0)) v ≡ true → T (lt (fin true 1 (pos 0)) v)
-unfolding lt
-past-minus-one nan p = absurd (true≢false (sym p))
-past-minus-one (inf true) p = absurd (true≢false (sym p))
-past-minus-one (inf false) p = tt
-past-minus-one (fin true m e) p = absurd (true≢false (sym p))
-past-minus-one (fin false m e) p = above-minus-one (fin false m e) (m * up e) (down e) (refl, refl)
+-- and taken back
+pub cast-back : (w n : ℕ) (r : Float) → r ≡ counted false n → n ≤ 2 ^ 53 → n < 2 ^ w → T (inUnsigned binary64 w r) × (toUnsigned w r ≡ n)
+cast-back w n r e h l = subst (λ (x : Float). T (inUnsigned binary64 w x) × (toUnsigned w x ≡ n)) (sym (e ∙ sym (cast-is n))) (unsigned-back binary64 w n (cast-asks n h) l)
 
--- x = a / c is below y = b / d, or not
-pub lt-says : (x y : Float) (a c b d : ℕ) → 0 < c → 0 < d → HasValue x false a c → HasValue y false b d → T (lt x y) → a * d < b * c
-unfolding lt
-lt-says nan y a c b d C D v w t = absurd v
-lt-says (inf s) y a c b d C D v w t = absurd v
-lt-says (fin true m e) y a c b d C D v w t = absurd (true≢false (v .0))
-lt-says (fin false m e) nan a c b d C D v w t = absurd w
-lt-says (fin false m e) (inf s) a c b d C D v w t = absurd w
-lt-says (fin false m e) (fin true n g) a c b d C D v w t = absurd (true≢false (w .0))
-lt-says (fin false m e) (fin false n g) a c b d C D v w t =
-    lt-of-not-le (λ (h : b * c ≤ a * d). not-le-of-lt (ltb→lt (m * up e * down g) (n * up g * down e) t) (transfer (n * up g) (m * up e) (down g) (down e) b a d c D C (w .1) (v .1) h))
+-- 1 or 0 by a test
+abbrev pub step : Bool → ℕ
+step true = 1
+step false = 0
 
-pub not-lt-says : (x y : Float) (a c b d : ℕ) → 0 < c → 0 < d → HasValue x false a c → HasValue y false b d → T (not (lt x y)) → b * c ≤ a * d
-unfolding lt
-not-lt-says nan y a c b d C D v w t = absurd v
-not-lt-says (inf s) y a c b d C D v w t = absurd v
-not-lt-says (fin true m e) y a c b d C D v w t = absurd (true≢false (v .0))
-not-lt-says (fin false m e) nan a c b d C D v w t = absurd w
-not-lt-says (fin false m e) (inf s) a c b d C D v w t = absurd w
-not-lt-says (fin false m e) (fin true n g) a c b d C D v w t = absurd (true≢false (w .0))
-not-lt-says (fin false m e) (fin false n g) a c b d C D v w t =
-    transfer b a d c (n * up g) (m * up e) (down g) (down e) (down-pos g) (down-pos e) (sym (w .1)) (sym (v .1)) (nltb→le (m * up e * down g) (n * up g * down e) t)
+pub step-value : (b : Bool) → HasValue (cond b (fin false 1 (pos 0)) (fin false 0 (pos 0))) false (step b) 1
+step-value true = (refl, refl)
+step-value false = (refl, refl)
 
--- v is below the whole number n, or n below v, or neither
-pub under-whole : (v w : Float) (n : ℕ) → T (positive v) → HasValue w false n 1 → T (lt v w) → num v < n * den v
-under-whole v w n p h t = subst (λ (x : ℕ). x < n * den v) (mul-one (num v)) (lt-says v w (num v) (den v) n 1 (den-pos v) (zero-lt-suc 0) (own-value v p) h t)
+plain : (n k : ℕ) → n * 1 + k * 1 ≡ n + k
+plain n k = omega arith
 
-pub over-whole : (v w : Float) (n : ℕ) → T (positive v) → HasValue w false n 1 → T (lt w v) → n * den v < num v
-over-whole v w n p h t = subst (λ (x : ℕ). n * den v < x) (mul-one (num v)) (lt-says w v n 1 (num v) (den v) (zero-lt-suc 0) (den-pos v) h (own-value v p) t)
+plainly : (n k : ℕ) → n * 1 - k * 1 ≡ n - k
+plainly n k = omega arith
 
-pub not-over-whole : (v w : Float) (n : ℕ) → T (positive v) → HasValue w false n 1 → T (not (lt w v)) → num v ≤ n * den v
-not-over-whole v w n p h t = subst (λ (x : ℕ). x ≤ n * den v) (mul-one (num v)) (not-lt-says w v n 1 (num v) (den v) (zero-lt-suc 0) (den-pos v) h (own-value v p) t)
+pub counted-sum : (n k : ℕ) (x y : Float) → HasValue x false n 1 → HasValue y false k 1 → add binary64 x y ≡ counted false (n + k)
+counted-sum n k x y h l = sum-at binary64 false x y n 1 k 1 (zero-lt-suc 0) (zero-lt-suc 0) h l ∙ ap (λ (z : ℕ). round binary64 false z 1) (plain n k)
 
-pub not-under-whole : (v w : Float) (n : ℕ) → T (positive v) → HasValue w false n 1 → T (not (lt v w)) → n * den v ≤ num v
-not-under-whole v w n p h t = subst (λ (x : ℕ). n * den v ≤ x) (mul-one (num v)) (not-lt-says v w (num v) (den v) n 1 (den-pos v) (zero-lt-suc 0) (own-value v p) h t)
+pub counted-less : (n k : ℕ) (x y : Float) → k ≤ n → HasValue x false n 1 → HasValue y false k 1 → sub binary64 x y ≡ counted false (n - k)
+counted-less n k x y g h l = difference-at binary64 x y n 1 k 1 (zero-lt-suc 0) (zero-lt-suc 0) h l (rw (mul-one, mul-one) g) ∙ ap (λ (z : ℕ). round binary64 false z 1) (plainly n k)
+
+pub counted-lower : (n k : ℕ) (x y : Float) → HasValue x true n 1 → HasValue y false k 1 → sub binary64 x y ≡ counted true (n + k)
+counted-lower n k x y h l = lower-at binary64 x y n 1 k 1 (zero-lt-suc 0) (zero-lt-suc 0) h l ∙ ap (λ (z : ℕ). round binary64 true z 1) (plain n k)
+
+pub counted-signed : (s : Bool) (n : ℕ) → n ≤ 2 ^ 53 → mul binary64 (fin s 1 (pos 0)) (counted false n) ≡ counted s n
+counted-signed s n h = unit-at binary64 s (counted false n) n 1 (zero-lt-suc 0) (counted-value false n h)
 
 -- ---- the first whole number that is not below a / d
 
@@ -125,36 +110,28 @@ pub record Small (v : Float) : Type 0 where
 pub small : (v : Float) → T (lt (fin false 0 (pos 0)) v) → T (lt v (fin false 1 (pos 52))) → Small v
 small v p l = let q = positive-under v (fin false 1 (pos 52)) p l in record { above-zero = q; below = under-whole v (fin false 1 (pos 52)) (2 ^ 52) q (refl, refl) l }
 
--- what a cut to 64 bits asks, and what it gives
-module _ (v : Float) (s : Small v) where
-  within : num v < 2 ^ 64 * den v
-  within = lt-of-lt-of-le (s .below) (mul-le-mul-right (den v) (lit≤ tt))
+-- a value that is not zero is below zero by its sign
+pub sign-of : (t : Bool) (m : ℕ) (e : ℤ) → Small (fin false m e) → lt (fin t m e) (fin false 0 (pos 0)) ≡ t
+unfolding lt
+sign-of false m e s = never (ltb (m * up e * 1) (0 * down e)) (λ (t : T (ltb (m * up e * 1) (0 * down e))). none (m * up e) (down e) (ltb→lt (m * up e * 1) (0 * down e) t))
+  where
+    never : (b : Bool) → (T b → ⊥) → b ≡ false
+    never true n = absurd (n tt)
+    never false n = refl
 
-  pub cut-asks : T (lt (fin true 1 (pos 0)) v) × T (lt v (fin false 1 (pos 64)))
-  cut-asks = (above-minus-one v (num v) (den v) (own-value v (s .above-zero)), below-power 64 v (num v) (den v) (den-pos v) within (own-value v (s .above-zero)))
+    none : (x d : ℕ) → x * 1 < 0 * d → ⊥
+    none x d h = omega arith
+sign-of true m e s = surely (ltb 0 (m * up e * 1 + 0 * down e)) (lt→ltb 0 (m * up e * 1 + 0 * down e) (some (m * up e) (down e) (mul-pos (ltb→lt 0 m (s .above-zero)) (up-pos e))))
+  where
+    surely : (b : Bool) → T b → b ≡ true
+    surely true t = refl
+    surely false t = absurd t
 
-  pub cut-gives : toUnsigned 64 v ≡ num v / den v
-  cut-gives = cut-value 64 v (num v) (den v) (den-pos v) within (own-value v (s .above-zero))
+    some : (x d : ℕ) → 0 < x → 0 < x * 1 + 0 * d
+    some x d h = omega arith
 
-  pub cut-small : num v / den v < 2 ^ 52
-  cut-small = div-lt-iff-lt-mul (den-pos v) .1 (s .below)
-
--- a whole number below 2 ^ 53 is a value of the format
-pub whole-value : (n : ℕ) → n ≤ 2 ^ 53 → HasValue (ofInt binary64 (pos n)) false n 1
-unfolding ofInt
-whole-value n h = round-whole binary64 false n h
-
-pub whole-in : (n : ℕ) → n ≤ 2 ^ 53 → T (inFloat binary64 (pos n))
-unfolding inFloat
-whole-in n h = le→leb n (2 ^ 53) h
-
-pub as-round : (n : ℕ) → ofInt binary64 (pos n) ≡ round binary64 false n 1
-unfolding ofInt
-as-round n = refl
-
--- a whole number as a float, taken back
-pub taken-back : (w n : ℕ) (r : Float) → r ≡ round binary64 false n 1 → n ≤ 2 ^ 53 → n < 2 ^ w → T (inUnsigned binary64 w r) × (toUnsigned w r ≡ n)
-taken-back w n r e h l = subst (λ (x : Float). T (inUnsigned binary64 w x) × (toUnsigned w x ≡ n)) (sym (e ∙ sym (as-round n))) (unsigned-back binary64 w n (whole-in n h) l)
+pub cut-small : (v : Float) → Small v → num v / den v < 2 ^ 52
+cut-small v s = div-lt-iff-lt-mul (den-pos v) .1 (s .below)
 
 -- ---- values that are whole already
 
@@ -179,9 +156,19 @@ too-large m k a b =
     clash m x p q r = omega arith
 
 -- from 2 ^ 52 on a value is whole
-stays-large : (s : Bool) (m : ℕ) (e : ℤ) → T (fits binary64 (fin s (suc m) e)) → 2 ^ 52 * down e ≤ suc m * up e → Stays (fin s (suc m) e)
-stays-large s m (pos k) t h = stays-whole s (suc m) (pos k) t refl
-stays-large s m (negsuc k) t h = absurd (too-large (suc m) k (fits-says binary64 s m (negsuc k) t .0) h)
+no-fraction : (s : Bool) (m : ℕ) (e : ℤ) → T (fits binary64 (fin s (suc m) e)) → 2 ^ 52 * down e ≤ suc m * up e → down e ≡ 1
+no-fraction s m (pos k) t h = refl
+no-fraction s m (negsuc k) t h = absurd (too-large (suc m) k (fits-says binary64 s m (negsuc k) t .0) h)
+
+stays-beyond : (s : Bool) (m : ℕ) (e : ℤ) → T (fits binary64 (fin s (suc m) e)) → 2 ^ 52 * down e ≤ suc m * up e → Stays (fin s (suc m) e)
+stays-beyond s m e t h = stays-whole s (suc m) e t (no-fraction s m e t h)
+
+pub whole-beyond : (x : Float) → T (positive x) → T (fits binary64 x) → 2 ^ 52 * den x ≤ num x → den x ≡ 1
+whole-beyond nan p t h = absurd p
+whole-beyond (inf s) p t h = absurd p
+whole-beyond (fin true m e) p t h = absurd p
+whole-beyond (fin false zero e) p t h = absurd p
+whole-beyond (fin false (suc m) e) p t h = no-fraction false m e t h
 
 zero-down : (u d : ℕ) → 0 < u → 0 < d → T (eqb (u * d) 1) → d ≡ 1
 zero-down u d U D t = let h : u * d ≡ 1 = eqb→eq (u * d) 1 t in let k : 1 * d ≤ u * d = mul-le-mul-right d U in omega arith
@@ -190,7 +177,7 @@ stays-zero : (s : Bool) (e : ℤ) → T (fits binary64 (fin s zero e)) → Stays
 unfolding fits
 stays-zero s e t = stays-whole s zero e t (zero-down (up e) (down e) (up-pos e) (down-pos e) t)
 
--- the three tests that find such a value
+-- the tests that find such a value
 pub stays-above : (v : Float) → T (fits binary64 v) → lt (fin false 0 (pos 0)) v ≡ true → lt v (fin false 1 (pos 52)) ≡ false → Stays v
 unfolding lt
 stays-above nan t p l = not-number
@@ -198,30 +185,40 @@ stays-above (inf s) t p l = endless s
 stays-above (fin true m e) t p l = absurd (true≢false (sym p))
 stays-above (fin false zero e) t p l = stays-zero false e t
 stays-above (fin false (suc m) e) t p l =
-    stays-large false m e t (subst (λ (x : ℕ). 2 ^ 52 * down e ≤ x) (mul-one (suc m * up e)) (nltb→le (suc m * up e * 1) (2 ^ 52 * down e) (no (ltb (suc m * up e * 1) (2 ^ 52 * down e)) l)))
+    stays-beyond false m e t (subst (λ (x : ℕ). 2 ^ 52 * down e ≤ x) (mul-one (suc m * up e)) (nltb→le (suc m * up e * 1) (2 ^ 52 * down e) (fails (ltb (suc m * up e * 1) (2 ^ 52 * down e)) l)))
 
-pub stays-below : (v : Float) → T (fits binary64 v) → lt v (fin false 0 (pos 0)) ≡ true → lt (fin true 1 (pos 52)) v ≡ false → Stays v
-unfolding lt
-stays-below nan t p l = not-number
-stays-below (inf s) t p l = endless s
-stays-below (fin s zero e) t p l = stays-zero s e t
-stays-below (fin false (suc m) e) t p l = absurd (none (suc m * up e) (down e) (subst T (sym p) tt))
-  where
-    none : (x y : ℕ) → T (ltb (x * 1) (0 * y)) → ⊥
-    none x y t = let h : x * 1 < 0 * y = ltb→lt (x * 1) (0 * y) t in omega arith
-stays-below (fin true (suc m) e) t p l =
-    stays-large true m e t (subst (λ (x : ℕ). 2 ^ 52 * down e ≤ x) (mul-one (suc m * up e)) (nltb→le (suc m * up e * 1) (2 ^ 52 * down e) (no (ltb (suc m * up e * 1) (2 ^ 52 * down e)) l)))
-
-pub stays-neither : (v : Float) → T (fits binary64 v) → lt (fin false 0 (pos 0)) v ≡ false → lt v (fin false 0 (pos 0)) ≡ false → Stays v
-unfolding lt
-stays-neither nan t p l = not-number
-stays-neither (inf s) t p l = endless s
-stays-neither (fin s zero e) t p l = stays-zero s e t
-stays-neither (fin false (suc m) e) t p l = absurd (T-not (ltb (0 * down e) (suc m * up e * 1)) (no (ltb (0 * down e) (suc m * up e * 1)) p) (lt→ltb (0 * down e) (suc m * up e * 1) (above (down e) (suc m * up e) (mul-pos (zero-lt-suc m) (up-pos e)))))
+pub stays-small : (v : Float) → T (fits binary64 v) → lt (fin false 0 (pos 0)) (magnitudeOf v) ≡ false → Stays v
+unfolding lt magnitudeOf
+stays-small nan t p = not-number
+stays-small (inf s) t p = endless s
+stays-small (fin s zero e) t p = stays-zero s e t
+stays-small (fin s (suc m) e) t p = absurd (T-not (ltb (0 * down e) (suc m * up e * 1)) (fails (ltb (0 * down e) (suc m * up e * 1)) p) (lt→ltb (0 * down e) (suc m * up e * 1) (above (down e) (suc m * up e) (mul-pos (zero-lt-suc m) (up-pos e)))))
   where
     above : (d x : ℕ) → 0 < x → 0 * d < x * 1
     above d x h = omega arith
-stays-neither (fin true (suc m) e) t p l = absurd (T-not (ltb 0 (suc m * up e * 1 + 0 * down e)) (no (ltb 0 (suc m * up e * 1 + 0 * down e)) l) (lt→ltb 0 (suc m * up e * 1 + 0 * down e) (above (down e) (suc m * up e) (mul-pos (zero-lt-suc m) (up-pos e)))))
+
+pub stays-large : (v : Float) → T (fits binary64 v) → lt (magnitudeOf v) (fin false 1 (pos 52)) ≡ false → Stays v
+unfolding lt magnitudeOf
+stays-large nan t l = not-number
+stays-large (inf s) t l = endless s
+stays-large (fin s zero e) t l = stays-zero s e t
+stays-large (fin s (suc m) e) t l =
+    stays-beyond s m e t (subst (λ (x : ℕ). 2 ^ 52 * down e ≤ x) (mul-one (suc m * up e)) (nltb→le (suc m * up e * 1) (2 ^ 52 * down e) (fails (ltb (suc m * up e * 1) (2 ^ 52 * down e)) l)))
+
+-- ---- a whole number made from a value of the format is one
+
+-- n is at most 2 ^ 53 where the value is below 2 ^ 52, and is the value where that has no fraction
+pub exact-whole : (s : Bool) (m : ℕ) (e : ℤ) (n : ℕ) → T (fits binary64 (fin s m e)) → (m * up e < 2 ^ 52 * down e → n ≤ 2 ^ 53) → (down e ≡ 1 → n ≡ m * up e) → HasValue (counted s n) s n 1
+exact-whole s m e n t small same = go m t small same (decLe (2 ^ 52 * down e) (m * up e))
   where
-    above : (d x : ℕ) → 0 < x → 0 < x * 1 + 0 * d
-    above d x h = omega arith
+    go : (m : ℕ) → T (fits binary64 (fin s m e)) → (m * up e < 2 ^ 52 * down e → n ≤ 2 ^ 53) → (down e ≡ 1 → n ≡ m * up e) → Dec (2 ^ 52 * down e ≤ m * up e) → HasValue (counted s n) s n 1
+    go m t small same (no h) = counted-value s n (small (lt-of-not-le h))
+    go zero t small same (yes h) = absurd (none (up e) (down e) (down-pos e) h)
+      where
+        none : (u d : ℕ) → 0 < d → 4503599627370496 * d ≤ 0 * u → ⊥
+        none u d D h = omega arith
+    go (suc m) t small same (yes h) =
+        let d = no-fraction s m e t h in
+        let k : n ≡ suc m * up e = same d in
+        subst (λ (x : ℕ). HasValue (counted s x) s x 1) (sym k)
+        (subst (λ (x : Float). HasValue x s (suc m * up e) 1) (sym (round-back binary64 s (suc m) e (suc m * up e) 1 t (zero-lt-suc 0) (ap (λ (x : ℕ). suc m * up e * x) (sym d)))) (refl, ap (λ (x : ℕ). suc m * up e * x) (sym d)))

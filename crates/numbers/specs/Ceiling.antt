@@ -3,7 +3,8 @@ use Prim.Native.Nat.{ℕ, _+_, _-_, _*_, _/_, _^_, min}
 use mathlib.Core.Bool.{true, false}
 use lib.Ieee.{Float, nan, inf, fin, up, down}
 
--- A NaN and what is not above 0 give 0, and what is too large the largest.
+-- m * 2 ^ e is M / D. A NaN and what is not above 0 give 0, and what is too large the largest. (Laws: `ceiling-cover`, `ceiling-most`, `ceiling-times`,
+-- `ceiling-mono` of proofs/CeilingLaws.)
 unfoldable pub ceilingOf : Float → ℕ
 ceilingOf nan = 0
 ceilingOf (inf true) = 0

@@ -1,5 +1,5 @@
 -- The lesser and the greater of two floats, and the size of one. Definitions only.
-use mathlib.Core.Bool.{true, false, cond}
+use mathlib.Core.Bool.{false, cond}
 use lib.Ieee.{Float, nan, inf, fin, lt, isNan}
 
 -- The lesser of two: Rust's `f64::min`. A NaN gives way to the other, and of two that are equal the first stays.
@@ -12,7 +12,7 @@ unfoldable pub greatestOf : Float → Float → Float
 unfolding lt isNan
 greatestOf a b = cond (lt a b) b (cond (isNan a) b a)
 
--- The size of a float: its sign cleared. A NaN has none.
+-- The size of a float: its sign cleared. A NaN has none. (Laws: `magnitude-finite`, `magnitude-within` of proofs/OrderLaws.)
 unfoldable pub magnitudeOf : Float → Float
 magnitudeOf nan = nan
 magnitudeOf (inf s) = inf false

@@ -1,29 +1,38 @@
-// The whole numbers next to a float that is above 0 and below 2^52: the last that is not above it, and the first that is not below it.
+// Steps that the functions of this crate share: the whole part of a float, and choices between two floats, made without a jump.
 ghost use mathlib.Core.Path.{_≡_};
-ghost use Prim.Native.Nat.{_+_, _-_, _/_};
+ghost use mathlib.Core.Bool.{cond, false};
+ghost use Prim.Native.Nat.{_/_};
 ghost use lib.Dec.{T};
 ghost use lib.IntN.{pos};
-ghost use mathlib.Core.Bool.{false};
-ghost use lib.Ieee as Ieee;
-ghost use lib.Ieee.{fin, binary64};
+ghost use lib.Ieee.{fin, lt, round, binary64};
 ghost use lib.Ieee.Positive.{num, den};
 
-pub(crate) fn whole_below(v: f64) -> f64
-    requires { ⌜ T (Ieee.lt (fin false 0 (pos 0)) v) ⌝ ∗ ⌜ T (Ieee.lt v (fin false 1 (pos 52))) ⌝ }
-    ensures { λ r. ⌜ r ≡ Ieee.round binary64 false (num v / den v) 1 ⌝ }
+// The whole part of a v above 0 and below 2^52. From 2^52 on floats are whole numbers, so v + 2^52 is rounded to one of the two next to it.
+// Less 2^52 again, it is the whole part of v or one more.
+pub(crate) fn whole_part(v: f64) -> f64
+    requires { ⌜ T (lt (fin false 0 (pos 0)) v) ⌝ ∗ ⌜ T (lt v (fin false 1 (pos 52))) ⌝ }
+    ensures { λ r. ⌜ r ≡ round binary64 false (num v / den v) 1 ⌝ }
 {
-    let n = std::num::truncating_f64_to_u64(v);
-    n as f64
+    let near = (v + 4503599627370496.0) - 4503599627370496.0;
+    near - one_if_above(near, v)
 }
 
-pub(crate) fn whole_above(v: f64) -> f64
-    requires { ⌜ T (Ieee.lt (fin false 0 (pos 0)) v) ⌝ ∗ ⌜ T (Ieee.lt v (fin false 1 (pos 52))) ⌝ }
-    ensures { λ r. ⌜ r ≡ Ieee.round binary64 false ((num v + (den v - 1)) / den v) 1 ⌝ }
+// 1 if a is above b, and 0 otherwise.
+pub(crate) fn one_if_above(a: f64, b: f64) -> f64
+    ensures { λ r. ⌜ r ≡ cond (lt b a) (fin false 1 (pos 0)) (fin false 0 (pos 0)) ⌝ }
 {
-    let n = std::num::truncating_f64_to_u64(v);
-    let t = n as f64;
-    if t < v {
-        return (n + 1) as f64;
+    if a > b {
+        return 1.0;
     }
-    t
+    0.0
+}
+
+// -1 if v is below zero, and 1 otherwise.
+pub(crate) fn unit(v: f64) -> f64
+    ensures { λ r. ⌜ r ≡ fin (lt v (fin false 0 (pos 0))) 1 (pos 0) ⌝ }
+{
+    if v < 0.0 {
+        return -1.0;
+    }
+    1.0
 }

@@ -1,11 +1,11 @@
 -- The steps of the code, as the definitions say them: its literals, the bounds line by line, the area by cases, the first size. Assumes nothing.
-use mathlib.Core.Path.{_≡_, refl, sym, ap, ap₂, _∙_}
+use mathlib.Core.Path.{_≡_, refl, ap, ap₂, _∙_}
 use mathlib.Core.Bool.{true, false}
 use mathlib.Core.List.{List}
 use Prim.Native.Nat.{ℕ, _+_, _-_, _*_, _^_, _≤_, _<_, min}
 use native.Mathlib.Numerals.{add-one}
 use native.Mathlib.Omega.{arith}
-use lib.ListN.{length, getD}
+use lib.ListN.{getD}
 use lib.IntN.{pos}
 use lib.Ieee.{Float, nan, binary64, round, ofBits, ofInt, neg, add, sub, mul, div, lt}
 use Rattle.numbers.specs.Order.{leastOf, greatestOf}
@@ -14,7 +14,7 @@ use Rattle.numbers.specs.Root.{root}
 use Rattle.grid.specs.declared.Grid.{Grid}
 use Rattle.grid.specs.Domain.{Lines}
 use Rattle.sizing.specs.declared.Extent.{Extent}
-use Rattle.sizing.specs.Bounds.{lowest, highest, reach, whole, extentOf}
+use Rattle.sizing.specs.Bounds.{picked, lowest, highest, reach, whole, extentOf}
 use Rattle.sizing.specs.Size.{areaOf, firstSize}
 use Rattle.sizing.specs.Counts.{countOn, gridOf}
 
@@ -34,6 +34,11 @@ literal-1000 = refl
 
 -- ---- the bounds of one axis: with no line, and with one more
 
+pub picked-more : (pick : Float → Float → Float) (none : Float) (starts ends : List Float) (i : ℕ) {l m r : Float}
+    → l ≡ picked pick none starts ends i → m ≡ pick (getD starts i nan) (getD ends i nan) → r ≡ pick l m → r ≡ picked pick none starts ends (i + 1)
+unfolding picked
+picked-more pick none starts ends i a b e = rw add-one (e ∙ ap₂ pick a b)
+
 module _ (starts ends : List Float) where
   pub lowest-none : ofBits binary64 9218868437227405311 ≡ lowest starts ends 0
   unfolding lowest ofBits round
@@ -45,11 +50,11 @@ module _ (starts ends : List Float) where
 
   pub lowest-more : (i : ℕ) {l m r : Float} → l ≡ lowest starts ends i → m ≡ leastOf (getD starts i nan) (getD ends i nan) → r ≡ leastOf l m → r ≡ lowest starts ends (i + 1)
   unfolding lowest
-  lowest-more i a b e = rw add-one (e ∙ ap₂ leastOf a b)
+  lowest-more i a b e = picked-more leastOf (round binary64 false ((2 ^ 53 - 1) * 2 ^ 971) 1) starts ends i a b e
 
   pub highest-more : (i : ℕ) {l m r : Float} → l ≡ highest starts ends i → m ≡ greatestOf (getD starts i nan) (getD ends i nan) → r ≡ greatestOf l m → r ≡ highest starts ends (i + 1)
   unfolding highest
-  highest-more i a b e = rw add-one (e ∙ ap₂ greatestOf a b)
+  highest-more i a b e = picked-more greatestOf (round binary64 true ((2 ^ 53 - 1) * 2 ^ 971) 1) starts ends i a b e
 
   pub all-lines : (i n : ℕ) → i ≤ n → n ≤ i → {l h : Float} → l ≡ lowest starts ends i → h ≡ highest starts ends i → (l ≡ lowest starts ends n) × (h ≡ highest starts ends n)
   all-lines i n a b p q = let e : i ≡ n = omega arith in (p ∙ ap (lowest starts ends) e, q ∙ ap (highest starts ends) e)

@@ -8,15 +8,20 @@ use Rattle.numbers.specs.Order.{leastOf, greatestOf}
 use Rattle.grid.specs.Domain.{Lines}
 use Rattle.sizing.specs.declared.Extent.{Extent}
 
--- One axis: the least and the greatest coordinate of the first n lines, of which line i goes from entry i of the starts to entry i of the ends.
--- With no lines they are the largest finite value, (2 ^ 53 - 1) * 2 ^ 971, and its negative.
+-- One axis, of which line i goes from entry i of the starts to entry i of the ends. Of each line's two coordinates one is picked, and of that and
+-- what was picked of the lines before it one again; `none` stands for no lines.
+unfoldable pub picked : (Float → Float → Float) → Float → List Float → List Float → ℕ → Float
+picked pick none starts ends zero = none
+picked pick none starts ends (suc i) = pick (picked pick none starts ends i) (pick (getD starts i nan) (getD ends i nan))
+
+-- the least and the greatest coordinate of the first n lines; of no lines they are the largest finite value, (2 ^ 53 - 1) * 2 ^ 971, and its negative
 unfoldable pub lowest : List Float → List Float → ℕ → Float
-lowest starts ends zero = round binary64 false ((2 ^ 53 - 1) * 2 ^ 971) 1
-lowest starts ends (suc i) = leastOf (lowest starts ends i) (leastOf (getD starts i nan) (getD ends i nan))
+unfolding picked
+lowest starts ends n = picked leastOf (round binary64 false ((2 ^ 53 - 1) * 2 ^ 971) 1) starts ends n
 
 unfoldable pub highest : List Float → List Float → ℕ → Float
-highest starts ends zero = round binary64 true ((2 ^ 53 - 1) * 2 ^ 971) 1
-highest starts ends (suc i) = greatestOf (highest starts ends i) (greatestOf (getD starts i nan) (getD ends i nan))
+unfolding picked
+highest starts ends n = picked greatestOf (round binary64 true ((2 ^ 53 - 1) * 2 ^ 971) 1) starts ends n
 
 -- how far they are apart: the greatest less the least
 unfoldable pub reach : List Float → List Float → ℕ → Float

@@ -1,13 +1,13 @@
 -- Document 01, "The build": the grid of a cell size, and the grid of no lines. Definitions only.
 use Prim.Native.Nat.{ℕ, _-_, _^_, min}
-use mathlib.Core.Bool.{true, false}
+use mathlib.Core.Bool.{false}
 use lib.Ieee.{Float, binary64, round, add, div}
 use Rattle.numbers.specs.Ceiling.{ceilingOf}
 use Rattle.grid.specs.declared.Grid.{Grid}
 use Rattle.sizing.specs.declared.Extent.{Extent}
 
--- How many cells of a size an axis takes: the ceiling of (width + 1e-9) / cell_size. A count has 32 bits; no count of a build comes near that
--- (`count-exact` of proofs/).
+-- How many cells of a size an axis takes: the ceiling of (width + 1e-9) / cell_size. A count has 32 bits, which is more than a build needs: on document
+-- 01's domain it is the ceiling itself (`tried-counted`).
 unfoldable pub countOn : Float → Float → ℕ
 countOn width size = min (ceilingOf (div binary64 (add binary64 width (round binary64 false 1 1000000000)) size)) (2 ^ 32 - 1)
 

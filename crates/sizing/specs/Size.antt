@@ -1,6 +1,6 @@
 -- Document 01, "The build": the first cell size, and half of a cell size. Each float step rounds once, in the written order. Definitions only.
 use Prim.Native.Nat.{ℕ}
-use mathlib.Core.Bool.{true, false, cond}
+use mathlib.Core.Bool.{false, cond}
 use lib.IntN.{pos}
 use lib.Ieee.{Float, binary64, round, ofInt, mul, div, lt}
 use Rattle.numbers.specs.Order.{greatestOf}

@@ -1,61 +1,51 @@
 -- `numbers::floor::clamped_floor` meets its contract. Assumes nothing.
-use mathlib.Core.Path.{_≡_, refl, sym, ap, _∙_, subst}
-use Prim.Native.Nat.{ℕ, _+_, _-_, _*_, _/_, _^_, _≤_, _<_}
+use mathlib.Core.Path.{_≡_, sym, _∙_, subst}
+use Prim.Native.Nat.{ℕ, _/_}
 use native.Mathlib.Omega.{arith}
 use lib.Dec.{T}
-use lib.Ieee.{binary64, fits, ofBits, inUnsigned, toUnsigned}
+use lib.Ieee.{binary64, ofBits, inUnsigned, toUnsigned}
 use lib.Ieee.Positive.{num, den}
 use Rattle.numbers.specs.Floor.{clampedFloor}
-use Rattle.numbers.proofs.WholeLaws.{yes, taken-back, whole-value}
-use Rattle.numbers.proofs.FloorLaws.{Within, within, clamped-none, clamped-low, clamped-high, clamped-within}
+use Rattle.numbers.proofs.Tests.{holds}
+use Rattle.numbers.proofs.WholeLaws.{cast-back, whole-value}
+use Rattle.numbers.proofs.FloorCases.{Within, within, clamped-none, clamped-low, clamped-high, clamped-within}
 use borrow.Author.Needs.{needs}
 use Rattle.numbers.proofs.floor.clamped_floor.Statement.{statement}
 use Rattle.numbers.proofs.floor.clamped_floor.Tie as tie
-use Rattle.numbers.proofs.floor.clamped_floor.Reads as reads
-use Rattle.numbers.proofs.floor.clamped_floor.Lts as lts
-use Rattle.numbers.proofs.whole.whole_below.Reads as whole-below-reads
 
 fine : (c : tie.Then3) → Within (c .before .before .before .before .args .v) (c .before .before .before .before .args .count)
 unfolding ofBits
 fine c = within _ _ (omega arith) (c .before .before .before .if1 .taken) (c .if3 .taken)
 
-back : (c : tie.After-whole-below)
-    → T (inUnsigned binary64 32 (c .whole-below .result)) × (toUnsigned 32 (c .whole-below .result) ≡ num (c .before .before .before .before .before .args .v) / den (c .before .before .before .before .before .args .v))
+back : (c : tie.After-whole-part)
+    → T (inUnsigned binary64 32 (c .whole-part .result)) × (toUnsigned 32 (c .whole-part .result) ≡ num (c .before .before .before .before .before .args .v) / den (c .before .before .before .before .before .args .v))
 back c =
     let w = fine (c .before) in
-    taken-back 32 _ _ (c .whole-below .ensures) (omega arith) (omega arith)
+    cast-back 32 _ _ (c .whole-part .ensures) (omega arith) (omega arith)
 
--- src/floor.rt:30:13
 returns : tie.Need-returns
 returns c = subst (λ (n : ℕ). 0 ≡ clampedFloor (c .before .before .args .v) n) (sym (c .if2 .taken)) (clamped-none _)
 
--- src/floor.rt:32:20
 sub-last : tie.Need-sub-last
 sub-last c = search needs
 
--- src/floor.rt:33:16
 int-to-float-if3 : tie.Need-int-to-float-if3
 int-to-float-if3 c = search needs
 
--- src/floor.rt:34:20
-whole-below-requires : tie.Need-whole-below-requires
+whole-part-requires : tie.Need-whole-part-requires
 unfolding ofBits
-whole-below-requires c κs = (yes _ (c .before .before .before .if1 .taken), fine c .small)
+whole-part-requires c κs = (holds _ (c .before .before .before .if1 .taken), fine c .small)
 
--- src/floor.rt:34:20
 float-to-int-result : tie.Need-float-to-int-result
 float-to-int-result c = back (c .before) .0
 
--- src/floor.rt:34:13
 returns-2 : tie.Need-returns-2
 returns-2 c = let w = fine (c .before .before) in back (c .before) .1 ∙ clamped-within _ _ (w .above-zero) (omega arith)
 
--- src/floor.rt:36:9
 returns-3 : tie.Need-returns-3
 unfolding ofBits
 returns-3 c = clamped-high _ _ _ (c .before .before .before .if1 .taken) (whole-value _ (omega arith)) (c .if3 .left)
 
--- src/floor.rt:25:1
 returns-4 : tie.Need-returns-4
 unfolding ofBits
 returns-4 c = clamped-low _ _ (c .if1 .left)
@@ -67,7 +57,7 @@ clamped-floor-spec =
     returns
     sub-last
     int-to-float-if3
-    whole-below-requires
+    whole-part-requires
     float-to-int-result
     returns-2
     returns-3

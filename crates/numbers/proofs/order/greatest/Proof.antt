@@ -1,19 +1,14 @@
 -- `numbers::order::greatest` meets its contract. Assumes nothing.
-use Rattle.numbers.proofs.OrderLaws.{greatest-first, greatest-second, greatest-not-number}
+use Rattle.numbers.proofs.OrderCases.{greatest-first, greatest-second, greatest-not-number}
 use Rattle.numbers.proofs.order.greatest.Statement.{statement}
 use Rattle.numbers.proofs.order.greatest.Tie as tie
-use Rattle.numbers.proofs.order.greatest.Reads as reads
-use Rattle.numbers.proofs.order.greatest.Lts as lts
 
--- src/order.rt:22:9
 returns : tie.Need-returns
 returns c = greatest-second _ _ (c .if1 .taken)
 
--- src/order.rt:25:9
 returns-2 : tie.Need-returns-2
 returns-2 c = greatest-not-number _ _ (c .before .if1 .left) (c .if2 .taken)
 
--- src/order.rt:18:1
 returns-3 : tie.Need-returns-3
 returns-3 c = greatest-first _ _ (c .before .if1 .left) (c .if2 .left)
 

@@ -1,19 +1,14 @@
 -- `numbers::order::least` meets its contract. Assumes nothing.
-use Rattle.numbers.proofs.OrderLaws.{least-first, least-second, least-not-number}
+use Rattle.numbers.proofs.OrderCases.{least-first, least-second, least-not-number}
 use Rattle.numbers.proofs.order.least.Statement.{statement}
 use Rattle.numbers.proofs.order.least.Tie as tie
-use Rattle.numbers.proofs.order.least.Reads as reads
-use Rattle.numbers.proofs.order.least.Lts as lts
 
--- src/order.rt:10:9
 returns : tie.Need-returns
 returns c = least-second _ _ (c .if1 .taken)
 
--- src/order.rt:13:9
 returns-2 : tie.Need-returns-2
 returns-2 c = least-not-number _ _ (c .before .if1 .left) (c .if2 .taken)
 
--- src/order.rt:6:1
 returns-3 : tie.Need-returns-3
 returns-3 c = least-first _ _ (c .before .if1 .left) (c .if2 .left)
 

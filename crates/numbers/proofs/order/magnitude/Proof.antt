@@ -1,19 +1,15 @@
 -- `numbers::order::magnitude` meets its contract. Assumes nothing.
 use mathlib.Core.Path.{sym, subst}
 use lib.Dec.{T}
-use lib.Ieee.{binary64, ofBits, fits}
-use Rattle.numbers.proofs.OrderLaws.{magnitude-flips, magnitude-stays}
+use lib.Ieee.{ofBits}
+use Rattle.numbers.proofs.OrderCases.{magnitude-flips, magnitude-stays}
 use Rattle.numbers.proofs.order.magnitude.Statement.{statement}
 use Rattle.numbers.proofs.order.magnitude.Tie as tie
-use Rattle.numbers.proofs.order.magnitude.Reads as reads
-use Rattle.numbers.proofs.order.magnitude.Lts as lts
 
--- src/order.rt:35:9
 returns : tie.Need-returns
 unfolding ofBits
 returns c = magnitude-flips _ (subst T (sym (c .before .good .0 .1)) tt) (c .if1 .taken)
 
--- src/order.rt:31:1
 returns-2 : tie.Need-returns-2
 unfolding ofBits
 returns-2 c = magnitude-stays _ (c .if1 .left)

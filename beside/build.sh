@@ -1,0 +1,51 @@
+# Builds the programs of beside/ into target/beside. Sourced by tools/compare, tools/record and tools/bench, at the top of the repository.
+# Where the Rust source, a Rust compiler or Debian's smallvec is missing, says so in one line and ends with status 0.
+# Leaves: $programs, the folder of the programs.
+
+skip() {
+    echo "${0##*/}: $1; nothing was run"
+    exit 0
+}
+
+rust_source=${MORELTURRET_RUST_SRC:-$PWD/../shared/docs/src}
+[ -f "$rust_source/crates/geo-polygonize-core/src/noding/grid.rs" ] || skip "the Rust source is not at ${MORELTURRET_RUST_SRC:-../shared/docs/src} (MORELTURRET_RUST_SRC names its folder)"
+command -v cargo >/dev/null && command -v rustc >/dev/null && command -v cc >/dev/null || skip "there is no Rust compiler (cargo, rustc and cc)"
+
+# The Rust keeps a walk's cells in a SmallVec: Debian's package has the source of that crate.
+registry=/usr/share/cargo/registry
+if ! ls -d "$registry"/smallvec-1.* >/dev/null 2>&1; then
+    [ "$(id -u)" = 0 ] || skip "Debian's librust-smallvec-dev is not installed, and only root can install it"
+    { apt-get install -y -qq librust-smallvec-dev || { apt-get update -qq && apt-get install -y -qq librust-smallvec-dev; }; } >/dev/null 2>&1 ||
+        skip "Debian's librust-smallvec-dev could not be installed"
+fi
+
+# The port's library, where the repository has it, built again when a crate has changed; and the kinds whose functions it exports.
+built=$PWD/target/beside
+mkdir -p "$built"
+features=
+unset MORELTURRET_PORT_LIB
+if grep -q '^capi:' crates.txt; then
+    archive=$built/libcapi.a
+    if [ ! -f "$archive" ] || [ -n "$(find crates crates.txt -newer "$archive" -print -quit)" ]; then
+        tools/native_lib capi "$archive" >"$built/native_lib.log" 2>&1 || { tail -n 20 "$built/native_lib.log"; echo "${0##*/}: the port's library was not built"; exit 1; }
+    fi
+    export MORELTURRET_PORT_LIB=$archive
+    exported() { for f in "$@"; do nm "$archive" 2>/dev/null | grep -q " T mt_$f\$" || return 1; done; }
+    ! exported least greatest magnitude floor clamped_floor ceiling round_half_away square_root || features+=,numbers
+    ! exported segment_cells || features+=,walk
+    ! exported build || features+=,build
+    ! exported batch test_at || features+=,visit
+    ! exported point_owned overlap_owned owner || features+=,own
+    ! exported snap || features+=,snap
+    ! exported read_line_string || features+=,wkb
+fi
+
+# cargo writes its lock file beside the manifest, so the package is laid out under target/.
+package=$built/package
+mkdir -p "$package"
+cmp -s beside/Cargo.toml "$package/Cargo.toml" || cp beside/Cargo.toml "$package/Cargo.toml"
+ln -sfn "$PWD/beside/build.rs" "$package/build.rs"
+ln -sfn "$PWD/beside/src" "$package/src"
+MORELTURRET_RUST_SRC=$(cd "$rust_source" && pwd) cargo build --quiet --release --offline --manifest-path "$package/Cargo.toml" --target-dir "$built" \
+    --config 'source.crates-io.replace-with="debian"' --config "source.debian.directory=\"$registry\"" --features "${features#,}"
+programs=$built/release

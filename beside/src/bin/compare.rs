@@ -1,0 +1,142 @@
+//! compare [--seed S] [--cases N | --share P] [KIND..]: the port beside the Rust, kind by kind. Without kinds, all of them; without N, a full run
+//! of each, or P hundredths of one. --port asks that the port takes part in every kind.
+//! Ends with status 1 at the first difference.
+
+use beside::kinds::{self, build, numbers, own, snap, visit, walk, wkb};
+
+/// The kinds, with the cases of a full run.
+const KINDS: [(&str, u64); 8] = [
+    ("sample", 1),
+    ("numbers", 10_000_000),
+    ("walk", 1_000_000),
+    ("build", 2_000),
+    ("visit", 2_000),
+    ("own", 1_000_000),
+    ("snap", 1_000_000),
+    ("wkb", 100_000),
+];
+
+/// The kinds in which the port takes part.
+const PORTED: &[&str] = &[
+    "sample",
+    #[cfg(feature = "numbers")]
+    "numbers",
+    #[cfg(feature = "walk")]
+    "walk",
+    #[cfg(feature = "build")]
+    "build",
+    #[cfg(feature = "visit")]
+    "visit",
+    #[cfg(feature = "own")]
+    "own",
+    #[cfg(feature = "snap")]
+    "snap",
+    #[cfg(feature = "wkb")]
+    "wkb",
+];
+
+fn main() {
+    let mut words = std::env::args().skip(1);
+    let (mut seed, mut cases, mut share, mut port, mut asked) = (1, None, 100, false, Vec::new());
+    while let Some(word) = words.next() {
+        let mut number = || words.next().and_then(|w| w.replace('_', "").parse().ok()).unwrap_or_else(|| stop(&format!("{word} needs a number")));
+        match word.as_str() {
+            "--seed" => seed = number(),
+            "--cases" => cases = Some(number()),
+            "--share" => share = number(),
+            "--port" => port = true,
+            kind if KINDS.iter().any(|k| k.0 == kind) => asked.push(word),
+            _ => stop(&format!("compare [--seed S] [--cases N | --share P] [--port] [KIND..], with KIND one of {}", KINDS.map(|k| k.0).join(" "))),
+        }
+    }
+    for (kind, full) in KINDS {
+        if !asked.is_empty() && !asked.iter().any(|a| a == kind) {
+            continue;
+        }
+        let n = cases.unwrap_or(full * share / 100).max(1);
+        if port && !PORTED.contains(&kind) {
+            stop(&format!("{kind}: the port's library does not export it"));
+        }
+        let begun = std::time::Instant::now();
+        let right = match kind {
+            "sample" => sample(),
+            "numbers" => numbers::run(seed, n),
+            "walk" => kinds::run::<walk::Walk>(seed, n, walk::fixed()),
+            "build" => kinds::run::<build::Build>(seed, n, build::fixed(seed)),
+            "visit" => kinds::run::<visit::Visit>(seed, n, vec![]),
+            "own" => kinds::run::<own::Own>(seed, n, vec![]),
+            "snap" => kinds::run::<snap::Snap>(seed, n, vec![]),
+            _ => kinds::run::<wkb::Wkb>(seed, n, vec![]),
+        };
+        println!("  (seed {seed}, {:.1} s)", begun.elapsed().as_secs_f64());
+        if !right {
+            std::process::exit(1);
+        }
+    }
+}
+
+fn stop(text: &str) -> ! {
+    eprintln!("{text}");
+    std::process::exit(2)
+}
+
+/// Document 01's sample and measured points, by the Rust alone: they show that the Rust at hand is the one that the document speaks of.
+fn sample() -> bool {
+    use beside::{oracle, Grid};
+    let four = Grid { min_x: 0.0, min_y: 0.0, cell_size: 1.0, cols: 4, rows: 4 };
+    let cells = |line| oracle::segment_cells(&four, &line);
+    let at = |x| cells([x, 0.5, x, 0.5]);
+    let hair = 2f64.powi(-41);
+    let mut owners = oracle::Owners::new(&four);
+    let row = |x| oracle::segment_cells(&Grid { cols: 4004, rows: 1, ..four }, &[0.5, 0.5, x, 0.5]).len();
+    let snap = |v, strategy| oracle::snap(v, 0.0, 1.0, strategy).0;
+    let measured = [
+        ("P1", cells([0.5, 0.5, 2.5, 0.5]) == [0, 1, 2]),
+        ("P2", cells([1.0, 0.5, 1.0, 2.5]) == [0, 1, 4, 5, 8, 9]),
+        ("P3", cells([1.0; 4]) == [0, 1, 4, 5]),
+        ("P4", at(1.0 + hair) == [0, 1]),
+        ("P5", at(1.0 + 4.0 * hair) == [1]),
+        ("P6", at(1.0 - hair) == [0]),
+        ("P7", owners.point(0, 1, 1.0, 0.5) && !owners.point(0, 0, 1.0, 0.5)),
+        ("P8", owners.point(3, 3, 4.0, 4.0)),
+        ("P9", snap(0.49999999999999994, 0) == 0.0 && snap(0.49999999999999994, 1) == 1.0),
+        ("P10", snap(-2.5, 0) == -3.0 && snap(-2.5, 1) == -3.0),
+        ("2,048 cells", row(2047.5) == 2048),
+        ("2,049 cells", row(2048.5) == 2049),
+    ];
+    for (name, _) in measured.iter().filter(|m| !m.1) {
+        println!("sample: the Rust answers another thing than document 01 at {name}");
+    }
+    let wanted = "grid 3 3 3ff0000000000000 18 0
+cell 0 0 0 3
+cell 0 1 0 1
+cell 0 2 0 1
+cell 1 0 2 3
+cell 1 1 1 2
+cell 1 2 1 2
+cell 2 0 2 3
+cell 2 1 1 2
+cell 2 2 1 2
+visit 9 9
+";
+    let lines = oracle::Lines::new(&[[0.0, 0.0, 2.0, 0.0], [2.0, 0.0, 2.0, 2.0], [2.0, 2.0, 0.0, 2.0], [0.0, 2.0, 0.0, 0.0]]);
+    let built = oracle::build(&lines);
+    let (g, offsets, items) = (built.grid(), built.offsets(), built.items());
+    let mut text = format!("grid {} {} {:016x} {} {}\n", g.cols, g.rows, g.cell_size.to_bits(), items.len(), built.globals().len());
+    for cell in 0..(g.cols * g.rows) as usize {
+        let list = &items[offsets[cell] as usize..offsets[cell + 1] as usize];
+        if !list.is_empty() {
+            text += &format!("cell {} {}", cell as u32 / g.cols, cell as u32 % g.cols);
+            list.iter().for_each(|i| text += &format!(" {i}"));
+            text += "\n";
+        }
+    }
+    let (tests, pairs) = built.visit(&lines);
+    text += &format!("visit {tests} {}\n", pairs.len());
+    if text == wanted {
+        println!("sample: the Rust prints document 01's sample; {} of {} measured points are as there", measured.iter().filter(|m| m.1).count(), measured.len());
+    } else {
+        println!("sample: the Rust prints\n{text}where document 01 has\n{wanted}");
+    }
+    text == wanted && measured.iter().all(|m| m.1)
+}

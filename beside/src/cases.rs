@@ -1,0 +1,273 @@
+//! What the comparisons ask: grids, segments and sets of lines that seek the edges.
+
+use crate::random::{decimals, nudged, Random};
+use crate::{Grid, Line};
+
+const SHAPES: [(u32, u32); 14] = [
+    (1, 1), (3, 3), (4, 4), (15, 2), (2, 15), (64, 64), (10, 7), (1, 4), (4, 1),
+    (1001, 1001), (4004, 1), (1, 4004), (4004, 250), (250, 4004),
+];
+
+/// A fit grid. Those of a thousand columns and more are drawn less often: their walks are long.
+pub fn grid(r: &mut Random) -> Grid {
+    let (cols, rows) = match r.below(8) {
+        0 => SHAPES[r.below(SHAPES.len() as u64) as usize],
+        1 => {
+            let cols = 1 + r.below(4004) as u32;
+            (cols, 1 + r.below((1_002_001 / cols as u64).min(4004)) as u32)
+        }
+        2 => r.pick(&SHAPES[..9]),
+        _ => (1 + r.below(40) as u32, 1 + r.below(40) as u32),
+    };
+    let cell_size = match r.below(10) {
+        0..=2 => 1.0,
+        3 => r.pick(&[0.1, 0.24, 0.5, 2.0, 3.0, 1.0 / 3.0, 0.24000000000001068, 10.0]),
+        4 => r.pick(&[1e-6 / 4.0, 1e-6, 2e9, 1e6, 1e9, 5e-7]),
+        5 => 2f64.powi(r.below(48) as i32 - 20).clamp(1e-6 / 4.0, 2e9),
+        6 => decimals(r.size(0.01, 1e4), 2).max(0.01),
+        _ => r.size(1e-6 / 4.0, 2e9),
+    };
+    let mut min = || match r.below(8) {
+        0..=2 => 0.0,
+        3 => decimals(r.between(-2000.0, 2000.0), 2),
+        4 => r.between(-1e9, 1e9),
+        5 => (r.between(-1.0, 1.0) * cell_size).clamp(-1e9, 1e9),
+        6 => r.pick(&[1e9, -1e9, -0.0, 5e-324, 1024.0, -70.00000000000001, 281.15, 36.0]),
+        _ => r.between(-1e4, 1e4),
+    };
+    let (min_x, min_y) = (min(), min());
+    Grid { min_x, min_y, cell_size, cols, rows }
+}
+
+/// A coordinate on an axis: inside, on a boundary and a hair beside it, or outside.
+pub fn coordinate(r: &mut Random, low: f64, size: f64, count: u32) -> f64 {
+    let v = match r.below(12) {
+        0..=3 => low + r.unit() * count as f64 * size,
+        4..=8 => {
+            let boundary = low + r.below(count as u64 + 1) as f64 * size;
+            match r.below(6) {
+                0..=1 => boundary,
+                2 => nudged(boundary, r.below(9) as i64 - 4),
+                3..=4 => boundary + r.sign() * size * 2f64.powi(-35 - r.below(13) as i32),
+                _ => boundary + r.sign() * 0.5 * size,
+            }
+        }
+        9 => low + r.between(-1.0, 2.0) * count as f64 * size,
+        10 => decimals(low + r.unit() * count as f64 * size, r.below(4) as u32),
+        _ => r.pick(&[0.0, -0.0, 5e-324, -5e-324, 1e9, -1e9, 1.0, low]),
+    };
+    v.clamp(-1e9, 1e9)
+}
+
+/// A segment on the grid, with the name of its shape.
+pub fn segment(r: &mut Random, g: &Grid) -> (&'static str, Line) {
+    let x = |r: &mut Random| coordinate(r, g.min_x, g.cell_size, g.cols);
+    let y = |r: &mut Random| coordinate(r, g.min_y, g.cell_size, g.rows);
+    let (x0, y0) = (x(r), y(r));
+    let keep = |v: f64| v.clamp(-1e9, 1e9);
+    match r.below(16) {
+        0..=2 => ("free", [x0, y0, x(r), y(r)]),
+        3..=5 => {
+            let mut near = |v: f64| keep(v + r.between(-4.0, 4.0) * g.cell_size);
+            ("short", [x0, y0, near(x0), near(y0)])
+        }
+        6 => ("vertical", [x0, y0, x0, y(r)]),
+        7 => ("horizontal", [x0, y0, x(r), y0]),
+        8 => ("point", [x0, y0, x0, y0]),
+        9..=11 => {
+            // from one corner of a cell to another by equal steps or by a simple slope: both ways at once
+            let corner = |r: &mut Random, low: f64, count: u32| low + r.below(count as u64 + 1) as f64 * g.cell_size;
+            let (a, b) = (corner(r, g.min_x, g.cols), corner(r, g.min_y, g.rows));
+            let k = r.below(30) as f64;
+            let (p, q) = r.pick(&[(1.0, 1.0), (1.0, 2.0), (2.0, 1.0), (3.0, 2.0), (1.0, 3.0)]);
+            let (c, d) = (a + r.sign() * k * p * g.cell_size, b + r.sign() * k * q * g.cell_size);
+            let mut moved = |v: f64| match r.below(8) {
+                0 => nudged(v, r.below(5) as i64 - 2),
+                1 => v + r.sign() * g.cell_size * 2f64.powi(-35 - r.below(13) as i32),
+                _ => v,
+            };
+            ("corner", [keep(moved(a)), keep(moved(b)), keep(moved(c)), keep(moved(d))])
+        }
+        12..=13 => {
+            // so little difference on one axis that t_max grows without bound
+            let mut hair = |v: f64| match r.below(4) {
+                0 => nudged(v, 1),
+                1 => nudged(v, -1),
+                2 => nudged(v, r.below(2001) as i64 - 1000),
+                _ => r.sign() * v * 2f64.powi(-(r.below(60) as i32)),
+            };
+            let (h, v) = (keep(hair(x0)), keep(hair(y0)));
+            match r.below(4) {
+                0 => ("hair", [x0, y0, h, v]),
+                1 => ("hair", [x0, y0, h, y(r)]),
+                2 => ("hair", [x0, y0, x(r), v]),
+                _ => ("hair", [0.0, y0, 5e-324 * (1 + r.below(3)) as f64 * r.sign(), y(r)]),
+            }
+        }
+        14 => {
+            let mut far = |low: f64, count: u32| keep(low + r.between(-2.0, 3.0) * count as f64 * g.cell_size);
+            ("leaving", [far(g.min_x, g.cols), far(g.min_y, g.rows), far(g.min_x, g.cols), far(g.min_y, g.rows)])
+        }
+        _ => {
+            // the whole length of a row or a column
+            let end = |low: f64, count: u32| keep(low + (count as f64 - 0.5) * g.cell_size);
+            let near = |low: f64| keep(low + 0.5 * g.cell_size);
+            let (a, b, c, d) = (near(g.min_x), near(g.min_y), end(g.min_x, g.cols), end(g.min_y, g.rows));
+            ("long", r.pick(&[[a, b, c, d], [c, d, a, b], [a, d, c, b], [c, b, a, d], [a, b, c, b], [a, b, a, d]]))
+        }
+    }
+}
+
+/// A number that breaks the coordinate rule, or stands at its edge.
+pub fn bad(r: &mut Random) -> f64 {
+    r.pick(&[f64::NAN, f64::INFINITY, f64::NEG_INFINITY, nudged(1e9, 1), nudged(-1e9, -1), 1e9, -1e9, 1e300])
+}
+
+/// A year on a bench: n legs of orbits that loop through temperature (kelvin) and frequency (parts per billion), and drift.
+/// More legs are more orbits, and each in shorter legs, so that a leg crosses as many cells of the finer grid.
+pub fn year(r: &mut Random, n: usize) -> Vec<Line> {
+    let legs = (0.7 * (n as f64).sqrt()).max(8.0);
+    let noise = 4.0 / (n as f64).sqrt().max(8.0);
+    let point = |i: usize, noise: (f64, f64)| {
+        let phase = i as f64 / legs * std::f64::consts::TAU;
+        let season = i as f64 / n as f64 * std::f64::consts::TAU;
+        let kelvin = 281.0 + (8.0 + 2.0 * season.cos()) * phase.cos() + 3.0 * season.sin() + noise.0;
+        let lag = 0.35 + 0.1 * season.sin();
+        let ppb = 36.0 + 6.0 * (phase - lag).cos() + 14.0 * i as f64 / n as f64 + noise.1;
+        (decimals(kelvin, 3), decimals(ppb, 4))
+    };
+    let mut at = point(0, (0.0, 0.0));
+    (1..=n)
+        .map(|i| {
+            let to = point(i, (r.between(-noise, noise), r.between(-noise, noise)));
+            let line = [at.0, at.1, to.0, to.1];
+            at = to;
+            line
+        })
+        .collect()
+}
+
+/// A set of at most `most` lines, with the name of its shape.
+pub fn lines(r: &mut Random, most: usize) -> (&'static str, Vec<Line>) {
+    let n = 1 + r.below(most as u64) as usize;
+    let scale = match r.below(6) {
+        0 => r.size(1e-4, 1e8),
+        1 => 1e8,
+        2 => 1.0,
+        _ => 100.0,
+    };
+    let places = r.below(7) as u32;
+    let low = match r.below(4) {
+        0 => r.between(-1e8, 1e8),
+        1 => 1024.0,
+        _ => 0.0,
+    };
+    let put = move |v: f64| if places < 4 { decimals(low + v * scale, places) } else { low + v * scale };
+    let chain = |points: Vec<(f64, f64)>| points.windows(2).map(|w| [w[0].0, w[0].1, w[1].0, w[1].1]).collect::<Vec<Line>>();
+    match r.below(14) {
+        0 => ("year", year(r, n)),
+        1..=2 => {
+            // loops one after another
+            let (mut x, mut y) = (0.0, 0.0);
+            let points = (0..=n).map(|i| {
+                let a = i as f64 * 0.6;
+                x += r.between(-0.01, 0.02);
+                y += r.between(-0.01, 0.02);
+                (put(x + 0.3 * a.cos()), put(y + 0.3 * a.sin()))
+            });
+            ("loops", chain(points.collect()))
+        }
+        3 => {
+            // rows and columns whose ends stand on cell boundaries
+            let side = ((n / 2).max(1)) as f64;
+            let all = (0..n).map(|i| {
+                let k = (i / 2) as f64;
+                if i % 2 == 0 {
+                    [low, low + k, low + side, low + k]
+                } else {
+                    [low + k, low, low + k, low + side]
+                }
+            });
+            ("lattice", all.collect())
+        }
+        4..=5 => {
+            // many lines in a small part of a wide field: one halving, or two
+            let small = r.size(1e-4, 0.3);
+            let spread = r.below(20) as usize + 1;
+            let all = (0..n + 400).map(|i| {
+                let s = if i < spread { 1.0 } else { small };
+                [put(r.unit() * s), put(r.unit() * s), put(r.unit() * s), put(r.unit() * s)]
+            });
+            ("cluster", all.collect())
+        }
+        6..=7 => {
+            // wide and thin: two halvings make more than 2,048 columns, and the long lines global
+            let height = r.pick(&[0.0, 0.001, 0.0005, 0.002, 0.004]);
+            let long = 1 + r.below(4) as usize;
+            let all = (0..n + 520).map(|i| {
+                if i < long {
+                    let end = r.pick(&[1.0, 1.0, 0.6, 0.5, 0.512, 0.49]);
+                    [low, low, low + end * scale, low + r.unit() * height * scale]
+                } else {
+                    let (x, w) = (r.unit() * 0.0002, r.unit() * 0.0001);
+                    [low + x * scale, low + r.unit() * height * scale, low + (x + w) * scale, low + r.unit() * height * scale]
+                }
+            });
+            ("thin", all.collect())
+        }
+        8 => {
+            // on one line
+            let (a, b) = r.pick(&[(1.0, 0.0), (0.0, 1.0), (1.0, 1.0), (1.0, -0.5)]);
+            let all = (0..n).map(|_| {
+                let (s, t) = (put(r.unit()), put(r.unit()));
+                [a * s, b * s, a * t, b * t]
+            });
+            ("collinear", all.collect())
+        }
+        9 => {
+            let all = (0..n).map(|_| {
+                let (x, y) = (put(r.unit()), put(r.unit()));
+                [x, y, x, y]
+            });
+            ("points", all.collect())
+        }
+        10 => {
+            let p = [put(r.unit()), put(r.unit()), put(r.unit()), put(r.unit())];
+            ("one", vec![if r.once_in(2) { p } else { [p[0], p[1], p[0], p[1]] }])
+        }
+        11 => {
+            let mut end = || r.pick(&[1e9, -1e9, nudged(1e9, -1), 0.0, -0.0, 5e-324, 1e-9, 999999999.5]);
+            let all = (0..n.min(200)).map(|_| [end(), end(), end(), end()]);
+            ("largest", all.collect())
+        }
+        12 if r.once_in(2) => {
+            // k by k cells, and lines a hair long across the grid's high edge, which is 0: a walk that steps past the last column
+            // with an endless t_max never ends
+            let k = 2 + r.below(11);
+            let w = r.pick(&[1e9, 1e8, 536870912.0, 1e9 - 1.0]);
+            let turned = r.once_in(2);
+            let mut all = vec![[-w, -w, -w, 0.0], [-w, 0.0, 0.0, -w]];
+            while (all.len() as u64) < k * k {
+                let mut hair = || r.pick(&[0.0, -5e-324, -1e-323, -w / 2.0]);
+                let (a, b) = (hair(), hair());
+                let mut edge = || if r.once_in(4) { -w * r.unit() } else { -w + r.below(k + 1) as f64 * (w / k as f64) };
+                let (c, d) = (edge(), edge());
+                all.push(if turned { [c, a, d, b] } else { [a, c, b, d] });
+            }
+            ("hair", all)
+        }
+        12 => {
+            // whole numbers: many equal ends, many corners
+            let mut whole = || low.round() + r.below(20) as f64;
+            let all = (0..n).map(|_| [whole(), whole(), whole(), whole()]);
+            ("whole", all.collect())
+        }
+        _ => {
+            let all = (0..n).map(|_| {
+                let (x, y) = (r.unit(), r.unit());
+                [put(x), put(y), put(x + r.between(-0.1, 0.1)), put(y + r.between(-0.1, 0.1))]
+            });
+            ("scattered", all.collect())
+        }
+    }
+}

@@ -1,0 +1,202 @@
+//! Ownership of points and overlaps by one cell, and the owner of a point against a plain scan of all cells.
+
+use super::{answers, float, rounder, word, Kind};
+use crate::cases;
+use crate::model;
+use crate::oracle::Owners;
+use crate::random::{decimals, Random};
+use crate::Grid;
+
+#[derive(Clone)]
+pub struct Case {
+    pub grid: Grid,
+    pub row: u32,
+    pub col: u32,
+    pub x: f64,
+    pub y: f64,
+    pub size: f64,
+    pub strategy: u32,
+}
+
+struct Entries {
+    who: &'static str,
+    point: fn(&Grid, u32, u32, f64, f64, &mut [u64]) -> u32,
+    overlap: fn(&Grid, u32, u32, f64, f64, f64, u32, &mut [u64]) -> u32,
+    owner: fn(&Grid, f64, f64, &mut [u64]) -> u32,
+}
+
+fn entries() -> Vec<Entries> {
+    #[allow(unused_mut)]
+    let mut all = vec![Entries { who: "model", point: model::point_owned, overlap: model::overlap_owned, owner: model::owner }];
+    #[cfg(feature = "own")]
+    {
+        use crate::port;
+        all.push(Entries { who: "port", point: port::point_owned, overlap: port::overlap_owned, owner: port::owner });
+    }
+    all
+}
+
+/// A snap size and a strategy, fit but for one time in a hundred.
+pub fn snapping(r: &mut Random) -> (f64, u32) {
+    if r.once_in(100) {
+        return (r.pick(&[-0.0, 9.999999999999999e-7, 1000000.0000000001, -1.0, f64::NAN, f64::INFINITY, 1.0]), r.pick(&[0, 1, 2, u32::MAX]));
+    }
+    let size = match r.below(6) {
+        0 => 0.0,
+        1 => 1.0,
+        2 => r.pick(&[1e-6, 1e6, 0.1, 0.01, 0.5, 0.25, 1e-3]),
+        3 => 2f64.powi(r.below(38) as i32 - 19),
+        _ => r.size(1e-6, 1e6),
+    };
+    (size, r.below(2) as u32)
+}
+
+pub struct Own;
+
+impl Kind for Own {
+    type Case = Case;
+    const NAME: &'static str = "own";
+    const PORT: bool = cfg!(feature = "own");
+
+    fn draw(r: &mut Random) -> (&'static str, Case) {
+        let mut grid = cases::grid(r);
+        let (row, col) = (r.below(grid.rows as u64) as u32, r.below(grid.cols as u64) as u32);
+        // near the cell that is asked about, or anywhere
+        let mut near = |low: f64, index: u32, count: u32| {
+            if r.once_in(3) {
+                return cases::coordinate(r, low, grid.cell_size, count);
+            }
+            let edge = low + index as f64 * grid.cell_size;
+            let v = match r.below(5) {
+                0 => edge,
+                1 => edge + grid.cell_size,
+                2 => low + (index + 1) as f64 * grid.cell_size,
+                3 => decimals(edge + r.unit() * grid.cell_size, 2),
+                _ => edge + r.unit() * grid.cell_size,
+            };
+            crate::random::nudged(v, if r.once_in(2) { 0 } else { r.below(5) as i64 - 2 }).clamp(-1e9, 1e9)
+        };
+        let (mut x, y) = (near(grid.min_x, col, grid.cols), near(grid.min_y, row, grid.rows));
+        let (size, strategy) = snapping(r);
+        let mut cell = (row, col);
+        let mut shape = "in the domain";
+        if r.once_in(50) {
+            shape = "edge of the domain";
+            match r.below(4) {
+                0 => x = cases::bad(r),
+                1 => cell = r.pick(&[(grid.rows, col), (row, grid.cols), (u32::MAX, u32::MAX), (grid.rows, grid.cols)]),
+                2 => grid.cell_size = r.pick(&[0.0, 2.4999999999999998e-7, f64::NAN, 2000000000.0000002]),
+                _ => (grid.cols, grid.rows) = r.pick(&[(0, 0), (0, 3), (4005, 1)]),
+            }
+        }
+        (shape, Case { grid, row: cell.0, col: cell.1, x, y, size, strategy })
+    }
+
+    fn check(c: &Case) -> Result<&'static str, String> {
+        let g = &c.grid;
+        let (mut point, mut overlap, mut owner) = (None, None, None);
+        for e in entries() {
+            let mut out = [u64::MAX; 8];
+            let number = (e.point)(g, c.row, c.col, c.x, c.y, &mut out);
+            let wanted = *point.get_or_insert_with(|| match number {
+                0 => (0, Owners::new(g).point(c.row, c.col, c.x, c.y) as u64),
+                n => (n, out[0]),
+            });
+            answers(&format!("{}: point owned", e.who), (wanted.0, &[wanted.1]), (number, &out[..1]))?;
+
+            let mut out = [u64::MAX; 8];
+            let number = (e.overlap)(g, c.row, c.col, c.x, c.y, c.size, c.strategy, &mut out);
+            let wanted = *overlap.get_or_insert_with(|| match number {
+                0 => (0, Owners::new(g).overlap(c.row, c.col, c.x, c.y, c.size, c.strategy) as u64),
+                n => (n, out[0]),
+            });
+            answers(&format!("{}: overlap owned", e.who), (wanted.0, &[wanted.1]), (number, &out[..1]))?;
+
+            let mut out = [u64::MAX; 8];
+            let number = (e.owner)(g, c.x, c.y, &mut out);
+            let wanted = *owner.get_or_insert_with(|| match number {
+                0 => (0, scan(g, c.x, c.y)),
+                n => (n, [out[0], 0, 0]),
+            });
+            let got = if number == 0 { [out[0], out[1], out[2]] } else { [out[0], 0, 0] };
+            answers(&format!("{}: owner", e.who), (wanted.0, &wanted.1), (number, &got))?;
+        }
+        Ok(match (point.unwrap(), owner.unwrap()) {
+            ((0, 1), _) => "owned",
+            ((0, _), (0, [1, ..])) => "owned by another",
+            ((0, _), (0, _)) => "outside",
+            ((n, _), _) => word(n),
+        })
+    }
+
+    fn smaller(case: &Case) -> Vec<Case> {
+        let mut all = Vec::new();
+        let mut put = |change: &dyn Fn(&mut Case)| {
+            let mut c = case.clone();
+            change(&mut c);
+            all.push(c);
+        };
+        for v in rounder(case.grid.min_x) {
+            put(&|c| c.grid.min_x = v);
+        }
+        for v in rounder(case.grid.min_y) {
+            put(&|c| c.grid.min_y = v);
+        }
+        for v in rounder(case.grid.cell_size) {
+            put(&|c| c.grid.cell_size = v);
+        }
+        for v in rounder(case.x) {
+            put(&|c| c.x = v);
+        }
+        for v in rounder(case.y) {
+            put(&|c| c.y = v);
+        }
+        for v in rounder(case.size) {
+            put(&|c| c.size = v);
+        }
+        if case.grid.cols > 1 {
+            put(&|c| c.grid.cols /= 2);
+        }
+        if case.grid.rows > 1 {
+            put(&|c| c.grid.rows /= 2);
+        }
+        if case.col > 0 {
+            put(&|c| c.col /= 2);
+        }
+        if case.row > 0 {
+            put(&|c| c.row /= 2);
+        }
+        all
+    }
+
+    fn show(c: &Case) -> String {
+        let g = &c.grid;
+        format!(
+            "grid {} by {} at {}, {}, cell size {}\ncell row {} column {}, point {}, {}, snap size {} strategy {}\n",
+            g.cols, g.rows, float(g.min_x), float(g.min_y), float(g.cell_size), c.row, c.col, float(c.x), float(c.y), float(c.size), c.strategy,
+        )
+    }
+}
+
+/// The first cell in row order that the Rust says owns the point. Every cell is asked where they are few; else the cells of the rows
+/// and columns near the point's own, which rounding cannot leave.
+pub fn scan(g: &Grid, x: f64, y: f64) -> [u64; 3] {
+    let mut owners = Owners::new(g);
+    let near = |low: f64, p: f64, count: u32| {
+        if g.cols * g.rows <= 400 {
+            return (0, count);
+        }
+        let at = ((p - low) / g.cell_size).floor().clamp(0.0, count as f64) as u32;
+        (at.saturating_sub(3), (at + 3).min(count))
+    };
+    let (from_row, to_row) = near(g.min_y, y, g.rows);
+    let (from_col, to_col) = near(g.min_x, x, g.cols);
+    for row in from_row..to_row {
+        for col in from_col..to_col {
+            if owners.point(row, col, x, y) {
+                return [1, row as u64, col as u64];
+            }
+        }
+    }
+    [0, 0, 0]
+}

@@ -1,0 +1,145 @@
+//! The cells of one segment, with the scratch that is left.
+
+use super::{answers, float, rounder, slices, word, Kind, JUNK};
+use crate::cases;
+use crate::model::{self, SCRATCH};
+use crate::oracle;
+use crate::random::Random;
+use crate::{Grid, Line};
+
+#[derive(Clone)]
+pub struct Case {
+    pub grid: Grid,
+    pub line: Line,
+    pub scratch: usize,
+}
+
+type Entry = fn(&Grid, &Line, &mut [u32], &mut [u64]) -> u32;
+
+fn entries() -> Vec<(&'static str, Entry)> {
+    #[allow(unused_mut)]
+    let mut all: Vec<(&'static str, Entry)> = vec![("model", model::segment_cells)];
+    #[cfg(feature = "walk")]
+    all.push(("port", crate::port::segment_cells));
+    all
+}
+
+pub struct Walk;
+
+impl Kind for Walk {
+    type Case = Case;
+    const NAME: &'static str = "walk";
+    const PORT: bool = cfg!(feature = "walk");
+
+    fn draw(r: &mut Random) -> (&'static str, Case) {
+        let grid = cases::grid(r);
+        let (shape, line) = cases::segment(r, &grid);
+        let mut case = Case { grid, line, scratch: SCRATCH };
+        if !r.once_in(100) {
+            return (shape, case);
+        }
+        // now and then something that is refused, or just not
+        let v = cases::bad(r);
+        match r.below(6) {
+            0..=1 => case.line[r.below(4) as usize] = v,
+            2 => case.grid.min_x = v,
+            3 => case.grid.cell_size = r.pick(&[0.0, -1.0, 2.4999999999999998e-7, 2.5e-7, 2e9, 2000000000.0000002, f64::NAN, f64::INFINITY]),
+            4 => (case.grid.cols, case.grid.rows) = r.pick(&[(0, 0), (0, 1), (4005, 1), (1, 4005), (4004, 251), (1002, 1001), (u32::MAX, u32::MAX)]),
+            _ => case.scratch = r.pick(&[0, 1, SCRATCH - 1, SCRATCH, SCRATCH + 1, 20000]),
+        }
+        ("edge of the domain", case)
+    }
+
+    fn check(case: &Case) -> Result<&'static str, String> {
+        let mut wanted = None;
+        for (who, entry) in entries() {
+            let mut scratch = vec![JUNK; case.scratch];
+            let mut out = [u64::MAX; 8];
+            let number = entry(&case.grid, &case.line, &mut scratch, &mut out);
+            let got = (number, out[0], scratch);
+            // the model comes first: it says whether the Rust can be asked
+            let wanted = wanted.get_or_insert_with(|| {
+                if got.0 != 0 {
+                    return got.clone();
+                }
+                let cells = oracle::segment_cells(&case.grid, &case.line);
+                let mut left = vec![0; case.scratch];
+                left[..cells.len()].copy_from_slice(&cells);
+                (0, cells.len() as u64, left)
+            });
+            answers(who, (wanted.0, &[wanted.1]), (got.0, &[got.1]))?;
+            slices(&format!("{who}: scratch"), &wanted.2, &got.2)?;
+        }
+        Ok(match wanted.unwrap().0 {
+            7 => "past the budget",
+            n => word(n),
+        })
+    }
+
+    fn smaller(case: &Case) -> Vec<Case> {
+        let mut all = Vec::new();
+        let mut put = |change: &dyn Fn(&mut Case)| {
+            let mut c = case.clone();
+            change(&mut c);
+            all.push(c);
+        };
+        for v in rounder(case.grid.min_x) {
+            put(&|c| c.grid.min_x = v);
+        }
+        for v in rounder(case.grid.min_y) {
+            put(&|c| c.grid.min_y = v);
+        }
+        for v in rounder(case.grid.cell_size) {
+            put(&|c| c.grid.cell_size = v);
+        }
+        for n in [1, case.grid.cols / 2, case.grid.cols.saturating_sub(1)] {
+            if n < case.grid.cols {
+                put(&|c| c.grid.cols = n);
+            }
+        }
+        for n in [1, case.grid.rows / 2, case.grid.rows.saturating_sub(1)] {
+            if n < case.grid.rows {
+                put(&|c| c.grid.rows = n);
+            }
+        }
+        for k in 0..4 {
+            for v in rounder(case.line[k]) {
+                put(&|c| c.line[k] = v);
+            }
+        }
+        all
+    }
+
+    fn show(case: &Case) -> String {
+        let g = &case.grid;
+        let mut text = format!("grid {} by {} at {}, {}, cell size {}\n", g.cols, g.rows, float(g.min_x), float(g.min_y), float(g.cell_size));
+        text += &format!("segment {}\n", case.line.map(float).join(", "));
+        text += &format!("scratch {}\n", case.scratch);
+        let mut cells = Vec::new();
+        if model::grid_fits(g) && model::walk(g, &case.line, &mut cells).is_some() {
+            text += &format!("the Rust's cells: {:?}\n", oracle::segment_cells(g, &case.line));
+        }
+        text
+    }
+}
+
+/// Document 01's measured points, and a walk that never ends in the Rust.
+pub fn fixed() -> Vec<(&'static str, Case)> {
+    let four = Grid { min_x: 0.0, min_y: 0.0, cell_size: 1.0, cols: 4, rows: 4 };
+    let long = Grid { cols: 4004, rows: 1, ..four };
+    let endless = Grid { min_x: -70.00000000000001, min_y: 1.0553831621433073e-7, cell_size: 1.0, cols: 15, rows: 2 };
+    let hair = 2f64.powi(-41);
+    let at = |x: f64| [x, 0.5, x, 0.5];
+    let all = [
+        (four, [0.5, 0.5, 2.5, 0.5]),
+        (four, [1.0, 0.5, 1.0, 2.5]),
+        (four, [1.0, 1.0, 1.0, 1.0]),
+        (four, at(1.0 + hair)),
+        (four, at(1.0 + 4.0 * hair)),
+        (four, at(1.0 - hair)),
+        (long, [0.5, 0.5, 2047.5, 0.5]),
+        (long, [0.5, 0.5, 2048.5, 0.5]),
+        (endless, [0.0, 0.6036785153383751, 5e-324, 1.639504059742847]),
+    ];
+    all.map(|(grid, line)| ("measured points", Case { grid, line, scratch: SCRATCH })).into()
+}

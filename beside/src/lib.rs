@@ -1,0 +1,30 @@
+//! The port and the Rust that it was made from, in one program.
+//!
+//! `oracle` is the Rust unchanged, `port` the proved library, `model` a third opinion: document 01 written down once more, apart from both.
+//! `kinds` has one comparison for each kind of question, `cases` what they ask.
+//!
+//! The modules named in the second half stand for parts of the Rust's own crate: its source names them by `crate::`.
+
+pub mod cases;
+pub mod kinds;
+pub mod model;
+pub mod oracle;
+pub mod port;
+pub mod random;
+
+pub(crate) mod noding;
+pub(crate) mod stand_in;
+pub(crate) use stand_in::{diagnostics, options, trace, types, utils, PolygonizeError, Result};
+
+/// Document 01's grid record.
+#[derive(Clone, Copy, Debug, PartialEq)]
+pub struct Grid {
+    pub min_x: f64,
+    pub min_y: f64,
+    pub cell_size: f64,
+    pub cols: u32,
+    pub rows: u32,
+}
+
+/// A line: start x, start y, end x, end y.
+pub type Line = [f64; 4];

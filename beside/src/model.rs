@@ -1,0 +1,754 @@
+//! Document 01 written down once more, apart from the Rust and from the port: the third opinion.
+//! Numbers are worked out on bit patterns. Each entry has the port's own shape: lent slices, an answer by number, values in `out`.
+//! The walk counts its turns, so that the Rust is never asked for a walk that may not end.
+
+use crate::{Grid, Line};
+
+/// The turns that a walk may make.
+pub const BUDGET: u32 = 5000;
+/// The distinct cells that a line may have and still be listed.
+pub const MOST_CELLS: usize = 2048;
+/// The scratch that a walk is lent, at least.
+pub const SCRATCH: usize = 16384;
+/// The lines that a build takes.
+pub const MOST_LINES: usize = 65536;
+
+// ---- numbers ----
+
+/// A finite pattern's value is m * 2^e.
+fn parts(v: f64) -> (bool, u64, i32) {
+    let b = v.to_bits();
+    let field = (b >> 52 & 2047) as i32;
+    let digits = b & ((1 << 52) - 1);
+    if field == 0 {
+        (b >> 63 == 1, digits, -1074)
+    } else {
+        (b >> 63 == 1, digits | 1 << 52, field - 1075)
+    }
+}
+
+fn is_nan(v: f64) -> bool {
+    v.to_bits() << 1 > 2047 << 53
+}
+
+fn signed(minus: bool, whole: u64) -> f64 {
+    f64::from_bits((whole as f64).to_bits() | (minus as u64) << 63)
+}
+
+/// Whether every digit of v stands before the point: infinities and NaN too.
+fn is_whole_by_size(v: f64) -> bool {
+    v.to_bits() >> 52 & 2047 >= 1075
+}
+
+pub fn least(a: f64, b: f64) -> f64 {
+    if is_nan(a) || b < a {
+        b
+    } else {
+        a
+    }
+}
+
+pub fn greatest(a: f64, b: f64) -> f64 {
+    if is_nan(a) || a < b {
+        b
+    } else {
+        a
+    }
+}
+
+pub fn magnitude(v: f64) -> f64 {
+    f64::from_bits(v.to_bits() & !(1 << 63))
+}
+
+/// m / 2^shift: its whole part, and whether something is left.
+fn cut(m: u64, shift: u32) -> (u64, bool) {
+    if shift > 63 {
+        (0, m != 0)
+    } else {
+        (m >> shift, m & ((1 << shift) - 1) != 0)
+    }
+}
+
+pub fn floor(v: f64) -> f64 {
+    if is_whole_by_size(v) {
+        return v;
+    }
+    let (minus, m, e) = parts(v);
+    let (whole, rest) = cut(m, -e as u32);
+    signed(minus, whole + (minus && rest) as u64)
+}
+
+/// The floor brought into 0 .. count - 1; 0 for a NaN and for no count.
+pub fn clamped_floor(v: f64, count: u32) -> u32 {
+    if is_nan(v) || count == 0 || v < 0.0 {
+        return 0;
+    }
+    let f = floor(v);
+    if f >= count as f64 {
+        count - 1
+    } else {
+        f as u32
+    }
+}
+
+/// The ceiling as a whole number of 64 bits.
+pub fn ceiling(v: f64) -> u64 {
+    if is_nan(v) || v <= 0.0 {
+        return 0;
+    }
+    if v.to_bits() == f64::INFINITY.to_bits() {
+        return u64::MAX;
+    }
+    let (_, m, e) = parts(v);
+    if e >= 0 {
+        return if e > 11 { u64::MAX } else { m << e };
+    }
+    let (whole, rest) = cut(m, -e as u32);
+    whole + rest as u64
+}
+
+pub fn round_half_away(v: f64) -> f64 {
+    if is_whole_by_size(v) {
+        return v;
+    }
+    let (minus, m, e) = parts(v);
+    let shift = -e as u32;
+    signed(minus, if shift > 54 { 0 } else { (m + (1 << (shift - 1))) >> shift })
+}
+
+pub fn square_root(v: f64) -> f64 {
+    let b = v.to_bits();
+    if b << 1 == 0 || is_nan(v) || b == f64::INFINITY.to_bits() {
+        return v;
+    }
+    if b >> 63 == 1 {
+        return f64::NAN;
+    }
+    // the value is m * 2^e with m from 2^106 to 2^108 and e even: its root has 54 digits, and is no tie
+    let (_, m, e) = parts(v);
+    let lift = m.leading_zeros() as i32 - 11;
+    let (m, e) = (m << lift, e - lift);
+    let odd = e.rem_euclid(2);
+    let (m, e) = ((m as u128) << (54 + odd), e - 54 - odd);
+    let mut root = 0u128;
+    for k in (0..54).rev() {
+        let t = root | 1 << k;
+        if t * t <= m {
+            root = t;
+        }
+    }
+    let digits = (root as u64 + 1) >> 1;
+    let field = (e / 2 + 1 + 1075 - 1) as u64;
+    f64::from_bits((field << 52) + digits)
+}
+
+// ---- domain ----
+
+pub fn coordinate_fits(v: f64) -> bool {
+    magnitude(v) <= 1e9
+}
+
+pub fn grid_fits(g: &Grid) -> bool {
+    let counts = (g.cols == 0 && g.rows == 0)
+        || ((1..=4004).contains(&g.cols) && (1..=4004).contains(&g.rows) && g.cols as u64 * g.rows as u64 <= 1_002_001);
+    coordinate_fits(g.min_x) && coordinate_fits(g.min_y) && g.cell_size >= 1e-6 / 4.0 && g.cell_size <= 2e9 && counts
+}
+
+pub fn snap_fits(size: f64, strategy: u32) -> bool {
+    (size == 0.0 || (1e-6..=1e6).contains(&size)) && strategy <= 1
+}
+
+// ---- the walk ----
+
+/// One axis of the grid: column and row follow one rule.
+#[derive(Clone, Copy)]
+struct Axis {
+    low: f64,
+    size: f64,
+    count: u32,
+}
+
+impl Axis {
+    fn value(self, p: f64) -> f64 {
+        (p - self.low) / self.size
+    }
+    fn index(self, p: f64) -> i64 {
+        clamped_floor(self.value(p), self.count) as i64
+    }
+    fn on_boundary(self, p: f64) -> bool {
+        let v = self.value(p);
+        magnitude(v - round_half_away(v)) <= 1e-12
+    }
+    fn low_edge(self, index: i64) -> f64 {
+        self.low + index as f64 * self.size
+    }
+    /// Whether the index's stretch owns p; in the last one its high edge belongs to it.
+    fn owns(self, index: i64, p: f64, last_too: bool) -> bool {
+        let low = self.low_edge(index);
+        let high = low + self.size;
+        low <= p && (p < high || (last_too && index + 1 == self.count as i64 && p == high))
+    }
+}
+
+fn axes(g: &Grid) -> (Axis, Axis) {
+    (Axis { low: g.min_x, size: g.cell_size, count: g.cols }, Axis { low: g.min_y, size: g.cell_size, count: g.rows })
+}
+
+/// How a walk goes on one axis: the index, the step, `t_max` and `t_delta`.
+struct Way {
+    at: i64,
+    end: i64,
+    step: i64,
+    t_max: f64,
+    t_delta: f64,
+}
+
+impl Way {
+    fn new(axis: Axis, start: f64, end: f64) -> Way {
+        let d = end - start;
+        let at = axis.index(start);
+        let step = (d > 0.0) as i64 - (d < 0.0) as i64;
+        let (t_max, t_delta) = if step == 0 {
+            (f64::INFINITY, f64::INFINITY)
+        } else {
+            let next = axis.low_edge(at + (step > 0) as i64);
+            (greatest((next - start) / d, 0.0), axis.size / magnitude(d))
+        };
+        Way { at, end: axis.index(end), step, t_max, t_delta }
+    }
+    fn go(&mut self) {
+        self.at += self.step;
+        self.t_max += self.t_delta;
+    }
+}
+
+/// What a walk pushes: cells inside the grid, none equal to the one just pushed.
+struct Pushed<'a> {
+    cells: &'a mut Vec<u32>,
+    cols: i64,
+    rows: i64,
+}
+
+impl Pushed<'_> {
+    fn push(&mut self, col: i64, row: i64) {
+        if (0..self.cols).contains(&col) && (0..self.rows).contains(&row) {
+            let cell = (row * self.cols + col) as u32;
+            if self.cells.last() != Some(&cell) {
+                self.cells.push(cell);
+            }
+        }
+    }
+}
+
+/// The cells of a line, increasing, none twice, left in `cells`; or None where the walk would make a turn beyond the budget.
+/// The answer is the number of turns.
+pub fn walk(g: &Grid, line: &Line, cells: &mut Vec<u32>) -> Option<u32> {
+    cells.clear();
+    if g.cols == 0 || g.rows == 0 {
+        return Some(0);
+    }
+    let [x0, y0, x1, y1] = *line;
+    let (across, up) = axes(g);
+    let (mut x, mut y) = (Way::new(across, x0, x1), Way::new(up, y0, y1));
+    let mut pushed = Pushed { cells, cols: g.cols as i64, rows: g.rows as i64 };
+    pushed.push(x.at, y.at);
+    let mut turns = 0;
+    while x.at != x.end || y.at != y.end {
+        let largest = greatest(greatest(magnitude(x.t_max), magnitude(y.t_max)), 1.0);
+        let tolerance = f64::from_bits((1023 - 52) << 52) * largest * 8.0;
+        if least(x.t_max, y.t_max) > 1.0 + tolerance {
+            break;
+        }
+        if turns == BUDGET {
+            return None;
+        }
+        turns += 1;
+        let finite = x.t_max < f64::INFINITY && y.t_max < f64::INFINITY;
+        if finite && magnitude(x.t_max - y.t_max) <= tolerance {
+            pushed.push(x.at + x.step, y.at);
+            pushed.push(x.at, y.at + y.step);
+            x.go();
+            y.go();
+        } else if x.t_max < y.t_max {
+            x.go();
+        } else {
+            y.go();
+        }
+        pushed.push(x.at, y.at);
+    }
+    pushed.push(x.end, y.end);
+
+    let beside = x.step == 0 && across.on_boundary(x0);
+    let under = y.step == 0 && up.on_boundary(y0);
+    for k in 0..pushed.cells.len() {
+        let cell = pushed.cells[k] as i64;
+        lower(&mut pushed, cell % g.cols as i64, cell / g.cols as i64, beside, under);
+    }
+    for (px, py) in [(x0, y0), (x1, y1)] {
+        lower(&mut pushed, across.index(px), up.index(py), across.on_boundary(px), up.on_boundary(py));
+    }
+    cells.sort();
+    cells.dedup();
+    Some(turns)
+}
+
+/// The lower neighbours of a cell that a boundary adds.
+fn lower(pushed: &mut Pushed, col: i64, row: i64, beside: bool, under: bool) {
+    if beside {
+        pushed.push(col - 1, row);
+    }
+    if under {
+        pushed.push(col, row - 1);
+    }
+    if beside && under {
+        pushed.push(col - 1, row - 1);
+    }
+}
+
+pub fn segment_cells(g: &Grid, line: &Line, scratch: &mut [u32], out: &mut [u64]) -> u32 {
+    let mut refuse = |number, value| {
+        out[0] = value;
+        number
+    };
+    if scratch.len() < SCRATCH {
+        return refuse(3, 0);
+    }
+    if !line.iter().all(|&v| coordinate_fits(v)) {
+        return refuse(1, 0);
+    }
+    if !grid_fits(g) {
+        return refuse(8, 0);
+    }
+    let mut cells = Vec::new();
+    if walk(g, line, &mut cells).is_none() {
+        scratch.fill(0);
+        return refuse(7, 0);
+    }
+    left(scratch, &cells);
+    out[0] = cells.len() as u64;
+    0
+}
+
+/// Writes `written` at the start and zero beyond.
+fn left(slice: &mut [u32], written: &[u32]) {
+    slice[..written.len()].copy_from_slice(written);
+    slice[written.len()..].fill(0);
+}
+
+// ---- the build ----
+
+/// Four slices of coordinates.
+#[derive(Clone, Copy)]
+pub struct Coordinates<'a> {
+    pub start_x: &'a [f64],
+    pub start_y: &'a [f64],
+    pub end_x: &'a [f64],
+    pub end_y: &'a [f64],
+}
+
+impl Coordinates<'_> {
+    pub fn line(&self, i: usize) -> Line {
+        [self.start_x[i], self.start_y[i], self.end_x[i], self.end_y[i]]
+    }
+    pub fn len(&self) -> usize {
+        self.start_x.len()
+    }
+    fn uneven(&self) -> bool {
+        let n = self.len();
+        self.start_y.len() != n || self.end_x.len() != n || self.end_y.len() != n
+    }
+    /// Refusals 2 and 1.
+    fn refusal(&self) -> Option<(u32, u64)> {
+        let n = self.len();
+        if n > MOST_LINES {
+            return Some((2, n as u64));
+        }
+        (0..n).find(|&i| !self.line(i).iter().all(|&v| coordinate_fits(v))).map(|i| (1, i as u64))
+    }
+}
+
+/// What a build makes, with the most cells + 1 of the grids that it tried and the halvings.
+#[derive(Clone)]
+pub struct Tables {
+    pub grid: Grid,
+    pub offsets: Vec<u32>,
+    pub items: Vec<u32>,
+    pub globals: Vec<u32>,
+    pub most_offsets: usize,
+    pub halvings: u32,
+}
+
+/// The tables of a set of lines in the domain. `room` is the number of offsets lent. A refusal 4 or 7 is the error.
+pub fn tables(lines: Coordinates, room: usize) -> Result<Tables, (u32, u64)> {
+    let n = lines.len();
+    if n == 0 {
+        if room < 1 {
+            return Err((4, 1));
+        }
+        let grid = Grid { min_x: 0.0, min_y: 0.0, cell_size: 1.0, cols: 0, rows: 0 };
+        return Ok(Tables { grid, offsets: vec![0], items: vec![], globals: vec![], most_offsets: 1, halvings: 0 });
+    }
+    let reach = |a: &[f64], b: &[f64]| {
+        let all = || a.iter().chain(b).copied();
+        (all().fold(f64::INFINITY, least), all().fold(f64::NEG_INFINITY, greatest))
+    };
+    let (min_x, max_x) = reach(lines.start_x, lines.end_x);
+    let (min_y, max_y) = reach(lines.start_y, lines.end_y);
+    let (width, height) = (max_x - min_x, max_y - min_y);
+    let mut area = width * height;
+    if area < 1e-9 {
+        area = n as f64;
+    }
+    let mut cell_size = greatest(greatest(square_root(area / n as f64), greatest(width, height) / 1000.0), 1e-6);
+    let mut halvings = 0;
+    let mut most_offsets = 0;
+    let mut cells = Vec::new();
+    loop {
+        let cols = ceiling((width + 1e-9) / cell_size);
+        let rows = ceiling((height + 1e-9) / cell_size);
+        let count = (cols * rows) as usize;
+        most_offsets = most_offsets.max(count + 1);
+        if count + 1 > room {
+            return Err((4, count as u64 + 1));
+        }
+        let grid = Grid { min_x, min_y, cell_size, cols: cols as u32, rows: rows as u32 };
+        let mut lists = vec![Vec::new(); count];
+        let mut globals = Vec::new();
+        for i in 0..n {
+            if walk(&grid, &lines.line(i), &mut cells).is_none() {
+                return Err((7, i as u64));
+            }
+            if cells.len() > MOST_CELLS {
+                globals.push(i as u32);
+            } else {
+                for &c in &cells {
+                    lists[c as usize].push(i as u32);
+                }
+            }
+        }
+        let crowded = lists.iter().any(|l| l.len() > 500);
+        if crowded && halvings < 2 && count * 4 < 1_000_000 {
+            cell_size /= 2.0;
+            halvings += 1;
+            continue;
+        }
+        let mut offsets = vec![0];
+        for l in &lists {
+            offsets.push(offsets.last().unwrap() + l.len() as u32);
+        }
+        return Ok(Tables { grid, offsets, items: lists.concat(), globals, most_offsets, halvings });
+    }
+}
+
+pub fn build(lines: Coordinates, offsets: &mut [u32], items: &mut [u32], globals: &mut [u32], scratch: &mut [u32], out: &mut [u64]) -> u32 {
+    if lines.uneven() || scratch.len() < SCRATCH {
+        out[0] = 0;
+        return 3;
+    }
+    if let Some((number, value)) = lines.refusal() {
+        out[0] = value;
+        return number;
+    }
+    for s in [&mut *offsets, &mut *items, &mut *globals, &mut *scratch] {
+        s.fill(0);
+    }
+    let refusal = match tables(lines, offsets.len()) {
+        Err(refusal) => refusal,
+        Ok(t) if t.items.len() > items.len() => (5, t.items.len() as u64),
+        Ok(t) if t.globals.len() > globals.len() => (6, t.globals.len() as u64),
+        Ok(t) => {
+            left(offsets, &t.offsets);
+            left(items, &t.items);
+            left(globals, &t.globals);
+            let g = t.grid;
+            out[..3].copy_from_slice(&[g.min_x.to_bits(), g.min_y.to_bits(), g.cell_size.to_bits()]);
+            out[3..7].copy_from_slice(&[g.cols as u64, g.rows as u64, t.items.len() as u64, t.globals.len() as u64]);
+            return 0;
+        }
+    };
+    out[0] = refusal.1;
+    refusal.0
+}
+
+// ---- the visit ----
+
+/// Standing tables as a visit is lent them.
+#[derive(Clone, Copy)]
+pub struct Standing<'a> {
+    pub grid: Grid,
+    pub lines: Coordinates<'a>,
+    pub offsets: &'a [u32],
+    pub items: &'a [u32],
+    pub globals: &'a [u32],
+    pub global_count: u64,
+}
+
+/// One test: its place, which is a cell (row, column) or a global line (its position), the two lines, and whether their boxes overlap.
+#[derive(Clone, Copy, Debug, PartialEq)]
+pub struct Test {
+    pub cell: bool,
+    pub row_or_position: u32,
+    pub col: u32,
+    pub first: u32,
+    pub second: u32,
+    pub overlap: bool,
+}
+
+impl Standing<'_> {
+    fn cells(&self) -> usize {
+        self.grid.cols as usize * self.grid.rows as usize
+    }
+
+    /// Document 01's "tables fit".
+    pub fn fits(&self) -> bool {
+        let (cells, n) = (self.cells(), self.lines.len());
+        if self.offsets.len() < cells + 1 || self.global_count > self.globals.len() as u64 {
+            return false;
+        }
+        let offsets = &self.offsets[..cells + 1];
+        let list_fits = |l: &[u32]| l.windows(2).all(|w| w[0] < w[1]) && l.iter().all(|&i| (i as usize) < n);
+        offsets[0] == 0
+            && offsets.windows(2).all(|w| w[0] <= w[1])
+            && offsets[cells] as usize <= self.items.len()
+            && offsets.windows(2).all(|w| list_fits(&self.items[w[0] as usize..w[1] as usize]))
+            && list_fits(&self.globals[..self.global_count as usize])
+    }
+
+    fn overlap(&self, i: u32, j: u32) -> bool {
+        let (a, b) = (self.lines.line(i as usize), self.lines.line(j as usize));
+        (0..2).all(|k| {
+            least(a[k], a[k + 2]) <= greatest(b[k], b[k + 2]) && least(b[k], b[k + 2]) <= greatest(a[k], a[k + 2])
+        })
+    }
+
+    /// Every test of the tables, which fit, in order.
+    pub fn tests(&self) -> Vec<Test> {
+        let mut tests = Vec::new();
+        for cell in 0..self.cells() {
+            let list = &self.items[self.offsets[cell] as usize..self.offsets[cell + 1] as usize];
+            let (row_or_position, col) = (cell as u32 / self.grid.cols, cell as u32 % self.grid.cols);
+            for (i, &first) in list.iter().enumerate() {
+                for &second in &list[i + 1..] {
+                    tests.push(Test { cell: true, row_or_position, col, first, second, overlap: self.overlap(first, second) });
+                }
+            }
+        }
+        let globals = &self.globals[..self.global_count as usize];
+        for (position, &first) in globals.iter().enumerate() {
+            for second in 0..self.lines.len() as u32 {
+                if second != first && !globals[..position].contains(&second) {
+                    let overlap = self.overlap(first, second);
+                    tests.push(Test { cell: false, row_or_position: position as u32, col: 0, first, second, overlap });
+                }
+            }
+        }
+        tests
+    }
+
+    /// The number of tests of tables that fit: demand 3's sum.
+    pub fn total(&self) -> u64 {
+        let n = self.lines.len() as u64;
+        let cells: u64 = self.offsets[..self.cells() + 1].windows(2).map(|w| (w[1] - w[0]) as u64).map(|k| k * k.saturating_sub(1) / 2).sum();
+        let g = self.global_count;
+        cells + g * n.saturating_sub(1) - g * g.saturating_sub(1) / 2
+    }
+
+    /// The refusals of a visit from a bookmark. `uneven` says that paired outputs differ.
+    fn refusal(&self, uneven: bool, bookmark: u64) -> Option<(u32, u64)> {
+        if self.lines.uneven() || uneven {
+            return Some((3, 0));
+        }
+        if let Some(r) = self.lines.refusal() {
+            return Some(r);
+        }
+        if !grid_fits(&self.grid) {
+            return Some((8, 0));
+        }
+        if !self.fits() {
+            return Some((10, 0));
+        }
+        (bookmark > self.total()).then_some((9, bookmark))
+    }
+}
+
+/// `tests` are those of the tables where they fit; they are handed in, so that many batches of one visit share them.
+pub fn batch(s: &Standing, tests: &[Test], bookmark: u64, first: &mut [u32], second: &mut [u32], out: &mut [u64]) -> u32 {
+    if let Some((number, value)) = s.refusal(first.len() != second.len(), bookmark) {
+        out[0] = value;
+        return number;
+    }
+    first.fill(0);
+    second.fill(0);
+    let (mut at, mut written) = (bookmark as usize, 0);
+    while written < first.len() && at < tests.len() {
+        let t = tests[at];
+        at += 1;
+        if t.overlap {
+            first[written] = t.first;
+            second[written] = t.second;
+            written += 1;
+        }
+    }
+    out[..3].copy_from_slice(&[at as u64 - bookmark, written as u64, at as u64]);
+    0
+}
+
+/// out: 0 for a cell, 1 for a global line, 2 for the end mark; row or position; column; first; second; overlap.
+pub fn test_at(s: &Standing, tests: &[Test], bookmark: u64, out: &mut [u64]) -> u32 {
+    if let Some((number, value)) = s.refusal(false, bookmark) {
+        out[0] = value;
+        return number;
+    }
+    let values = match tests.get(bookmark as usize) {
+        None => [2, 0, 0, 0, 0, 0],
+        Some(t) => [!t.cell as u64, t.row_or_position as u64, t.col as u64, t.first as u64, t.second as u64, t.overlap as u64],
+    };
+    out[..6].copy_from_slice(&values);
+    0
+}
+
+// ---- ownership and snapping ----
+
+fn cell_refusal(g: &Grid, x: f64, y: f64, snap: Option<(f64, u32)>, cell: Option<(u32, u32)>) -> Option<(u32, u64)> {
+    if !coordinate_fits(x) || !coordinate_fits(y) {
+        return Some((1, 0));
+    }
+    if !grid_fits(g) {
+        return Some((8, 0));
+    }
+    if let Some((size, strategy)) = snap {
+        if !snap_fits(size, strategy) {
+            return Some((12, 0));
+        }
+    }
+    if let Some((row, col)) = cell {
+        if row >= g.rows || col >= g.cols {
+            return Some((9, row as u64));
+        }
+    }
+    None
+}
+
+pub fn point_owned(g: &Grid, row: u32, col: u32, x: f64, y: f64, out: &mut [u64]) -> u32 {
+    if let Some((number, value)) = cell_refusal(g, x, y, None, Some((row, col))) {
+        out[0] = value;
+        return number;
+    }
+    let (across, up) = axes(g);
+    out[0] = (across.owns(col as i64, x, true) && up.owns(row as i64, y, true)) as u64;
+    0
+}
+
+pub fn overlap_owned(g: &Grid, row: u32, col: u32, x: f64, y: f64, size: f64, strategy: u32, out: &mut [u64]) -> u32 {
+    if let Some((number, value)) = cell_refusal(g, x, y, Some((size, strategy)), Some((row, col))) {
+        out[0] = value;
+        return number;
+    }
+    let (across, up) = axes(g);
+    let (px, py) = (snapped(x, size, strategy), snapped(y, size, strategy));
+    let inside = across.owns(col as i64, px, false) && up.owns(row as i64, py, false);
+    out[0] = (inside || (row == 0 && col == 0)) as u64;
+    0
+}
+
+/// out: 1, row, column of the first cell in row order that owns the point; or 0, 0, 0.
+pub fn owner(g: &Grid, x: f64, y: f64, out: &mut [u64]) -> u32 {
+    if let Some((number, value)) = cell_refusal(g, x, y, None, None) {
+        out[0] = value;
+        return number;
+    }
+    let (across, up) = axes(g);
+    // a cell owns a point where its column and its row do, so the first cell is the first row's first column
+    let first = |axis: Axis, p: f64| (0..axis.count).find(|&i| axis.owns(i as i64, p, true));
+    let values = match (first(up, y), first(across, x)) {
+        (Some(row), Some(col)) => [1, row as u64, col as u64],
+        _ => [0, 0, 0],
+    };
+    out[..3].copy_from_slice(&values);
+    0
+}
+
+fn snapped(v: f64, size: f64, strategy: u32) -> f64 {
+    if size == 0.0 {
+        return v;
+    }
+    let scaled = v / size;
+    if strategy == 0 {
+        return round_half_away(scaled) * size;
+    }
+    let sign = if scaled.to_bits() >> 63 == 1 { -1.0 } else { 1.0 };
+    floor(magnitude(scaled) + 0.5) * sign * size
+}
+
+/// out: the bits of x and y.
+pub fn snap(x: f64, y: f64, size: f64, strategy: u32, out: &mut [u64]) -> u32 {
+    let number = if !coordinate_fits(x) || !coordinate_fits(y) {
+        1
+    } else if !snap_fits(size, strategy) {
+        12
+    } else {
+        0
+    };
+    if number != 0 {
+        out[0] = 0;
+        return number;
+    }
+    out[0] = snapped(x, size, strategy).to_bits();
+    out[1] = snapped(y, size, strategy).to_bits();
+    0
+}
+
+// ---- the reader ----
+
+/// out: the number of points.
+pub fn read_line_string(bytes: &[u8], x: &mut [f64], y: &mut [f64], out: &mut [u64]) -> u32 {
+    if x.len() != y.len() || x.len() < 1024 {
+        out[0] = 0;
+        return 3;
+    }
+    match points(bytes) {
+        Err(position) => {
+            out[0] = position as u64;
+            11
+        }
+        Ok(points) => {
+            x.fill(0.0);
+            y.fill(0.0);
+            for (i, p) in points.iter().enumerate() {
+                (x[i], y[i]) = *p;
+            }
+            out[0] = points.len() as u64;
+            0
+        }
+    }
+}
+
+fn points(bytes: &[u8]) -> Result<Vec<(f64, f64)>, usize> {
+    let field = |at: usize, size: usize| bytes.get(at..at + size).ok_or(bytes.len());
+    let little = match field(0, 1)?[0] {
+        0 => false,
+        1 => true,
+        _ => return Err(0),
+    };
+    let number = |at: usize, size: usize| -> Result<u64, usize> {
+        let byte = |v: u64, &b: &u8| v << 8 | b as u64;
+        let f = field(at, size)?;
+        Ok(if little { f.iter().rev().fold(0, byte) } else { f.iter().fold(0, byte) })
+    };
+    if number(1, 4)? != 2 {
+        return Err(1);
+    }
+    let count = number(5, 4)? as usize;
+    if !(1..=1024).contains(&count) {
+        return Err(5);
+    }
+    let mut points = Vec::new();
+    for i in 0..count {
+        let at = 9 + 16 * i;
+        points.push((f64::from_bits(number(at, 8)?), f64::from_bits(number(at + 8, 8)?)));
+    }
+    if bytes.len() > 9 + 16 * count {
+        return Err(9 + 16 * count);
+    }
+    Ok(points)
+}

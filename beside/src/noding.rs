@@ -1,0 +1,124 @@
+//! The Rust's own text: grid.rs whole, the candidates of noding/mod.rs, and `SnapNoder::snap`.
+//! `reach` stands inside the module that holds grid.rs, so that it reaches what is private there.
+
+#![allow(dead_code)]
+
+use crate::stand_in::geo;
+
+include!(concat!(env!("OUT_DIR"), "/candidates.rs"));
+
+pub mod snap {
+    use super::ExactCandidate;
+    use crate::options::SnapStrategy;
+    use crate::types::Coord3D;
+
+    pub struct SnapNoder {
+        pub grid_size: f64,
+        pub snap_strategy: SnapStrategy,
+    }
+
+    include!(concat!(env!("OUT_DIR"), "/snap.rs"));
+
+    impl SnapNoder {
+        /// Splitting is outside the port. One event says that the cell owns the candidate.
+        #[inline]
+        pub(crate) fn append_exact_candidate_splits(&self, exact: ExactCandidate, events: &mut Vec<(usize, Coord3D)>) {
+            events.push((exact.pair.first, exact.first.start));
+        }
+    }
+}
+
+pub mod grid {
+    use crate::stand_in::{geo, wide};
+
+    include!(env!("BESIDE_GRID"));
+
+    pub mod reach {
+        use super::*;
+        use crate::stand_in::geo::algorithm::line_intersection::NEXT;
+
+        #[inline]
+        pub fn cells(line: &Line3D, g: &crate::Grid) -> SmallVec<[usize; 64]> {
+            segment_cells(line, g.min_x, g.min_y, g.cell_size, g.cols as usize, g.rows as usize)
+        }
+
+        pub fn record(grid: &UniformGrid) -> crate::Grid {
+            crate::Grid {
+                min_x: grid.bounds_min.x,
+                min_y: grid.bounds_min.y,
+                cell_size: grid.cell_size,
+                cols: grid.cols as u32,
+                rows: grid.rows as u32,
+            }
+        }
+
+        pub fn offsets(grid: &UniformGrid) -> &[usize] {
+            &grid.cell_offsets
+        }
+
+        pub fn items(grid: &UniformGrid) -> &[u32] {
+            &grid.cell_items
+        }
+
+        pub fn globals(grid: &UniformGrid) -> &[usize] {
+            &grid.global_lines
+        }
+
+        /// A grid with no lists: all that an ownership test reads.
+        pub fn bare(g: &crate::Grid) -> UniformGrid {
+            UniformGrid {
+                cell_offsets: Vec::new(),
+                cell_items: Vec::new(),
+                global_lines: Vec::new(),
+                cell_size: g.cell_size,
+                cols: g.cols as usize,
+                rows: g.rows as usize,
+                bounds_min: Coord { x: g.min_x, y: g.min_y },
+            }
+        }
+
+        /// Both visits, in the order of `find_splits`, each pair handed to `visit`. `tracker` counts the tests.
+        #[inline]
+        pub fn visit_all(
+            grid: &UniformGrid,
+            lines: &[Line3D],
+            soa: &SoALines,
+            mut tracker: Option<&mut ExecutionWorkTracker<'_>>,
+            mut visit: impl FnMut(usize, usize),
+        ) {
+            for index in 0..grid.rows * grid.cols {
+                let list = &grid.cell_items[grid.cell_offsets[index]..grid.cell_offsets[index + 1]];
+                grid.visit_cell_candidates(list, soa, tracker.as_deref_mut(), |pair| {
+                    visit(pair.first, pair.second);
+                    Ok(())
+                })
+                .unwrap();
+            }
+            for &line in &grid.global_lines {
+                grid.visit_global_candidates_for_line(line, lines, soa, tracker.as_deref_mut(), |pair| {
+                    visit(pair.first, pair.second);
+                    Ok(())
+                })
+                .unwrap();
+            }
+        }
+
+        /// Whether the cell owns the intersection. `events` is a buffer that is left empty.
+        #[inline]
+        pub fn owned(
+            grid: &UniformGrid,
+            row: usize,
+            col: usize,
+            intersection: LineIntersection<f64>,
+            noder: &SnapNoder,
+            lines: &[Line3D; 2],
+            events: &mut Vec<(usize, Coord3D)>,
+        ) -> bool {
+            NEXT.set(Some(intersection));
+            grid.process_cell_candidate(row, col, CandidatePair { first: 0, second: 1 }, lines, noder, events, 0, None);
+            let owned = !events.is_empty();
+            events.clear();
+            owned
+        }
+    }
+}

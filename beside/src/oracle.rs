@@ -1,0 +1,129 @@
+//! The Rust's answers.
+
+use crate::noding::grid::{reach, UniformGrid};
+use crate::noding::snap::SnapNoder;
+use crate::options::SnapStrategy;
+use crate::stand_in::diagnostics::ExecutionWorkTracker;
+use crate::stand_in::geo::algorithm::line_intersection::LineIntersection;
+use crate::stand_in::geo;
+use crate::types::{Coord3D, Line3D};
+use crate::utils::soa::SoALines;
+use crate::{Grid, Line};
+
+/// Lines as the Rust takes them.
+pub struct Lines(Vec<Line3D>);
+
+fn line_of(l: &Line) -> Line3D {
+    Line3D { start: Coord3D::new(l[0], l[1], 0.0), end: Coord3D::new(l[2], l[3], 0.0), line_id: 0 }
+}
+
+impl Lines {
+    pub fn new(lines: &[Line]) -> Self {
+        Lines(lines.iter().map(line_of).collect())
+    }
+
+    /// The cells of one line.
+    #[inline]
+    pub fn cells(&self, line: usize, grid: &Grid) -> impl std::ops::Deref<Target = [usize]> {
+        reach::cells(&self.0[line], grid)
+    }
+
+    pub fn bytes(&self) -> usize {
+        self.0.len() * std::mem::size_of::<Line3D>()
+    }
+}
+
+/// The cells of a segment.
+pub fn segment_cells(grid: &Grid, line: &Line) -> Vec<u32> {
+    reach::cells(&line_of(line), grid).iter().map(|&c| c as u32).collect()
+}
+
+/// A grid that the Rust built.
+pub struct Built(UniformGrid);
+
+pub fn build(lines: &Lines) -> Built {
+    Built(UniformGrid::new(&lines.0))
+}
+
+impl Built {
+    pub fn grid(&self) -> Grid {
+        reach::record(&self.0)
+    }
+    pub fn offsets(&self) -> Vec<u32> {
+        reach::offsets(&self.0).iter().map(|&o| o as u32).collect()
+    }
+    pub fn items(&self) -> &[u32] {
+        reach::items(&self.0)
+    }
+    pub fn globals(&self) -> Vec<u32> {
+        reach::globals(&self.0).iter().map(|&g| g as u32).collect()
+    }
+
+    /// The bytes of the tables.
+    pub fn bytes(&self) -> usize {
+        let word = std::mem::size_of::<usize>();
+        reach::offsets(&self.0).len() * word + reach::items(&self.0).len() * 4 + reach::globals(&self.0).len() * word
+    }
+
+    /// The number of tests of a whole visit, and the pairs that it hands out.
+    pub fn visit(&self, lines: &Lines) -> (u64, Vec<(u32, u32)>) {
+        let soa = SoALines::new(&lines.0);
+        let mut tracker = ExecutionWorkTracker::default();
+        let mut pairs = Vec::new();
+        reach::visit_all(&self.0, &lines.0, &soa, Some(&mut tracker), |a, b| pairs.push((a as u32, b as u32)));
+        assert_eq!(tracker.overlaps, pairs.len() as u64);
+        (tracker.tests, pairs)
+    }
+
+    /// A whole visit as `find_splits` makes it, boxes included: each pair is handed to `visit`, and nothing is counted.
+    #[inline]
+    pub fn visit_each(&self, lines: &Lines, visit: impl FnMut(usize, usize)) {
+        let soa = SoALines::new(&lines.0);
+        reach::visit_all(&self.0, &lines.0, &soa, None, visit);
+    }
+}
+
+/// The Rust's ownership tests on one grid.
+pub struct Owners {
+    grid: UniformGrid,
+    lines: [Line3D; 2],
+    events: Vec<(usize, Coord3D)>,
+}
+
+impl Owners {
+    pub fn new(grid: &Grid) -> Self {
+        let line = line_of(&[0.0; 4]);
+        Owners { grid: reach::bare(grid), lines: [line, line], events: Vec::with_capacity(4) }
+    }
+
+    /// Whether the cell owns a crossing at (x, y).
+    #[inline]
+    pub fn point(&mut self, row: u32, col: u32, x: f64, y: f64) -> bool {
+        let at = LineIntersection::SinglePoint { intersection: geo::Coord { x, y }, is_proper: true };
+        self.ask(row, col, at, &SnapNoder { grid_size: 0.0, snap_strategy: SnapStrategy::Grid })
+    }
+
+    /// Whether the cell owns a collinear overlap whose first end is (x, y), snapped.
+    #[inline]
+    pub fn overlap(&mut self, row: u32, col: u32, x: f64, y: f64, size: f64, strategy: u32) -> bool {
+        let p = geo::Coord { x, y };
+        let at = LineIntersection::Collinear { intersection: geo::Line { start: p, end: p } };
+        self.ask(row, col, at, &noder(size, strategy))
+    }
+
+    #[inline]
+    fn ask(&mut self, row: u32, col: u32, at: LineIntersection<f64>, noder: &SnapNoder) -> bool {
+        reach::owned(&self.grid, row as usize, col as usize, at, noder, &self.lines, &mut self.events)
+    }
+}
+
+fn noder(size: f64, strategy: u32) -> SnapNoder {
+    SnapNoder { grid_size: size, snap_strategy: if strategy == 0 { SnapStrategy::Grid } else { SnapStrategy::GeosCompat } }
+}
+
+/// A snapped point.
+#[inline]
+pub fn snap(x: f64, y: f64, size: f64, strategy: u32) -> (f64, f64) {
+    let p = noder(size, strategy).snap(Coord3D::new(x, y, 0.0));
+    (p.x, p.y)
+}

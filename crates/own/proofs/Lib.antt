@@ -1,0 +1,7 @@
+-- Laws of `own`, for its own proofs and for the crates above.
+pub mod Tests
+pub mod Edges
+pub mod Firsts
+pub mod Owners
+pub mod Halving
+pub mod Measured

@@ -1,0 +1,64 @@
+-- The owner of a point, from the first column and the first row that own it, and what the checks say for their search. Assumes nothing.
+use mathlib.Core.Path.{_≡_, refl, sym, ap, ap₂, _∙_}
+use mathlib.Core.Bool.{Bool, _&&_}
+use Prim.Native.Nat.{ℕ, _+_, _*_, _/_, _%_}
+use lib.Ieee.{Float}
+use Rattle.grid.specs.declared.Grid.{Grid}
+use Rattle.grid.specs.declared.Axis.{Axis}
+use Rattle.grid.specs.declared.Check.the-variants.{Fine}
+use Rattle.grid.specs.Axes.{xAxis, yAxis}
+use Rattle.grid.specs.Domain.{coordinate, point, fit, pointCheck, gridCheck}
+use Rattle.grid.proofs.Bools.{and-left, and-right}
+use Rattle.grid.proofs.Fine.{unless-fine}
+use Rattle.grid.proofs.Shapes.{fit-says}
+use Rattle.own.specs.declared.Found.{Found}
+use Rattle.own.specs.declared.Found.the-variants.{At, Nowhere}
+use Rattle.own.specs.declared.Owner.the-variants.{Cell, Outside}
+use Rattle.own.specs.Own.{ownsOn, ownsPoint}
+use Rattle.own.specs.Owner.{firstFrom, firstOn, Searchable, cellOf, ownerOf}
+use Rattle.own.proofs.Firsts.{first-at, first-none, at-first, none-first, no-column, no-row, column-is, row-is, first-cell}
+
+-- what the search asks, and what it answers, on an axis that was read off the grid
+pub asked : (a a' : Axis) (p : Float) → a ≡ a' → Searchable a' p → Searchable a p
+asked a a' p d h = rw d h
+
+pub answered : (a a' : Axis) (p : Float) (f v : Found) → f ≡ firstOn a p → a ≡ a' → f ≡ v → firstOn a' p ≡ v
+answered a a' p f v e d h = sym (ap (λ (b : Axis). firstOn b p) d) ∙ sym e ∙ h
+
+module _ (g : Grid) (x y : Float) where
+  column : ℕ → Bool
+  column i = ownsOn (xAxis g) i x
+
+  row : ℕ → Bool
+  row j = ownsOn (yAxis g) j y
+
+  cell : ℕ → Bool
+  cell k = ownsPoint g (k / g .cols) (k % g .cols) x y
+
+  pub no-column-owns : firstOn (xAxis g) x ≡ Nowhere → Outside ≡ ownerOf g x y
+  unfolding firstOn ownerOf ownsPoint column row cell
+  no-column-owns h = sym (ap (cellOf (g .cols)) (first-none cell (g .rows * g .cols) (no-column column row (g .cols) (g .rows) (none-first column (g .cols) h))))
+
+  pub no-row-owns : firstOn (yAxis g) y ≡ Nowhere → Outside ≡ ownerOf g x y
+  unfolding firstOn ownerOf ownsPoint column row cell
+  no-row-owns h = sym (ap (cellOf (g .cols)) (first-none cell (g .rows * g .cols) (no-row column row (g .cols) (g .rows) (none-first row (g .rows) h))))
+
+  pub both-own : (c r : ℕ) → firstOn (xAxis g) x ≡ At c → firstOn (yAxis g) y ≡ At r → Cell r c ≡ ownerOf g x y
+  unfolding firstOn ownerOf ownsPoint column row cell
+  both-own c r h k =
+      let a = at-first column (g .cols) c h in
+      let b = at-first row (g .rows) r k in
+      let n = g .cols in
+      sym (ap (cellOf n) (first-at cell (g .rows * n) (r * n + c) (first-cell column row n (g .rows) c r a b))
+      ∙ ap₂ Cell (row-is column row n (g .rows) c r a b) (column-is column row n (g .rows) c r a b))
+
+-- ---- what the checks say of the two axes
+
+pub searchable : (g : Grid) (x y : Float) → pointCheck x y ≡ Fine → gridCheck g ≡ Fine → Searchable (xAxis g) x × Searchable (yAxis g) y
+unfolding pointCheck gridCheck point
+searchable g x y p q =
+    let xy = unless-fine (coordinate x && coordinate y) 1 0 p in
+    let fits = fit-says g (unless-fine (fit g) 8 0 q) in (
+      record { low = fits .«min-x»; size = fits .size; few = fits .counts .wide; point = and-left (coordinate x) (coordinate y) xy },
+      record { low = fits .«min-y»; size = fits .size; few = fits .counts .high; point = and-right (coordinate x) (coordinate y) xy },
+    )

@@ -1,0 +1,78 @@
+-- `own::axis::first` meets its contract. The loop's invariant is `Halved`; the measure is what is left between the two ends.
+-- Assumes nothing.
+use mathlib.Core.Path.{sym, _∙_}
+use Prim.Native.Nat.{_-_}
+use native.Mathlib.Omega.{arith}
+use borrow.Author.Needs.{needs}
+use Rattle.own.proofs.Halving.{Halved, empty-axis, whole-axis, lower-half, upper-half, found, nowhere}
+use Rattle.own.proofs.axis.first.Statement.{statement}
+use Rattle.own.proofs.axis.first.Tie as tie
+
+abbrev Inv-loop : tie.InvT-loop
+Inv-loop axis p low₀ high₀ low high = Halved axis p low high
+
+abbrev μ-loop : tie.MeasureT-loop
+μ-loop axis p low₀ high₀ low high = high - low
+
+returns : tie.Need-returns Inv-loop μ-loop
+returns c = empty-axis (c .before .before .args .axis) (c .before .before .args .p) (c .if1 .taken)
+
+sub-high : tie.Need-sub-high Inv-loop μ-loop
+sub-high c = omega arith
+
+loop-holds : tie.Need-loop-holds Inv-loop μ-loop
+loop-holds c = whole-axis _ _ (c .before .before .before .pre) (omega arith)
+
+sub-mid : tie.Need-sub-mid Inv-loop μ-loop
+sub-mid c = omega arith
+
+add-mid : tie.Need-add-mid Inv-loop μ-loop
+add-mid c = omega arith
+
+high-edge-requires : tie.Need-high-edge-requires Inv-loop μ-loop
+high-edge-requires c κs = search needs
+
+loop-less : tie.Need-loop-less Inv-loop μ-loop
+loop-less c = omega arith
+
+loop-again : tie.Need-loop-again Inv-loop μ-loop
+loop-again c = lower-half _ _ (c .before .before .before .before .before .before .before .pre) _ _ _ (c .before .before .before .loop .inv) (omega arith) (omega arith) _ (c .before .high-edge .ensures) (c .if2 .taken)
+
+add-low : tie.Need-add-low Inv-loop μ-loop
+add-low c = omega arith
+
+loop-less-2 : tie.Need-loop-less-2 Inv-loop μ-loop
+loop-less-2 c = omega arith
+
+loop-again-2 : tie.Need-loop-again-2 Inv-loop μ-loop
+loop-again-2 c = upper-half _ _ (c .before .before .before .before .before .before .before .pre) _ _ _ (c .before .before .before .loop .inv) (omega arith) (omega arith) _ (c .before .high-edge .ensures) (c .if2 .left)
+
+owns-requires : tie.Need-owns-requires Inv-loop μ-loop
+owns-requires c κs = search needs
+
+returns-2 : tie.Need-returns-2 Inv-loop μ-loop
+returns-2 c = found _ _ (c .before .before .before .before .before .before .before .pre) _ _ (c .before .before .before .loop .inv) (c .before .before .loop-test .left) (sym (c .if3 .taken) ∙ c .before .owns .ensures)
+
+returns-3 : tie.Need-returns-3 Inv-loop μ-loop
+returns-3 c = nowhere _ _ (c .before .before .before .before .before .before .before .pre) _ _ (c .before .before .before .loop .inv) (c .before .before .loop-test .left) (sym (c .if3 .left) ∙ c .before .owns .ensures)
+
+pub first-spec : {M : Type 1} → statement M
+first-spec =
+    tie.close
+    (tie.spec
+    Inv-loop
+    μ-loop
+    returns
+    sub-high
+    loop-holds
+    sub-mid
+    add-mid
+    high-edge-requires
+    loop-less
+    loop-again
+    add-low
+    loop-less-2
+    loop-again-2
+    owns-requires
+    returns-2
+    returns-3)

@@ -1,0 +1,54 @@
+-- `own::first_cell` meets its contract: the owner is the cell of the first column and the first row. Assumes nothing.
+use Rattle.own.proofs.Owners.{asked, answered, no-column-owns, no-row-owns, both-own}
+use borrow.Author.Needs.{needs}
+use Rattle.own.proofs.first_cell.Statement.{statement}
+use Rattle.own.proofs.first_cell.Tie as tie
+
+x-axis-requires : tie.Need-x-axis-requires
+x-axis-requires c κs = search needs
+
+first-requires : tie.Need-first-requires
+first-requires c κs = asked _ _ _ (c .x-axis .ensures) (c .before .pre .0)
+
+enum-known-across : tie.Need-enum-known-across
+enum-known-across c = search needs
+
+enum-told : tie.Need-enum-told
+enum-told c = search needs
+
+returns : tie.Need-returns
+returns c = no-column-owns _ _ _ (answered _ _ _ _ _ (c .before .before .first .ensures) (c .before .before .before .x-axis .ensures) (c .enum-told .given .1))
+
+y-axis-requires : tie.Need-y-axis-requires
+y-axis-requires c κs = search needs
+
+first-requires-2 : tie.Need-first-requires-2
+first-requires-2 c κs = asked _ _ _ (c .y-axis .ensures) (c .before .before .before .before .before .before .pre .1)
+
+enum-known-along : tie.Need-enum-known-along
+enum-known-along c = search needs
+
+enum-told-2 : tie.Need-enum-told-2
+enum-told-2 c = search needs
+
+returns-2 : tie.Need-returns-2
+returns-2 c = no-row-owns _ _ _ (answered _ _ _ _ _ (c .before .before .first2 .ensures) (c .before .before .before .y-axis .ensures) (c .enum-told2 .given .1))
+
+returns-3 : tie.Need-returns-3
+returns-3 c = both-own _ _ _ _ _ (answered _ _ _ _ _ (c .before .before .before .before .before .before .before .before .first .ensures) (c .before .before .before .before .before .before .before .before .before .x-axis .ensures) (c .before .before .before .before .before .before .across .given .1)) (answered _ _ _ _ _ (c .before .before .before .first2 .ensures) (c .before .before .before .before .y-axis .ensures) (c .before .along .given .1))
+
+pub first-cell-spec : {M : Type 1} → statement M
+first-cell-spec =
+    tie.close
+    (tie.spec
+    x-axis-requires
+    first-requires
+    enum-known-across
+    enum-told
+    returns
+    y-axis-requires
+    first-requires-2
+    enum-known-along
+    enum-told-2
+    returns-2
+    returns-3)

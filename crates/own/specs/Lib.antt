@@ -1,0 +1,3 @@
+-- The definitions that the contracts of `own` cite.
+pub mod Own
+pub mod Owner

@@ -1,0 +1,53 @@
+-- Document 01, "Ownership and snapping", its first paragraph: the two ownership tests of a cell. The edges of an index on an axis are
+-- `lowOn` and `highOn`. Definitions only.
+use Prim.Native.Nat.{ℕ, suc}
+use mathlib.Core.Bool.{Bool, true, false, _&&_, _||_}
+use lib.Dec.{eqb}
+use lib.Ieee.{Float, lt, le, eq}
+use Rattle.grid.specs.declared.Grid.{Grid}
+use Rattle.grid.specs.declared.Axis.{Axis}
+use Rattle.grid.specs.Axes.{xAxis, yAxis, lowOn, highOn}
+use Rattle.grid.specs.Refusals.{andThen}
+use Rattle.grid.specs.Domain.{pointCheck, gridCheck, snapCheck, cellCheck}
+use Rattle.snap.specs.Answer.{unlessRefused}
+use Rattle.snap.specs.Snap.{snapOf}
+use Rattle.own.specs.declared.Owned.{Owned}
+use Rattle.own.specs.declared.Owned.the-variants.{Yes, No, Refused}
+
+-- ---- a point
+
+-- one axis: low <= p < high; in the last column or row p = high counts too
+unfoldable pub ownsOn : Axis → ℕ → Float → Bool
+ownsOn a i p = le (lowOn a i) p && (lt p (highOn a i) || (eqb (suc i) (a .count) && eq p (highOn a i)))
+
+-- both axes
+unfoldable pub ownsPoint : Grid → ℕ → ℕ → Float → Float → Bool
+ownsPoint g row col x y = ownsOn (xAxis g) col x && ownsOn (yAxis g) row y
+
+-- ---- a collinear overlap, by its first end, snapped
+
+-- one axis: low <= p < high, in the last column or row too
+unfoldable pub holdsOn : Axis → ℕ → Float → Bool
+holdsOn a i p = le (lowOn a i) p && lt p (highOn a i)
+
+-- both axes, or the cell is (0, 0)
+unfoldable pub ownsOverlap : Grid → ℕ → ℕ → Float → Float → Bool
+ownsOverlap g row col x y = (holdsOn (xAxis g) col x && holdsOn (yAxis g) row y) || (eqb row 0 && eqb col 0)
+
+-- ---- the answers
+
+abbrev pub owned : Bool → Owned
+owned true = Yes
+owned false = No
+
+-- after refusals 1, 8 and 9
+unfoldable pub pointAnswer : Grid → ℕ → ℕ → Float → Float → Owned
+pointAnswer g row col x y =
+    unlessRefused (andThen (pointCheck x y) (andThen (gridCheck g) (cellCheck g row col))) Refused
+    (owned (ownsPoint g row col x y))
+
+-- after refusals 1, 8, 12 and 9
+unfoldable pub overlapAnswer : Grid → ℕ → ℕ → Float → Float → Float → ℕ → Owned
+overlapAnswer g row col x y size strategy =
+    unlessRefused (andThen (pointCheck x y) (andThen (gridCheck g) (andThen (snapCheck size strategy) (cellCheck g row col)))) Refused
+    (owned (ownsOverlap g row col (snapOf size strategy x) (snapOf size strategy y)))

@@ -1,0 +1,218 @@
+-- The grids that a build tries are fit: the first one, and each that comes of halving the cell size where four times the cells are below 1,000,000.
+-- So no caller sees refusal 8 on a grid that a build returns. Assumes nothing.
+use mathlib.Core.Path.{_≡_, refl, sym, ap, _∙_, subst}
+use mathlib.Core.Bool.{Bool, true, false, _&&_}
+use Prim.Native.Nat.{ℕ, zero, suc, _+_, _-_, _*_, _^_, _≤_, _<_}
+use native.Mathlib.Nat.{le-trans, mul-le-mul, mul-le-mul-left, pow-succ'}
+use native.Mathlib.Numerals.{add-one}
+use native.Mathlib.Omega.{arith}
+use borrow.Author.Tests.{le-leb}
+use lib.Dec.{T, leb}
+use lib.ListN.{getD}
+use lib.IntN.{negsuc}
+use lib.Ieee.{Float, nan, fin, binary64, round, div, le}
+use lib.Ieee.Positive.{num, den}
+use Rattle.numbers.specs.Order.{magnitudeOf}
+use Rattle.numbers.specs.Ceiling.{ceilingOf}
+use Rattle.grid.specs.Domain.{Lines, count, coordinate, point, segment, lineFits, counts, shape, sizeFits, fit}
+use Rattle.grid.proofs.Bools.{and-left, and-right, and-both}
+use Rattle.grid.proofs.Shapes.{shape-cells}
+use Rattle.grid.proofs.Fine.{LinesFit}
+use Rattle.sizing.specs.declared.Extent.{Extent}
+use Rattle.sizing.specs.Bounds.{lowest, reach, whole, extentOf}
+use Rattle.sizing.specs.Size.{firstSize, halfOf}
+use Rattle.sizing.specs.Counts.{countOn, gridOf, emptyGrid}
+use Rattle.sizing.proofs.Constants.{quarter, quarter-is, 2e9, 2e9-is}
+use Rattle.sizing.proofs.Reach.{Lie, Spans, lowest-obeys, reach-spans}
+use Rattle.sizing.proofs.Plain.{nonneg-of-positive, cross→le}
+use Rattle.sizing.proofs.Width.{stretched}
+use Rattle.sizing.proofs.Halving.{Sized, half-sized}
+use Rattle.sizing.proofs.CountLaws.{count-exact, count-most, count-some, count-twice, half-across}
+use Rattle.sizing.proofs.SizeLaws.{SizedOn, first-sized}
+
+holds : (b : Bool) → T b → b ≡ true
+holds true t = refl
+holds false t = absurd t
+
+-- ---- the bounds of lines that pass the checks
+
+pub record Within (e : Extent) : Type 0 where
+  pub «min-x» : coordinate (e .«min_x») ≡ true
+  pub «min-y» : coordinate (e .«min_y») ≡ true
+  pub wide : Spans (e .width)
+  pub high : Spans (e .height)
+
+module _ (ls : Lines) (f : LinesFit ls) where
+  -- every slice has every line
+  pub whole-count : whole ls ≡ count ls
+  whole-count = let a = f .same in omega arith
+
+  line-parts : (i : ℕ) → i < count ls
+      → (point (getD (ls .«start_x») i nan) (getD (ls .«start_y») i nan) ≡ true) × (point (getD (ls .«end_x») i nan) (getD (ls .«end_y») i nan) ≡ true)
+  line-parts i l =
+      let s = point (getD (ls .«start_x») i nan) (getD (ls .«start_y») i nan) in
+      let t = point (getD (ls .«end_x») i nan) (getD (ls .«end_y») i nan) in
+      let h : (s && t) ≡ true = unfold lineFits segment in f .each i l in
+      (and-left s t h, and-right s t h)
+
+  -- on either axis
+  pub lie-x : Lie (ls .«start_x») (ls .«end_x») (count ls)
+  unfolding point
+  lie-x i l =
+      let p = line-parts i l in (
+        and-left (coordinate (getD (ls .«start_x») i nan)) (coordinate (getD (ls .«start_y») i nan)) (p .0),
+        and-left (coordinate (getD (ls .«end_x») i nan)) (coordinate (getD (ls .«end_y») i nan)) (p .1),
+      )
+
+  pub lie-y : Lie (ls .«start_y») (ls .«end_y») (count ls)
+  unfolding point
+  lie-y i l =
+      let p = line-parts i l in (
+        and-right (coordinate (getD (ls .«start_x») i nan)) (coordinate (getD (ls .«start_y») i nan)) (p .0),
+        and-right (coordinate (getD (ls .«end_x») i nan)) (coordinate (getD (ls .«end_y») i nan)) (p .1),
+      )
+
+  within-at : (n : ℕ) → whole ls ≡ suc n → count ls ≡ suc n → Within (extentOf ls)
+  unfolding extentOf
+  within-at n k c =
+      let x : Lie (ls .«start_x») (ls .«end_x») (suc n) = subst (λ (m : ℕ). Lie (ls .«start_x») (ls .«end_x») m) c lie-x in
+      let y : Lie (ls .«start_y») (ls .«end_y») (suc n) = subst (λ (m : ℕ). Lie (ls .«start_y») (ls .«end_y») m) c lie-y in
+      record {
+        «min-x» = subst (λ (m : ℕ). coordinate (lowest (ls .«start_x») (ls .«end_x») m) ≡ true) (sym k) (lowest-obeys (ls .«start_x») (ls .«end_x») n x);
+        «min-y» = subst (λ (m : ℕ). coordinate (lowest (ls .«start_y») (ls .«end_y») m) ≡ true) (sym k) (lowest-obeys (ls .«start_y») (ls .«end_y») n y);
+        wide = subst (λ (m : ℕ). Spans (reach (ls .«start_x») (ls .«end_x») m)) (sym k) (reach-spans (ls .«start_x») (ls .«end_x») n x);
+        high = subst (λ (m : ℕ). Spans (reach (ls .«start_y») (ls .«end_y») m)) (sym k) (reach-spans (ls .«start_y») (ls .«end_y») n y);
+      }
+
+  pub lines-within : 1 ≤ count ls → Within (extentOf ls)
+  lines-within N = let c : count ls ≡ suc (count ls - 1) = omega arith in within-at (count ls - 1) (whole-count ∙ c) c
+
+-- ---- the counts, and the grid
+
+counts-fit : (n : ℕ) → 1 ≤ n → n ≤ 4004 → counts n ≡ true
+counts-fit n a b = and-both (leb 1 n) (leb n 4004) (le-leb 1 n a) (le-leb n 4004 b)
+
+some : (n : ℕ) → 1 ≤ n → n ≡ 0 → ⊥
+some n a b = omega arith
+
+shape-fits : (cols rows : ℕ) → 1 ≤ cols → cols ≤ 4004 → 1 ≤ rows → rows ≤ 4004 → rows * cols ≤ 1002001 → shape cols rows ≡ true
+shape-fits cols rows a b c d e = sym (shape-cells cols rows (some cols a) (counts-fit cols a b) (counts-fit rows c d)) ∙ le-leb (rows * cols) 1002001 e
+
+size-fits : (j : ℕ) (s : Float) → Sized j s → j ≤ 4 → sizeFits s ≡ true
+unfolding sizeFits
+size-fits j s z few =
+    let s+ = nonneg-of-positive s (z .above) in
+    let a : 4722366482869645 * den s ≤ num s * 2 ^ 74 = le-trans (z .least) (mul-le-mul-left (num s) (mul-le-mul-left (2 ^ 72) few)) in
+    let b : num s * 1 ≤ 2000000000 * den s = let m = z .most in omega arith in
+    rw (quarter-is, 2e9-is) (and-both (le quarter s) (le s 2e9) (holds (le quarter s) (cross→le quarter s tt s+ a)) (holds (le s 2e9) (cross→le s 2e9 s+ tt b)))
+
+module _ (e : Extent) (w : Within e) (j : ℕ) (s : Float) (z : SizedOn e j s) (few : j ≤ 4) where
+  cols-most : countOn (e .width) s ≤ 1001 * j
+  cols-most = count-most (e .width) s j (z .wide) (z .sized) few
+
+  rows-most : countOn (e .height) s ≤ 1001 * j
+  rows-most = count-most (e .height) s j (z .high) (z .sized) few
+
+  cols-some : 1 ≤ countOn (e .width) s
+  cols-some = count-some (e .width) s j (z .wide) (z .sized) few
+
+  rows-some : 1 ≤ countOn (e .height) s
+  rows-some = count-some (e .height) s j (z .high) (z .sized) few
+
+  grid-fits : countOn (e .height) s * countOn (e .width) s ≤ 1002001 → fit (gridOf e s) ≡ true
+  unfolding fit gridOf point
+  grid-fits h =
+      and-both (coordinate (e .«min_x») && coordinate (e .«min_y»)) (sizeFits s && shape (countOn (e .width) s) (countOn (e .height) s))
+      (and-both (coordinate (e .«min_x»)) (coordinate (e .«min_y»)) (w .«min-x») (w .«min-y»))
+      (and-both (sizeFits s) (shape (countOn (e .width) s) (countOn (e .height) s)) (size-fits j s (z .sized) few)
+      (shape-fits (countOn (e .width) s) (countOn (e .height) s) cols-some (omega (arith, cols-most)) rows-some (omega (arith, rows-most)) h))
+
+-- ---- the grids that a build tries
+
+-- the cell size s, after k halvings: its grid is fit
+pub record Tried (e : Extent) (k : ℕ) (s : Float) : Type 0 where
+  pub few : k ≤ 2
+  pub sized : SizedOn e (2 ^ k) s
+  pub fits : fit (gridOf e s) ≡ true
+
+power-within : (k : ℕ) → k ≤ 2 → 2 ^ k ≤ 4
+power-within zero h = omega arith
+power-within (suc zero) h = omega arith
+power-within (suc (suc zero)) h = omega arith
+power-within (suc (suc (suc k))) h = absurd (omega arith)
+
+power-below : (k : ℕ) → k < 2 → 2 ^ k ≤ 2
+power-below zero h = omega arith
+power-below (suc zero) h = omega arith
+power-below (suc (suc k)) h = absurd (omega arith)
+
+-- the first one: 1,001 by 1,001 at most
+pub first-tried : (e : Extent) (n : ℕ) → Within e → 1 ≤ n → n ≤ 65536 → Tried e 0 (firstSize e n)
+first-tried e n w N most =
+    let s = firstSize e n in
+    let z = first-sized e n (w .wide) (w .high) N most in
+    record { few = omega arith; sized = z; fits = grid-fits e w 1 s z (omega arith) (mul-le-mul (rows-most e w 1 s z (omega arith)) (cols-most e w 1 s z (omega arith))) }
+
+-- each count at most doubles, so the cells are at most four times as many
+fourfold : (r c r' c' : ℕ) → r' ≤ 2 * r → c' ≤ 2 * c → r * c * 4 < 1000000 → r' * c' ≤ 1002001
+fourfold r c r' c' a b h = omega (arith, mul-le-mul a b)
+
+-- and after a halving
+pub again-tried : (e : Extent) (k : ℕ) (s : Float) → Within e → Tried e k s → k < 2 → gridOf e s .rows * gridOf e s .cols * 4 < 1000000 → Tried e (k + 1) (halfOf s)
+unfolding gridOf
+again-tried e k s w t l h =
+    let few : 2 ^ k ≤ 2 = power-below k l in
+    let z = t .sized in
+    let z' : SizedOn e (2 * 2 ^ k) (halfOf s) =
+    record { sized = half-sized (2 ^ k) s (z .sized) few; wide = half-across (e .width) s (2 ^ k) (z .wide) (z .sized) few; high = half-across (e .height) s (2 ^ k) (z .high) (z .sized) few } in
+    let p : 2 ^ (k + 1) ≡ 2 * 2 ^ k = ap (λ (m : ℕ). 2 ^ m) (add-one k) ∙ pow-succ' 2 k in
+    record {
+      few = omega arith;
+      sized = subst (λ (m : ℕ). SizedOn e m (halfOf s)) (sym p) z';
+      fits =
+          grid-fits e w (2 * 2 ^ k) (halfOf s) z' (omega arith)
+          (fourfold (countOn (e .height) s) (countOn (e .width) s) (countOn (e .height) (halfOf s)) (countOn (e .width) (halfOf s))
+          (count-twice (e .height) s (2 ^ k) (z .high) (z .sized) few) (count-twice (e .width) s (2 ^ k) (z .wide) (z .sized) few) h);
+    }
+
+-- ---- what the counts and the size of a tried grid are
+
+pub record Counted (e : Extent) (k : ℕ) (s : Float) : Type 0 where
+  -- 32 bits are enough: the counts are the ceilings
+  pub «cols-are» : gridOf e s .cols ≡ ceilingOf (div binary64 (stretched (e .width)) s)
+  pub «rows-are» : gridOf e s .rows ≡ ceilingOf (div binary64 (stretched (e .height)) s)
+  -- within 1,001, 2,002, 4,004
+  pub «cols-most» : gridOf e s .cols ≤ 1001 * 2 ^ k
+  pub «rows-most» : gridOf e s .rows ≤ 1001 * 2 ^ k
+
+pub tried-counted : (e : Extent) (k : ℕ) (s : Float) → Within e → Tried e k s → Counted e k s
+unfolding gridOf
+tried-counted e k s w t =
+    let few : 2 ^ k ≤ 4 = power-within k (t .few) in
+    let z = t .sized in
+    record {
+      «cols-are» = count-exact (e .width) s (2 ^ k) (z .wide) (z .sized) few;
+      «rows-are» = count-exact (e .height) s (2 ^ k) (z .high) (z .sized) few;
+      «cols-most» = cols-most e w (2 ^ k) s z few;
+      «rows-most» = rows-most e w (2 ^ k) s z few;
+    }
+
+-- the size is at least 1e-6, a half, a quarter of that, and at most 2e9
+least-size : (k : ℕ) (s : Float) → k ≤ 2 → Sized (2 ^ k) s → T (le (round binary64 false 1 (1000000 * 2 ^ k)) s)
+unfolding round
+least-size zero s h z = cross→le (fin false 4722366482869645 (negsuc 71)) s tt (nonneg-of-positive s (z .above)) (z .least)
+least-size (suc zero) s h z = cross→le (fin false 4722366482869645 (negsuc 72)) s tt (nonneg-of-positive s (z .above)) (z .least)
+least-size (suc (suc zero)) s h z = cross→le (fin false 4722366482869645 (negsuc 73)) s tt (nonneg-of-positive s (z .above)) (z .least)
+least-size (suc (suc (suc k))) s h z = absurd (omega arith)
+
+pub tried-size : (e : Extent) (k : ℕ) (s : Float) → Tried e k s → T (le (round binary64 false 1 (1000000 * 2 ^ k)) s) × T (le s (round binary64 false 2000000000 1))
+tried-size e k s t =
+    let z = t .sized .sized in
+    let b : num s * 1 ≤ 2000000000 * den s = let m = z .most in omega arith in
+    (least-size k s (t .few) z, rw 2e9-is (cross→le s 2e9 (nonneg-of-positive s (z .above)) tt b))
+
+-- ---- no lines
+
+pub empty-fits : fit emptyGrid ≡ true
+unfolding fit point coordinate magnitudeOf sizeFits shape emptyGrid round le
+empty-fits = refl

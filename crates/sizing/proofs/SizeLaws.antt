@@ -1,0 +1,247 @@
+-- The first cell size of lines that reach from 0 to 2e9 each way: from 1e-6 to 2e9, and at least a thousandth of the width and of the height.
+-- Assumes nothing.
+use mathlib.Core.Path.{_≡_, refl, sym, subst}
+use mathlib.Core.Bool.{Bool, true, false, cond}
+use Prim.Native.Nat.{ℕ, zero, suc, _*_, _^_, _≤_, _<_}
+use native.Mathlib.Nat.{le-trans, le-of-eq, mul-one, mul-pos, mul-le-mul, mul-le-mul-right}
+use native.Mathlib.Omega.{arith}
+use lib.Dec.{T, lit≤, lit<}
+use lib.IntN.{pos, negsuc}
+use lib.Pow.{pow-pos}
+use lib.Ieee.{Float, nan, inf, fin, binary64, up, down, unlike, fits, round, ofInt, mul, div, lt, le}
+use lib.Ieee.Exact.{HasValue}
+use lib.Ieee.Back.{round-whole}
+use lib.Ieee.Order.{round-mono, le-of-values}
+use lib.Ieee.Fits.{div-fits}
+use lib.Ieee.Scale.{finite}
+use lib.Ieee.Positive.{num, den, den-pos, positive, positive-of-value, between}
+use Rattle.numbers.specs.Order.{greatestOf}
+use Rattle.numbers.specs.Root.{root}
+use Rattle.numbers.specs.Nearer.{plain, above}
+use Rattle.numbers.proofs.Correct.{root-above}
+use Rattle.numbers.proofs.RootFacts.{root-order, root-square}
+use Rattle.numbers.proofs.FloatOrder.{number, float-le-trans, at-most, le-number}
+use Rattle.numbers.proofs.FloatSum.{below-zero, round-number}
+use Rattle.numbers.proofs.FloatQuotient.{div-mono}
+use Rattle.sizing.specs.declared.Extent.{Extent}
+use Rattle.sizing.specs.Size.{areaOf, firstSize}
+use Rattle.sizing.proofs.Constants.{nought, 1e-9, 1e-9-is, 1e-6, 1e-6-is, thousand, thousand-is, 2e9}
+use Rattle.sizing.proofs.Extremes.{greatest-one, greatest-over}
+use Rattle.sizing.proofs.Reach.{Spans}
+use Rattle.sizing.proofs.Plain.{own-value, nonneg-of-positive, le→cross, div-at, neg-zero-of}
+use Rattle.sizing.proofs.Width.{width-times}
+use Rattle.sizing.proofs.Halving.{Sized}
+use Rattle.sizing.proofs.CountLaws.{Across}
+
+-- ---- the square root of what is above 0 and at most 4e18 is at most 2e9
+
+abbrev 4e18 : Float
+4e18 = fin false 3814697265625 (pos 20)
+
+root-of-4e18 : root 4e18 ≡ 2e9
+root-of-4e18 = root-square 4e18 2e9 (unfold fits in tt) tt (unfold fits in tt) tt refl
+
+record Rooted (v : Float) : Type 0 where
+  above-zero : T (positive v)
+  most : T (le v 4e18)
+
+above-is : (v : Float) → T (positive v) → T (above v)
+above-is nan p = absurd p
+above-is (inf s) p = absurd p
+above-is (fin true m e) p = absurd p
+above-is (fin false zero e) p = absurd p
+above-is (fin false (suc m) e) p = tt
+
+plain-number : (v : Float) → T (plain v) → T (number v)
+plain-number nan p = absurd p
+plain-number (inf s) p = absurd p
+plain-number (fin s m e) p = tt
+
+record Target (r : Float) : Type 0 where
+  held : T (fits binary64 r)
+  real : T (number r)
+  most : T (le r 2e9)
+
+root-target : (v : Float) → T (fits binary64 v) → Rooted v → Target (root v)
+root-target v t h =
+    let a = above-is v (h .above-zero) in
+    let r = root-above v t a in
+    record { held = r .0; real = plain-number (root v) (r .1); most = subst (λ (z : Float). T (le (root v) z)) root-of-4e18 (root-order v 4e18 t a (unfold fits in tt) tt (h .most)) }
+
+-- ---- the area, or the number of lines in its stead: from 1e-9 to 4e18
+
+record Area (a : Float) : Type 0 where
+  least : T (le 1e-9 a)
+  most : T (le a 4e18)
+
+4e18-is : round binary64 false 4000000000000000000 1 ≡ 4e18
+unfolding round
+4e18-is = refl
+
+-- a width's size; that of -0 is 0
+span-size : (w : Float) → Spans w → num w ≤ 2000000000 * den w
+span-size nan p = absurd (p .fine)
+span-size (inf s) p = absurd (p .fine)
+span-size (fin false m e) p = le-trans (le-of-eq (sym (mul-one (m * up e)))) (le→cross (fin false m e) 2e9 tt tt (p .below))
+span-size (fin true m e) p = none m (up e) (down e) (neg-zero-of m e (p .above))
+  where
+    none : (m u d : ℕ) → m ≡ 0 → m * u ≤ 2000000000 * d
+    none m u d h = rw h (omega arith)
+
+product-small : (W H dw dh : ℕ) → W ≤ 2000000000 * dw → H ≤ 2000000000 * dh → W * H * 1 ≤ 4000000000000000000 * (dw * dh)
+product-small W H dw dh a b = omega (arith, mul-le-mul a b)
+
+-- a product of finite values is their exact product, rounded once, with some sign
+mul-is : (w h : Float) → T (finite w) → T (finite h) → (s : Bool) × (mul binary64 w h ≡ round binary64 s (num w * num h) (den w * den h))
+unfolding mul
+mul-is nan h p q = absurd p
+mul-is (inf s) h p q = absurd p
+mul-is (fin s m e) nan p q = absurd q
+mul-is (fin s m e) (inf t) p q = absurd q
+mul-is (fin s m e) (fin t n d) p q = (unlike s t, refl)
+
+product-area : (w h : Float) → Spans w → Spans h → lt (mul binary64 w h) 1e-9 ≡ false → Area (mul binary64 w h)
+product-area w h p q l = let f = mul-is w h (p .fine) (q .fine) in go (f .0) (f .1)
+  where
+    C+ : 0 < den w * den h
+    C+ = mul-pos (den-pos w) (den-pos h)
+
+    least-is : (s : Bool) → mul binary64 w h ≡ round binary64 s (num w * num h) (den w * den h) → T (le 1e-9 (mul binary64 w h))
+    least-is s e = at-most 1e-9 (mul binary64 w h) tt (rw e (round-number binary64 s (num w * num h) (den w * den h) C+)) l
+
+    go : (s : Bool) → mul binary64 w h ≡ round binary64 s (num w * num h) (den w * den h) → Area (mul binary64 w h)
+    go true e = absurd (unfold le in float-le-trans 1e-9 (mul binary64 w h) (fin true 0 (pos 0)) (least-is true e) (rw e (below-zero binary64 (num w * num h) (den w * den h) C+)))
+    go false e =
+        record {
+          least = least-is false e;
+          most =
+              rw e
+              (subst (λ (z : Float). T (le (round binary64 false (num w * num h) (den w * den h)) z)) 4e18-is
+              (round-mono binary64 (num w * num h) (den w * den h) 4000000000000000000 1 C+ (lit< tt) (product-small (num w) (num h) (den w) (den h) (span-size w p) (span-size h q))));
+        }
+
+-- n lines
+module _ (n : ℕ) (N : 1 ≤ n) (few : n ≤ 65536) where
+  lines-is : HasValue (ofInt binary64 (pos n)) false n 1
+  unfolding ofInt
+  lines-is = round-whole binary64 false n (le-trans few (lit≤ tt))
+
+  lines-area : Area (ofInt binary64 (pos n))
+  lines-area =
+      record {
+        least = le-of-values 1e-9 (ofInt binary64 (pos n)) 4835703278458517 (2 ^ 82) n 1 (pow-pos 82) (lit< tt) (refl, refl) lines-is (omega arith);
+        most = le-of-values (ofInt binary64 (pos n)) 4e18 n 1 4000000000000000000 1 (lit< tt) (lit< tt) lines-is (refl, refl) (omega arith);
+      }
+
+  area-is : (e : Extent) → Spans (e .width) → Spans (e .height) → Area (areaOf e n)
+  unfolding areaOf
+  area-is e p q = rw 1e-9-is (go (lt (mul binary64 (e .width) (e .height)) 1e-9) refl)
+    where
+      go : (b : Bool) → lt (mul binary64 (e .width) (e .height)) 1e-9 ≡ b → Area (cond b (ofInt binary64 (pos n)) (mul binary64 (e .width) (e .height)))
+      go true l = lines-area
+      go false l = product-area (e .width) (e .height) p q l
+
+  -- ---- a line's share of it: above 0, and at most 4e18
+
+  share-most : (A D : ℕ) → A * 1 ≤ 4000000000000000000 * D → A * 1 * 1 ≤ 4000000000000000000 * (n * D)
+  share-most A D h = let u : 1 * D ≤ n * D = mul-le-mul-right D N in omega arith
+
+  share-least : (A D : ℕ) → 4835703278458517 * D ≤ A * 2 ^ 82 → 1 * (n * D) ≤ A * 1 * 2 ^ 60
+  share-least A D h = let u : n * D ≤ 65536 * D = mul-le-mul-right D few in omega arith
+
+  tiny-is : round binary64 false 1 (2 ^ 60) ≡ fin false 1 (negsuc 59)
+  unfolding round
+  tiny-is = refl
+
+  share-rooted : (a : Float) → Area a → Rooted (div binary64 a (ofInt binary64 (pos n)))
+  share-rooted a h =
+      let lines = ofInt binary64 (pos n) in
+      let a+ : T (positive a) = between 1e-9 a 4e18 tt tt (h .least) (h .most) in
+      let a≥ = nonneg-of-positive a a+ in
+      let is : div binary64 a lines ≡ round binary64 false (num a * 1) (n * den a) = div-at binary64 a lines (num a) (den a) n 1 (positive-of-value lines n 1 lines-is N) (den-pos a) N (own-value a a≥) lines-is in
+      let C+ : 0 < n * den a = mul-pos N (den-pos a) in
+      let m : T (le (div binary64 a lines) 4e18) = rw is (subst (λ (z : Float). T (le (round binary64 false (num a * 1) (n * den a)) z)) 4e18-is (round-mono binary64 (num a * 1) (n * den a) 4000000000000000000 1 C+ (lit< tt) (share-most (num a) (den a) (le→cross a 4e18 a≥ tt (h .most))))) in
+      let l : T (le (fin false 1 (negsuc 59)) (div binary64 a lines)) = rw is (subst (λ (z : Float). T (le z (round binary64 false (num a * 1) (n * den a)))) tiny-is (round-mono binary64 1 (2 ^ 60) (num a * 1) (n * den a) (pow-pos 60) C+ (share-least (num a) (den a) (le→cross 1e-9 a tt a≥ (h .least))))) in
+      record { above-zero = between (fin false 1 (negsuc 59)) (div binary64 a lines) 4e18 tt tt l m; most = m }
+
+-- ---- the first size
+
+across-target : (m : Float) → Spans m → Target (div binary64 m thousand)
+across-target m p =
+    record {
+      held = div-fits binary64 m thousand;
+      real = le-number (div binary64 nought thousand) (div binary64 m thousand) (div-mono binary64 nought m thousand tt (p .fine) tt (p .above));
+      most = float-le-trans (div binary64 m thousand) (div binary64 2e9 thousand) 2e9 (div-mono binary64 m 2e9 thousand (p .fine) tt tt (p .below)) (unfold div le in tt);
+    }
+
+least-target : Target 1e-6
+least-target = record { held = unfold fits in tt; real = tt; most = unfold le in tt }
+
+span-number : (w : Float) → Spans w → T (number w)
+span-number w p = le-number nought w (p .above)
+
+module _ (e : Extent) (p : Spans (e .width)) (q : Spans (e .height)) (r : Float) (t : Target r) where
+  -- the larger of the width and the height, and the size of a thousand cells across it
+  abbrev larger : Float
+  larger = greatestOf (e .width) (e .height)
+
+  abbrev across : Float
+  across = div binary64 larger thousand
+
+  abbrev made : Float
+  made = greatestOf (greatestOf r across) 1e-6
+
+  larger-spans : Spans larger
+  larger-spans = greatest-one Spans (e .width) (e .height) p q
+
+  over-both : T (le (e .width) larger) × T (le (e .height) larger)
+  over-both = greatest-over (e .width) (e .height) (span-number (e .width) p) (span-number (e .height) q)
+
+  inner-target : Target (greatestOf r across)
+  inner-target = greatest-one Target r across t (across-target larger larger-spans)
+
+  made-target : Target made
+  made-target = greatest-one Target (greatestOf r across) 1e-6 inner-target least-target
+
+  over-inner : T (le (greatestOf r across) made) × T (le 1e-6 made)
+  over-inner = greatest-over (greatestOf r across) 1e-6 (inner-target .real) tt
+
+  over-across : T (le across made)
+  over-across = float-le-trans across (greatestOf r across) made (greatest-over r across (t .real) (across-target larger larger-spans .real) .1) (over-inner .0)
+
+  made-positive : T (positive made)
+  made-positive = between 1e-6 made 2e9 tt tt (over-inner .1) (made-target .most)
+
+  made-sized : Sized 1 made
+  made-sized =
+      record {
+        above = made-positive;
+        held = made-target .held;
+        least = le→cross 1e-6 made tt (nonneg-of-positive made made-positive) (over-inner .1);
+        most = le-trans (le-of-eq (sym (mul-one (num made)))) (le→cross made 2e9 (nonneg-of-positive made made-positive) tt (made-target .most));
+      }
+
+  made-across : (w : Float) → Spans w → T (le w larger) → Across w 1 made
+  made-across w s l =
+      record {
+        spans = s;
+        times = width-times w made s made-positive (float-le-trans (div binary64 w thousand) across made (div-mono binary64 w larger thousand (s .fine) (larger-spans .fine) tt l) over-across) (over-inner .1);
+      }
+
+-- a cell size on both axes, after halvings by j
+pub record SizedOn (e : Extent) (j : ℕ) (s : Float) : Type 0 where
+  pub sized : Sized j s
+  pub wide : Across (e .width) j s
+  pub high : Across (e .height) j s
+
+pub first-sized : (e : Extent) (n : ℕ) → Spans (e .width) → Spans (e .height) → 1 ≤ n → n ≤ 65536 → SizedOn e 1 (firstSize e n)
+unfolding firstSize
+first-sized e n p q N few =
+    let v = div binary64 (areaOf e n) (ofInt binary64 (pos n)) in
+    let t : Target (root v) = root-target v (div-fits binary64 (areaOf e n) (ofInt binary64 (pos n))) (share-rooted n N few (areaOf e n) (area-is n N few e p q)) in
+    rw (thousand-is, 1e-6-is)
+    (record {
+      sized = made-sized e p q (root v) t;
+      wide = made-across e p q (root v) t (e .width) p (over-both e p q (root v) t .0);
+      high = made-across e p q (root v) t (e .height) q (over-both e p q (root v) t .1);
+    })

@@ -1,0 +1,4 @@
+pub mod SignBit
+pub mod Answers
+pub mod Measured
+pub mod Snapping

@@ -1,0 +1,3 @@
+-- The definitions that the contracts of `snap` cite.
+pub mod Answer
+pub mod Snap

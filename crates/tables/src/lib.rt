@@ -1,0 +1,112 @@
+// Standing tables, and the check that they fit.
+use grid::Check;
+use grid::Grid;
+ghost use mathlib.Core.Path.{_≡_};
+ghost use Prim.Native.Nat.{_<_, _≤_};
+ghost use mathlib.Core.Bool.{_&&_};
+ghost use lib.ListN.{length, take};
+ghost use lib.Dec.{leb};
+ghost use Rattle.tables.specs.Tables.{tables};
+ghost use Rattle.tables.specs.Fit.{increases, listsFit, tablesFit, tablesCheck};
+
+fn wide(x: u32) -> usize
+    ensures { λ r. ⌜ r ≡ x ⌝ }
+{
+    x as usize
+}
+
+// A list strictly increases below the number of lines.
+pub fn is_increasing(lines: usize, list: &[u32]) -> bool
+    ensures { λ r. ⌜ r ≡ increases 0 lines (now (list .entry)) ⌝ }
+{
+    let mut next = 0;
+    let mut i = 0;
+    while i < list.len() {
+        let v = wide(list[i]);
+        if v < next {
+            return false;
+        }
+        if lines <= v {
+            return false;
+        }
+        next = v + 1;
+        i = i + 1;
+    }
+    true
+}
+
+// One pass over the offsets and the items between them.
+fn lists_fit(cells: usize, lines: usize, offsets: &[u32], items: &[u32]) -> bool
+    requires { ⌜ cells < length (now offsets) ⌝ }
+    ensures { λ r. ⌜ r ≡ listsFit cells lines (now (offsets .entry)) (now (items .entry)) ⌝ }
+{
+    if offsets[0] != 0 {
+        return false;
+    }
+    let mut cell = 0;
+    while cell < cells {
+        let from = wide(offsets[cell]);
+        let to = wide(offsets[cell + 1]);
+        if to < from {
+            return false;
+        }
+        if items.len() < to {
+            return false;
+        }
+        if is_increasing(lines, &items[from..to]) {
+            cell = cell + 1;
+        } else {
+            return false;
+        }
+    }
+    true
+}
+
+// The global lines strictly increase, and are within their slice.
+fn globals_fit(lines: usize, globals: &[u32], global_count: usize) -> bool
+    ensures { λ r. ⌜ r ≡ (increases 0 lines (take «global_count» (now (globals .entry))) && leb «global_count» (length (now (globals .entry)))) ⌝ }
+{
+    if globals.len() < global_count {
+        return false;
+    }
+    is_increasing(lines, &globals[..global_count])
+}
+
+// Tables that anybody hands in fit. The product of the two counts fits 64 bits.
+pub fn is_fit(
+    grid: Grid,
+    lines: usize,
+    offsets: &[u32],
+    items: &[u32],
+    globals: &[u32],
+    global_count: usize,
+) -> bool
+    ensures { λ r. ⌜ r ≡ tablesFit (tables grid lines (now (offsets .entry)) (now (items .entry)) (now (globals .entry)) «global_count») ⌝ }
+{
+    let cells = wide(grid.rows) * wide(grid.cols);
+    if offsets.len() <= cells {
+        return false;
+    }
+    if lists_fit(cells, lines, offsets, items) {
+        return globals_fit(lines, globals, global_count);
+    }
+    false
+}
+
+// Refusal 10, with value 0, exactly where the tables do not fit.
+pub fn check_tables(
+    grid: Grid,
+    lines: usize,
+    offsets: &[u32],
+    items: &[u32],
+    globals: &[u32],
+    global_count: usize,
+) -> Check
+    ensures { λ r. ⌜ r ≡ tablesCheck (tables grid lines (now (offsets .entry)) (now (items .entry)) (now (globals .entry)) «global_count») ⌝ }
+{
+    grid::checks::refuse_unless(
+        is_fit(grid, lines, offsets, items, globals, global_count),
+        10,
+        0,
+    )
+}

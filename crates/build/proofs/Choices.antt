@@ -42,7 +42,7 @@ module _ (g : Grid) (ls : Lines) (room n : ℕ) (e : n ≡ cells g) where
   unfolding triedCheck roomCheck unless andThen
   try-on l = let k : cells g + 1 ≤ room = omega arith in rw (le-leb (cells g + 1) room k)
 
-tried-turns : (g : Grid) (ls : Lines) (room : ℕ) → triedCheck g ls room ≡ Fine → turnsCheck g ls ≡ Fine
+pub tried-turns : (g : Grid) (ls : Lines) (room : ℕ) → triedCheck g ls room ≡ Fine → turnsCheck g ls ≡ Fine
 unfolding triedCheck
 tried-turns g ls room h = then-right (roomCheck g room) (turnsCheck g ls) h
 
@@ -71,12 +71,12 @@ module _ (e : Extent) (size : Float) (ls : Lines) (room : ℕ) {g : Grid} (is : 
   -- a refusal ends it, however many halvings are left
   pub refused-at : (left : ℕ) (r : Refusal) → GridTried g ls room (tried.Refused r) o → ChosenIs (choice.chosen left e size ls room) ls (chosen.Refused r) o
   unfolding choice.chosen unlessRefused
-  refused-at zero r h = let k : triedCheck (gridOf e size) ls room ≡ Refused r = rw is at h in rw k
-  refused-at (suc n) r h = let k : triedCheck (gridOf e size) ls room ≡ Refused r = rw is at h in rw k
+  refused-at zero r h = let k : triedCheck (gridOf e size) ls room ≡ Refused r = rw is at h in record { is = rw k }
+  refused-at (suc n) r h = let k : triedCheck (gridOf e size) ls room ≡ Refused r = rw is at h in record { is = rw k }
 
   module _ (counts : shape (g .cols) (g .rows) ≡ true) (k : ℕ) (h : GridTried g ls room (tried.Globals k) o) where
     on-grid : ChosenIs (settled (gridOf e size)) ls (chosen.On g k) o
-    on-grid = rw (← is) (refl, counts, tried-turns g ls room (h .0), h .1, h .2)
+    on-grid = record { is = rw (← is) (refl, counts, tried-turns g ls room (h .0), h .1, h .2) }
 
     tried-fine : triedCheck (gridOf e size) ls room ≡ Fine
     tried-fine = rw is at (h .0)

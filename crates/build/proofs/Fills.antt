@@ -86,7 +86,7 @@ module _ {g : Grid} {ls : Lines} {found : ℕ} {o t gs s : List ℕ} (a : FillAs
       pub fill-made : {o₂ o₃ t₂ gs₂ s₃ : List ℕ} {room : ℕ} → AllPlaced g ls o₂ t₂ (length gs) gs₂ → ShiftedBack o₂ o₃ n → s₃ ≡ replicate room 0
           → length o₃ ≡ length o → length t₂ ≡ length t → room ≡ length s → all ≤ length t → found ≤ length gs
           → BuildIs ls o t gs s (built.Tables (record { grid = g; items = all; globals = found })) o₃ t₂ gs₂ s₃ (endOn g (spaceCheck g ls (length t) (length gs)))
-      unfolding endOn answerOf leftOf listOn
+      unfolding endOn answerOf leftOf listOn total
       fill-made {o₂} {o₃} {t₂} p q z b d f l m =
           let w = all-walks g ls (a .walkable .counts) in
           let tab : Table (linesAt (localOn g ls) (count ls)) (cells g) o₃ t₂ =

@@ -7,3 +7,4 @@ pub mod Counts
 pub mod Choices
 pub mod Places
 pub mod Fills
+pub mod Entries

@@ -17,7 +17,8 @@ use Rattle.walk.specs.declared.Cells.{Cells}
 use Rattle.walk.specs.declared.Cells.the-variants as cells-are
 use Rattle.walk.specs.Pushes.{Outcome, refused, found}
 use Rattle.walk.specs.Segment as walk
-use Rattle.walk.proofs.Visits.{segment-visits, inner-is}
+use Rattle.walk.proofs.Visits.{segment-visits}
+use Rattle.walk.proofs.Answer.{inner-is}
 use Rattle.csr.specs.Tables.{long, local}
 use Rattle.csr.specs.States.{Walks, Line}
 use Rattle.csr.proofs.Lists.{local-walks, local-short}
@@ -54,7 +55,7 @@ module _ (g : Grid) (ls : Lines) (i : ℕ) where
   module _ {s : List ℕ} (w : Walkable g ls s) (r : Cells) {s′ : List ℕ} (h : walk.Walked (walk.innerOf (length s) g (getD (ls .«start_x») i nan) (getD (ls .«start_y») i nan) (getD (ls .«end_x») i nan) (getD (ls .«end_y») i nan)) s r s′) where
     inner : walk.Walked (walkOn g ls i) s r s′
     unfolding walkOn
-    inner = rw (inner-is (length s) g _ _ _ _ (w .space) (w .counts)) at h
+    inner = rw (inner-is g _ _ _ _ (length s) (w .space) (w .counts)) at h
 
     pub walk-found : (n : ℕ) → r ≡ cells-are.Found n → WalkedTo (walkOn g ls i) (walked.Cells n) s′
     unfolding cellsOn

@@ -80,11 +80,14 @@ GridTried g ls room (tried.Globals k) o = (triedCheck g ls room ≡ Fine) × (k 
 GridTried g ls room (tried.Refused r) o = triedCheck g ls room ≡ Refused r
 
 -- the grid that was chosen, its lines counted; or the refusal
-abbrev pub ChosenIs : Choice → Lines → Chosen → List ℕ → Type 0
-ChosenIs (settled g) ls (chosen.On h k) o = (h ≡ g) × (shape (g .cols) (g .rows) ≡ true) × (turnsCheck g ls ≡ Fine) × (k ≡ length (globalsOn g ls)) × CountedTo g ls (count ls) o
-ChosenIs (settled g) ls (chosen.Refused r) o = ⊥
-ChosenIs (refusedBy q) ls (chosen.On h k) o = ⊥
-ChosenIs (refusedBy q) ls (chosen.Refused r) o = r ≡ q
+abbrev pub ChosenAs : Choice → Lines → Chosen → List ℕ → Type 0
+ChosenAs (settled g) ls (chosen.On h k) o = (h ≡ g) × (shape (g .cols) (g .rows) ≡ true) × (turnsCheck g ls ≡ Fine) × (k ≡ length (globalsOn g ls)) × CountedTo g ls (count ls) o
+ChosenAs (settled g) ls (chosen.Refused r) o = ⊥
+ChosenAs (refusedBy q) ls (chosen.On h k) o = ⊥
+ChosenAs (refusedBy q) ls (chosen.Refused r) o = r ≡ q
+
+pub record ChosenIs (c : Choice) (ls : Lines) (r : Chosen) (o : List ℕ) : Type 0 where
+  pub is : ChosenAs c ls r o
 
 -- one grid tried, with so many halvings left: the choice from here, or that the choice goes on from the next halving
 abbrev pub AttemptIs : ℕ → Extent → Float → Lines → ℕ → Attempt → List ℕ → Type 0

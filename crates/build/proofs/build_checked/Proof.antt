@@ -1,80 +1,73 @@
+-- `build::build_checked` meets its contract. Assumes nothing.
+use mathlib.Core.Path.{sym, ap, _∙_}
+use Prim.Native.Nat.{ℕ}
+use lib.ListN.{replicate}
+use Rattle.build.proofs.Entries.{walkable-on, chosen-on, entry-stopped, entry-filled}
 use borrow.Author.Needs.{needs}
 use Rattle.build.proofs.build_checked.Statement.{statement}
 use Rattle.build.proofs.build_checked.Tie as tie
-use Rattle.build.proofs.build_checked.Reads as reads
-use Rattle.build.proofs.build_checked.Lts as lts
-use Rattle.build.proofs.choose_any.Reads as choose-any-reads
-use Rattle.build.proofs.fill.Reads as fill-reads
-use Rattle.build.proofs.stop.Reads as stop-reads
-use Rattle.slices.proofs.clear.Reads as clear-reads
 
--- src/lib.rt:514:5
 clear-requires : tie.Need-clear-requires
 clear-requires c κs = search needs
 
--- src/lib.rt:515:5
 clear-requires-2 : tie.Need-clear-requires-2
 clear-requires-2 c κs = search needs
 
--- src/lib.rt:516:9
 choose-any-requires : tie.Need-choose-any-requires
-choose-any-requires c κs = search needs
+choose-any-requires c κs = c .before .before .before .before .before .before .before .before .before .before .before .before .before .before .before .before .before .before .pre
 
--- src/lib.rt:518:25
 enum-known-chosen : tie.Need-enum-known-chosen
 enum-known-chosen c = search needs
 
--- src/lib.rt:518:31
 stop-requires : tie.Need-stop-requires
 stop-requires c κs = search needs
 
--- src/lib.rt:519:20
 enum-known-chosen-2 : tie.Need-enum-known-chosen-2
 enum-known-chosen-2 c = search needs
 
--- src/lib.rt:519:36
 fill-requires : tie.Need-fill-requires
-fill-requires c κs = ?
+fill-requires c κs =
+    let h = chosen-on (rw (c .before .before .before .before .before .chosen2 .given .1) at (c .before .before .before .before .before .before .before .before .before .before .before .choose-any .ensures)) in
+    record {
+      walkable = walkable-on (c .before .before .before .before .before .before .before .before .before .before .before .before .before .before .before .before .before .before .before .before .before .before .before .before .before .before .before .before .before .before .pre) _ (h .counts) (c .before .before .before .before .before .before .before .before .before .before .before .choose-any .kept .1 .1 .1 .1 .1 .0);
+      turns = h .turns;
+      count-is = h .found;
+      counted = h .counted;
+      items-clear = c .before .before .before .before .before .before .before .before .before .before .before .before .before .before .before .before .before .before .before .before .clear .ensures ∙ ap (λ (n : ℕ). replicate {A = ℕ} n 0) (sym (c .before .before .before .before .before .before .before .before .before .before .before .before .before .before .before .before .before .before .before .before .clear .kept .0));
+      globals-clear = c .before .before .before .before .before .before .before .before .before .before .before .before .before .before .before .before .clear2 .ensures ∙ ap (λ (n : ℕ). replicate {A = ℕ} n 0) (sym (c .before .before .before .before .before .before .before .before .before .before .before .before .before .before .before .before .clear2 .kept .0));
+    }
 
--- src/lib.rt:501:1
 same-length : tie.Need-same-length
 same-length c = search needs
 
--- src/lib.rt:501:1
 same-length-2 : tie.Need-same-length-2
 same-length-2 c = search needs
 
--- src/lib.rt:501:1
 same-length-3 : tie.Need-same-length-3
 same-length-3 c = search needs
 
--- src/lib.rt:501:1
 same-length-4 : tie.Need-same-length-4
 same-length-4 c = search needs
 
--- src/lib.rt:501:1
 returns : tie.Need-returns
-returns c = ?
+returns c = entry-stopped _ _ (rw (c .before .before .before .before .before .before .before .before .chosen .given .1) at (c .before .before .before .before .before .before .before .before .before .before .before .before .before .before .choose-any .ensures)) (c .before .before .before .before .stop .ensures) (c .before .before .before .before .before .before .before .before .before .before .before .before .before .before .choose-any .kept .1 .1 .1 .1 .0) (c .before .before .before .before .before .before .before .before .before .before .before .before .before .before .choose-any .kept .1 .1 .1 .1 .1 .0) (c .before .before .before .before .before .before .before .before .before .before .before .before .before .before .before .before .before .before .before .before .before .before .before .clear .ensures) (c .before .before .before .before .before .before .before .before .before .before .before .before .before .before .before .before .before .before .before .clear2 .ensures)
 
--- src/lib.rt:501:1
 same-length-5 : tie.Need-same-length-5
 same-length-5 c = search needs
 
--- src/lib.rt:501:1
 same-length-6 : tie.Need-same-length-6
-same-length-6 c = ?
+same-length-6 c = c .before .before .before .before .before .before .before .before .fill .kept .1 .1 .1 .1 .1 .1 .1 .0 ∙ c .before .before .before .before .before .before .before .before .before .before .before .before .before .before .before .before .before .before .before .before .before .before .before .before .before .before .before .before .before .clear .kept .0
 
--- src/lib.rt:501:1
 same-length-7 : tie.Need-same-length-7
 same-length-7 c = search needs
 
--- src/lib.rt:501:1
 same-length-8 : tie.Need-same-length-8
 same-length-8 c = search needs
 
--- src/lib.rt:501:1
 returns-2 : tie.Need-returns-2
-returns-2 c = ?
+returns-2 c =
+    let h = chosen-on (rw (c .before .before .before .before .before .before .before .before .before .before .before .before .before .before .chosen2 .given .1) at (c .before .before .before .before .before .before .before .before .before .before .before .before .before .before .before .before .before .before .before .before .choose-any .ensures)) in
+    entry-filled (h .is) (c .before .before .before .before .before .before .before .before .fill .ensures) (c .before .before .before .before .before .before .before .before .before .before .before .before .before .before .before .before .before .before .before .before .choose-any .kept .1 .1 .1 .1 .0) (c .before .before .before .before .before .before .before .before .before .before .before .before .before .before .before .before .before .before .before .before .before .before .before .before .before .before .before .before .before .clear .kept .0) (c .before .before .before .before .before .before .before .before .before .before .before .before .before .before .before .before .before .before .before .before .before .before .before .before .before .clear2 .kept .0) (c .before .before .before .before .before .before .before .before .before .before .before .before .before .before .before .before .before .before .before .before .choose-any .kept .1 .1 .1 .1 .1 .0)
 
 pub build-checked-spec : {M : Type 1} → statement M
 build-checked-spec =

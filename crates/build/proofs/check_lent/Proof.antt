@@ -1,33 +1,27 @@
+-- `build::check_lent` meets its contract. Assumes nothing.
+use mathlib.Core.Path.{sym, _∙_}
+use Rattle.build.proofs.Entries.{first-refuses, first-passes}
 use borrow.Author.Needs.{needs}
 use Rattle.build.proofs.check_lent.Statement.{statement}
 use Rattle.build.proofs.check_lent.Tie as tie
-use Rattle.build.proofs.check_lent.Reads as reads
-use Rattle.build.proofs.check_lent.Lts as lts
-use Rattle.grid.proofs.checks.check_lines.Reads as check-lines-reads
-use Rattle.grid.proofs.checks.check_scratch.Reads as check-scratch-reads
 
--- src/lib.rt:544:9
 check-scratch-requires : tie.Need-check-scratch-requires
 check-scratch-requires c κs = search needs
 
--- src/lib.rt:545:27
 enum-known-room : tie.Need-enum-known-room
 enum-known-room c = search needs
 
--- src/lib.rt:546:9
 returns : tie.Need-returns
-returns c = ?
+returns c = first-refuses _ _ _ (sym (c .before .before .before .check-scratch .ensures) ∙ c .before .room .given .1)
 
 enum-told : tie.Need-enum-told
 enum-told c = search needs
 
--- src/lib.rt:548:5
 check-lines-requires : tie.Need-check-lines-requires
 check-lines-requires c κs = search needs
 
--- src/lib.rt:535:1
 returns-2 : tie.Need-returns-2
-returns-2 c = ?
+returns-2 c = c .check-lines .ensures ∙ first-passes _ _ (sym (c .before .before .before .check-scratch .ensures) ∙ c .before .enum-told .given .1)
 
 pub check-lent-spec : {M : Type 1} → statement M
 check-lent-spec =

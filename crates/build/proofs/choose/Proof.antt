@@ -1,17 +1,11 @@
+-- `build::choose` meets its contract. Assumes nothing.
 use mathlib.Core.Path.{_∙_}
 use native.Mathlib.Omega.{arith}
 use borrow.Author.Needs.{needs}
-use lib.ListN.{length}
 use Rattle.grid.specs.Domain.{lines}
 use Rattle.build.proofs.Choices.{Choosing, choosing-first, choosing-walkable, choosing-next, choosing-done}
 use Rattle.build.proofs.choose.Statement.{statement}
 use Rattle.build.proofs.choose.Tie as tie
-use Rattle.build.proofs.choose.Reads as reads
-use Rattle.build.proofs.choose.Lts as lts
-use Rattle.build.proofs.attempt_size.Reads as attempt-size-reads
-use Rattle.sizing.proofs.first_size.Reads as first-size-reads
-use Rattle.sizing.proofs.half_of.Reads as half-of-reads
-use Rattle.sizing.proofs.serial_bounds.Reads as serial-bounds-reads
 
 abbrev Inv-loop : tie.InvT-loop
 Inv-loop start-x start-y end-x end-y offsets₀ scratch₀ extent size₀ left₀ offsets scratch size left =
@@ -21,54 +15,42 @@ abbrev μ-loop : tie.MeasureT-loop
 μ-loop start-x start-y end-x end-y offsets₀ scratch₀ extent size₀ left₀ offsets scratch size left =
     left
 
--- src/lib.rt:315:9
 serial-bounds-requires : tie.Need-serial-bounds-requires Inv-loop μ-loop
 serial-bounds-requires c κs = search needs
 
--- src/lib.rt:316:9
 first-size-requires : tie.Need-first-size-requires Inv-loop μ-loop
 first-size-requires c κs = search needs
 
--- src/lib.rt:318:5
 loop-holds : tie.Need-loop-holds Inv-loop μ-loop
 loop-holds c = choosing-first (c .before .before .before .before .before .before .before .before .pre) (c .before .serial-bounds .ensures) (c .first-size .ensures)
 
--- src/lib.rt:319:13
 attempt-size-requires : tie.Need-attempt-size-requires Inv-loop μ-loop
 attempt-size-requires c κs = choosing-walkable (c .before .before .loop .inv)
 
--- src/lib.rt:330:33
 enum-known-tried : tie.Need-enum-known-tried Inv-loop μ-loop
 enum-known-tried c = search needs
 
--- src/lib.rt:331:13
 same-length : tie.Need-same-length Inv-loop μ-loop
 same-length c = c .before .before .before .before .before .before .before .attempt-size .kept .1 .1 .1 .1 .1 .1 .1 .0 ∙ c .before .before .before .before .before .before .before .before .before .before .loop .inv .len
 
--- src/lib.rt:331:13
 same-length-2 : tie.Need-same-length-2 Inv-loop μ-loop
 same-length-2 c = c .before .before .before .before .before .before .before .attempt-size .kept .1 .1 .1 .1 .1 .1 .1 .1 .0 ∙ c .before .before .before .before .before .before .before .before .before .before .loop .inv .len-scratch
 
--- src/lib.rt:331:13
 returns : tie.Need-returns Inv-loop μ-loop
 returns c = choosing-done (c .before .before .before .before .before .before .before .before .before .before .loop .inv) _ _ (rw (c .before .tried .given .1) at (c .before .before .before .before .before .before .before .attempt-size .ensures))
 
 enum-told : tie.Need-enum-told Inv-loop μ-loop
 enum-told c = search needs
 
--- src/lib.rt:333:9
 half-of-requires : tie.Need-half-of-requires Inv-loop μ-loop
 half-of-requires c κs = search needs
 
--- src/lib.rt:334:9
 sub-left : tie.Need-sub-left Inv-loop μ-loop
 sub-left c = let h = rw (c .before .enum-told .given .1) at (c .before .before .before .before .before .before .before .attempt-size .ensures) in omega (arith, h .0)
 
--- src/lib.rt:318:5
 loop-less : tie.Need-loop-less Inv-loop μ-loop
 loop-less c = let h = rw (c .before .enum-told .given .1) at (c .before .before .before .before .before .before .before .attempt-size .ensures) in omega (arith, h .0)
 
--- src/lib.rt:318:5
 loop-again : tie.Need-loop-again Inv-loop μ-loop
 loop-again c = choosing-next (c .before .before .before .before .before .before .before .before .before .before .loop .inv) (rw (c .before .enum-told .given .1) at (c .before .before .before .before .before .before .before .attempt-size .ensures)) (c .half-of .ensures) (c .before .before .before .before .before .before .before .attempt-size .kept .1 .1 .1 .1 .1 .1 .1 .0) (c .before .before .before .before .before .before .before .attempt-size .kept .1 .1 .1 .1 .1 .1 .1 .1 .0)
 

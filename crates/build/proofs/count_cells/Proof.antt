@@ -1,5 +1,6 @@
+-- `build::count_cells` meets its contract. Assumes nothing.
 use borrow.Author.Needs.{needs}
-use mathlib.Core.Path.{sym, _∙_}
+use mathlib.Core.Path.{_∙_}
 use Prim.Native.Nat.{_-_}
 use native.Mathlib.Omega.{arith}
 use lib.ListN.{length}
@@ -7,9 +8,6 @@ use Rattle.grid.specs.Domain.{lines}
 use Rattle.build.proofs.Counts.{CountingAll, counting-all, counting-next, counting-over, counting-end, counting-most}
 use Rattle.build.proofs.count_cells.Statement.{statement}
 use Rattle.build.proofs.count_cells.Tie as tie
-use Rattle.build.proofs.count_cells.Reads as reads
-use Rattle.build.proofs.count_cells.Lts as lts
-use Rattle.build.proofs.count_line.Reads as count-line-reads
 
 abbrev Inv-loop : tie.InvT-loop
 Inv-loop start-x start-y end-x end-y grid offsets₀ scratch₀ globals₀ i₀ offsets scratch globals i =
@@ -18,63 +16,49 @@ Inv-loop start-x start-y end-x end-y grid offsets₀ scratch₀ globals₀ i₀ 
 abbrev μ-loop : tie.MeasureT-loop
 μ-loop start-x start-y end-x end-y grid offsets₀ scratch₀ globals₀ i₀ offsets scratch globals i = length start-x - i
 
--- src/lib.rt:134:5
 loop-holds : tie.Need-loop-holds Inv-loop μ-loop
 loop-holds c = counting-all (c .before .before .before .before .before .before .pre .0) (c .before .before .before .before .before .before .pre .1)
 
--- src/lib.rt:135:35
 count-line-requires : tie.Need-count-line-requires Inv-loop μ-loop
 count-line-requires c κs = let h = c .before .before .before .loop .inv in (c .before .before .loop-test .taken, (h .walkable, h .counted))
 
--- src/lib.rt:135:27
 enum-known-more : tie.Need-enum-known-more Inv-loop μ-loop
 enum-known-more c = search needs
 
--- src/lib.rt:145:13
 enum-told : tie.Need-enum-told Inv-loop μ-loop
 enum-told c = search needs
 
--- src/lib.rt:145:13
 same-length : tie.Need-same-length Inv-loop μ-loop
 same-length c = c .before .before .before .before .before .before .count-line .kept .1 .1 .1 .1 .1 .1 .0 ∙ c .before .before .before .before .before .before .before .before .before .before .loop .inv .len
 
--- src/lib.rt:145:13
 same-length-2 : tie.Need-same-length-2 Inv-loop μ-loop
 same-length-2 c = c .before .before .before .before .before .before .count-line .kept .1 .1 .1 .1 .1 .1 .1 .0 ∙ c .before .before .before .before .before .before .before .before .before .before .loop .inv .len-scratch
 
--- src/lib.rt:145:13
 returns : tie.Need-returns Inv-loop μ-loop
 returns c = counting-over (c .before .before .before .before .before .before .before .before .before .before .loop .inv) (c .before .before .before .before .before .before .before .before .before .loop-test .taken) (rw (c .enum-told .given .1) at (c .before .before .before .before .before .before .count-line .ensures))
 
--- src/lib.rt:147:9
 add-globals : tie.Need-add-globals Inv-loop μ-loop
 add-globals c =
     let e = rw (c .before .more .given .1) at (c .before .before .before .before .before .before .before .count-line .ensures) in
     counting-most (c .before .before .before .before .before .before .before .before .before .before .before .loop .inv) (c .before .before .before .before .before .before .before .before .before .before .loop-test .taken) (e .1)
 
--- src/lib.rt:148:9
 add-i : tie.Need-add-i Inv-loop μ-loop
 add-i c = omega arith
 
--- src/lib.rt:134:5
 loop-less : tie.Need-loop-less Inv-loop μ-loop
 loop-less c = let l = c .before .before .before .before .before .before .before .before .before .before .loop-test .taken in omega arith
 
--- src/lib.rt:134:5
 loop-again : tie.Need-loop-again Inv-loop μ-loop
 loop-again c =
     let e = rw (c .before .more .given .1) at (c .before .before .before .before .before .before .before .count-line .ensures) in
     counting-next (c .before .before .before .before .before .before .before .before .before .before .before .loop .inv) (c .before .before .before .before .before .before .before .before .before .before .loop-test .taken) (e .0) (e .1) (e .2) (c .before .before .before .before .before .before .before .count-line .kept .1 .1 .1 .1 .1 .1 .0) (c .before .before .before .before .before .before .before .count-line .kept .1 .1 .1 .1 .1 .1 .1 .0)
 
--- src/lib.rt:120:1
 same-length-3 : tie.Need-same-length-3 Inv-loop μ-loop
 same-length-3 c = c .before .loop .inv .len
 
--- src/lib.rt:120:1
 same-length-4 : tie.Need-same-length-4 Inv-loop μ-loop
 same-length-4 c = c .before .loop .inv .len-scratch
 
--- src/lib.rt:120:1
 returns-2 : tie.Need-returns-2 Inv-loop μ-loop
 returns-2 c = counting-end (c .before .loop .inv) (c .loop-test .left)
 

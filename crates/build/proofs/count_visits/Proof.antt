@@ -1,12 +1,9 @@
-use mathlib.Core.Path.{_≡_, refl, sym, ap, _∙_}
-use Prim.Native.Nat.{ℕ, _+_, _-_, _≤_, _<_}
+-- `build::count_visits` meets its contract. Assumes nothing.
+use Prim.Native.Nat.{_-_}
 use native.Mathlib.Omega.{arith}
-use lib.ListN.{length, getD, length-set}
 use Rattle.build.proofs.Visits.{Counting, counting-none, counting-read, counting-cell, counting-fits, counting-more, counting-done}
 use Rattle.build.proofs.count_visits.Statement.{statement}
 use Rattle.build.proofs.count_visits.Tie as tie
-use Rattle.build.proofs.count_visits.Reads as reads
-use Rattle.build.proofs.count_visits.Lts as lts
 
 abbrev Inv-loop : tie.InvT-loop
 Inv-loop scratch n offsets₀ j₀ offsets j = Counting scratch n offsets₀ offsets j
@@ -14,55 +11,42 @@ Inv-loop scratch n offsets₀ j₀ offsets j = Counting scratch n offsets₀ off
 abbrev μ-loop : tie.MeasureT-loop
 μ-loop scratch n offsets₀ j₀ offsets j = n - j
 
--- src/lib.rt:89:5
 loop-holds : tie.Need-loop-holds Inv-loop μ-loop
 loop-holds c = counting-none (c .pre)
 
--- src/lib.rt:90:17
 mul-c : tie.Need-mul-c Inv-loop μ-loop
 mul-c c = let h = counting-read (c .before .loop .inv) (c .before .loop .inv .at) (c .loop-test .taken) in omega arith
 
--- src/lib.rt:90:17
 shared-slice-read-c : tie.Need-shared-slice-read-c Inv-loop μ-loop
 shared-slice-read-c c = counting-read (c .before .before .loop .inv) (c .before .before .loop .inv .at) (c .before .loop-test .taken)
 
--- src/lib.rt:90:17
 cast-c : tie.Need-cast-c Inv-loop μ-loop
 cast-c c = let h = counting-cell (c .before .before .loop .inv) (c .before .loop-test .taken) in omega arith
 
--- src/lib.rt:91:9
 mul-offsets : tie.Need-mul-offsets Inv-loop μ-loop
 mul-offsets c = let h = counting-cell (c .before .before .loop .inv) (c .before .loop-test .taken) in let l = c .before .before .loop .inv .len in omega arith
 
--- src/lib.rt:91:9
 slice-read-offsets : tie.Need-slice-read-offsets Inv-loop μ-loop
 slice-read-offsets c = counting-cell (c .before .before .before .loop .inv) (c .before .before .loop-test .taken)
 
--- src/lib.rt:91:9
 add-offsets : tie.Need-add-offsets Inv-loop μ-loop
 add-offsets c = record { fits = counting-fits (c .before .before .before .loop .inv) (c .before .before .loop-test .taken) }
 
--- src/lib.rt:91:9
 slice-write-offsets : tie.Need-slice-write-offsets Inv-loop μ-loop
 slice-write-offsets c = counting-cell (c .before .before .before .loop .inv) (c .before .before .loop-test .taken)
 
--- src/lib.rt:92:9
 add-j : tie.Need-add-j Inv-loop μ-loop
 add-j c = omega arith
 
--- src/lib.rt:89:5
 loop-less : tie.Need-loop-less Inv-loop μ-loop
 loop-less c = omega arith
 
--- src/lib.rt:89:5
 loop-again : tie.Need-loop-again Inv-loop μ-loop
 loop-again c = counting-more (c .before .before .before .loop .inv) (c .before .before .loop-test .taken)
 
--- src/lib.rt:84:1
 same-length : tie.Need-same-length Inv-loop μ-loop
 same-length c = c .before .loop .inv .len
 
--- src/lib.rt:84:1
 returns : tie.Need-returns Inv-loop μ-loop
 returns c = counting-done (c .before .loop .inv) (c .loop-test .left)
 

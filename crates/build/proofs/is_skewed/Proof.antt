@@ -1,14 +1,13 @@
-use mathlib.Core.Path.{_≡_, refl, sym, ap, _∙_}
-use Prim.Native.Nat.{ℕ, _+_, _-_, _≤_, _<_}
+-- `build::is_skewed` meets its contract. Assumes nothing.
+use mathlib.Core.Path.{_≡_, sym}
+use Prim.Native.Nat.{_-_, _≤_}
 use native.Mathlib.Omega.{arith}
-use lib.ListN.{length, getD, length-set}
+use lib.ListN.{length, getD}
 use mathlib.Core.Bool.{false}
 use Rattle.build.specs.Choice.{skewed}
 use Rattle.build.proofs.Sums.{skewed-none, skewed-more, skewed-at}
 use Rattle.build.proofs.is_skewed.Statement.{statement}
 use Rattle.build.proofs.is_skewed.Tie as tie
-use Rattle.build.proofs.is_skewed.Reads as reads
-use Rattle.build.proofs.is_skewed.Lts as lts
 
 abbrev Inv-loop : tie.InvT-loop
 Inv-loop offsets cells c₀ c = (c ≤ cells) × (cells ≤ length offsets) × (skewed (λ c. getD offsets c 0) c ≡ false)
@@ -16,35 +15,27 @@ Inv-loop offsets cells c₀ c = (c ≤ cells) × (cells ≤ length offsets) × (
 abbrev μ-loop : tie.MeasureT-loop
 μ-loop offsets cells c₀ c = cells - c
 
--- src/lib.rt:199:5
 loop-holds : tie.Need-loop-holds Inv-loop μ-loop
 loop-holds c = (omega arith, c .pre, skewed-none _)
 
--- src/lib.rt:200:18
 mul-if1 : tie.Need-mul-if1 Inv-loop μ-loop
 mul-if1 c = omega arith
 
--- src/lib.rt:200:18
 shared-slice-read-if1 : tie.Need-shared-slice-read-if1 Inv-loop μ-loop
 shared-slice-read-if1 c = omega arith
 
--- src/lib.rt:201:13
 returns : tie.Need-returns Inv-loop μ-loop
 returns c = sym (skewed-at _ _ _ (c .before .before .loop-test .taken) (c .if1 .taken))
 
--- src/lib.rt:203:9
 add-c : tie.Need-add-c Inv-loop μ-loop
 add-c c = omega arith
 
--- src/lib.rt:199:5
 loop-less : tie.Need-loop-less Inv-loop μ-loop
 loop-less c = omega arith
 
--- src/lib.rt:199:5
 loop-again : tie.Need-loop-again Inv-loop μ-loop
 loop-again c = (omega arith, c .before .before .before .loop .inv .1, skewed-more _ _ (c .before .before .before .loop .inv .2) (c .if1 .left))
 
--- src/lib.rt:194:1
 returns-2 : tie.Need-returns-2 Inv-loop μ-loop
 returns-2 c = let e : c .before .loop .c ≡ c .before .before .args .cells = omega arith in sym (rw e at (c .before .loop .inv .2))
 

@@ -1,63 +1,48 @@
+-- `build::place_line` meets its contract. Assumes nothing.
 use Rattle.build.proofs.Walks.{over-says, cells-say, is-long, is-short}
 use Rattle.build.proofs.Lines.{place-global, can-place, place-next}
 use Rattle.build.proofs.Places.{never}
 use borrow.Author.Needs.{needs}
 use Rattle.build.proofs.place_line.Statement.{statement}
 use Rattle.build.proofs.place_line.Tie as tie
-use Rattle.build.proofs.place_line.Reads as reads
-use Rattle.build.proofs.place_line.Lts as lts
-use Rattle.build.proofs.place_visits.Reads as place-visits-reads
-use Rattle.build.proofs.walk_line.Reads as walk-line-reads
 
--- src/lib.rt:353:28
 walk-line-requires : tie.Need-walk-line-requires
 walk-line-requires c κs = search needs
 
--- src/lib.rt:353:23
 enum-known-n : tie.Need-enum-known-n
 enum-known-n c = search needs
 
--- src/lib.rt:354:9
 enum-told : tie.Need-enum-told
 enum-told c = search needs
 
--- src/lib.rt:354:9
 same-length : tie.Need-same-length
 same-length c = search needs
 
--- src/lib.rt:354:9
 returns : tie.Need-returns
 returns c = absurd (never _ (c .before .before .before .before .before .before .before .before .before .before .before .before .before .pre .1 .1 .0) (over-says _ _ _ _ (rw (c .enum-told .given .1) at (c .before .before .before .before .walk-line .ensures))))
 
--- src/lib.rt:357:9
 same-length-2 : tie.Need-same-length-2
 same-length-2 c = search needs
 
--- src/lib.rt:357:9
 returns-2 : tie.Need-returns-2
 returns-2 c =
     let k = cells-say _ _ _ _ _ (rw (c .before .before .n .given .1) at (c .before .before .before .before .before .before .walk-line .ensures)) in
     record { kind = rw (is-long _ _ _ k (c .if1 .taken)); next = place-global (is-long _ _ _ k (c .if1 .taken)) (c .before .before .before .before .before .before .before .before .before .before .before .before .before .before .before .pre .1 .1 .1) }
 
--- src/lib.rt:359:5
 place-visits-requires : tie.Need-place-visits-requires
 place-visits-requires c κs =
     let k = cells-say _ _ _ _ _ (rw (c .before .before .before .before .before .n .given .1) at (c .before .before .before .before .before .before .before .before .before .walk-line .ensures)) in
     can-place (c .before .before .before .before .before .before .before .before .before .before .before .before .before .before .before .before .before .before .pre .1 .0) (c .before .before .before .before .before .before .before .before .before .before .before .before .before .before .before .before .before .before .pre .0) k (c .before .before .before .if1 .left) (c .before .before .before .before .before .before .before .before .before .before .before .before .before .before .before .before .before .before .pre .1 .1 .1)
 
--- src/lib.rt:339:1
 same-length-3 : tie.Need-same-length-3
 same-length-3 c = search needs
 
--- src/lib.rt:339:1
 same-length-4 : tie.Need-same-length-4
 same-length-4 c = search needs
 
--- src/lib.rt:339:1
 same-length-5 : tie.Need-same-length-5
 same-length-5 c = search needs
 
--- src/lib.rt:339:1
 returns-3 : tie.Need-returns-3
 returns-3 c =
     let k = cells-say _ _ _ _ _ (rw (c .before .before .before .before .before .before .before .before .before .before .n .given .1) at (c .before .before .before .before .before .before .before .before .before .before .before .before .before .before .walk-line .ensures)) in

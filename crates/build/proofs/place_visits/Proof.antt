@@ -1,13 +1,11 @@
+-- `build::place_visits` meets its contract. Assumes nothing.
 use native.Mathlib.Nat.{lt-trans}
-use mathlib.Core.Path.{_≡_, refl, sym, ap, _∙_}
-use Prim.Native.Nat.{ℕ, _+_, _-_, _≤_, _<_}
+use mathlib.Core.Path.{refl}
+use Prim.Native.Nat.{_-_}
 use native.Mathlib.Omega.{arith}
-use lib.ListN.{length, getD, length-set}
 use Rattle.build.proofs.Visits.{Placing, placing-none, placing-read, placing-cell, placing-item, placing-fits, placing-more, placing-done}
 use Rattle.build.proofs.place_visits.Statement.{statement}
 use Rattle.build.proofs.place_visits.Tie as tie
-use Rattle.build.proofs.place_visits.Reads as reads
-use Rattle.build.proofs.place_visits.Lts as lts
 
 abbrev Inv-loop : tie.InvT-loop
 Inv-loop i scratch n offsets₀ items₀ line j₀ offsets items j = Placing i scratch n offsets₀ items₀ offsets items line j
@@ -15,79 +13,60 @@ Inv-loop i scratch n offsets₀ items₀ line j₀ offsets items j = Placing i s
 abbrev μ-loop : tie.MeasureT-loop
 μ-loop i scratch n offsets₀ items₀ line j₀ offsets items j = n - j
 
--- src/lib.rt:152:16
 cast-line : tie.Need-cast-line Inv-loop μ-loop
 cast-line c = record { fits = lt-trans (c .pre .line .in-lines) (c .pre .line .lines-small) }
 
--- src/lib.rt:154:5
 loop-holds : tie.Need-loop-holds Inv-loop μ-loop
 loop-holds c = placing-none refl (c .pre)
 
--- src/lib.rt:155:17
 mul-c : tie.Need-mul-c Inv-loop μ-loop
 mul-c c = let h = placing-read (c .before .loop .inv) (c .loop-test .taken) in omega arith
 
--- src/lib.rt:155:17
 shared-slice-read-c : tie.Need-shared-slice-read-c Inv-loop μ-loop
 shared-slice-read-c c = placing-read (c .before .before .loop .inv) (c .before .loop-test .taken)
 
--- src/lib.rt:155:17
 cast-c : tie.Need-cast-c Inv-loop μ-loop
 cast-c c = let h = placing-cell (c .before .before .loop .inv) (c .before .loop-test .taken) in omega arith
 
--- src/lib.rt:156:18
 mul-at : tie.Need-mul-at Inv-loop μ-loop
 mul-at c = let h = placing-cell (c .before .before .loop .inv) (c .before .loop-test .taken) in let l = c .before .before .loop .inv .len in omega arith
 
--- src/lib.rt:156:18
 slice-read-at : tie.Need-slice-read-at Inv-loop μ-loop
 slice-read-at c = placing-cell (c .before .before .before .loop .inv) (c .before .before .loop-test .taken)
 
--- src/lib.rt:157:15
 cast-items : tie.Need-cast-items Inv-loop μ-loop
 cast-items c = let h = placing-item (c .before .before .before .loop .inv) (c .before .before .loop-test .taken) in omega arith
 
--- src/lib.rt:157:9
 mul-items : tie.Need-mul-items Inv-loop μ-loop
 mul-items c = let h = placing-item (c .before .before .before .loop .inv) (c .before .before .loop-test .taken) in let l = c .before .before .before .loop .inv .len-items in omega arith
 
--- src/lib.rt:157:9
 slice-write-items : tie.Need-slice-write-items Inv-loop μ-loop
 slice-write-items c = placing-item (c .before .before .before .loop .inv) (c .before .before .loop-test .taken)
 
--- src/lib.rt:158:22
 add-offsets : tie.Need-add-offsets Inv-loop μ-loop
 add-offsets c = record { fits = placing-fits (c .before .before .before .loop .inv) (c .before .before .loop-test .taken) }
 
--- src/lib.rt:158:9
 mul-offsets : tie.Need-mul-offsets Inv-loop μ-loop
 mul-offsets c = let h = placing-cell (c .before .before .before .loop .inv) (c .before .before .loop-test .taken) in let l = c .before .before .before .loop .inv .len in omega arith
 
--- src/lib.rt:158:9
 slice-write-offsets : tie.Need-slice-write-offsets Inv-loop μ-loop
 slice-write-offsets c = placing-cell (c .before .before .before .loop .inv) (c .before .before .loop-test .taken)
 
--- src/lib.rt:159:9
 add-j : tie.Need-add-j Inv-loop μ-loop
 add-j c = omega arith
 
--- src/lib.rt:154:5
 loop-less : tie.Need-loop-less Inv-loop μ-loop
 loop-less c = omega arith
 
--- src/lib.rt:154:5
 loop-again : tie.Need-loop-again Inv-loop μ-loop
 loop-again c = placing-more (c .before .before .before .loop .inv) (c .before .before .loop-test .taken)
 
--- src/lib.rt:148:1
 same-length : tie.Need-same-length Inv-loop μ-loop
 same-length c = c .before .loop .inv .len
 
--- src/lib.rt:148:1
 same-length-2 : tie.Need-same-length-2 Inv-loop μ-loop
 same-length-2 c = c .before .loop .inv .len-items
 
--- src/lib.rt:148:1
 returns : tie.Need-returns Inv-loop μ-loop
 returns c = placing-done (c .before .loop .inv) (c .loop-test .left)
 

@@ -1,12 +1,10 @@
-use mathlib.Core.Path.{_≡_, refl, sym, ap, _∙_}
-use Prim.Native.Nat.{ℕ, _+_, _-_, _≤_, _<_}
+-- `build::running_sums` meets its contract. Assumes nothing.
+use Prim.Native.Nat.{_-_}
 use native.Mathlib.Omega.{arith}
-use lib.ListN.{length, getD, length-set}
+use lib.ListN.{length-set}
 use Rattle.build.proofs.Sums.{Summing, summing-none, summing-fits, summing-more, summing-done}
 use Rattle.build.proofs.running_sums.Statement.{statement}
 use Rattle.build.proofs.running_sums.Tie as tie
-use Rattle.build.proofs.running_sums.Reads as reads
-use Rattle.build.proofs.running_sums.Lts as lts
 
 abbrev Inv-loop : tie.InvT-loop
 Inv-loop offsets₀ cells total₀ c₀ offsets total c = Summing offsets₀ cells offsets total c
@@ -14,55 +12,42 @@ Inv-loop offsets₀ cells total₀ c₀ offsets total c = Summing offsets₀ cel
 abbrev μ-loop : tie.MeasureT-loop
 μ-loop offsets₀ cells total₀ c₀ offsets total c = cells - c
 
--- src/lib.rt:170:5
 loop-holds : tie.Need-loop-holds Inv-loop μ-loop
 loop-holds c = summing-none _ _ (c .pre .0) (c .pre .1)
 
--- src/lib.rt:171:21
 mul-count : tie.Need-mul-count Inv-loop μ-loop
 mul-count c = omega arith
 
--- src/lib.rt:171:21
 slice-read-count : tie.Need-slice-read-count Inv-loop μ-loop
 slice-read-count c = omega arith
 
--- src/lib.rt:172:9
 mul-offsets : tie.Need-mul-offsets Inv-loop μ-loop
 mul-offsets c = omega arith
 
--- src/lib.rt:172:9
 slice-write-offsets : tie.Need-slice-write-offsets Inv-loop μ-loop
 slice-write-offsets c = omega arith
 
--- src/lib.rt:173:9
 add-total : tie.Need-add-total Inv-loop μ-loop
 add-total c = record { fits = summing-fits (c .before .before .loop .inv) (c .before .loop-test .taken) }
 
--- src/lib.rt:174:9
 add-c : tie.Need-add-c Inv-loop μ-loop
 add-c c = omega arith
 
--- src/lib.rt:170:5
 loop-less : tie.Need-loop-less Inv-loop μ-loop
 loop-less c = omega arith
 
--- src/lib.rt:170:5
 loop-again : tie.Need-loop-again Inv-loop μ-loop
 loop-again c = summing-more (c .before .before .loop .inv) (c .before .loop-test .taken)
 
--- src/lib.rt:176:5
 mul-offsets-2 : tie.Need-mul-offsets-2 Inv-loop μ-loop
 mul-offsets-2 c = omega arith
 
--- src/lib.rt:176:5
 slice-write-offsets-2 : tie.Need-slice-write-offsets-2 Inv-loop μ-loop
 slice-write-offsets-2 c = omega arith
 
--- src/lib.rt:164:1
 same-length : tie.Need-same-length Inv-loop μ-loop
 same-length c = simp length-set (c .before .loop .inv .len)
 
--- src/lib.rt:164:1
 returns : tie.Need-returns Inv-loop μ-loop
 returns c = summing-done (c .before .loop .inv) (c .loop-test .left)
 

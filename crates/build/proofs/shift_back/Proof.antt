@@ -1,12 +1,9 @@
-use mathlib.Core.Path.{_≡_, refl, sym, ap, _∙_}
-use Prim.Native.Nat.{ℕ, _+_, _-_, _≤_, _<_}
+-- `build::shift_back` meets its contract. Assumes nothing.
 use native.Mathlib.Omega.{arith}
-use lib.ListN.{length, getD, length-set}
+use lib.ListN.{length-set}
 use Rattle.build.proofs.Sums.{Shifting, shifting-none, shifting-more, shifting-done}
 use Rattle.build.proofs.shift_back.Statement.{statement}
 use Rattle.build.proofs.shift_back.Tie as tie
-use Rattle.build.proofs.shift_back.Reads as reads
-use Rattle.build.proofs.shift_back.Lts as lts
 
 abbrev Inv-loop : tie.InvT-loop
 Inv-loop offsets₀ cells c₀ offsets c = Shifting offsets₀ cells offsets c
@@ -14,51 +11,39 @@ Inv-loop offsets₀ cells c₀ offsets c = Shifting offsets₀ cells offsets c
 abbrev μ-loop : tie.MeasureT-loop
 μ-loop offsets₀ cells c₀ offsets c = c
 
--- src/lib.rt:186:5
 loop-holds : tie.Need-loop-holds Inv-loop μ-loop
 loop-holds c = shifting-none _ _ (c .pre)
 
--- src/lib.rt:187:30
 sub-offsets : tie.Need-sub-offsets Inv-loop μ-loop
 sub-offsets c = omega arith
 
--- src/lib.rt:187:22
 mul-offsets : tie.Need-mul-offsets Inv-loop μ-loop
 mul-offsets c = omega arith
 
--- src/lib.rt:187:22
 slice-read-offsets : tie.Need-slice-read-offsets Inv-loop μ-loop
 slice-read-offsets c = omega arith
 
--- src/lib.rt:187:9
 mul-offsets-2 : tie.Need-mul-offsets-2 Inv-loop μ-loop
 mul-offsets-2 c = omega arith
 
--- src/lib.rt:187:9
 slice-write-offsets : tie.Need-slice-write-offsets Inv-loop μ-loop
 slice-write-offsets c = omega arith
 
--- src/lib.rt:188:9
 sub-c : tie.Need-sub-c Inv-loop μ-loop
 sub-c c = omega arith
 
--- src/lib.rt:186:5
 loop-less : tie.Need-loop-less Inv-loop μ-loop
 loop-less c = omega arith
 
--- src/lib.rt:186:5
 loop-again : tie.Need-loop-again Inv-loop μ-loop
 loop-again c = shifting-more (c .before .before .loop .inv) (c .before .loop-test .taken)
 
--- src/lib.rt:190:5
 slice-write-offsets-2 : tie.Need-slice-write-offsets-2 Inv-loop μ-loop
 slice-write-offsets-2 c = omega arith
 
--- src/lib.rt:181:1
 same-length : tie.Need-same-length Inv-loop μ-loop
 same-length c = simp length-set (c .before .loop .inv .len)
 
--- src/lib.rt:181:1
 returns : tie.Need-returns Inv-loop μ-loop
 returns c = shifting-done (c .before .loop .inv) (omega arith)
 

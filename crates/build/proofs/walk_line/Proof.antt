@@ -1,68 +1,51 @@
+-- `build::walk_line` meets its contract. Assumes nothing.
 use Rattle.build.proofs.Walks.{walk-found, walk-over}
 use borrow.Author.Needs.{needs}
 use Rattle.build.proofs.walk_line.Statement.{statement}
 use Rattle.build.proofs.walk_line.Tie as tie
-use Rattle.build.proofs.walk_line.Reads as reads
-use Rattle.build.proofs.walk_line.Lts as lts
-use Rattle.walk.proofs.segment_cells.Reads as segment-cells-reads
 
--- src/lib.rt:75:43
 mul-segment-cells : tie.Need-mul-segment-cells
 mul-segment-cells c = search needs
 
--- src/lib.rt:75:43
 shared-slice-read-segment-cells : tie.Need-shared-slice-read-segment-cells
 shared-slice-read-segment-cells c = search needs
 
--- src/lib.rt:75:55
 mul-segment-cells-2 : tie.Need-mul-segment-cells-2
 mul-segment-cells-2 c = search needs
 
--- src/lib.rt:75:55
 shared-slice-read-segment-cells-2 : tie.Need-shared-slice-read-segment-cells-2
 shared-slice-read-segment-cells-2 c = search needs
 
--- src/lib.rt:75:67
 mul-segment-cells-3 : tie.Need-mul-segment-cells-3
 mul-segment-cells-3 c = search needs
 
--- src/lib.rt:75:67
 shared-slice-read-segment-cells-3 : tie.Need-shared-slice-read-segment-cells-3
 shared-slice-read-segment-cells-3 c = search needs
 
--- src/lib.rt:75:77
 mul-segment-cells-4 : tie.Need-mul-segment-cells-4
 mul-segment-cells-4 c = search needs
 
--- src/lib.rt:75:77
 shared-slice-read-segment-cells-4 : tie.Need-shared-slice-read-segment-cells-4
 shared-slice-read-segment-cells-4 c = search needs
 
--- src/lib.rt:75:9
 segment-cells-requires : tie.Need-segment-cells-requires
 segment-cells-requires c κs = search needs
 
--- src/lib.rt:77:22
 enum-known-cells : tie.Need-enum-known-cells
 enum-known-cells c = search needs
 
--- src/lib.rt:78:30
 enum-told : tie.Need-enum-told
 enum-told c = search needs
 
--- src/lib.rt:63:1
 same-length : tie.Need-same-length
 same-length c = search needs
 
--- src/lib.rt:63:1
 returns : tie.Need-returns
 returns c = walk-found _ _ _ (c .before .before .before .before .before .before .before .before .before .before .before .before .before .before .before .before .pre .1) (c .before .before .before .before .before .segment-cells .result) (c .before .before .before .before .before .segment-cells .ensures) _ (c .before .cells .given .1)
 
--- src/lib.rt:63:1
 same-length-2 : tie.Need-same-length-2
 same-length-2 c = search needs
 
--- src/lib.rt:63:1
 returns-2 : tie.Need-returns-2
 returns-2 c = walk-over _ _ _ (c .before .before .before .before .before .before .before .before .before .before .before .before .before .before .before .pre .1) (c .before .before .before .before .segment-cells .result) (c .before .before .before .before .segment-cells .ensures) _ (c .enum-told .given .1)
 

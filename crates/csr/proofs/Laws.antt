@@ -35,7 +35,7 @@ use lib.Seq.{getD-set-same, getD-set-other, getD-at, getD-take, getD-drop, take-
 use Rattle.slices.specs.Lists.{elem, Below, Rising}
 use Rattle.slices.proofs.Members.{below-at}
 use Rattle.csr.specs.Tables.{only, linesAt, sum, concat, start, tabulate, itemsOf, offsetsOf}
-use Rattle.csr.specs.States.{Walks, Table, Counted, runAt, Placed}
+use Rattle.csr.specs.States.{Walks, Line, Table, Counted, runAt, Placed}
 
 -- ---- sums
 
@@ -191,17 +191,6 @@ so-far-within W i n j h l c =
     let e' : hits (W i) i c ≡ hits (take j (W i)) i c ++ hits (drop j (W i)) i c = rw take-append-drop at e in
     let e'' : only (elem c (W i)) i ≡ hits (take j (W i)) i c ++ hits (drop j (W i)) i c = sym (hits-only 0 (W i) i c h) ∙ e' in
     omega (arith, simp length-append at (lines-mono W c (suc i) n l), simp length-append at (ap length e''), length-append (linesAt W i c) (hits (take j (W i)) i c))
-
--- the scratch s holds the r cells of the line i, of n lines
-pub record Line (W : ℕ → List ℕ) (n cells i : ℕ) (s : List ℕ) (r : ℕ) : Type 0 where
-  pub walks : Walks W n cells
-  pub in-lines : i < n
-  pub lines-small : n < 2 ^ 32
-  pub cells-small : cells < 2 ^ 32
-  pub few : r < 2 ^ 32
-  pub fits : r ≤ length s
-  pub size : r ≡ length (W i)
-  pub cells-are : take r s ≡ W i
 
 pub turn : {W : ℕ → List ℕ} {n cells i : ℕ} {s : List ℕ} {r j : ℕ} → Line W n cells i s r → j < r → Turn (linesAt W n) cells (soFar W i j) (getD s j 0) i (soFar W i (j + 1))
 turn {W} {n} {cells} {i} {s} {r} {j} h l =

@@ -2,16 +2,27 @@
 use mathlib.Core.Path.{_≡_}
 use mathlib.Core.Bool.{cond}
 use mathlib.Core.List.{List}
-use Prim.Native.Nat.{ℕ, suc, _+_, _-_, _≤_, _<_}
+use Prim.Native.Nat.{ℕ, suc, _+_, _-_, _≤_, _<_, _^_}
 use lib.Dec.{leb}
-use lib.ListN.{length, getD}
+use lib.ListN.{length, getD, take}
 use Rattle.slices.specs.Lists.{Rising, Below}
-use Rattle.csr.specs.Tables.{sum, start, itemsOf, offsetsOf}
+use Rattle.csr.specs.Tables.{linesAt, sum, start, itemsOf, offsetsOf}
 
 -- each line's cells are below the number of cells, and increase
 pub record Walks (W : ℕ → List ℕ) (n cells : ℕ) : Type 0 where
   pub rises : (i : ℕ) → i < n → Rising 0 (W i)
   pub below : (i : ℕ) → i < n → Below cells (W i)
+
+-- the scratch s holds the r cells of the line i, of n lines
+pub record Line (W : ℕ → List ℕ) (n cells i : ℕ) (s : List ℕ) (r : ℕ) : Type 0 where
+  pub walks : Walks W n cells
+  pub in-lines : i < n
+  pub lines-small : n < 2 ^ 32
+  pub cells-small : cells < 2 ^ 32
+  pub few : r < 2 ^ 32
+  pub fits : r ≤ length s
+  pub size : r ≡ length (W i)
+  pub cells-are : take r s ≡ W i
 
 -- the first pass: how long each list is
 pub record Counted (f : ℕ → List ℕ) (offsets : List ℕ) : Type 0 where
@@ -31,3 +42,24 @@ pub record Placed (F : ℕ → List ℕ) (cells : ℕ) (f : ℕ → List ℕ) (o
 pub record Table (F : ℕ → List ℕ) (cells : ℕ) (offsets items : List ℕ) : Type 0 where
   pub items-are : items ≡ itemsOf F cells (length items)
   pub offsets-are : offsets ≡ offsetsOf F cells (length offsets)
+
+-- the first n of s are the cells of some line, and the lines before it are counted
+pub record CanCount (o s : List ℕ) (n : ℕ) : Type 0 where
+  pub W : ℕ → List ℕ
+  pub lines : ℕ
+  pub cells : ℕ
+  pub i : ℕ
+  pub line : Line W lines cells i s n
+  pub room : cells ≤ length o
+  pub counted : Counted (linesAt W i) o
+
+-- the first n of s are the cells of the line i, and the lines before it are placed
+pub record CanPlace (i : ℕ) (o t s : List ℕ) (n : ℕ) : Type 0 where
+  pub W : ℕ → List ℕ
+  pub lines : ℕ
+  pub cells : ℕ
+  pub line : Line W lines cells i s n
+  pub room : cells < length o
+  pub space : start (linesAt W lines) cells ≤ length t
+  pub small : start (linesAt W lines) cells < 2 ^ 32
+  pub placed : Placed (linesAt W lines) cells (linesAt W i) o t

@@ -10,8 +10,8 @@ use lib.ListN.{length}
 use Rattle.grid.specs.declared.Refusal.{Refusal}
 use Rattle.grid.specs.declared.Check.{Check}
 use Rattle.grid.specs.declared.Check.the-variants.{Fine, Refused}
-use Rattle.grid.specs.Refusals.{refusal, unless, andThen}
-use Rattle.grid.specs.Domain.{Lines, count, Alike, lineFits, lengthsCheck, countCheck, coordinatesFrom, coordinatesCheck, linesCheck}
+use Rattle.grid.specs.Refusals.{refusal, unless, andThen, eachFrom}
+use Rattle.grid.specs.Domain.{Lines, count, Alike, lineFits, lengthsCheck, countCheck, coordinatesCheck, linesCheck}
 use Rattle.grid.proofs.Bools.{and-left, and-right}
 
 -- ---- one check, and two in a row
@@ -55,26 +55,36 @@ alike-says ls h =
     ey : Bool
     ey = eqb (length (ls .«end_y»)) (count ls)
 
--- ---- the first line with a bad coordinate, by the lines that are left
+-- ---- the first place at which a test fails, by the places that are left
 
-module _ (ls : Lines) (n i : ℕ) where
-  pub line-good : i < n → lineFits ls i ≡ true → coordinatesFrom ls (n - i) i ≡ coordinatesFrom ls (n - (i + 1)) (i + 1)
-  unfolding coordinatesFrom unless andThen
-  line-good l h = let e : n - i ≡ suc (n - suc i) = omega arith in rw (e, add-one, h)
+module _ (ok : ℕ → Bool) (number n i : ℕ) where
+  pub each-good : i < n → ok i ≡ true → eachFrom ok number (n - i) i ≡ eachFrom ok number (n - (i + 1)) (i + 1)
+  unfolding eachFrom unless andThen
+  each-good l h = let e : n - i ≡ suc (n - suc i) = omega arith in rw (e, add-one, h)
 
-  pub line-bad : i < n → lineFits ls i ≡ false → coordinatesFrom ls (n - i) i ≡ Refused (refusal 1 i)
-  unfolding coordinatesFrom unless andThen
-  line-bad l h = let e : n - i ≡ suc (n - suc i) = omega arith in rw (e, h)
+  pub each-bad : i < n → ok i ≡ false → eachFrom ok number (n - i) i ≡ Refused (refusal number i)
+  unfolding eachFrom unless andThen
+  each-bad l h = let e : n - i ≡ suc (n - suc i) = omega arith in rw (e, h)
 
-  pub lines-over : n ≤ i → coordinatesFrom ls (n - i) i ≡ Fine
-  unfolding coordinatesFrom
-  lines-over l = let e : n - i ≡ 0 = omega arith in rw e
+  pub each-over : n ≤ i → eachFrom ok number (n - i) i ≡ Fine
+  unfolding eachFrom
+  each-over l = let e : n - i ≡ 0 = omega arith in rw e
+
+pub each-says : (ok : ℕ → Bool) (number left i k : ℕ) → eachFrom ok number left i ≡ Fine → i ≤ k → k < i + left → ok k ≡ true
+unfolding eachFrom
+each-says ok number zero i k h l m = absurd (omega arith)
+each-says ok number (suc left) i k h l m =
+    go (eqb k i) refl (λ n. each-says ok number left (suc i) k (then-right (unless (ok i) number i) (eachFrom ok number left (suc i)) h) n (omega arith))
+  where
+    go : (b : Bool) → eqb k i ≡ b → (suc i ≤ k → ok k ≡ true) → ok k ≡ true
+    go true e later = rw (eqb-true k i e) (unless-fine (ok i) number i (then-left (unless (ok i) number i) (eachFrom ok number left (suc i)) h))
+    go false e later = later (omega (arith, eqb-false k i e))
 
 -- the search stands at line i: no line before it was bad
 pub record Searched (ls : Lines) (i : ℕ) : Type 0 where
   pub same : Alike ls
   pub at : i ≤ count ls
-  pub rest : coordinatesCheck ls ≡ coordinatesFrom ls (count ls - i) i
+  pub rest : coordinatesCheck ls ≡ eachFrom (lineFits ls) 1 (count ls - i) i
 
 pub searched-none : (ls : Lines) → Alike ls → Searched ls 0
 unfolding coordinatesCheck
@@ -82,13 +92,13 @@ searched-none ls h = let e : count ls - 0 ≡ count ls = omega arith in record {
 
 module _ {ls : Lines} {i : ℕ} (h : Searched ls i) where
   pub searched-more : i < count ls → lineFits ls i ≡ true → Searched ls (i + 1)
-  searched-more l e = record { same = h .same; at = omega arith; rest = h .rest ∙ line-good ls (count ls) i l e }
+  searched-more l e = record { same = h .same; at = omega arith; rest = h .rest ∙ each-good (lineFits ls) 1 (count ls) i l e }
 
   pub searched-bad : i < count ls → lineFits ls i ≡ false → Refused (refusal 1 i) ≡ coordinatesCheck ls
-  searched-bad l e = sym (h .rest ∙ line-bad ls (count ls) i l e)
+  searched-bad l e = sym (h .rest ∙ each-bad (lineFits ls) 1 (count ls) i l e)
 
   pub searched-over : count ls ≤ i → Fine ≡ coordinatesCheck ls
-  searched-over l = sym (h .rest ∙ lines-over ls (count ls) i l)
+  searched-over l = sym (h .rest ∙ each-over (lineFits ls) 1 (count ls) i l)
 
 -- ---- the checks 3, 2, 1 of lent lines, case by case
 
@@ -111,21 +121,11 @@ pub record LinesFit (ls : Lines) : Type 0 where
   pub few : count ls ≤ 65536
   pub each : (i : ℕ) → i < count ls → lineFits ls i ≡ true
 
-from-fine : (ls : Lines) (left i k : ℕ) → coordinatesFrom ls left i ≡ Fine → i ≤ k → k < i + left → lineFits ls k ≡ true
-unfolding coordinatesFrom
-from-fine ls zero i k h l m = absurd (omega arith)
-from-fine ls (suc left) i k h l m =
-    go (eqb k i) refl (λ n. from-fine ls left (suc i) k (then-right (unless (lineFits ls i) 1 i) (coordinatesFrom ls left (suc i)) h) n (omega arith))
-  where
-    go : (b : Bool) → eqb k i ≡ b → (suc i ≤ k → lineFits ls k ≡ true) → lineFits ls k ≡ true
-    go true e later = rw (eqb-true k i e) (unless-fine (lineFits ls i) 1 i (then-left (unless (lineFits ls i) 1 i) (coordinatesFrom ls left (suc i)) h))
-    go false e later = later (omega (arith, eqb-false k i e))
-
 pub lines-fine : (ls : Lines) → linesCheck ls ≡ Fine → LinesFit ls
 unfolding linesCheck lengthsCheck countCheck coordinatesCheck
 lines-fine ls h =
     record {
       same = alike-says ls (unless-fine _ _ _ (then-left _ _ h));
       few = leb-true _ _ (unless-fine _ _ _ (then-left _ _ (then-right _ _ h)));
-      each = λ i l. from-fine ls (count ls) 0 i (then-right _ _ (then-right _ _ h)) (omega arith) (omega arith);
+      each = λ i l. each-says (lineFits ls) 1 (count ls) 0 i (then-right _ _ (then-right _ _ h)) (omega arith) (omega arith);
     }

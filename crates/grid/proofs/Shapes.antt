@@ -88,3 +88,10 @@ fit-says g h =
       size = and-left s (shape (g .cols) (g .rows)) k;
       counts = shape-says (g .cols) (g .rows) (and-right s (shape (g .cols) (g .rows)) k);
     }
+
+-- the counts of a fit grid pass their test
+pub fit-shape : (g : Grid) → fit g ≡ true → shape (g .cols) (g .rows) ≡ true
+unfolding fit
+fit-shape g h =
+    and-right (sizeFits (g .«cell_size»)) (shape (g .cols) (g .rows))
+    (and-right (point (g .«min_x») (g .«min_y»)) (sizeFits (g .«cell_size») && shape (g .cols) (g .rows)) h)

@@ -1,6 +1,6 @@
 -- Document 01, "Domain", and the checks of its refusals 1, 2, 3, 8, 9 and 12, in its words. Definitions only.
 use mathlib.Core.Path.{_≡_}
-use Prim.Native.Nat.{ℕ, zero, suc, _*_}
+use Prim.Native.Nat.{ℕ, _*_}
 use mathlib.Core.Bool.{Bool, true, false, _&&_, _||_}
 use mathlib.Core.List.{List}
 use lib.ListN.{length, getD}
@@ -9,8 +9,7 @@ use lib.Ieee.{Float, nan, binary64, round, le, eq}
 use Rattle.numbers.specs.Order.{magnitudeOf}
 use Rattle.grid.specs.declared.Grid.{Grid}
 use Rattle.grid.specs.declared.Check.{Check}
-use Rattle.grid.specs.declared.Check.the-variants.{Fine}
-use Rattle.grid.specs.Refusals.{unless, andThen}
+use Rattle.grid.specs.Refusals.{unless, andThen, eachFrom}
 
 -- ---- coordinates
 
@@ -85,13 +84,9 @@ scratchCheck n = unless (leb 16384 n) 3 0
 unfoldable pub countCheck : ℕ → Check
 countCheck n = unless (leb n 65536) 2 n
 
--- 1: a coordinate breaks the rule; the first such line of the `left` lines from i on
-unfoldable pub coordinatesFrom : Lines → ℕ → ℕ → Check
-coordinatesFrom ls zero i = Fine
-coordinatesFrom ls (suc left) i = andThen (unless (lineFits ls i) 1 i) (coordinatesFrom ls left (suc i))
-
+-- 1: a coordinate breaks the rule; the first such line
 unfoldable pub coordinatesCheck : Lines → Check
-coordinatesCheck ls = coordinatesFrom ls (count ls) 0
+coordinatesCheck ls = eachFrom (lineFits ls) 1 (count ls) 0
 
 -- 1, of a point and of one segment: the value is 0
 unfoldable pub pointCheck : Float → Float → Check

@@ -1,5 +1,5 @@
 -- A check finds nothing to refuse, or one refusal by document 01's number, with its value. Definitions only.
-use Prim.Native.Nat.{ℕ}
+use Prim.Native.Nat.{ℕ, zero, suc}
 use mathlib.Core.Bool.{Bool, true, false}
 use Rattle.grid.specs.declared.Refusal.{Refusal}
 use Rattle.grid.specs.declared.Check.{Check}
@@ -18,3 +18,8 @@ unless false number value = Refused (refusal number value)
 unfoldable pub andThen : Check → Check → Check
 andThen Fine next = next
 andThen (Refused r) next = Refused r
+
+-- the first of the `left` places from i on at which a test fails, refused with a number; the value is the place
+unfoldable pub eachFrom : (ℕ → Bool) → ℕ → ℕ → ℕ → Check
+eachFrom ok number zero i = Fine
+eachFrom ok number (suc left) i = andThen (unless (ok i) number i) (eachFrom ok number left (suc i))

@@ -9,7 +9,7 @@ ghost use lib.Dec.{leb, ltb, eqb};
 ghost use lib.Ieee.{binary64, round, le};
 ghost use lib.ListN.{length};
 ghost use Rattle.grid.specs.Refusals.{unless, refusal};
-ghost use Rattle.grid.specs.Domain.{coordinate, point, segment, lines, Alike, lineFits, counts, shape, sizeFits, fit, lengthsCheck, scratchCheck, countCheck, coordinatesFrom, coordinatesCheck, pointCheck, segmentCheck, gridCheck, snapSize, snapCheck, cellCheck, linesCheck};
+ghost use Rattle.grid.specs.Domain.{coordinate, point, segment, lines, Alike, lineFits, counts, shape, sizeFits, fit, lengthsCheck, scratchCheck, countCheck, coordinatesCheck, pointCheck, segmentCheck, gridCheck, snapSize, snapCheck, cellCheck, linesCheck};
 
 // Refuses, with a number and a value, where the test fails.
 pub fn refuse_unless(ok: bool, number: u32, value: u64) -> Check

@@ -1,0 +1,10 @@
+-- Laws for the proofs of `build`.
+pub mod Visits
+pub mod Sums
+pub mod Walks
+pub mod Lines
+pub mod Counts
+pub mod Choices
+pub mod Places
+pub mod Fills
+pub mod Entries

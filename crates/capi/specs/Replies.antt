@@ -1,0 +1,40 @@
+-- How an exported function answers: by a number, and by values at the start of the words `out` that it is lent. Definitions only.
+use Prim.Native.Nat.{ℕ}
+use mathlib.Core.Path.{_≡_}
+use mathlib.Core.Bool.{cond}
+use mathlib.Core.List.{List, [], _∷_, _++_}
+use lib.Dec.{leb}
+use lib.Ieee.{Float}
+use lib.ListN.{length, drop}
+use Rattle.grid.specs.declared.Grid.{Grid}
+
+-- an answer by document 01's number, 0 for success, with its values
+pub record Reply : Type 0 where
+  pub number : ℕ
+  pub values : List ℕ
+
+abbrev pub success : List ℕ → Reply
+success values = record { number = 0; values = values }
+
+abbrev pub refusal : ℕ → ℕ → Reply
+refusal number value = record { number = number; values = value ∷ [] }
+
+-- the number r is returned, the values stand at the start of `out`, and the rest of it is as it was
+pub record Handed (a : Reply) (out : List ℕ) (r : ℕ) (out′ : List ℕ) : Type 0 where
+  pub number : r ≡ a .number
+  pub words : out′ ≡ a .values ++ drop (length (a .values)) out
+
+-- what follows where `out` has the n words of a result; where it is short, what was before
+unfoldable pub unlessShort : {A : Type 0} → ℕ → List ℕ → A → A → A
+unlessShort n out before then = cond (leb n (length out)) then before
+
+-- The promise of an exported function whose result has n words: the answer a is handed over; where `out` is short the number is 100, and
+-- nothing changes.
+pub record Replies (n : ℕ) (a : Reply) (out : List ℕ) (r : ℕ) (out′ : List ℕ) : Type 0 where
+  pub number : r ≡ unlessShort n out 100 (a .number)
+  pub words : out′ ≡ unlessShort n out out (a .values ++ drop (length (a .values)) out)
+
+-- a grid by its five numbers
+abbrev pub gridBy : Float → Float → Float → ℕ → ℕ → Grid
+gridBy min-x min-y cell-size cols rows =
+    record { «min_x» = min-x; «min_y» = min-y; «cell_size» = cell-size; cols = cols; rows = rows }

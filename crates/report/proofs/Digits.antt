@@ -20,12 +20,12 @@ one-before xs d ys = append-assoc xs (d ∷ []) ys
 -- ---- decimal
 
 -- 0 has no leading digits
-leading-none : (k : ℕ) → leading k 0 ≡ []
+pub leading-none : (k : ℕ) → leading k 0 ≡ []
 unfolding leading noneIf
 leading-none zero = refl
 leading-none (suc k) = refl
 
-leading-more : (k n : ℕ) → 0 < n → leading (suc k) n ≡ leading k (n / 10) ++ (glyph (n % 10) ∷ [])
+pub leading-more : (k n : ℕ) → 0 < n → leading (suc k) n ≡ leading k (n / 10) ++ (glyph (n % 10) ∷ [])
 unfolding leading noneIf
 leading-more k n h = rw (ne-eqb n 0 (λ e. omega arith))
 

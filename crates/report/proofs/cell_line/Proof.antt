@@ -13,4 +13,4 @@ returns-2 c =
     (puts-line (c .before .before .before .before .before .before .before .before .before .before .before .before .before .before .put-all .ensures) (puts-then (c .before .before .before .before .before .before .before .before .before .before .put-two .ensures) (c .before .before .before .before .before .before .put-list .ensures)) (c .before .before .put .ensures))
 
 pub cell-line-spec : {M : Type 1} → statement M
-cell-line-spec = tie.close (tie.spec returns (λ c. search needs) (λ c κs. search needs) (λ c κs. search needs) (λ c κs. search needs) (λ c κs. search needs) (λ c. search needs) returns-2)
+cell-line-spec = tie.close (tie.spec returns (λ c. search needs) (λ c κs. tt) (λ c κs. tt) (λ c κs. tt) (λ c κs. tt) (λ c. search needs) returns-2)

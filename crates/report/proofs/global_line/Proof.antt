@@ -12,4 +12,4 @@ returns-2 c =
     global-some _ (c .before .before .before .before .before .before .before .before .before .before .before .before .before .if1 .left) (puts-line (c .before .before .before .before .before .before .before .before .before .before .put-all .ensures) (c .before .before .before .before .before .before .put-list .ensures) (c .before .before .put .ensures))
 
 pub global-line-spec : {M : Type 1} → statement M
-global-line-spec = tie.close (tie.spec returns (λ c. search needs) (λ c κs. search needs) (λ c κs. search needs) (λ c κs. search needs) (λ c. search needs) returns-2)
+global-line-spec = tie.close (tie.spec returns (λ c. search needs) (λ c κs. tt) (λ c κs. tt) (λ c κs. tt) (λ c. search needs) returns-2)

@@ -10,4 +10,4 @@ returns c =
     puts-text (sym (spaced-two _ _)) (puts-then (c .before .before .before .before .before .before .put-number .ensures) (c .before .before .put-number2 .ensures))
 
 pub put-two-spec : {M : Type 1} → statement M
-put-two-spec = tie.close (tie.spec (λ c κs. search needs) (λ c κs. search needs) (λ c. search needs) returns)
+put-two-spec = tie.close (tie.spec (λ c κs. tt) (λ c κs. tt) (λ c. search needs) returns)

@@ -12,4 +12,4 @@ returns c =
     puts-line (c .before .before .before .before .before .before .before .before .before .before .put-all .ensures) (puts-text (sym (spaced-one _)) (c .before .before .before .before .before .before .put-number .ensures)) (c .before .before .put .ensures)
 
 pub refused-line-spec : {M : Type 1} → statement M
-refused-line-spec = tie.close (tie.spec (λ c. search needs) (λ c κs. search needs) (λ c κs. search needs) (λ c κs. search needs) (λ c. search needs) returns)
+refused-line-spec = tie.close (tie.spec (λ c. search needs) (λ c κs. tt) (λ c κs. tt) (λ c κs. tt) (λ c. search needs) returns)

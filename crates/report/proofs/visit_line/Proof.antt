@@ -10,4 +10,4 @@ unfolding visitLine
 returns c = puts-line (c .before .before .before .before .before .before .before .before .before .before .put-all .ensures) (c .before .before .before .before .before .before .put-two .ensures) (c .before .before .put .ensures)
 
 pub visit-line-spec : {M : Type 1} → statement M
-visit-line-spec = tie.close (tie.spec (λ c. search needs) (λ c κs. search needs) (λ c κs. search needs) (λ c κs. search needs) (λ c. search needs) returns)
+visit-line-spec = tie.close (tie.spec (λ c. search needs) (λ c κs. tt) (λ c κs. tt) (λ c κs. tt) (λ c. search needs) returns)

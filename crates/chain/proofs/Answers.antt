@@ -4,7 +4,7 @@ use mathlib.Core.List.{List, [], _++_, append-nil}
 use Prim.Native.Nat.{ℕ, _+_, _-_, _≤_, min}
 use native.Mathlib.Omega.{arith}
 use lib.ListN.{length, take, drop, replicate, length-take, length-drop, drop-of-length-le}
-use lib.Seq.{length-take-le}
+use lib.Seq.{length-take-le, take-at}
 use Rattle.grid.specs.declared.Grid.{Grid}
 use Rattle.grid.specs.declared.Refusal.{Refusal}
 use Rattle.grid.specs.declared.Check.{Check}
@@ -108,3 +108,8 @@ prints text out out₁ ys r f e q =
           rw (drop-of-length-le (drop r out₁) {i = length out₁ - r} (omega arith), append-nil ys, w .start)
           (ap (λ (l : List ℕ). take (length out) text ++ l) (q ∙ ap (λ (m : ℕ). replicate m 0) k));
     }
+
+-- what was printed, as a part of the buffer
+pub prints-within : {text out out′ : List ℕ} {r : ℕ} → Prints text out out′ r → r ≡ length (take r out′)
+prints-within {text} {out} {out′} {r} p =
+    p .end ∙ ap length (sym (ap (take r) (p .is) ∙ take-at (take (length out) text) (replicate (length out - r) 0) r (sym (p .end))))

@@ -1,0 +1,69 @@
+-- `chain_grid::main` is safe and ends. Assumes nothing.
+use borrow.Author.Needs.{needs}
+use Rattle.chain_grid.proofs.main.Statement.{statement}
+use Rattle.chain_grid.proofs.main.Tie as tie
+use Rattle.chain_grid.proofs.main.Reads as reads
+use Rattle.chain_grid.proofs.main.Lts as lts
+use Rattle.chain_grid.proofs.print.Reads as print-reads
+use Rattle.chain_grid.proofs.read_input.Reads as read-input-reads
+use Rattle.io.proofs.write_all.Reads as write-all-reads
+
+-- src/main.rt:46:42
+slice-aggregate-read-input : tie.Need-slice-aggregate-read-input
+slice-aggregate-read-input c = search needs
+
+-- src/main.rt:46:9
+read-input-requires : tie.Need-read-input-requires
+read-input-requires c κs = search needs
+
+-- src/main.rt:48:22
+enum-known-input : tie.Need-enum-known-input
+enum-known-input c = search needs
+
+-- src/main.rt:48:34
+array-share-prefix-bytes : tie.Need-array-share-prefix-bytes
+array-share-prefix-bytes c = (rw (c .before .input .given .1) at (c .before .before .before .before .read-input .ensures)) .0
+
+-- src/main.rt:48:34
+slice-aggregate-print : tie.Need-slice-aggregate-print
+slice-aggregate-print c = (rw (c .before .before .input .given .1) at (c .before .before .before .before .before .read-input .ensures)) .1
+
+-- src/main.rt:48:28
+print-requires : tie.Need-print-requires
+print-requires c κs = search needs
+
+-- src/main.rt:50:42
+enum-told : tie.Need-enum-told
+enum-told c = search needs
+
+-- src/main.rt:50:42
+slice-aggregate-write-all : tie.Need-slice-aggregate-write-all
+slice-aggregate-write-all c = search needs
+
+-- src/main.rt:50:13
+write-all-requires : tie.Need-write-all-requires
+write-all-requires c κs = search needs
+
+-- src/main.rt:44:1
+returns : tie.Need-returns
+returns c = search needs
+
+-- src/main.rt:44:1
+returns-2 : tie.Need-returns-2
+returns-2 c = search needs
+
+pub main-spec : {M : Type 1} → statement M
+main-spec =
+    tie.close
+    (tie.spec
+    slice-aggregate-read-input
+    read-input-requires
+    enum-known-input
+    array-share-prefix-bytes
+    slice-aggregate-print
+    print-requires
+    enum-told
+    slice-aggregate-write-all
+    write-all-requires
+    returns
+    returns-2)

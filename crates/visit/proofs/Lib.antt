@@ -1,0 +1,17 @@
+-- Laws of `visit`. `Clauses` has each clause of a definition as an equation; the others are laws of its parts, for its own proofs and for
+-- the crates above.
+pub mod Clauses
+pub mod BoxLaws
+pub mod CellTurns
+pub mod OtherLines
+pub mod GlobalTurns
+pub mod Moves
+pub mod RowTurns
+pub mod RunTurns
+pub mod Standing
+pub mod Lengths
+pub mod SeekTurns
+pub mod RunWhole
+pub mod Founds
+pub mod EntryLaws
+pub mod PlaceLaws

@@ -1,0 +1,151 @@
+-- A list by its place, case by case. Assumes nothing.
+use mathlib.Core.Path.{_≡_, refl, sym, ap, _∙_}
+use mathlib.Core.Bool.{Bool, true, false, _&&_}
+use mathlib.Core.List.{List, []}
+use Prim.Native.Nat.{ℕ, zero, suc, _+_, _-_, _*_, _≤_, _<_, _^_}
+use native.Mathlib.Nat.{mul-le-mul-right, suc-mul}
+use native.Mathlib.Numerals.{add-one}
+use native.Mathlib.Omega.{arith}
+use lib.ListN.{length, getD, take, drop}
+use lib.Seq.{slice}
+use lib.Dec.{ltb}
+use borrow.Author.Tests.{ltb-true}
+use Rattle.grid.specs.declared.Grid.{Grid}
+use Rattle.grid.specs.declared.Refusal.{Refusal}
+use Rattle.grid.specs.declared.Check.{Check}
+use Rattle.grid.specs.declared.Check.the-variants.{Fine, Refused}
+use Rattle.grid.specs.Refusals.{unless, andThen}
+use Rattle.grid.specs.Domain.{countCheck, gridCheck, cellCheck, fit}
+use Rattle.grid.proofs.Bools.{and-left, and-right}
+use Rattle.grid.proofs.Fine.{unless-fine, then-left, then-right}
+use Rattle.grid.proofs.Shapes.{Fit, fit-says}
+use Rattle.tables.specs.Tables.{Tables, cells, listOf}
+use Rattle.tables.specs.Fit.{TablesFit, tablesCheck}
+use Rattle.tables.proofs.Facts.{check-facts, part-slice}
+use Rattle.visit.specs.declared.Place.{Place}
+use Rattle.visit.specs.declared.Place.the-variants.{Cell, Global}
+use Rattle.visit.specs.Inside.{CellsFit}
+use Rattle.visit.specs.Places.{placeCheck, listCheck, listAt, partOf}
+use Rattle.visit.proofs.Standing.{cells-fit}
+use Rattle.visit.proofs.EntryLaws.{then-refused, then-fine}
+
+-- ---- the checks
+
+module _ (g : Grid) (t : Tables) (pl : Place) where
+  pub list-many : (r : Refusal) → countCheck (t .lines) ≡ Refused r → Refused r ≡ listCheck g t pl
+  unfolding listCheck
+  list-many r e = sym (then-refused _ _ r e)
+
+  module _ (a : countCheck (t .lines) ≡ Fine) where
+    pub list-grid : (r : Refusal) → gridCheck g ≡ Refused r → Refused r ≡ listCheck g t pl
+    unfolding listCheck
+    list-grid r e = sym (then-fine _ _ a ∙ then-refused _ _ r e)
+
+    module _ (b : gridCheck g ≡ Fine) where
+      pub list-tables : (r : Refusal) → tablesCheck t ≡ Refused r → Refused r ≡ listCheck g t pl
+      unfolding listCheck
+      list-tables r e = sym (then-fine _ _ a ∙ then-fine _ _ b ∙ then-refused _ _ r e)
+
+      pub list-place : tablesCheck t ≡ Fine → placeCheck g (t .«global_count») pl ≡ listCheck g t pl
+      unfolding listCheck
+      list-place e = sym (then-fine _ _ a ∙ then-fine _ _ b ∙ then-fine _ _ e)
+
+-- ---- what they say
+
+pub record CellPlace (g : Grid) (t : Tables) (row col : ℕ) : Type 0 where
+  pub table : TablesFit t
+  pub rows : row < g .rows
+  pub cols : col < g .cols
+  pub few : g .rows * g .cols ≤ 1002001
+
+pub cell-place : (g : Grid) (t : Tables) (row col : ℕ) → listCheck g t (Cell row col) ≡ Fine → CellPlace g t row col
+unfolding listCheck placeCheck cellCheck gridCheck
+cell-place g t row col h =
+    let b = then-right _ _ h in
+    let d = then-right _ _ b in
+    let e : (ltb row (g .rows) && ltb col (g .cols)) ≡ true = unless-fine (ltb row (g .rows) && ltb col (g .cols)) 9 row (then-right _ _ d) in
+    record {
+      table = check-facts t (then-left _ _ d);
+      rows = ltb-true row (g .rows) (and-left (ltb row (g .rows)) (ltb col (g .cols)) e);
+      cols = ltb-true col (g .cols) (and-right (ltb row (g .rows)) (ltb col (g .cols)) e);
+      few = fit-says g (unless-fine (fit g) 8 0 (then-left _ _ b)) .counts .cells;
+    }
+
+pub record GlobalPlace (t : Tables) (p : ℕ) : Type 0 where
+  pub table : TablesFit t
+  pub inside : p < t .«global_count»
+
+pub global-place : (g : Grid) (t : Tables) (p : ℕ) → listCheck g t (Global p) ≡ Fine → GlobalPlace t p
+unfolding listCheck placeCheck
+global-place g t p h =
+    let d = then-right _ _ (then-right _ _ h) in
+    record { table = check-facts t (then-left _ _ d); inside = ltb-true p (t .«global_count») (unless-fine (ltb p (t .«global_count»)) 9 p (then-right _ _ d)) }
+
+-- a cell of the grid has a number below the number of cells
+pub cell-inside : (rows cols row col : ℕ) → row < rows → col < cols → row * cols + col < rows * cols
+cell-inside rows cols row col h k =
+    let u : suc row * cols ≤ rows * cols = mul-le-mul-right cols h in
+    omega (arith, suc-mul row cols)
+
+-- ---- the part
+
+pub part-refused : (check : Check) (r : Refusal) (xs : List ℕ) → check ≡ Refused r → [] ≡ partOf check xs
+unfolding partOf
+part-refused check r xs e = rw e
+
+part-fine : (check : Check) (xs : List ℕ) → check ≡ Fine → xs ≡ partOf check xs
+unfolding partOf
+part-fine check xs e = rw e
+
+-- a cell's list: r, k and l are the row, the columns and the column, as the code has them
+module _ (g : Grid) (t : Tables) (rows : t .rows ≡ g .rows) (cols : t .cols ≡ g .cols) (pl : Place) (h : listCheck g t pl ≡ Fine)
+    (row col : ℕ) (e : pl ≡ Cell row col) (r k l : ℕ) (er : r ≡ row) (ek : k ≡ g .cols) (el : l ≡ col) where
+  at-cell : listCheck g t (Cell row col) ≡ Fine
+  at-cell = rw e at h
+
+  facts : CellPlace g t row col
+  facts = cell-place g t row col at-cell
+
+  number : r * k + l < g .rows * g .cols
+  number = rw (er, ek, el) (cell-inside (g .rows) (g .cols) row col (facts .rows) (facts .cols))
+
+  pub number-few : r * k + l < 1002001
+  number-few = omega (arith, number, facts .few)
+
+  number-in : r * k + l < cells t
+  number-in = rw (rows, cols) number
+
+  pub number-next : r * k + l + 1 < length (t .offsets)
+  number-next = omega (arith, number-in, facts .table .long)
+
+  module _ (from to : ℕ) (ef : from ≡ getD (t .offsets) (r * k + l) 0) (et : to ≡ getD (t .offsets) (r * k + l + 1) 0) where
+    to-is : to ≡ getD (t .offsets) (suc (r * k + l)) 0
+    to-is = et ∙ rw add-one
+
+    pub cell-from : from ≤ to
+    cell-from = omega (arith, ef, to-is, (cells-fit t (facts .table)) .rises (r * k + l) number-in)
+
+    pub cell-to : to ≤ length (t .items)
+    cell-to = omega (arith, to-is, (cells-fit t (facts .table)) .within (suc (r * k + l)) number-in)
+
+    pub part-cell : take (to - from) (drop from (t .items)) ≡ partOf (listCheck g t pl) (listAt t pl)
+    unfolding listAt
+    part-cell =
+        let n : r * k + l ≡ row * t .cols + col = rw (er, ek, el, cols) in
+        part-slice from to (t .items)
+        ∙ rw (ef, to-is, n, e) (part-fine (listCheck g t (Cell row col)) (listOf t (row * t .cols + col)) at-cell)
+
+-- the globals from a position on
+module _ (g : Grid) (t : Tables) (pl : Place) (h : listCheck g t pl ≡ Fine) (p : ℕ) (e : pl ≡ Global p) where
+  at-global : listCheck g t (Global p) ≡ Fine
+  at-global = rw e at h
+
+  pub global-from : p ≤ t .«global_count»
+  global-from = omega (arith, (global-place g t p at-global) .inside)
+
+  pub global-to : t .«global_count» ≤ length (t .globals)
+  global-to = (global-place g t p at-global) .table .counted
+
+  pub part-global : take (t .«global_count» - p) (drop p (t .globals)) ≡ partOf (listCheck g t pl) (listAt t pl)
+  unfolding listAt
+  part-global = part-slice p (t .«global_count») (t .globals) ∙ rw e (part-fine (listCheck g t (Global p)) (slice p (t .«global_count») (t .globals)) at-global)

@@ -1,0 +1,275 @@
+-- A run from a cursor is what the run through the cells and the run through the globals are together; and the one test at a cursor.
+-- Assumes nothing.
+use mathlib.Core.Path.{_≡_, refl, sym, ap, _∙_}
+use mathlib.Core.List.{List, [], _∷_, _++_, append-nil, map}
+use Prim.Native.Nat.{ℕ, zero, suc, _+_, _-_, _*_, _≤_, _<_, _^_}
+use native.Mathlib.Nat.{sub-zero, mul-zero}
+use native.Mathlib.Decide.{decLt}
+use native.Mathlib.Omega.{arith}
+use lib.ListN.{length, getD, take, drop, length-append, length-map, length-drop}
+use lib.Seq.{length-take-le, drop-cons}
+use Rattle.slices.specs.Lists.{Below}
+use Rattle.slices.proofs.Members.{below-at}
+use Rattle.grid.specs.declared.Grid.{Grid}
+use Rattle.grid.specs.declared.Check.the-variants.{Fine}
+use Rattle.grid.specs.Domain.{Lines, count}
+use Rattle.tables.specs.Tables.{Tables, cells, listIn}
+use Rattle.visit.specs.declared.Place.the-variants.{Global}
+use Rattle.visit.specs.declared.cursor.Cursor.{Cursor}
+use Rattle.visit.specs.declared.scan.Row.{Row}
+use Rattle.visit.specs.declared.scan.Ran.{Ran}
+use Rattle.visit.specs.declared.scan.Step.{Step}
+use Rattle.visit.specs.declared.scan.Step.the-variants as step
+use Rattle.visit.specs.Tests.{Pair, withEach, placeOf, pairs, cellTests, others, globalTests}
+use Rattle.visit.specs.Batches.{made, handed, firsts, seconds}
+use Rattle.visit.specs.Entries.{beside, visitCheck}
+use Rattle.visit.specs.Inside.{cellsRest, globalsRest, restIn, restOf, numbers, rowOf, nextStep, CellsFit, CellAsks, CellIs, GlobalAsks, GlobalIs, Moved, Ready, RunAsks, CellsAsk, CellsRan, GlobalsAsk, GlobalsRan, RanAll, RowAsks, LineAsks, TestInAsks, TestBeforeAsks}
+use Rattle.visit.proofs.Clauses.{made-full, handed-full, with-cons}
+use Rattle.visit.proofs.CellTurns.{rest-at}
+use Rattle.visit.proofs.GlobalTurns.{grest-run, stop-most}
+use Rattle.visit.proofs.Moves.{none-made, none-handed}
+use Rattle.visit.proofs.RowTurns.{numbers-some}
+use Rattle.visit.proofs.RunTurns.{regroup}
+use Rattle.visit.proofs.Standing.{Stands, stands, cells-fit, lists-below, globals-fit, has-columns}
+
+-- what stands, for m cells as the code counts them
+module _ (ls : Lines) (g : Grid) (offsets items globals : List ℕ) (count-of : ℕ) (h : visitCheck ls g (beside ls g offsets items globals count-of) ≡ Fine) where
+  pub here : Stands ls g (beside ls g offsets items globals count-of)
+  here = stands ls g (beside ls g offsets items globals count-of) h
+
+  pub lines-few : count ls ≤ 65536
+  lines-few = here .lines .few
+
+  pub rows-cols : (a b : ℕ) → a ≡ g .rows → b ≡ g .cols → a * b < 2 ^ 64
+  rows-cols a b p q = rw (p, q) (omega (arith, here .grid .counts .cells))
+
+  module _ (m : ℕ) (e : m ≡ g .rows * g .cols) where
+    pub m-fits : CellsFit m offsets items
+    m-fits = rw e (cells-fit (beside ls g offsets items globals count-of) (here .tables))
+
+    pub m-below : (c : ℕ) → c < m → Below (count ls) (listIn offsets items c)
+    m-below c l = lists-below (beside ls g offsets items globals count-of) (here .tables) c (rw e at l)
+
+    pub m-wide : 0 < m → 0 < g .cols
+    m-wide l = has-columns (g .rows) (g .cols) (rw e at l)
+
+    pub m-few : m < 2 ^ 32
+    m-few = omega (arith, here .grid .counts .cells)
+
+-- ---- a run
+
+module _ (ls : Lines) (g : Grid) (offsets items globals : List ℕ) (count-of : ℕ) (c : Cursor) (fs ss : List ℕ)
+    (a : RunAsks ls g (beside ls g offsets items globals count-of) c fs ss) (m : ℕ) (e : m ≡ g .rows * g .cols) where
+  tests-cells : List Pair
+  tests-cells = cellsRest (g .cols) offsets items (m - c .cell) (c .cell) (c .i) (c .j)
+
+  tests-globals : List Pair
+  tests-globals = globalsRest (count ls) globals (count-of - c .p) (c .p) (c .k)
+
+  whole : restOf (beside ls g offsets items globals count-of) c ≡ tests-cells ++ tests-globals
+  unfolding restOf tests-cells tests-globals
+  whole = rw e
+
+  long : length (restOf (beside ls g offsets items globals count-of) c) ≡ length tests-cells + length tests-globals
+  long = ap length whole ∙ length-append tests-cells tests-globals
+
+  pub cells-asks : CellsAsk ls (g .cols) m offsets items (c .cell) (c .i) (c .j) fs ss
+  unfolding tests-cells
+  cells-asks =
+      record {
+        fine = (here ls g offsets items globals count-of (a .ready .fine)) .lines-fine;
+        table = m-fits ls g offsets items globals count-of (a .ready .fine) m e;
+        below = m-below ls g offsets items globals count-of (a .ready .fine) m e;
+        wide = m-wide ls g offsets items globals count-of (a .ready .fine) m e;
+        few = m-few ls g offsets items globals count-of (a .ready .fine) m e;
+        place = rw e (a .ready .fits .in-cells);
+        same = a .same;
+        small = omega (arith, long, a .small);
+      }
+
+  module _ (fs₁ ss₁ : List ℕ) (r₁ : Ran) (w₁ : CellsRan ls (g .cols) m offsets items (c .cell) (c .i) (c .j) fs ss fs₁ ss₁ r₁) where
+    first-moved : Moved ls (tests-cells ++ tests-globals) (w₁ .rest ++ tests-globals) (r₁ .tests) (length fs) fs ss 0 fs₁ ss₁ (r₁ .hits)
+    unfolding tests-cells tests-globals
+    first-moved = w₁ .moved tests-globals
+
+    pub globals-asks : GlobalsAsk ls count-of globals (c .p) (c .q) (c .k) fs₁ ss₁ (r₁ .hits)
+    unfolding tests-globals
+    globals-asks =
+        record {
+          fine = (here ls g offsets items globals count-of (a .ready .fine)) .lines-fine;
+          place = record {
+            table = globals-fit (beside ls g offsets items globals count-of) ((here ls g offsets items globals count-of (a .ready .fine)) .tables);
+            place = a .ready .fits .in-globals;
+          };
+          outputs = record { same = first-moved .second-long ∙ a .same ∙ sym (first-moved .first-long); in-room = omega (arith, first-moved .in-room, first-moved .first-long) };
+          small = omega (arith, long, a .small);
+        }
+
+    module _ (fs₂ ss₂ : List ℕ) (r₂ : Ran) (w₂ : GlobalsRan ls count-of globals (c .p) (c .k) fs₁ ss₁ (r₁ .hits) fs₂ ss₂ r₂) where
+      room : length fs₁ ≡ length fs
+      room = first-moved .first-long
+
+      second-moved : Moved ls tests-globals (w₂ .rest) (r₂ .tests) (length fs) fs₁ ss₁ (r₁ .hits) fs₂ ss₂ (r₂ .hits)
+      unfolding tests-globals
+      second-moved = rw room at (w₂ .moved)
+
+      -- where the cells' run stopped, the globals' goes on: either none of the cells' tests is left, or no room
+      handed-on : handed ls (w₁ .rest ++ tests-globals) (length fs - r₁ .hits) ≡ handed ls tests-globals (length fs - r₁ .hits)
+      handed-on = go (decLt (r₁ .hits) (length fs))
+        where
+          go : Dec (r₁ .hits < length fs) → handed ls (w₁ .rest ++ tests-globals) (length fs - r₁ .hits) ≡ handed ls tests-globals (length fs - r₁ .hits)
+          go (yes h) = rw (w₁ .ends h)
+          go (no h) = let z : length fs - r₁ .hits ≡ 0 = omega arith in rw (z, handed-full ls (w₁ .rest ++ tests-globals)) (sym (handed-full ls tests-globals))
+
+      made-on : made ls (w₁ .rest ++ tests-globals) (length fs - r₁ .hits) ≡ made ls tests-globals (length fs - r₁ .hits)
+      made-on = go (decLt (r₁ .hits) (length fs))
+        where
+          go : Dec (r₁ .hits < length fs) → made ls (w₁ .rest ++ tests-globals) (length fs - r₁ .hits) ≡ made ls tests-globals (length fs - r₁ .hits)
+          go (yes h) = rw (w₁ .ends h)
+          go (no h) = let z : length fs - r₁ .hits ≡ 0 = omega arith in rw (z, made-full ls (w₁ .rest ++ tests-globals)) (sym (made-full ls tests-globals))
+
+      ends : r₂ .hits < length fs → w₂ .rest ≡ []
+      ends h = w₂ .ends (rw room h)
+
+      no-more : handed ls (w₂ .rest) (length fs - r₂ .hits) ≡ []
+      no-more = none-handed ls (length fs) (w₂ .rest) (r₂ .hits) ends
+
+      no-made : made ls (w₂ .rest) (length fs - r₂ .hits) ≡ []
+      no-made = none-made ls (length fs) (w₂ .rest) (r₂ .hits) ends
+
+      -- what a batch hands out, and makes, of all that is left
+      handed-all : List Pair
+      handed-all = handed ls (tests-cells ++ tests-globals) (length fs)
+
+      firsts-all : take (r₂ .hits) fs₂ ≡ firsts handed-all
+      unfolding handed-all
+      firsts-all =
+          sym
+          (rw sub-zero at (first-moved .firsts-are)
+          ∙ rw handed-on (second-moved .firsts-are ∙ rw no-more (append-nil (take (r₂ .hits) fs₂))))
+
+      seconds-all : take (r₂ .hits) ss₂ ≡ seconds handed-all
+      unfolding handed-all
+      seconds-all =
+          sym
+          (rw sub-zero at (first-moved .seconds-are)
+          ∙ rw handed-on (second-moved .seconds-are ∙ rw no-more (append-nil (take (r₂ .hits) ss₂))))
+
+      tests-all : r₁ .tests + r₂ .tests ≡ length (made ls (tests-cells ++ tests-globals) (length fs))
+      tests-all =
+          let x : length (made ls (tests-cells ++ tests-globals) (length fs)) ≡ r₁ .tests + length (made ls tests-globals (length fs - r₁ .hits)) =
+          rw sub-zero at (first-moved .made-is) ∙ rw made-on in
+          let y : length (made ls tests-globals (length fs - r₁ .hits)) ≡ r₂ .tests + 0 = second-moved .made-is ∙ rw no-made in
+          omega arith
+
+      most : r₁ .tests + r₂ .tests ≤ length (tests-cells ++ tests-globals)
+      most = omega (arith, first-moved .counts, second-moved .counts, length-append (w₁ .rest) tests-globals)
+
+      pub run-small : r₁ .tests + r₂ .tests < 2 ^ 64
+      run-small = omega (arith, most, ap length whole, a .small)
+
+      pub run-long : length fs₂ ≡ length fs
+      run-long = second-moved .first-long ∙ room
+
+      pub run-long-2 : length ss₂ ≡ length ss
+      run-long-2 = second-moved .second-long ∙ first-moved .second-long
+
+      pub run-is : RanAll ls (beside ls g offsets items globals count-of) c fs ss fs₂ ss₂ (record { tests = r₁ .tests + r₂ .tests; hits = r₂ .hits })
+      unfolding handed-all
+      run-is =
+          record {
+            tests = rw whole tests-all;
+            most = rw whole most;
+            hits = rw whole (sym (length-take-le (r₂ .hits) fs₂ (omega (arith, second-moved .in-room, run-long))) ∙ ap length firsts-all ∙ length-map handed-all (λ (p : Pair). p .first));
+            first-is = rw whole firsts-all;
+            second-is = rw whole seconds-all;
+            first-long = run-long;
+            second-long = run-long-2;
+          }
+
+-- ---- the one test at a cursor
+
+-- the first of a row that has one is the first of all that follows too
+row-next : (ls : Lines) (row : Row) (b : ℕ) (ys bs : List ℕ) (later : List Pair) → ys ≡ b ∷ bs
+    → nextStep ls (withEach (row .place) (row .first) ys) ≡ nextStep ls (withEach (row .place) (row .first) ys ++ later)
+unfolding nextStep withEach
+row-next ls row b ys bs later e = rw e
+
+module _ (ls : Lines) (g : Grid) (offsets items globals : List ℕ) (count-of : ℕ) (c : Cursor)
+    (a : Ready ls g (beside ls g offsets items globals count-of) c) (m : ℕ) (e : m ≡ g .rows * g .cols) where
+  in-cells : List Pair
+  in-cells = cellsRest (g .cols) offsets items (m - c .cell) (c .cell) (c .i) (c .j)
+
+  in-globals : List Pair
+  in-globals = globalsRest (count ls) globals (count-of - c .p) (c .p) (c .k)
+
+  both : restOf (beside ls g offsets items globals count-of) c ≡ in-cells ++ in-globals
+  unfolding restOf in-cells in-globals
+  both = rw e
+
+  pub settle-asks : CellAsks m offsets items (c .cell) (c .i) (c .j)
+  settle-asks = record { table = m-fits ls g offsets items globals count-of (a .fine) m e; place = rw e (a .fits .in-cells) }
+
+  pub glide-asks : GlobalAsks (count ls) count-of globals (c .p) (c .q) (c .k)
+  glide-asks =
+      record {
+        table = globals-fit (beside ls g offsets items globals count-of) ((here ls g offsets items globals count-of (a .fine)) .tables);
+        place = a .fits .in-globals;
+      }
+
+  module _ (x y z : ℕ) (f : CellIs m offsets items (c .cell) (c .i) (c .j) x y z) where
+    pub one-row : (v : ℕ) → v ≡ getD (listIn offsets items x) y 0 → y < length (listIn offsets items x) → LineAsks ls v
+    one-row v q h =
+        record { fine = (here ls g offsets items globals count-of (a .fine)) .lines-fine; one = rw q (below-at (count ls) (listIn offsets items x) y (m-below ls g offsets items globals count-of (a .fine) m e x (f .inside)) h) }
+
+    module _ (row : Row) (er : row ≡ rowOf ls (placeOf (g .cols) x) (getD (listIn offsets items x) y 0)) (xs : List ℕ) (ex : xs ≡ listIn offsets items x) where
+      pub one-in : TestInAsks ls row xs
+      one-in =
+          record {
+            row-fits = record { fine = (here ls g offsets items globals count-of (a .fine)) .lines-fine; held = rw er };
+            below = rw ex (m-below ls g offsets items globals count-of (a .fine) m e x (f .inside));
+          }
+
+      pub one-cell : z < length (listIn offsets items x) → nextStep ls (withEach (row .place) (row .first) (drop z xs)) ≡ nextStep ls (restOf (beside ls g offsets items globals count-of) c)
+      unfolding in-cells in-globals restIn
+      one-cell h =
+          let later : List Pair = pairs (placeOf (g .cols) x) (drop (suc y) (listIn offsets items x)) ++ (cellTests (g .cols) offsets items (m - suc x) (suc x) ++ in-globals) in
+          let d : drop z xs ≡ getD xs z 0 ∷ drop (suc z) xs = drop-cons xs z 0 (rw ex h) in
+          row-next ls row (getD xs z 0) (drop z xs) (drop (suc z) xs) later d
+          ∙ ap (nextStep ls)
+          (rw (er, ex)
+          (sym (both ∙ ap (λ (l : List Pair). l ++ in-globals) (f .same (g .cols) ∙ rest-at (g .cols) offsets items m x (f .inside) y z)
+          ∙ regroup (withEach (placeOf (g .cols) x) (getD (listIn offsets items x) y 0) (drop z (listIn offsets items x))) (pairs (placeOf (g .cols) x) (drop (suc y) (listIn offsets items x)))
+          (cellTests (g .cols) offsets items (m - suc x) (suc x)) in-globals)))
+
+  -- none is left in the cells
+  module _ (none : (cols : ℕ) → cellsRest cols offsets items (m - c .cell) (c .cell) (c .i) (c .j) ≡ []) where
+    only : restOf (beside ls g offsets items globals count-of) c ≡ in-globals
+    unfolding in-cells
+    only = both ∙ rw (none (g .cols))
+
+    pub one-none : globalsRest (count ls) globals (count-of - c .p) (c .p) (c .k) ≡ [] → step.End ≡ nextStep ls (restOf (beside ls g offsets items globals count-of) c)
+    unfolding nextStep in-globals
+    one-none e = rw (only, e)
+
+    module _ (x y z stop : ℕ) (f : GlobalIs (count ls) count-of globals (c .p) (c .q) (c .k) x y z stop) where
+      pub one-in-globals : x < length globals
+      one-in-globals = omega (arith, f .inside, glide-asks .table .long)
+
+      pub one-global-row : LineAsks ls (getD globals x 0)
+      one-global-row = record { fine = (here ls g offsets items globals count-of (a .fine)) .lines-fine; one = glide-asks .table .below x (f .inside) }
+
+      most-stop : stop ≤ count ls
+      most-stop = omega (arith, f .stops, stop-most (count ls) count-of globals (glide-asks .table) x y z (f .fits) (f .inside))
+
+      module _ (row : Row) (er : row ≡ rowOf ls (Global x) (getD globals x 0)) where
+        pub one-before : TestBeforeAsks ls row stop
+        one-before = record { row-fits = record { fine = (here ls g offsets items globals count-of (a .fine)) .lines-fine; held = rw er }; below = most-stop }
+
+        pub one-global : nextStep ls (withEach (row .place) (row .first) (numbers (stop - z) z)) ≡ nextStep ls (restOf (beside ls g offsets items globals count-of) c)
+        unfolding in-globals
+        one-global =
+            let later : List Pair = withEach (Global x) (getD globals x 0) (others (take (suc x) globals) (count ls - stop) stop) ++ globalTests (count ls) globals (count-of - suc x) (suc x) in
+            row-next ls row z (numbers (stop - z) z) (numbers (stop - (z + 1)) (z + 1)) later (numbers-some stop z (f .one))
+            ∙ ap (nextStep ls)
+            (rw er (sym (only ∙ f .same ∙ grest-run (count ls) count-of globals (glide-asks .table) x y z (f .fits) (f .inside) stop z (f .stops) (omega arith) (omega (arith, f .one)))))

@@ -1,0 +1,16 @@
+-- `visit::scan::row_of` meets its contract. Assumes nothing.
+use borrow.Author.Needs.{needs}
+use Rattle.visit.proofs.scan.row_of.Statement.{statement}
+use Rattle.visit.proofs.scan.row_of.Tie as tie
+use Rattle.visit.proofs.scan.row_of.Reads as reads
+use Rattle.visit.proofs.scan.row_of.Lts as lts
+use Rattle.visit.proofs.boxes.bounds_at.Reads as bounds-at-reads
+
+bounds-at-requires : tie.Need-bounds-at-requires
+bounds-at-requires c κs = search needs
+
+returns : tie.Need-returns
+returns c = rw (c .bounds-at .ensures)
+
+pub row-of-spec : {M : Type 1} → statement M
+row-of-spec = tie.close (tie.spec bounds-at-requires returns)

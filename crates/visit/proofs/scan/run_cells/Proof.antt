@@ -1,0 +1,269 @@
+-- `visit::scan::run_cells` meets its contract. The invariant: what a batch of the cells' tests makes is what was made and what a batch of the rest makes. Assumes nothing.
+use mathlib.Core.Path.{_≡_, refl, sym, ap, _∙_}
+use mathlib.Core.List.{List}
+use Prim.Native.Nat.{ℕ, _-_, _<_}
+use native.Mathlib.Omega.{arith}
+use borrow.Author.Needs.{needs}
+use lib.ListN.{length, getD}
+use Rattle.grid.specs.Domain.{lines}
+use Rattle.visit.specs.Inside.{cellsRest, CellIs, rowOf}
+use Rattle.visit.specs.Tests.{placeOf}
+use Rattle.visit.proofs.RunTurns.{cell-at, cell-past, part-from, part-to, part-is, part-long, later-in, first-in, CellsRun, cells-run, cells-long, cells-long-2, cells-full, cells-over, row-asks, list-asks, cells-turn, cells-less, cells-small}
+use Rattle.visit.proofs.scan.run_cells.Statement.{statement}
+use Rattle.visit.proofs.scan.run_cells.Tie as tie
+use Rattle.visit.proofs.scan.run_cells.Reads as reads
+use Rattle.visit.proofs.scan.run_cells.Lts as lts
+use Rattle.visit.proofs.cursor.settle_cell.Reads as settle-cell-reads
+use Rattle.visit.proofs.cursor.wide.Reads as wide-reads
+use Rattle.visit.proofs.scan.place_of.Reads as place-of-reads
+use Rattle.visit.proofs.scan.row_of.Reads as row-of-reads
+use Rattle.visit.proofs.scan.scan_list.Reads as scan-list-reads
+
+abbrev Inv-loop : tie.InvT-loop
+Inv-loop cols cells offsets items cell i j start-x start-y end-x end-y first₀ second₀ cell₀ i₀ j₀ tests₀ hits₀ first second cell' i' j' tests hits =
+    CellsRun (lines start-x start-y end-x end-y) cols cells offsets items cell i j first₀ second₀ first second cell' i' j' tests hits
+
+abbrev μ-loop : tie.MeasureT-loop
+μ-loop cols cells offsets items cell i j start-x start-y end-x end-y first₀ second₀ cell₀ i₀ j₀ tests₀ hits₀ first second cell' i' j' tests hits =
+    length (cellsRest cols offsets items (cells - cell') cell' i' j')
+
+-- the place that was found
+found : (c : tie.After-c Inv-loop μ-loop)
+    → let a = c .before .before .before .before .before .before .before .before .before .before .before .before .before .args in
+    let l = c .before .before .before .before .loop in
+    let f = c .c .given .0 in
+    CellIs (a .cells) (a .offsets .now) (a .items .now) (l .cell) (l .i) (l .j) (f .0) (f .1 .0) (f .1 .1 .0)
+found c =
+    let a = c .before .before .before .before .before .before .before .before .before .before .before .before .before .args in
+    let l = c .before .before .before .before .loop in
+    let f = c .c .given .0 in
+    cell-at (a .cells) (a .offsets .now) (a .items .now) (l .cell) (l .i) (l .j) _ (c .before .before .settle-cell .ensures) (f .0) (f .1 .0) (f .1 .1 .0) (c .c .given .1)
+
+loop-holds : tie.Need-loop-holds Inv-loop μ-loop
+loop-holds c =
+    let a = c .before .before .before .before .before .before .before .before .args in
+    cells-run (lines (a .start-x .now) (a .start-y .now) (a .end-x .now) (a .end-y .now)) (a .cols) (a .cells) (a .offsets .now) (a .items .now) (a .cell) (a .i) (a .j) (a .first .now) (a .second .now) (c .before .before .before .before .before .before .before .before .pre)
+
+settle-cell-requires : tie.Need-settle-cell-requires Inv-loop μ-loop
+settle-cell-requires c κs = record { table = c .before .before .before .before .before .before .before .before .before .before .pre .table; place = c .before .loop .inv .place }
+
+enum-known-c : tie.Need-enum-known-c Inv-loop μ-loop
+enum-known-c c = search needs
+
+enum-told : tie.Need-enum-told Inv-loop μ-loop
+enum-told c = search needs
+
+mul-wide : tie.Need-mul-wide Inv-loop μ-loop
+mul-wide c = omega (arith, (found (c .before)) .inside, c .before .before .before .before .before .before .before .before .before .before .before .before .before .before .pre .table .long, c .before .before .before .before .before .before .before .before .before .before .before .before .before .before .good .1 .1 .0)
+
+shared-slice-read-wide : tie.Need-shared-slice-read-wide Inv-loop μ-loop
+shared-slice-read-wide c = omega (arith, (found (c .before .before)) .inside, c .before .before .before .before .before .before .before .before .before .before .before .before .before .before .before .pre .table .long, c .before .before .before .before .before .before .before .before .before .before .before .before .before .before .before .good .1 .1 .0)
+
+wide-requires : tie.Need-wide-requires Inv-loop μ-loop
+wide-requires c κs = tt
+
+add-wide : tie.Need-add-wide Inv-loop μ-loop
+add-wide c = omega (arith, (found (c .before .before .before)) .inside, c .before .before .before .before .before .before .before .before .before .before .before .before .before .before .before .before .pre .table .long, c .before .before .before .before .before .before .before .before .before .before .before .before .before .before .before .before .good .1 .1 .0)
+
+mul-wide-2 : tie.Need-mul-wide-2 Inv-loop μ-loop
+mul-wide-2 c = omega (arith, (found (c .before .before .before)) .inside, c .before .before .before .before .before .before .before .before .before .before .before .before .before .before .before .before .pre .table .long, c .before .before .before .before .before .before .before .before .before .before .before .before .before .before .before .before .good .1 .1 .0)
+
+shared-slice-read-wide-2 : tie.Need-shared-slice-read-wide-2 Inv-loop μ-loop
+shared-slice-read-wide-2 c = omega (arith, (found (c .before .before .before .before)) .inside, c .before .before .before .before .before .before .before .before .before .before .before .before .before .before .before .before .before .pre .table .long, c .before .before .before .before .before .before .before .before .before .before .before .before .before .before .before .before .before .good .1 .1 .0)
+
+wide-requires-2 : tie.Need-wide-requires-2 Inv-loop μ-loop
+wide-requires-2 c κs = tt
+
+mul-list : tie.Need-mul-list Inv-loop μ-loop
+mul-list c =
+    let a = c .before .before .before .before .before .before .before .before .before .before .before .before .before .before .before .before .before .before .args in
+    let l = c .before .before .before .before .before .before .before .before .before .loop in
+    let f = c .before .before .before .before .before .c .given .0 in
+    let p = c .before .before .before .before .before .before .before .before .before .before .before .before .before .before .before .before .before .before .pre in
+    let ls = lines (a .start-x .now) (a .start-y .now) (a .end-x .now) (a .end-y .now) in
+    omega (arith, part-from (a .cells) (a .offsets .now) (a .items .now) (p .table) (l .cell) (l .i) (l .j) (f .0) (f .1 .0) (f .1 .1 .0) (found (c .before .before .before .before .before)) (c .before .before .wide .result) (c .wide2 .result) (c .before .before .wide .ensures) (c .wide2 .ensures), part-to (a .cells) (a .offsets .now) (a .items .now) (p .table) (l .cell) (l .i) (l .j) (f .0) (f .1 .0) (f .1 .1 .0) (found (c .before .before .before .before .before)) (c .before .before .wide .result) (c .wide2 .result) (c .before .before .wide .ensures) (c .wide2 .ensures), c .before .before .before .before .before .before .before .before .before .before .before .before .before .before .before .before .before .before .good .1 .1 .1 .0)
+
+sub-list : tie.Need-sub-list Inv-loop μ-loop
+sub-list c =
+    let a = c .before .before .before .before .before .before .before .before .before .before .before .before .before .before .before .before .before .before .args in
+    let l = c .before .before .before .before .before .before .before .before .before .loop in
+    let f = c .before .before .before .before .before .c .given .0 in
+    let p = c .before .before .before .before .before .before .before .before .before .before .before .before .before .before .before .before .before .before .pre in
+    let ls = lines (a .start-x .now) (a .start-y .now) (a .end-x .now) (a .end-y .now) in
+    part-from (a .cells) (a .offsets .now) (a .items .now) (p .table) (l .cell) (l .i) (l .j) (f .0) (f .1 .0) (f .1 .1 .0) (found (c .before .before .before .before .before)) (c .before .before .wide .result) (c .wide2 .result) (c .before .before .wide .ensures) (c .wide2 .ensures)
+
+part-list-start : tie.Need-part-list-start Inv-loop μ-loop
+part-list-start c =
+    let a = c .before .before .before .before .before .before .before .before .before .before .before .before .before .before .before .before .before .before .args in
+    let l = c .before .before .before .before .before .before .before .before .before .loop in
+    let f = c .before .before .before .before .before .c .given .0 in
+    let p = c .before .before .before .before .before .before .before .before .before .before .before .before .before .before .before .before .before .before .pre in
+    let ls = lines (a .start-x .now) (a .start-y .now) (a .end-x .now) (a .end-y .now) in
+    part-from (a .cells) (a .offsets .now) (a .items .now) (p .table) (l .cell) (l .i) (l .j) (f .0) (f .1 .0) (f .1 .1 .0) (found (c .before .before .before .before .before)) (c .before .before .wide .result) (c .wide2 .result) (c .before .before .wide .ensures) (c .wide2 .ensures)
+
+part-list-end : tie.Need-part-list-end Inv-loop μ-loop
+part-list-end c =
+    let a = c .before .before .before .before .before .before .before .before .before .before .before .before .before .before .before .before .before .before .args in
+    let l = c .before .before .before .before .before .before .before .before .before .loop in
+    let f = c .before .before .before .before .before .c .given .0 in
+    let p = c .before .before .before .before .before .before .before .before .before .before .before .before .before .before .before .before .before .before .pre in
+    let ls = lines (a .start-x .now) (a .start-y .now) (a .end-x .now) (a .end-y .now) in
+    part-to (a .cells) (a .offsets .now) (a .items .now) (p .table) (l .cell) (l .i) (l .j) (f .0) (f .1 .0) (f .1 .1 .0) (found (c .before .before .before .before .before)) (c .before .before .wide .result) (c .wide2 .result) (c .before .before .wide .ensures) (c .wide2 .ensures)
+
+cast-place-of : tie.Need-cast-place-of Inv-loop μ-loop
+cast-place-of c = omega (arith, (found (c .before .before .before .before .before .before)) .inside, c .before .before .before .before .before .before .before .before .before .before .before .before .before .before .before .before .before .before .before .pre .few)
+
+place-of-requires : tie.Need-place-of-requires Inv-loop μ-loop
+place-of-requires c κs = c .before .before .before .before .before .before .before .before .before .before .before .before .before .before .before .before .before .before .before .pre .wide (omega (arith, (found (c .before .before .before .before .before .before)) .inside))
+
+mul-row-of : tie.Need-mul-row-of Inv-loop μ-loop
+mul-row-of c =
+    let a = c .before .before .before .before .before .before .before .before .before .before .before .before .before .before .before .before .before .before .before .before .args in
+    let l = c .before .before .before .before .before .before .before .before .before .before .before .loop in
+    let f = c .before .before .before .before .before .before .before .c .given .0 in
+    let p = c .before .before .before .before .before .before .before .before .before .before .before .before .before .before .before .before .before .before .before .before .pre in
+    let ls = lines (a .start-x .now) (a .start-y .now) (a .end-x .now) (a .end-y .now) in
+    omega (arith, first-in (a .cells) (a .offsets .now) (a .items .now) (p .table) (l .cell) (l .i) (l .j) (f .0) (f .1 .0) (f .1 .1 .0) (found (c .before .before .before .before .before .before .before)) (c .before .before .before .before .wide .result) (c .before .before .wide2 .result) (c .before .before .before .before .wide .ensures) (c .before .before .wide2 .ensures), part-long (a .cells) (a .offsets .now) (a .items .now) (p .table) (l .cell) (l .i) (l .j) (f .0) (f .1 .0) (f .1 .1 .0) (found (c .before .before .before .before .before .before .before)) (c .before .before .before .before .wide .result) (c .before .before .wide2 .result) (c .before .before .before .before .wide .ensures) (c .before .before .wide2 .ensures), part-to (a .cells) (a .offsets .now) (a .items .now) (p .table) (l .cell) (l .i) (l .j) (f .0) (f .1 .0) (f .1 .1 .0) (found (c .before .before .before .before .before .before .before)) (c .before .before .before .before .wide .result) (c .before .before .wide2 .result) (c .before .before .before .before .wide .ensures) (c .before .before .wide2 .ensures), c .before .before .before .before .before .before .before .before .before .before .before .before .before .before .before .before .before .before .before .before .good .1 .1 .1 .0)
+
+shared-slice-read-row-of : tie.Need-shared-slice-read-row-of Inv-loop μ-loop
+shared-slice-read-row-of c =
+    let a = c .before .before .before .before .before .before .before .before .before .before .before .before .before .before .before .before .before .before .before .before .before .args in
+    let l = c .before .before .before .before .before .before .before .before .before .before .before .before .loop in
+    let f = c .before .before .before .before .before .before .before .before .c .given .0 in
+    let p = c .before .before .before .before .before .before .before .before .before .before .before .before .before .before .before .before .before .before .before .before .before .pre in
+    let ls = lines (a .start-x .now) (a .start-y .now) (a .end-x .now) (a .end-y .now) in
+    rw (part-is (a .cells) (a .offsets .now) (a .items .now) (p .table) (l .cell) (l .i) (l .j) (f .0) (f .1 .0) (f .1 .1 .0) (found (c .before .before .before .before .before .before .before .before)) (c .before .before .before .before .before .wide .result) (c .before .before .before .wide2 .result) (c .before .before .before .before .before .wide .ensures) (c .before .before .before .wide2 .ensures)) (first-in (a .cells) (a .offsets .now) (a .items .now) (p .table) (l .cell) (l .i) (l .j) (f .0) (f .1 .0) (f .1 .1 .0) (found (c .before .before .before .before .before .before .before .before)) (c .before .before .before .before .before .wide .result) (c .before .before .before .wide2 .result) (c .before .before .before .before .before .wide .ensures) (c .before .before .before .wide2 .ensures))
+
+row-of-requires : tie.Need-row-of-requires Inv-loop μ-loop
+row-of-requires c κs =
+    let a = c .before .before .before .before .before .before .before .before .before .before .before .before .before .before .before .before .before .before .before .before .before .args in
+    let l = c .before .before .before .before .before .before .before .before .before .before .before .before .loop in
+    let f = c .before .before .before .before .before .before .before .before .c .given .0 in
+    let p = c .before .before .before .before .before .before .before .before .before .before .before .before .before .before .before .before .before .before .before .before .before .pre in
+    let ls = lines (a .start-x .now) (a .start-y .now) (a .end-x .now) (a .end-y .now) in
+    row-asks ls (a .cols) (a .cells) (a .offsets .now) (a .items .now) (a .cell) (a .i) (a .j) (a .first .now) (a .second .now) p (l .first) (l .second) (l .cell) (l .i) (l .j) (l .tests) (l .hits) (l .inv) (f .0) (f .1 .0) (f .1 .1 .0) (found (c .before .before .before .before .before .before .before .before)) _ (ap (λ (xs : List ℕ). getD xs (f .1 .0) 0) (part-is (a .cells) (a .offsets .now) (a .items .now) (p .table) (l .cell) (l .i) (l .j) (f .0) (f .1 .0) (f .1 .1 .0) (found (c .before .before .before .before .before .before .before .before)) (c .before .before .before .before .before .wide .result) (c .before .before .before .wide2 .result) (c .before .before .before .before .before .wide .ensures) (c .before .before .before .wide2 .ensures))) (first-in (a .cells) (a .offsets .now) (a .items .now) (p .table) (l .cell) (l .i) (l .j) (f .0) (f .1 .0) (f .1 .1 .0) (found (c .before .before .before .before .before .before .before .before)) (c .before .before .before .before .before .wide .result) (c .before .before .before .wide2 .result) (c .before .before .before .before .before .wide .ensures) (c .before .before .before .wide2 .ensures))
+
+scan-list-requires : tie.Need-scan-list-requires Inv-loop μ-loop
+scan-list-requires c κs =
+    let a = c .before .before .before .before .before .before .before .before .before .before .before .before .before .before .before .before .before .before .before .before .before .before .before .before .args in
+    let l = c .before .before .before .before .before .before .before .before .before .before .before .before .before .before .before .loop in
+    let f = c .before .before .before .before .before .before .before .before .before .before .before .c .given .0 in
+    let p = c .before .before .before .before .before .before .before .before .before .before .before .before .before .before .before .before .before .before .before .before .before .before .before .before .pre in
+    let ls = lines (a .start-x .now) (a .start-y .now) (a .end-x .now) (a .end-y .now) in
+    list-asks ls (a .cols) (a .cells) (a .offsets .now) (a .items .now) (a .cell) (a .i) (a .j) (a .first .now) (a .second .now) p (l .first) (l .second) (l .cell) (l .i) (l .j) (l .tests) (l .hits) (l .inv) (f .0) (f .1 .0) (f .1 .1 .0) (found (c .before .before .before .before .before .before .before .before .before .before .before)) _ (c .before .before .row-of .ensures ∙ rw (c .before .before .before .before .place-of .ensures, part-is (a .cells) (a .offsets .now) (a .items .now) (p .table) (l .cell) (l .i) (l .j) (f .0) (f .1 .0) (f .1 .1 .0) (found (c .before .before .before .before .before .before .before .before .before .before .before)) (c .before .before .before .before .before .before .before .before .wide .result) (c .before .before .before .before .before .before .wide2 .result) (c .before .before .before .before .before .before .before .before .wide .ensures) (c .before .before .before .before .before .before .wide2 .ensures))) _ (part-is (a .cells) (a .offsets .now) (a .items .now) (p .table) (l .cell) (l .i) (l .j) (f .0) (f .1 .0) (f .1 .1 .0) (found (c .before .before .before .before .before .before .before .before .before .before .before)) (c .before .before .before .before .before .before .before .before .wide .result) (c .before .before .before .before .before .before .wide2 .result) (c .before .before .before .before .before .before .before .before .wide .ensures) (c .before .before .before .before .before .before .wide2 .ensures)) (omega (arith, later-in (a .cells) (a .offsets .now) (a .items .now) (p .table) (l .cell) (l .i) (l .j) (f .0) (f .1 .0) (f .1 .1 .0) (found (c .before .before .before .before .before .before .before .before .before .before .before)) (c .before .before .before .before .before .before .before .before .wide .result) (c .before .before .before .before .before .before .wide2 .result) (c .before .before .before .before .before .before .before .before .wide .ensures) (c .before .before .before .before .before .before .wide2 .ensures))) (c .before .before .before .before .before .before .before .before .before .before .before .before .before .before .loop-test .taken)
+
+sub-tests : tie.Need-sub-tests Inv-loop μ-loop
+sub-tests c = c .before .before .before .before .before .scan-list .ensures .from
+
+add-tests : tie.Need-add-tests Inv-loop μ-loop
+add-tests c =
+    let a = c .before .before .before .before .before .before .before .before .before .before .before .before .before .before .before .before .before .before .before .before .before .before .before .before .before .before .before .before .before .before .args in
+    let l = c .before .before .before .before .before .before .before .before .before .before .before .before .before .before .before .before .before .before .before .before .before .loop in
+    let f = c .before .before .before .before .before .before .before .before .before .before .before .before .before .before .before .before .before .c .given .0 in
+    let p = c .before .before .before .before .before .before .before .before .before .before .before .before .before .before .before .before .before .before .before .before .before .before .before .before .before .before .before .before .before .before .pre in
+    let ls = lines (a .start-x .now) (a .start-y .now) (a .end-x .now) (a .end-y .now) in
+    record { fits = cells-small ls (a .cols) (a .cells) (a .offsets .now) (a .items .now) (a .cell) (a .i) (a .j) (a .first .now) (a .second .now) p (l .first) (l .second) (l .cell) (l .i) (l .j) (l .tests) (l .hits) (l .inv) (f .0) (f .1 .0) (f .1 .1 .0) (found (c .before .before .before .before .before .before .before .before .before .before .before .before .before .before .before .before .before)) _ (c .before .before .before .before .before .before .before .before .row-of .ensures ∙ rw (c .before .before .before .before .before .before .before .before .before .before .place-of .ensures, part-is (a .cells) (a .offsets .now) (a .items .now) (p .table) (l .cell) (l .i) (l .j) (f .0) (f .1 .0) (f .1 .1 .0) (found (c .before .before .before .before .before .before .before .before .before .before .before .before .before .before .before .before .before)) (c .before .before .before .before .before .before .before .before .before .before .before .before .before .before .wide .result) (c .before .before .before .before .before .before .before .before .before .before .before .before .wide2 .result) (c .before .before .before .before .before .before .before .before .before .before .before .before .before .before .wide .ensures) (c .before .before .before .before .before .before .before .before .before .before .before .before .wide2 .ensures))) _ (part-is (a .cells) (a .offsets .now) (a .items .now) (p .table) (l .cell) (l .i) (l .j) (f .0) (f .1 .0) (f .1 .1 .0) (found (c .before .before .before .before .before .before .before .before .before .before .before .before .before .before .before .before .before)) (c .before .before .before .before .before .before .before .before .before .before .before .before .before .before .wide .result) (c .before .before .before .before .before .before .before .before .before .before .before .before .wide2 .result) (c .before .before .before .before .before .before .before .before .before .before .before .before .before .before .wide .ensures) (c .before .before .before .before .before .before .before .before .before .before .before .before .wide2 .ensures)) _ _ (c .before .before .before .before .before .scan-list .result) (c .before .before .before .before .before .scan-list .ensures) }
+
+loop-less : tie.Need-loop-less Inv-loop μ-loop
+loop-less c =
+    let a = c .before .before .before .before .before .before .before .before .before .before .before .before .before .before .before .before .before .before .before .before .before .before .before .before .before .before .before .before .before .before .args in
+    let l = c .before .before .before .before .before .before .before .before .before .before .before .before .before .before .before .before .before .before .before .before .before .loop in
+    let f = c .before .before .before .before .before .before .before .before .before .before .before .before .before .before .before .before .before .c .given .0 in
+    let p = c .before .before .before .before .before .before .before .before .before .before .before .before .before .before .before .before .before .before .before .before .before .before .before .before .before .before .before .before .before .before .pre in
+    let ls = lines (a .start-x .now) (a .start-y .now) (a .end-x .now) (a .end-y .now) in
+    cells-less ls (a .cols) (a .cells) (a .offsets .now) (a .items .now) (a .cell) (a .i) (a .j) (a .first .now) (a .second .now) p (l .first) (l .second) (l .cell) (l .i) (l .j) (l .tests) (l .hits) (l .inv) (f .0) (f .1 .0) (f .1 .1 .0) (found (c .before .before .before .before .before .before .before .before .before .before .before .before .before .before .before .before .before)) _ (c .before .before .before .before .before .before .before .before .row-of .ensures ∙ rw (c .before .before .before .before .before .before .before .before .before .before .place-of .ensures, part-is (a .cells) (a .offsets .now) (a .items .now) (p .table) (l .cell) (l .i) (l .j) (f .0) (f .1 .0) (f .1 .1 .0) (found (c .before .before .before .before .before .before .before .before .before .before .before .before .before .before .before .before .before)) (c .before .before .before .before .before .before .before .before .before .before .before .before .before .before .wide .result) (c .before .before .before .before .before .before .before .before .before .before .before .before .wide2 .result) (c .before .before .before .before .before .before .before .before .before .before .before .before .before .before .wide .ensures) (c .before .before .before .before .before .before .before .before .before .before .before .before .wide2 .ensures))) _ (part-is (a .cells) (a .offsets .now) (a .items .now) (p .table) (l .cell) (l .i) (l .j) (f .0) (f .1 .0) (f .1 .1 .0) (found (c .before .before .before .before .before .before .before .before .before .before .before .before .before .before .before .before .before)) (c .before .before .before .before .before .before .before .before .before .before .before .before .before .before .wide .result) (c .before .before .before .before .before .before .before .before .before .before .before .before .wide2 .result) (c .before .before .before .before .before .before .before .before .before .before .before .before .before .before .wide .ensures) (c .before .before .before .before .before .before .before .before .before .before .before .before .wide2 .ensures)) _ _ (c .before .before .before .before .before .scan-list .result) (c .before .before .before .before .before .scan-list .ensures) (later-in (a .cells) (a .offsets .now) (a .items .now) (p .table) (l .cell) (l .i) (l .j) (f .0) (f .1 .0) (f .1 .1 .0) (found (c .before .before .before .before .before .before .before .before .before .before .before .before .before .before .before .before .before)) (c .before .before .before .before .before .before .before .before .before .before .before .before .before .before .wide .result) (c .before .before .before .before .before .before .before .before .before .before .before .before .wide2 .result) (c .before .before .before .before .before .before .before .before .before .before .before .before .before .before .wide .ensures) (c .before .before .before .before .before .before .before .before .before .before .before .before .wide2 .ensures)) (c .before .before .before .before .before .before .before .before .before .before .before .before .before .before .before .before .before .before .before .before .loop-test .taken)
+
+loop-again : tie.Need-loop-again Inv-loop μ-loop
+loop-again c =
+    let a = c .before .before .before .before .before .before .before .before .before .before .before .before .before .before .before .before .before .before .before .before .before .before .before .before .before .before .before .before .before .before .args in
+    let l = c .before .before .before .before .before .before .before .before .before .before .before .before .before .before .before .before .before .before .before .before .before .loop in
+    let f = c .before .before .before .before .before .before .before .before .before .before .before .before .before .before .before .before .before .c .given .0 in
+    let p = c .before .before .before .before .before .before .before .before .before .before .before .before .before .before .before .before .before .before .before .before .before .before .before .before .before .before .before .before .before .before .pre in
+    let ls = lines (a .start-x .now) (a .start-y .now) (a .end-x .now) (a .end-y .now) in
+    cells-turn ls (a .cols) (a .cells) (a .offsets .now) (a .items .now) (a .cell) (a .i) (a .j) (a .first .now) (a .second .now) p (l .first) (l .second) (l .cell) (l .i) (l .j) (l .tests) (l .hits) (l .inv) (f .0) (f .1 .0) (f .1 .1 .0) (found (c .before .before .before .before .before .before .before .before .before .before .before .before .before .before .before .before .before)) _ (c .before .before .before .before .before .before .before .before .row-of .ensures ∙ rw (c .before .before .before .before .before .before .before .before .before .before .place-of .ensures, part-is (a .cells) (a .offsets .now) (a .items .now) (p .table) (l .cell) (l .i) (l .j) (f .0) (f .1 .0) (f .1 .1 .0) (found (c .before .before .before .before .before .before .before .before .before .before .before .before .before .before .before .before .before)) (c .before .before .before .before .before .before .before .before .before .before .before .before .before .before .wide .result) (c .before .before .before .before .before .before .before .before .before .before .before .before .wide2 .result) (c .before .before .before .before .before .before .before .before .before .before .before .before .before .before .wide .ensures) (c .before .before .before .before .before .before .before .before .before .before .before .before .wide2 .ensures))) _ (part-is (a .cells) (a .offsets .now) (a .items .now) (p .table) (l .cell) (l .i) (l .j) (f .0) (f .1 .0) (f .1 .1 .0) (found (c .before .before .before .before .before .before .before .before .before .before .before .before .before .before .before .before .before)) (c .before .before .before .before .before .before .before .before .before .before .before .before .before .before .wide .result) (c .before .before .before .before .before .before .before .before .before .before .before .before .wide2 .result) (c .before .before .before .before .before .before .before .before .before .before .before .before .before .before .wide .ensures) (c .before .before .before .before .before .before .before .before .before .before .before .before .wide2 .ensures)) _ _ (c .before .before .before .before .before .scan-list .result) (c .before .before .before .before .before .scan-list .ensures)
+
+same-length : tie.Need-same-length Inv-loop μ-loop
+same-length c =
+    let a = c .before .before .before .before .before .before .before .before .before .before .args in
+    let l = c .before .loop in
+    let p = c .before .before .before .before .before .before .before .before .before .before .pre in
+    let ls = lines (a .start-x .now) (a .start-y .now) (a .end-x .now) (a .end-y .now) in
+    cells-long ls (a .cols) (a .cells) (a .offsets .now) (a .items .now) (a .cell) (a .i) (a .j) (a .first .now) (a .second .now) p (l .first) (l .second) (l .cell) (l .i) (l .j) (l .tests) (l .hits) (l .inv)
+
+same-length-2 : tie.Need-same-length-2 Inv-loop μ-loop
+same-length-2 c =
+    let a = c .before .before .before .before .before .before .before .before .before .before .args in
+    let l = c .before .loop in
+    let p = c .before .before .before .before .before .before .before .before .before .before .pre in
+    let ls = lines (a .start-x .now) (a .start-y .now) (a .end-x .now) (a .end-y .now) in
+    cells-long-2 ls (a .cols) (a .cells) (a .offsets .now) (a .items .now) (a .cell) (a .i) (a .j) (a .first .now) (a .second .now) p (l .first) (l .second) (l .cell) (l .i) (l .j) (l .tests) (l .hits) (l .inv)
+
+returns : tie.Need-returns Inv-loop μ-loop
+returns c =
+    let a = c .before .before .before .before .before .before .before .before .before .before .args in
+    let l = c .before .loop in
+    let p = c .before .before .before .before .before .before .before .before .before .before .pre in
+    let ls = lines (a .start-x .now) (a .start-y .now) (a .end-x .now) (a .end-y .now) in
+    cells-full ls (a .cols) (a .cells) (a .offsets .now) (a .items .now) (a .cell) (a .i) (a .j) (a .first .now) (a .second .now) p (l .first) (l .second) (l .cell) (l .i) (l .j) (l .tests) (l .hits) (l .inv) (omega (arith, cells-long ls (a .cols) (a .cells) (a .offsets .now) (a .items .now) (a .cell) (a .i) (a .j) (a .first .now) (a .second .now) p (l .first) (l .second) (l .cell) (l .i) (l .j) (l .tests) (l .hits) (l .inv), c .loop-test .left))
+
+same-length-3 : tie.Need-same-length-3 Inv-loop μ-loop
+same-length-3 c =
+    let a = c .before .before .before .before .before .before .before .before .before .before .before .before .before .args in
+    let l = c .before .before .before .before .loop in
+    let p = c .before .before .before .before .before .before .before .before .before .before .before .before .before .pre in
+    let ls = lines (a .start-x .now) (a .start-y .now) (a .end-x .now) (a .end-y .now) in
+    cells-long ls (a .cols) (a .cells) (a .offsets .now) (a .items .now) (a .cell) (a .i) (a .j) (a .first .now) (a .second .now) p (l .first) (l .second) (l .cell) (l .i) (l .j) (l .tests) (l .hits) (l .inv)
+
+same-length-4 : tie.Need-same-length-4 Inv-loop μ-loop
+same-length-4 c =
+    let a = c .before .before .before .before .before .before .before .before .before .before .before .before .before .args in
+    let l = c .before .before .before .before .loop in
+    let p = c .before .before .before .before .before .before .before .before .before .before .before .before .before .pre in
+    let ls = lines (a .start-x .now) (a .start-y .now) (a .end-x .now) (a .end-y .now) in
+    cells-long-2 ls (a .cols) (a .cells) (a .offsets .now) (a .items .now) (a .cell) (a .i) (a .j) (a .first .now) (a .second .now) p (l .first) (l .second) (l .cell) (l .i) (l .j) (l .tests) (l .hits) (l .inv)
+
+returns-2 : tie.Need-returns-2 Inv-loop μ-loop
+returns-2 c =
+    let a = c .before .before .before .before .before .before .before .before .before .before .before .before .before .args in
+    let l = c .before .before .before .before .loop in
+    let p = c .before .before .before .before .before .before .before .before .before .before .before .before .before .pre in
+    let ls = lines (a .start-x .now) (a .start-y .now) (a .end-x .now) (a .end-y .now) in
+    cells-over ls (a .cols) (a .cells) (a .offsets .now) (a .items .now) (a .cell) (a .i) (a .j) (a .first .now) (a .second .now) p (l .first) (l .second) (l .cell) (l .i) (l .j) (l .tests) (l .hits) (l .inv) (cell-past (a .cells) (a .offsets .now) (a .items .now) (l .cell) (l .i) (l .j) _ (c .before .before .settle-cell .ensures) (c .enum-told .given .1))
+
+pub run-cells-spec : {M : Type 1} → statement M
+run-cells-spec =
+    tie.close
+    (tie.spec
+    Inv-loop
+    μ-loop
+    loop-holds
+    settle-cell-requires
+    enum-known-c
+    enum-told
+    mul-wide
+    shared-slice-read-wide
+    wide-requires
+    add-wide
+    mul-wide-2
+    shared-slice-read-wide-2
+    wide-requires-2
+    mul-list
+    sub-list
+    part-list-start
+    part-list-end
+    cast-place-of
+    place-of-requires
+    mul-row-of
+    shared-slice-read-row-of
+    row-of-requires
+    scan-list-requires
+    sub-tests
+    add-tests
+    loop-less
+    loop-again
+    same-length
+    same-length-2
+    returns
+    same-length-3
+    same-length-4
+    returns-2)

@@ -1,0 +1,115 @@
+// Where a visit stands, by value: in the cells, the cell and the places i and j in its list; among the globals, the position p, the next
+// line k, and the position q of the next global that is passed over.
+ghost use mathlib.Core.Path.{_≡_};
+ghost use Rattle.visit.specs.Inside.{CellAsks, CellFound, stopOf, GlobalAsks, GlobalFound, StopAsks};
+
+pub(crate) struct Cursor {
+    pub cell: usize,
+    pub i: usize,
+    pub j: usize,
+    pub p: usize,
+    pub q: usize,
+    pub k: u32,
+}
+
+pub(crate) enum CellAt {
+    At { cell: usize, i: usize, j: usize },
+    Past,
+}
+
+pub(crate) enum GlobalAt {
+    At {
+        p: usize,
+        q: usize,
+        k: u32,
+        stop: u32,
+    },
+    Past,
+}
+
+pub(crate) fn wide(x: u32) -> usize
+    ensures { λ r. ⌜ r ≡ x ⌝ }
+{
+    x as usize
+}
+
+// The next pair of the cells' lists, from a place on: a row that is done, and lists that are done, are passed over.
+pub(crate) fn settle_cell(
+    cells: usize,
+    offsets: &[u32],
+    items: &[u32],
+    cell: usize,
+    i: usize,
+    j: usize,
+) -> CellAt
+    requires { ⌜ CellAsks cells (now offsets) (now items) cell i j ⌝ }
+    ensures { λ r. ⌜ CellFound cells (now (offsets .entry)) (now (items .entry)) cell i j r ⌝ }
+{
+    let mut cell = cell;
+    let mut i = i;
+    let mut j = j;
+    while cell < cells {
+        let from = wide(offsets[cell]);
+        let to = wide(offsets[cell + 1]);
+        let len = to - from;
+        if j < len {
+            return CellAt::At { cell, i, j };
+        }
+        let next = i + 1;
+        let after = i + 2;
+        if after < len {
+            return CellAt::At {
+                cell,
+                i: next,
+                j: after,
+            };
+        }
+        cell = cell + 1;
+        i = 0;
+        j = 1;
+    }
+    CellAt::Past
+}
+
+// The line that the next global stands at, or the number of lines where none is left to pass over.
+fn stop_at(lines: u32, globals: &[u32], p: usize, q: usize) -> u32
+    requires { ⌜ StopAsks (now globals) p q ⌝ }
+    ensures { λ r. ⌜ r ≡ stopOf lines (now (globals .entry)) p q ⌝ }
+{
+    if q <= p {
+        return globals[q];
+    }
+    lines
+}
+
+// The next run of lines of a global, from a place on: it ends before the next global that is passed over.
+pub(crate) fn settle_global(
+    lines: u32,
+    count: usize,
+    globals: &[u32],
+    p: usize,
+    q: usize,
+    k: u32,
+) -> GlobalAt
+    requires { ⌜ GlobalAsks lines count (now globals) p q k ⌝ }
+    ensures { λ r. ⌜ GlobalFound lines count (now (globals .entry)) p q k r ⌝ }
+{
+    let mut p = p;
+    let mut q = q;
+    let mut k = k;
+    while p < count {
+        let stop = stop_at(lines, globals, p, q);
+        if k < stop {
+            return GlobalAt::At { p, q, k, stop };
+        }
+        if q <= p {
+            q = q + 1;
+            k = stop + 1;
+        } else {
+            p = p + 1;
+            q = 0;
+            k = 0;
+        }
+    }
+    GlobalAt::Past
+}

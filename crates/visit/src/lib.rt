@@ -1,0 +1,42 @@
+// A visit of standing tables: a list by its place, one test by its bookmark, and batches of tests from a bookmark.
+use grid::Refusal;
+
+mod boxes;
+mod cursor;
+pub mod lists;
+mod scan;
+mod seek;
+pub mod visits;
+
+// Where a test is made: a cell, or a global line by its position.
+pub enum Place {
+    Cell { row: u32, col: u32 },
+    Global(usize),
+}
+
+// One test: its place, its two lines, and whether their boxes overlap.
+pub struct Test {
+    pub place: Place,
+    pub first: u32,
+    pub second: u32,
+    pub overlap: bool,
+}
+
+// What a bookmark stands at: a test, the end mark, or a refusal.
+pub enum Answer {
+    Made(Test),
+    End,
+    Refused(Refusal),
+}
+
+// What a batch did: the tests made, the overlaps among them, and the new bookmark.
+pub struct Tally {
+    pub tests: u64,
+    pub overlaps: u64,
+    pub bookmark: u64,
+}
+
+pub enum BatchAnswer {
+    Done(Tally),
+    Refused(Refusal),
+}

@@ -1,0 +1,407 @@
+// A row of a visit is the tests that share their place and their first line. The scan of a row makes them one after another; the runs go
+// from row to row, until the outputs are full or no test is left.
+use crate::Place;
+use crate::Test;
+use crate::boxes;
+use crate::boxes::Bounds;
+use crate::cursor;
+use crate::cursor::CellAt;
+use crate::cursor::Cursor;
+use crate::cursor::GlobalAt;
+use crate::cursor::wide;
+use grid::Grid;
+ghost use mathlib.Core.Path.{_≡_};
+ghost use Prim.Native.Nat.{_<_, _-_};
+ghost use lib.ListN.{length, drop};
+ghost use Rattle.grid.specs.Domain.{lines};
+ghost use Rattle.visit.specs.Tests.{pair, withEach, placeOf};
+ghost use Rattle.visit.specs.Entries.{beside, testOf};
+ghost use Rattle.visit.specs.Inside.{LineAsks, rowOf, nextStep, TestAsks, TestInAsks, TestBeforeAsks, ListAsks, InList, LinesAsk, InLines, numbers, CellsAsk, CellsRan, GlobalsAsk, GlobalsRan, Ready, restOf, RunAsks, RanAll};
+
+// The first line of a row, with its box.
+pub(crate) struct Row {
+    pub place: Place,
+    pub first: u32,
+    pub bounds: Bounds,
+}
+
+// One test, or the end mark.
+pub(crate) enum Step {
+    Made(Test),
+    End,
+}
+
+pub(crate) struct ListEnd {
+    pub j: usize,
+    pub hits: usize,
+}
+
+pub(crate) struct LinesEnd {
+    pub k: u32,
+    pub hits: usize,
+}
+
+pub(crate) struct Ran {
+    pub tests: u64,
+    pub hits: usize,
+}
+
+// The place of a cell, in row order.
+fn place_of(cols: u32, cell: u32) -> Place
+    requires { ⌜ 0 < cols ⌝ }
+    ensures { λ r. ⌜ r ≡ placeOf cols cell ⌝ }
+{
+    Place::Cell {
+        row: cell / cols,
+        col: cell % cols,
+    }
+}
+
+fn row_of(
+    place: Place,
+    first: u32,
+    start_x: &[f64],
+    start_y: &[f64],
+    end_x: &[f64],
+    end_y: &[f64],
+) -> Row
+    requires { ⌜ LineAsks (lines (now «start_x») (now «start_y») (now «end_x») (now «end_y»)) first ⌝ }
+    ensures { λ r. ⌜ r ≡ rowOf (lines (now («start_x» .entry)) (now («start_y» .entry)) (now («end_x» .entry)) (now («end_y» .entry))) place first ⌝ }
+{
+    let bounds = boxes::bounds_at(start_x, start_y, end_x, end_y, first);
+    Row {
+        place,
+        first,
+        bounds,
+    }
+}
+
+// The test of a row with one line more.
+fn test_with(
+    row: Row,
+    second: u32,
+    start_x: &[f64],
+    start_y: &[f64],
+    end_x: &[f64],
+    end_y: &[f64],
+) -> Test
+    requires { ⌜ TestAsks (lines (now «start_x») (now «start_y») (now «end_x») (now «end_y»)) row second ⌝ }
+    ensures { λ r. ⌜ r ≡ testOf (lines (now («start_x» .entry)) (now («start_y» .entry)) (now («end_x» .entry)) (now («end_y» .entry))) (pair (row .place) (row .first) second) ⌝ }
+{
+    let other = boxes::bounds_at(start_x, start_y, end_x, end_y, second);
+    let bounds = row.bounds;
+    let overlap = bounds.meets(other);
+    let place = row.place;
+    Test {
+        place,
+        first: row.first,
+        second,
+        overlap,
+    }
+}
+
+// The test with entry j of a list, or the end mark.
+fn test_in(
+    list: &[u32],
+    j: usize,
+    row: Row,
+    start_x: &[f64],
+    start_y: &[f64],
+    end_x: &[f64],
+    end_y: &[f64],
+) -> Step
+    requires { ⌜ TestInAsks (lines (now «start_x») (now «start_y») (now «end_x») (now «end_y»)) row (now list) ⌝ }
+    ensures { λ r. ⌜ r ≡ nextStep (lines (now («start_x» .entry)) (now («start_y» .entry)) (now («end_x» .entry)) (now («end_y» .entry))) (withEach (row .place) (row .first) (drop j (now (list .entry)))) ⌝ }
+{
+    if list.len() <= j {
+        return Step::End;
+    }
+    Step::Made(test_with(row, list[j], start_x, start_y, end_x, end_y))
+}
+
+// The test with line k, or the end mark from `stop` on.
+fn test_before(
+    stop: u32,
+    k: u32,
+    row: Row,
+    start_x: &[f64],
+    start_y: &[f64],
+    end_x: &[f64],
+    end_y: &[f64],
+) -> Step
+    requires { ⌜ TestBeforeAsks (lines (now «start_x») (now «start_y») (now «end_x») (now «end_y»)) row stop ⌝ }
+    ensures { λ r. ⌜ r ≡ nextStep (lines (now («start_x» .entry)) (now («start_y» .entry)) (now («end_x» .entry)) (now («end_y» .entry))) (withEach (row .place) (row .first) (numbers (stop - k) k)) ⌝ }
+{
+    if stop <= k {
+        return Step::End;
+    }
+    Step::Made(test_with(row, k, start_x, start_y, end_x, end_y))
+}
+
+// The row of a list from its entry j on. Each pair is written; one that does not overlap is written over.
+fn scan_list(
+    list: &[u32],
+    row: Row,
+    j: usize,
+    start_x: &[f64],
+    start_y: &[f64],
+    end_x: &[f64],
+    end_y: &[f64],
+    first: &mut [u32],
+    second: &mut [u32],
+    hits: usize,
+) -> ListEnd
+    requires { ⌜ ListAsks (lines (now «start_x») (now «start_y») (now «end_x») (now «end_y»)) row (now list) j (now first) (now second) hits ⌝ }
+    ensures { λ r. ⌜ InList (lines (now («start_x» .entry)) (now («start_y» .entry)) (now («end_x» .entry)) (now («end_y» .entry))) row (now (list .entry)) j (now (first .entry)) (now (second .entry)) hits (now (first .exit)) (now (second .exit)) r ⌝ }
+{
+    let mut j = j;
+    let mut hits = hits;
+    while hits < first.len() {
+        let Step::Made(test) = test_in(list, j, row, start_x, start_y, end_x, end_y) else {
+            break;
+        };
+        first[hits] = test.first;
+        second[hits] = test.second;
+        j = j + 1;
+        if test.overlap {
+            hits = hits + 1;
+        }
+    }
+    ListEnd { j, hits }
+}
+
+// The row of a global from line k to before `stop`.
+fn scan_lines(
+    row: Row,
+    k: u32,
+    stop: u32,
+    start_x: &[f64],
+    start_y: &[f64],
+    end_x: &[f64],
+    end_y: &[f64],
+    first: &mut [u32],
+    second: &mut [u32],
+    hits: usize,
+) -> LinesEnd
+    requires { ⌜ LinesAsk (lines (now «start_x») (now «start_y») (now «end_x») (now «end_y»)) row k stop (now first) (now second) hits ⌝ }
+    ensures { λ r. ⌜ InLines (lines (now («start_x» .entry)) (now («start_y» .entry)) (now («end_x» .entry)) (now («end_y» .entry))) row k stop (now (first .entry)) (now (second .entry)) hits (now (first .exit)) (now (second .exit)) r ⌝ }
+{
+    let mut k = k;
+    let mut hits = hits;
+    while hits < first.len() {
+        let Step::Made(test) = test_before(stop, k, row, start_x, start_y, end_x, end_y) else {
+            break;
+        };
+        first[hits] = test.first;
+        second[hits] = test.second;
+        k = k + 1;
+        if test.overlap {
+            hits = hits + 1;
+        }
+    }
+    LinesEnd { k, hits }
+}
+
+// From row to row through the cells. The items between two offsets are handed on as a part.
+fn run_cells(
+    cols: u32,
+    cells: usize,
+    offsets: &[u32],
+    items: &[u32],
+    cell: usize,
+    i: usize,
+    j: usize,
+    start_x: &[f64],
+    start_y: &[f64],
+    end_x: &[f64],
+    end_y: &[f64],
+    first: &mut [u32],
+    second: &mut [u32],
+) -> Ran
+    requires { ⌜ CellsAsk (lines (now «start_x») (now «start_y») (now «end_x») (now «end_y»)) cols cells (now offsets) (now items) cell i j (now first) (now second) ⌝ }
+    ensures { λ r. ⌜ CellsRan (lines (now («start_x» .entry)) (now («start_y» .entry)) (now («end_x» .entry)) (now («end_y» .entry))) cols cells (now (offsets .entry)) (now (items .entry)) cell i j (now (first .entry)) (now (second .entry)) (now (first .exit)) (now (second .exit)) r ⌝ }
+{
+    let mut cell = cell;
+    let mut i = i;
+    let mut j = j;
+    let mut tests: u64 = 0;
+    let mut hits: usize = 0;
+    while hits < first.len() {
+        let CellAt::At {
+            cell: c,
+            i: a,
+            j: b,
+        } = cursor::settle_cell(cells, offsets, items, cell, i, j)
+        else {
+            break;
+        };
+        let from = wide(offsets[c]);
+        let to = wide(offsets[c + 1]);
+        let list = &items[from..to];
+        let place = place_of(cols, c as u32);
+        let row = row_of(place, list[a], start_x, start_y, end_x, end_y);
+        let end = scan_list(
+            list,
+            row,
+            b,
+            start_x,
+            start_y,
+            end_x,
+            end_y,
+            first,
+            second,
+            hits,
+        );
+        tests = tests + ((end.j - b) as u64);
+        hits = end.hits;
+        cell = c;
+        i = a;
+        j = end.j;
+    }
+    Ran { tests, hits }
+}
+
+// From run to run through the globals.
+fn run_globals(
+    globals: &[u32],
+    count: usize,
+    p: usize,
+    q: usize,
+    k: u32,
+    start_x: &[f64],
+    start_y: &[f64],
+    end_x: &[f64],
+    end_y: &[f64],
+    first: &mut [u32],
+    second: &mut [u32],
+    hits: usize,
+) -> Ran
+    requires { ⌜ GlobalsAsk (lines (now «start_x») (now «start_y») (now «end_x») (now «end_y»)) count (now globals) p q k (now first) (now second) hits ⌝ }
+    ensures { λ r. ⌜ GlobalsRan (lines (now («start_x» .entry)) (now («start_y» .entry)) (now («end_x» .entry)) (now («end_y» .entry))) count (now (globals .entry)) p k (now (first .entry)) (now (second .entry)) hits (now (first .exit)) (now (second .exit)) r ⌝ }
+{
+    let n = start_x.len() as u32;
+    let mut p = p;
+    let mut q = q;
+    let mut k = k;
+    let mut tests: u64 = 0;
+    let mut hits = hits;
+    while hits < first.len() {
+        let GlobalAt::At {
+            p: a,
+            q: b,
+            k: d,
+            stop,
+        } = cursor::settle_global(n, count, globals, p, q, k)
+        else {
+            break;
+        };
+        let row = row_of(Place::Global(a), globals[a], start_x, start_y, end_x, end_y);
+        let end = scan_lines(
+            row,
+            d,
+            stop,
+            start_x,
+            start_y,
+            end_x,
+            end_y,
+            first,
+            second,
+            hits,
+        );
+        tests = tests + ((end.k - d) as u64);
+        hits = end.hits;
+        p = a;
+        q = b;
+        k = end.k;
+    }
+    Ran { tests, hits }
+}
+
+// From a cursor on: the cells, and then the globals.
+pub(crate) fn run(
+    cursor: Cursor,
+    start_x: &[f64],
+    start_y: &[f64],
+    end_x: &[f64],
+    end_y: &[f64],
+    grid: Grid,
+    offsets: &[u32],
+    items: &[u32],
+    globals: &[u32],
+    global_count: usize,
+    first: &mut [u32],
+    second: &mut [u32],
+) -> Ran
+    requires { ⌜ RunAsks (lines (now «start_x») (now «start_y») (now «end_x») (now «end_y»)) grid (beside (lines (now «start_x») (now «start_y») (now «end_x») (now «end_y»)) grid (now offsets) (now items) (now globals) «global_count») cursor (now first) (now second) ⌝ }
+    ensures { λ r. ⌜ RanAll (lines (now («start_x» .entry)) (now («start_y» .entry)) (now («end_x» .entry)) (now («end_y» .entry))) (beside (lines (now («start_x» .entry)) (now («start_y» .entry)) (now («end_x» .entry)) (now («end_y» .entry))) grid (now (offsets .entry)) (now (items .entry)) (now (globals .entry)) «global_count») cursor (now (first .entry)) (now (second .entry)) (now (first .exit)) (now (second .exit)) r ⌝ }
+{
+    let cells = wide(grid.rows) * wide(grid.cols);
+    let listed = run_cells(
+        grid.cols,
+        cells,
+        offsets,
+        items,
+        cursor.cell,
+        cursor.i,
+        cursor.j,
+        start_x,
+        start_y,
+        end_x,
+        end_y,
+        first,
+        second,
+    );
+    let global = run_globals(
+        globals,
+        global_count,
+        cursor.p,
+        cursor.q,
+        cursor.k,
+        start_x,
+        start_y,
+        end_x,
+        end_y,
+        first,
+        second,
+        listed.hits,
+    );
+    Ran {
+        tests: listed.tests + global.tests,
+        hits: global.hits,
+    }
+}
+
+// The one test at a cursor, or the end mark.
+pub(crate) fn test_from(
+    cursor: Cursor,
+    start_x: &[f64],
+    start_y: &[f64],
+    end_x: &[f64],
+    end_y: &[f64],
+    grid: Grid,
+    offsets: &[u32],
+    items: &[u32],
+    globals: &[u32],
+    global_count: usize,
+) -> Step
+    requires { ⌜ Ready (lines (now «start_x») (now «start_y») (now «end_x») (now «end_y»)) grid (beside (lines (now «start_x») (now «start_y») (now «end_x») (now «end_y»)) grid (now offsets) (now items) (now globals) «global_count») cursor ⌝ }
+    ensures { λ r. ⌜ r ≡ nextStep (lines (now («start_x» .entry)) (now («start_y» .entry)) (now («end_x» .entry)) (now («end_y» .entry))) (restOf (beside (lines (now («start_x» .entry)) (now («start_y» .entry)) (now («end_x» .entry)) (now («end_y» .entry))) grid (now (offsets .entry)) (now (items .entry)) (now (globals .entry)) «global_count») cursor) ⌝ }
+{
+    let cells = wide(grid.rows) * wide(grid.cols);
+    let found = cursor::settle_cell(cells, offsets, items, cursor.cell, cursor.i, cursor.j);
+    if let CellAt::At { cell, i, j } = found {
+        let from = wide(offsets[cell]);
+        let to = wide(offsets[cell + 1]);
+        let list = &items[from..to];
+        let place = place_of(grid.cols, cell as u32);
+        let row = row_of(place, list[i], start_x, start_y, end_x, end_y);
+        return test_in(list, j, row, start_x, start_y, end_x, end_y);
+    }
+    let n = start_x.len() as u32;
+    let line = cursor::settle_global(n, global_count, globals, cursor.p, cursor.q, cursor.k);
+    if let GlobalAt::At { p, q: _, k, stop } = line {
+        let row = row_of(Place::Global(p), globals[p], start_x, start_y, end_x, end_y);
+        return test_before(stop, k, row, start_x, start_y, end_x, end_y);
+    }
+    Step::End
+}

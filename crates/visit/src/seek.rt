@@ -1,0 +1,174 @@
+// The cursor of a bookmark: whole cells, whole rows, whole globals and runs of lines are passed by their counts, never test by test.
+use crate::cursor::Cursor;
+use crate::cursor::wide;
+use grid::Grid;
+ghost use mathlib.Core.Path.{_≡_};
+ghost use Prim.Native.Nat.{_<_};
+ghost use Rattle.grid.specs.declared.Check.the-variants.{Fine};
+ghost use Rattle.grid.specs.Domain.{lines};
+ghost use Rattle.visit.specs.Entries.{beside, visitCheck};
+ghost use Rattle.visit.specs.Inside.{tri, CellsFit, CellSought, RowSought, GlobalsFit, GlobalSought, SoughtAsks, LineSought, SeekIs};
+
+pub(crate) enum Sought {
+    At(Cursor),
+    Beyond,
+}
+
+// Where it was found, and how many tests of it are to be passed still.
+struct Found {
+    at: usize,
+    left: u64,
+}
+
+struct FoundLine {
+    q: usize,
+    k: u32,
+}
+
+fn wide64(x: u32) -> u64
+    ensures { λ r. ⌜ r ≡ x ⌝ }
+{
+    x as u64
+}
+
+// How many tests a list of k lines has.
+fn triangle(k: u32) -> u64
+    ensures { λ r. ⌜ r ≡ tri k ⌝ }
+{
+    let w = wide64(k);
+    (w * w - w) / 2
+}
+
+// The cells that are passed whole.
+fn seek_cell(left: u64, cells: usize, offsets: &[u32], items: &[u32]) -> Found
+    requires { ⌜ CellsFit cells (now offsets) (now items) ⌝ }
+    ensures { λ r. ⌜ CellSought cells (now (offsets .entry)) (now (items .entry)) left (r .at) (r .left) ⌝ }
+{
+    let mut left = left;
+    let mut cell = 0;
+    while cell < cells {
+        let t = triangle(offsets[cell + 1] - offsets[cell]);
+        if left < t {
+            return Found { at: cell, left };
+        }
+        left = left - t;
+        cell = cell + 1;
+    }
+    Found { at: cell, left }
+}
+
+// The rows of a list of `len` lines that are passed whole.
+fn seek_row(left: u64, len: u32) -> Found
+    requires { ⌜ left < tri len ⌝ }
+    ensures { λ r. ⌜ RowSought len left (r .at) (r .left) ⌝ }
+{
+    let mut left = left;
+    let mut i = 0u32;
+    while i < len {
+        let row = wide64(len - i - 1);
+        if left < row {
+            return Found { at: wide(i), left };
+        }
+        left = left - row;
+        i = i + 1;
+    }
+    Found { at: wide(i), left }
+}
+
+// The globals that are passed whole.
+fn seek_global(left: u64, lines: u32, count: usize, globals: &[u32]) -> Found
+    requires { ⌜ GlobalsFit lines count (now globals) ⌝ }
+    ensures { λ r. ⌜ GlobalSought lines count (now (globals .entry)) left (r .at) (r .left) ⌝ }
+{
+    let mut left = left;
+    let n = wide64(lines);
+    let mut p = 0;
+    while p < count {
+        let row = n - (p as u64) - 1;
+        if left < row {
+            return Found { at: p, left };
+        }
+        left = left - row;
+        p = p + 1;
+    }
+    Found { at: p, left }
+}
+
+// The lines of a global that are passed.
+fn seek_line(left: u32, lines: u32, count: usize, globals: &[u32], p: usize) -> FoundLine
+    requires { ⌜ SoughtAsks lines count (now globals) p left ⌝ }
+    ensures { λ r. ⌜ LineSought lines count (now (globals .entry)) p left (r .q) (r .k) ⌝ }
+{
+    let mut left = left;
+    let mut q = 0;
+    let mut k = 0u32;
+    while q <= p {
+        let g = globals[q];
+        if left < g - k {
+            return FoundLine { q, k: k + left };
+        }
+        left = left - (g - k);
+        k = g + 1;
+        q = q + 1;
+    }
+    FoundLine { q, k: k + left }
+}
+
+// The cursor at a bookmark, or that it lies beyond the end.
+pub(crate) fn seek(
+    bookmark: u64,
+    start_x: &[f64],
+    start_y: &[f64],
+    end_x: &[f64],
+    end_y: &[f64],
+    grid: Grid,
+    offsets: &[u32],
+    items: &[u32],
+    globals: &[u32],
+    global_count: usize,
+) -> Sought
+    requires { ⌜ visitCheck (lines (now «start_x») (now «start_y») (now «end_x») (now «end_y»)) grid (beside (lines (now «start_x») (now «start_y») (now «end_x») (now «end_y»)) grid (now offsets) (now items) (now globals) «global_count») ≡ Fine ⌝ }
+    ensures { λ r. ⌜ SeekIs (lines (now («start_x» .entry)) (now («start_y» .entry)) (now («end_x» .entry)) (now («end_y» .entry))) grid (beside (lines (now («start_x» .entry)) (now («start_y» .entry)) (now («end_x» .entry)) (now («end_y» .entry))) grid (now (offsets .entry)) (now (items .entry)) (now (globals .entry)) «global_count») bookmark r ⌝ }
+{
+    let cells = wide(grid.rows) * wide(grid.cols);
+    let found = seek_cell(bookmark, cells, offsets, items);
+    let cell = found.at;
+    if cell < cells {
+        let row = seek_row(found.left, offsets[cell + 1] - offsets[cell]);
+        let i = row.at;
+        let j = i + 1 + (row.left as usize);
+        return Sought::At(Cursor {
+            cell,
+            i,
+            j,
+            p: 0,
+            q: 0,
+            k: 0,
+        });
+    }
+    let n = start_x.len() as u32;
+    let global = seek_global(found.left, n, global_count, globals);
+    let p = global.at;
+    if p < global_count {
+        let line = seek_line(global.left as u32, n, global_count, globals, p);
+        return Sought::At(Cursor {
+            cell: cells,
+            i: 0,
+            j: 1,
+            p,
+            q: line.q,
+            k: line.k,
+        });
+    }
+    if 0 < global.left {
+        return Sought::Beyond;
+    }
+    Sought::At(Cursor {
+        cell: cells,
+        i: 0,
+        j: 1,
+        p: global_count,
+        q: 0,
+        k: 0,
+    })
+}

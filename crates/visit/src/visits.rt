@@ -1,0 +1,183 @@
+// The two entries of a visit: one test by its bookmark, and a batch from a bookmark. Each checks all that it is lent, once, and refuses
+// before it writes.
+use crate::Answer;
+use crate::BatchAnswer;
+use crate::Tally;
+use crate::scan;
+use crate::scan::Step;
+use crate::seek;
+use crate::seek::Sought;
+use grid::Check;
+use grid::Grid;
+use grid::Refusal;
+ghost use mathlib.Core.Path.{_≡_};
+ghost use Rattle.grid.specs.Domain.{lines};
+ghost use Rattle.visit.specs.Entries.{beside, visitCheck, testAt, BatchIs};
+
+// Refusals 3, 2, 1, 8 and 10, in that order.
+fn check_visit(
+    start_x: &[f64],
+    start_y: &[f64],
+    end_x: &[f64],
+    end_y: &[f64],
+    grid: Grid,
+    offsets: &[u32],
+    items: &[u32],
+    globals: &[u32],
+    global_count: usize,
+) -> Check
+    ensures { λ r. ⌜ r ≡ visitCheck (lines (now («start_x» .entry)) (now («start_y» .entry)) (now («end_x» .entry)) (now («end_y» .entry))) grid (beside (lines (now («start_x» .entry)) (now («start_y» .entry)) (now («end_x» .entry)) (now («end_y» .entry))) grid (now (offsets .entry)) (now (items .entry)) (now (globals .entry)) «global_count») ⌝ }
+{
+    let lines = grid::checks::check_lines(start_x, start_y, end_x, end_y);
+    if let Check::Refused(r) = lines {
+        return Check::Refused(r);
+    }
+    let shape = grid::checks::check_grid(grid);
+    if let Check::Refused(r) = shape {
+        return Check::Refused(r);
+    }
+    tables::check_tables(grid, start_x.len(), offsets, items, globals, global_count)
+}
+
+// The test that stands at a bookmark, or the end mark at the total.
+pub fn test_at(
+    start_x: &[f64],
+    start_y: &[f64],
+    end_x: &[f64],
+    end_y: &[f64],
+    grid: Grid,
+    offsets: &[u32],
+    items: &[u32],
+    globals: &[u32],
+    global_count: usize,
+    bookmark: u64,
+) -> Answer
+    ensures { λ r. ⌜ r ≡ testAt (lines (now («start_x» .entry)) (now («start_y» .entry)) (now («end_x» .entry)) (now («end_y» .entry))) grid (beside (lines (now («start_x» .entry)) (now («start_y» .entry)) (now («end_x» .entry)) (now («end_y» .entry))) grid (now (offsets .entry)) (now (items .entry)) (now (globals .entry)) «global_count») bookmark ⌝ }
+{
+    let check = check_visit(
+        start_x,
+        start_y,
+        end_x,
+        end_y,
+        grid,
+        offsets,
+        items,
+        globals,
+        global_count,
+    );
+    if let Check::Refused(r) = check {
+        return Answer::Refused(r);
+    }
+    let sought = seek::seek(
+        bookmark,
+        start_x,
+        start_y,
+        end_x,
+        end_y,
+        grid,
+        offsets,
+        items,
+        globals,
+        global_count,
+    );
+    let Sought::At(cursor) = sought else {
+        return Answer::Refused(Refusal {
+            number: 9,
+            value: bookmark,
+        });
+    };
+    let step = scan::test_from(
+        cursor,
+        start_x,
+        start_y,
+        end_x,
+        end_y,
+        grid,
+        offsets,
+        items,
+        globals,
+        global_count,
+    );
+    let Step::Made(test) = step else {
+        return Answer::End;
+    };
+    Answer::Made(test)
+}
+
+// The tests from a bookmark on, until the outputs are full or the end comes: the pairs that overlap, with zero beyond them.
+pub fn batch(
+    start_x: &[f64],
+    start_y: &[f64],
+    end_x: &[f64],
+    end_y: &[f64],
+    grid: Grid,
+    offsets: &[u32],
+    items: &[u32],
+    globals: &[u32],
+    global_count: usize,
+    bookmark: u64,
+    first: &mut [u32],
+    second: &mut [u32],
+) -> BatchAnswer
+    ensures { λ r. ⌜ BatchIs (lines (now («start_x» .entry)) (now («start_y» .entry)) (now («end_x» .entry)) (now («end_y» .entry))) grid (beside (lines (now («start_x» .entry)) (now («start_y» .entry)) (now («end_x» .entry)) (now («end_y» .entry))) grid (now (offsets .entry)) (now (items .entry)) (now (globals .entry)) «global_count») bookmark (now (first .entry)) (now (second .entry)) (now (first .exit)) (now (second .exit)) r ⌝ }
+{
+    if first.len() != second.len() {
+        return BatchAnswer::Refused(Refusal {
+            number: 3,
+            value: 0,
+        });
+    }
+    let check = check_visit(
+        start_x,
+        start_y,
+        end_x,
+        end_y,
+        grid,
+        offsets,
+        items,
+        globals,
+        global_count,
+    );
+    if let Check::Refused(r) = check {
+        return BatchAnswer::Refused(r);
+    }
+    let sought = seek::seek(
+        bookmark,
+        start_x,
+        start_y,
+        end_x,
+        end_y,
+        grid,
+        offsets,
+        items,
+        globals,
+        global_count,
+    );
+    let Sought::At(cursor) = sought else {
+        return BatchAnswer::Refused(Refusal {
+            number: 9,
+            value: bookmark,
+        });
+    };
+    let ran = scan::run(
+        cursor,
+        start_x,
+        start_y,
+        end_x,
+        end_y,
+        grid,
+        offsets,
+        items,
+        globals,
+        global_count,
+        first,
+        second,
+    );
+    slices::clear_from(first, ran.hits);
+    slices::clear_from(second, ran.hits);
+    BatchAnswer::Done(Tally {
+        tests: ran.tests,
+        overlaps: ran.hits as u64,
+        bookmark: bookmark + ran.tests,
+    })
+}

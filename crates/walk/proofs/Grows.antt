@@ -1,0 +1,65 @@
+-- A list that grows at the front of a slice, and what a push adds to it. Assumes nothing.
+use mathlib.Core.Path.{_≡_, refl, sym, ap, _∙_, subst}
+use Prim.Native.Nat.{ℕ, zero, suc, _+_, _-_, _*_, _≤_, _<_}
+use native.Mathlib.Nat.{mul-le-mul-right, suc-mul}
+use native.Mathlib.Numerals.{add-one}
+use native.Mathlib.Omega.{arith}
+use mathlib.Core.Bool.{Bool, true, false, _&&_}
+use mathlib.Core.List.{List, [], _∷_, _++_, append-nil, append-assoc}
+use lib.ListN.{length, take, set, length-set, length-append}
+use lib.Seq.{take-suc-set}
+use lib.Dec.{ltb}
+use borrow.Author.Tests.{lt-ltb, le-ltb}
+use Rattle.walk.specs.Pushes.{kept, pushOf}
+use Rattle.walk.specs.Inside.{Grown}
+
+pub none : {xs : List ℕ} {n : ℕ} → n ≤ length xs → Grown xs xs n n []
+none {xs} {n} h = record { len = refl; count = omega arith; within = h; is = sym (append-nil (take n xs)) }
+
+pub one : (xs : List ℕ) (n v : ℕ) → n < length xs → Grown xs (set xs n v) n (n + 1) (v ∷ [])
+one xs n v h = record {
+  len = length-set xs n v;
+  count = refl;
+  within = rw length-set (omega arith);
+  is = rw add-one (take-suc-set xs n v h);
+}
+
+pub then : {xs ys zs : List ℕ} {n m r : ℕ} {a b : List ℕ} → Grown xs ys n m a → Grown ys zs m r b → Grown xs zs n r (a ++ b)
+then {xs} {ys} {zs} {n} {m} {r} {a} {b} g h = record {
+  len = h .len ∙ g .len;
+  count = rw length-append (omega (arith, g .count, h .count));
+  within = h .within;
+  is = h .is ∙ ap (λ (l : List ℕ). l ++ b) (g .is) ∙ append-assoc (take n xs) a b;
+}
+
+pub same : {xs ys : List ℕ} {n r : ℕ} {a b : List ℕ} → a ≡ b → Grown xs ys n r a → Grown xs ys n r b
+same {xs} {ys} {n} {r} e g = subst (λ (l : List ℕ). Grown xs ys n r l) e g
+
+-- a cell's number is below the number of cells
+pub number : (x y cols rows : ℕ) → x < cols → y < rows → y * cols + x < rows * cols
+number x y cols rows h k =
+    let l : suc y * cols ≤ rows * cols = mul-le-mul-right cols k in
+    let e : suc y * cols ≡ y * cols + cols = suc-mul y cols in
+    omega arith
+
+module _ (cols rows col row : ℕ) where
+  pub inside : col < cols → row < rows → pushOf cols rows col row ≡ (row * cols + col) ∷ []
+  unfolding pushOf kept
+  inside h k = rw (lt-ltb col cols h, lt-ltb row rows k)
+
+  pub beyond-row : col < cols → rows ≤ row → pushOf cols rows col row ≡ []
+  unfolding pushOf kept
+  beyond-row h k = rw (lt-ltb col cols h, le-ltb row rows k)
+
+  pub beyond-col : cols ≤ col → pushOf cols rows col row ≡ []
+  unfolding pushOf kept
+  beyond-col h = rw (le-ltb col cols h)
+
+  kept-le : (b : Bool) (c : ℕ) → length (kept b c) ≤ 1
+  unfolding kept
+  kept-le true c = omega arith
+  kept-le false c = omega arith
+
+  pub at-most-one : length (pushOf cols rows col row) ≤ 1
+  unfolding pushOf
+  at-most-one = kept-le (ltb col cols && ltb row rows) (row * cols + col)

@@ -1,0 +1,77 @@
+-- `walk::pushes::run` meets its contract. Assumes nothing.
+use mathlib.Core.Bool.{_&&_}
+use mathlib.Core.Logic.{inl}
+use mathlib.Core.Path.{_≡_, refl, _∙_}
+use native.Mathlib.Omega.{arith}
+use borrow.Author.Tests.{not-true, not-false}
+use lib.ListN.{length, take}
+use Rattle.walk.specs.Inside.{Straight, Still}
+use Rattle.walk.specs.Pushes.{before, goingOf, turns}
+use Rattle.walk.proofs.Loop.{Going, sides-le, going-is, again, done, over}
+use Rattle.walk.proofs.pushes.run.Statement.{statement}
+use Rattle.walk.proofs.pushes.run.Tie as tie
+
+abbrev Inv-loop : tie.InvT-loop
+Inv-loop s₀ n cols rows way w₀ m₀ left₀ s w m left = Going (Straight way w₀) (Still way w₀) (before (take n s₀) (turns 5000 (goingOf way w₀) cols rows way w₀)) n cols rows way left w m s × (length s ≡ length s₀)
+
+abbrev μ-loop : tie.MeasureT-loop
+μ-loop s₀ n cols rows way w₀ m₀ left₀ s w m left = left
+
+loop-holds : tie.Need-loop-holds Inv-loop μ-loop
+loop-holds c = (record { size = c .before .pre .0; room = omega arith; is = refl; keep = λ q. q; lean = λ q. omega arith; rest = λ q. q; still = λ q. inl refl }, refl)
+
+turn-requires : tie.Need-turn-requires Inv-loop μ-loop
+turn-requires c κs = tt
+
+goes-requires : tie.Need-goes-requires Inv-loop μ-loop
+goes-requires c κs = tt
+
+same-length : tie.Need-same-length Inv-loop μ-loop
+same-length c = c .before .before .before .loop .inv .1
+
+returns : tie.Need-returns Inv-loop μ-loop
+returns c = let o = done (c .before .before .before .loop .inv .0) (going-is _ _ _ _ (c .before .before .turn .ensures) (c .before .goes .ensures) ∙ not-true _ (c .if1 .taken)) in record { ran = o .0; all = o .1 .0; few = o .1 .1 .0; least = o .1 .1 .1 }
+
+same-length-2 : tie.Need-same-length-2 Inv-loop μ-loop
+same-length-2 c = c .before .before .before .before .loop .inv .1
+
+returns-2 : tie.Need-returns-2 Inv-loop μ-loop
+returns-2 c = record { ran = over (c .before .before .before .before .loop .inv .0) (going-is _ _ _ _ (c .before .before .before .turn .ensures) (c .before .before .goes .ensures) ∙ not-false _ (c .before .if1 .left)) (c .if2 .taken); all = tt; few = λ q. tt; least = λ q. tt }
+
+sub-left : tie.Need-sub-left Inv-loop μ-loop
+sub-left c = omega arith
+
+sides-requires : tie.Need-sides-requires Inv-loop μ-loop
+sides-requires c κs = let g = c .before .before .before .before .before .loop .inv .0 in (omega (arith, g .room, g .size), c .before .before .before .before .before .before .before .pre .1)
+
+moved-requires : tie.Need-moved-requires Inv-loop μ-loop
+moved-requires c κs = tt
+
+put-requires : tie.Need-put-requires Inv-loop μ-loop
+put-requires c κs = let a = c .before .before .before .before .before .before .before .before .before .before .before .before .args in let l = c .before .before .before .before .before .before .before .before .before .before .loop in let p = c .before .before .before .before .sides .ensures in let k = c .before .before .before .before .before .before .before .before .before .turn .result in (omega (arith, l .inv .0 .room, l .inv .0 .size, p .count, p .len, sides-le (k .x && k .y) (a .cols) (a .rows) (a .way) (l .w)), c .before .before .before .before .before .before .before .before .before .before .before .before .pre .1)
+
+loop-less : tie.Need-loop-less Inv-loop μ-loop
+loop-less c = omega arith
+
+loop-again : tie.Need-loop-again Inv-loop μ-loop
+loop-again c = let l = c .before .before .before .before .before .before .before .before .before .before .before .before .before .loop in (again (l .inv .0) _ _ _ (c .before .before .before .before .before .before .before .before .before .before .before .before .turn .ensures) (c .before .before .before .before .before .before .before .before .before .before .before .goes .ensures) (not-false _ (c .before .before .before .before .before .before .before .before .before .before .if1 .left)) (omega arith) (c .before .before .before .before .moved .ensures) (c .before .before .before .before .before .before .before .sides .ensures) (c .before .before .put .ensures), c .before .before .put .ensures .len ∙ c .before .before .before .before .before .before .before .sides .ensures .len ∙ l .inv .1)
+
+pub run-spec : {M : Type 1} → statement M
+run-spec =
+    tie.close
+    (tie.spec
+    Inv-loop
+    μ-loop
+    loop-holds
+    turn-requires
+    goes-requires
+    same-length
+    returns
+    same-length-2
+    returns-2
+    sub-left
+    sides-requires
+    moved-requires
+    put-requires
+    loop-less
+    loop-again)

@@ -1,0 +1,21 @@
+-- `walk::turns::course` meets its contract. Assumes nothing.
+use borrow.Author.Needs.{needs}
+use Rattle.walk.specs.Turns.{courseOn}
+use Rattle.walk.proofs.turns.course.Statement.{statement}
+use Rattle.walk.proofs.turns.course.Tie as tie
+
+step-of-requires : tie.Need-step-of-requires
+step-of-requires c κs = search needs
+
+delta-of-requires : tie.Need-delta-of-requires
+delta-of-requires c κs = search needs
+
+index-requires : tie.Need-index-requires
+index-requires c κs = search needs
+
+returns : tie.Need-returns
+unfolding courseOn
+returns c = cc
+
+pub course-spec : {M : Type 1} → statement M
+course-spec = tie.close (tie.spec step-of-requires delta-of-requires index-requires returns)

@@ -1,0 +1,18 @@
+-- `walk::turns::position` meets its contract. Assumes nothing.
+use borrow.Author.Needs.{needs}
+use Rattle.walk.specs.Turns.{positionOn}
+use Rattle.walk.proofs.turns.position.Statement.{statement}
+use Rattle.walk.proofs.turns.position.Tie as tie
+
+index-requires : tie.Need-index-requires
+index-requires c κs = search needs
+
+first-of-requires : tie.Need-first-of-requires
+first-of-requires c κs = search needs
+
+returns : tie.Need-returns
+unfolding positionOn
+returns c = cc
+
+pub position-spec : {M : Type 1} → statement M
+position-spec = tie.close (tie.spec index-requires first-of-requires returns)

@@ -1,0 +1,26 @@
+-- `walk::turns::started` meets its contract. Assumes nothing.
+use borrow.Author.Needs.{needs}
+use Rattle.walk.specs.Turns.{startOf}
+use Rattle.walk.proofs.turns.started.Statement.{statement}
+use Rattle.walk.proofs.turns.started.Tie as tie
+
+x-axis-requires : tie.Need-x-axis-requires
+x-axis-requires c κs = search needs
+
+position-requires : tie.Need-position-requires
+position-requires c κs = search needs
+
+y-axis-requires : tie.Need-y-axis-requires
+y-axis-requires c κs = search needs
+
+position-requires-2 : tie.Need-position-requires-2
+position-requires-2 c κs = search needs
+
+returns : tie.Need-returns
+unfolding startOf
+returns c = cc
+
+pub started-spec : {M : Type 1} → statement M
+started-spec =
+    tie.close
+    (tie.spec x-axis-requires position-requires y-axis-requires position-requires-2 returns)

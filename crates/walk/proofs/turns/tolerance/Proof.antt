@@ -1,0 +1,32 @@
+-- `walk::turns::tolerance` meets its contract. Assumes nothing.
+use borrow.Author.Needs.{needs}
+use lib.Ieee.{ofBits, round}
+use Rattle.walk.specs.Turns.{toleranceOf}
+use Rattle.walk.proofs.turns.tolerance.Statement.{statement}
+use Rattle.walk.proofs.turns.tolerance.Tie as tie
+
+magnitude-requires : tie.Need-magnitude-requires
+magnitude-requires c κs = search needs
+
+greatest-requires : tie.Need-greatest-requires
+greatest-requires c κs = search needs
+
+magnitude-requires-2 : tie.Need-magnitude-requires-2
+magnitude-requires-2 c κs = search needs
+
+greatest-requires-2 : tie.Need-greatest-requires-2
+greatest-requires-2 c κs = search needs
+
+returns : tie.Need-returns
+unfolding toleranceOf ofBits round
+returns c = cc
+
+pub tolerance-spec : {M : Type 1} → statement M
+tolerance-spec =
+    tie.close
+    (tie.spec
+    magnitude-requires
+    greatest-requires
+    magnitude-requires-2
+    greatest-requires-2
+    returns)

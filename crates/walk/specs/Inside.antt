@@ -1,0 +1,71 @@
+-- What the private functions of a walk promise to one another. Definitions only.
+use mathlib.Core.Path.{_≡_}
+use mathlib.Core.Logic.{_⊎_}
+use mathlib.Core.Bool.{Bool, true, false}
+use mathlib.Core.List.{List, [], _∷_, _++_}
+use Prim.Native.Nat.{ℕ, _+_, _≤_}
+use lib.ListN.{length, take}
+use lib.Ieee.{Float}
+use Rattle.grid.specs.declared.Grid.{Grid}
+use Rattle.grid.specs.Axes.{xAxis, yAxis}
+use Rattle.grid.specs.Refusals.{refusal}
+use Rattle.walk.specs.declared.Course.{Course}
+use Rattle.walk.specs.declared.Position.{Position}
+use Rattle.walk.specs.declared.Walk.{Walk}
+use Rattle.walk.specs.declared.Way.{Way}
+use Rattle.walk.specs.declared.Ran.{Ran}
+use Rattle.walk.specs.declared.Ran.the-variants.{Done, Over}
+use Rattle.walk.specs.Turns.{infinite, advanced}
+use Rattle.walk.specs.Pushes.{Outcome, refused, found}
+use Rattle.walk.specs.Segment.{alongOn}
+
+-- ys has `more` after the first n of xs, r in all
+pub record Grown (xs ys : List ℕ) (n r : ℕ) (more : List ℕ) : Type 0 where
+  pub len : length ys ≡ length xs
+  pub count : r ≡ n + length more
+  pub within : r ≤ length ys
+  pub is : take r ys ≡ take n xs ++ more
+
+-- what a run leaves: the cells at the front of s, or refusal 7
+abbrev pub RanTo : Outcome → Ran → List ℕ → Type 0
+RanTo (refused why) (Done r) s = ⊥
+RanTo (refused why) Over s = why ≡ refusal 7 0
+RanTo (found xs) (Done r) s = (r ≤ length s) × (take r s ≡ xs)
+RanTo (found xs) Over s = ⊥
+
+abbrev pub RanWithin : Ran → ℕ → Type 0
+RanWithin (Done r) b = r ≤ b
+RanWithin Over b = Unit {0}
+
+-- on an axis with d = 0 no boundary is ever reached
+pub record Far (c : Course) (p : Position) : Type 0 where
+  pub max : p .«t_max» ≡ infinite
+  pub delta : c .«t_delta» ≡ infinite
+
+-- a line along an axis
+abbrev pub Straight : Way → Walk → Type 0
+Straight way w = Far (way .x) (w .x) ⊎ Far (way .y) (w .y)
+
+-- a single point: no move changes the state
+pub record Still (way : Way) (w : Walk) : Type 0 where
+  pub x : advanced true (way .x) (w .x) ≡ w .x
+  pub y : advanced true (way .y) (w .y) ≡ w .y
+
+-- A run, and how much it pushes behind the n that were there: three a turn; one a turn along an axis, since a turn both ways wants both t_max finite;
+-- none at a single point, which is at its end or never comes there.
+pub record Runs (way : Way) (w : Walk) (o : Outcome) (n : ℕ) (r : Ran) (s : List ℕ) : Type 0 where
+  pub ran : RanTo o r s
+  pub all : RanWithin r (n + 15000)
+  pub few : Straight way w → RanWithin r (n + 5000)
+  pub least : Still way w → RanWithin r n
+
+-- how many cells a cell adds at most
+unfoldable pub share : Bool → Bool → ℕ
+share true true = 3
+share true false = 1
+share false true = 1
+share false false = 0
+
+-- how many cells the line adds at most to each that it walks
+unfoldable pub shareOf : Grid → Float → Float → Float → Float → ℕ
+shareOf g x₀ y₀ x₁ y₁ = share (alongOn (xAxis g) x₀ x₁) (alongOn (yAxis g) y₀ y₁)

@@ -1,0 +1,77 @@
+// What the turns of a walk push into the scratch.
+use crate::Ran;
+use crate::Turn;
+use crate::Walk;
+use crate::Way;
+ghost use mathlib.Core.Path.{_≡_};
+ghost use mathlib.Core.Bool.{_&&_};
+ghost use Prim.Native.Nat.{_+_, _*_, _≤_, _<_};
+ghost use lib.ListN.{length, take};
+ghost use Rattle.walk.specs.Pushes.{pushOf, sidesOf, before, goingOf, turns, walkedOf};
+ghost use Rattle.walk.specs.Inside.{Grown, Runs};
+
+// Pushes the cell, where it is inside the grid.
+fn put(s: &mut [u32], n: usize, cols: u32, rows: u32, col: u32, row: u32) -> usize
+    requires { ⌜ n < length (now s) ⌝ ∗ ⌜ rows * cols ≤ 1002001 ⌝ }
+    ensures { λ r. ⌜ Grown (now (s .entry)) (now (s .exit)) n r (pushOf cols rows col row) ⌝ }
+{
+    if col < cols {
+        if row < rows {
+            s[n] = row * cols + col;
+            return n + 1;
+        }
+        return n;
+    }
+    n
+}
+
+// Pushes the side cells of a turn both ways.
+fn sides(w: Walk, k: Turn, cols: u32, rows: u32, way: Way, s: &mut [u32], n: usize) -> usize
+    requires { ⌜ n + 2 ≤ length (now s) ⌝ ∗ ⌜ rows * cols ≤ 1002001 ⌝ }
+    ensures { λ r. ⌜ Grown (now (s .entry)) (now (s .exit)) n r (sidesOf (k .x && k .y) cols rows way w) ⌝ }
+{
+    if k.x {
+        if k.y {
+            let a = put(s, n, cols, rows, w.x.stepped(way.x), w.y.index);
+            return put(s, a, cols, rows, w.x.index, w.y.stepped(way.y));
+        }
+        return n;
+    }
+    n
+}
+
+// The turns from a state on, 5,000 of them allowed.
+fn run(s: &mut [u32], n: usize, cols: u32, rows: u32, way: Way, start: Walk) -> Ran
+    requires { ⌜ n + 15000 ≤ length (now s) ⌝ ∗ ⌜ rows * cols ≤ 1002001 ⌝ }
+    ensures { λ r. ⌜ Runs way start (before (take n (now (s .entry))) (turns 5000 (goingOf way start) cols rows way start)) n r (now (s .exit)) ⌝ }
+{
+    let mut w = start;
+    let mut m = n;
+    let mut left: usize = 5000;
+    loop {
+        let k = w.turn(way);
+        if !k.goes() {
+            return Ran::Done(m);
+        }
+        if left == 0 {
+            return Ran::Over;
+        }
+        left -= 1;
+        let a = sides(w, k, cols, rows, way, s, m);
+        w = w.moved(k, way);
+        m = put(s, a, cols, rows, w.x.index, w.y.index);
+    }
+}
+
+// The start cell, the turns, the end cell.
+pub(crate) fn walked(s: &mut [u32], cols: u32, rows: u32, way: Way, start: Walk) -> Ran
+    requires { ⌜ 16384 ≤ length (now s) ⌝ ∗ ⌜ rows * cols ≤ 1002001 ⌝ }
+    ensures { λ r. ⌜ Runs way start (walkedOf cols rows way start) 2 r (now (s .exit)) ⌝ }
+{
+    let n = put(s, 0, cols, rows, start.x.index, start.y.index);
+    let r = run(s, n, cols, rows, way, start);
+    match r {
+        Ran::Done(m) => Ran::Done(put(s, m, cols, rows, way.x.end, way.y.end)),
+        Ran::Over => Ran::Over,
+    }
+}

@@ -1,0 +1,206 @@
+// One axis of a line and of a walk's state, and one turn of the walk.
+use crate::Course;
+use crate::Position;
+use crate::Turn;
+use crate::Walk;
+use crate::Way;
+use grid::Axis;
+use grid::Grid;
+use numbers::order::greatest;
+use numbers::order::least;
+use numbers::order::magnitude;
+ghost use mathlib.Core.Path.{_≡_};
+ghost use mathlib.Core.Bool.{false};
+ghost use lib.Ieee.{inf, binary64, sub};
+ghost use Rattle.walk.specs.Turns.{finiteOf, stepOf, deltaOf, nextOn, firstOn, courseOn, positionOn, wayOf, startOf, toleranceOf, nearOf, furtherOf, arrivedOf, turnOf, steppedOf, advanced, movedOf, goesOf};
+
+fn infinity() -> f64
+    ensures { λ r. ⌜ r ≡ inf false ⌝ }
+{
+    1.0 / 0.0
+}
+
+fn is_finite(v: f64) -> bool
+    ensures { λ r. ⌜ r ≡ finiteOf v ⌝ }
+{
+    let top = infinity();
+    if v < top {
+        return -top < v;
+    }
+    false
+}
+
+// One in the sign of d, modulo 2^32.
+fn step_of(d: f64) -> u32
+    ensures { λ r. ⌜ r ≡ stepOf d ⌝ }
+{
+    if 0.0 < d {
+        return 1;
+    }
+    if d < 0.0 {
+        return 4294967295;
+    }
+    0
+}
+
+fn delta_of(size: f64, d: f64) -> f64
+    ensures { λ r. ⌜ r ≡ deltaOf size d ⌝ }
+{
+    if d == 0.0 {
+        return infinity();
+    }
+    size / magnitude(d)
+}
+
+fn next_boundary(axis: Axis, start: f64, d: f64) -> f64
+    ensures { λ r. ⌜ r ≡ nextOn axis start d ⌝ }
+{
+    let i = axis.index(start);
+    if 0.0 < d {
+        return axis.low_edge(i + 1);
+    }
+    axis.low_edge(i)
+}
+
+fn first_of(axis: Axis, start: f64, d: f64) -> f64
+    ensures { λ r. ⌜ r ≡ firstOn axis start d ⌝ }
+{
+    if d == 0.0 {
+        return infinity();
+    }
+    greatest((next_boundary(axis, start, d) - start) / d, 0.0)
+}
+
+fn course(axis: Axis, start: f64, end: f64) -> Course
+    ensures { λ r. ⌜ r ≡ courseOn axis start end ⌝ }
+{
+    let d = end - start;
+    Course {
+        step: step_of(d),
+        t_delta: delta_of(axis.size, d),
+        end: axis.index(end),
+    }
+}
+
+fn position(axis: Axis, start: f64, end: f64) -> Position
+    ensures { λ r. ⌜ r ≡ positionOn axis start end ⌝ }
+{
+    Position {
+        index: axis.index(start),
+        t_max: first_of(axis, start, end - start),
+    }
+}
+
+pub(crate) fn way_of(grid: Grid, start_x: f64, start_y: f64, end_x: f64, end_y: f64) -> Way
+    ensures { λ r. ⌜ r ≡ wayOf grid «start_x» «start_y» «end_x» «end_y» ⌝ }
+{
+    Way {
+        x: course(grid.x_axis(), start_x, end_x),
+        y: course(grid.y_axis(), start_y, end_y),
+    }
+}
+
+pub(crate) fn started(grid: Grid, start_x: f64, start_y: f64, end_x: f64, end_y: f64) -> Walk
+    ensures { λ r. ⌜ r ≡ startOf grid «start_x» «start_y» «end_x» «end_y» ⌝ }
+{
+    Walk {
+        x: position(grid.x_axis(), start_x, end_x),
+        y: position(grid.y_axis(), start_y, end_y),
+    }
+}
+
+// 8 times 2^-52 times the largest of |tx|, |ty| and 1.
+fn tolerance(tx: f64, ty: f64) -> f64
+    ensures { λ r. ⌜ r ≡ toleranceOf tx ty ⌝ }
+{
+    1.7763568394002505e-15 * greatest(greatest(1.0, magnitude(tx)), magnitude(ty))
+}
+
+// The difference is tested first: it is seldom small.
+fn near(tx: f64, ty: f64, tol: f64) -> bool
+    ensures { λ r. ⌜ r ≡ nearOf tx ty tol ⌝ }
+{
+    if magnitude(tx - ty) <= tol {
+        if is_finite(tx) {
+            return is_finite(ty);
+        }
+        return false;
+    }
+    false
+}
+
+fn further(tx: f64, ty: f64) -> Turn
+    ensures { λ r. ⌜ r ≡ furtherOf tx ty ⌝ }
+{
+    let tol = tolerance(tx, ty);
+    if 1.0 + tol < least(tx, ty) {
+        return Turn { x: false, y: false };
+    }
+    if near(tx, ty, tol) {
+        return Turn { x: true, y: true };
+    }
+    let x = tx < ty;
+    Turn { x: x, y: !x }
+}
+
+impl Turn {
+    pub(crate) fn goes(self) -> bool
+        ensures { λ r. ⌜ r ≡ goesOf self ⌝ }
+    {
+        if self.x {
+            return true;
+        }
+        self.y
+    }
+}
+
+impl Position {
+    pub(crate) fn stepped(self, course: Course) -> u32
+        ensures { λ r. ⌜ r ≡ steppedOf course self ⌝ }
+    {
+        std::num::wrapping_add_u32(self.index, course.step)
+    }
+
+    fn moved(self, go: bool, course: Course) -> Position
+        ensures { λ r. ⌜ r ≡ advanced go course self ⌝ }
+    {
+        if go {
+            return Position {
+                index: self.stepped(course),
+                t_max: self.t_max + course.t_delta,
+            };
+        }
+        self
+    }
+}
+
+impl Walk {
+    fn arrived(self, way: Way) -> bool
+        ensures { λ r. ⌜ r ≡ arrivedOf way self ⌝ }
+    {
+        if self.x.index == way.x.end {
+            return self.y.index == way.y.end;
+        }
+        false
+    }
+
+    // Which move comes next.
+    pub(crate) fn turn(self, way: Way) -> Turn
+        ensures { λ r. ⌜ r ≡ turnOf way self ⌝ }
+    {
+        if self.arrived(way) {
+            return Turn { x: false, y: false };
+        }
+        further(self.x.t_max, self.y.t_max)
+    }
+
+    // The state after the turn k.
+    pub(crate) fn moved(self, k: Turn, way: Way) -> Walk
+        ensures { λ r. ⌜ r ≡ movedOf k way self ⌝ }
+    {
+        Walk {
+            x: self.x.moved(k.x, way.x),
+            y: self.y.moved(k.y, way.y),
+        }
+    }
+}

@@ -61,15 +61,15 @@ along-zero a start end p = and-left (eq (sub binary64 end start) nought) (bounda
 -- ---- the room in the scratch
 
 module _ (g : Grid) (x₀ y₀ x₁ y₁ : Float) where
-  straight-x : alongOn (xAxis g) x₀ x₁ ≡ true → Straight (wayOf g x₀ y₀ x₁ y₁) (startOf g x₀ y₀ x₁ y₁)
+  pub straight-x : alongOn (xAxis g) x₀ x₁ ≡ true → Straight (wayOf g x₀ y₀ x₁ y₁) (startOf g x₀ y₀ x₁ y₁)
   unfolding wayOf startOf
   straight-x p = inl (far (xAxis g) x₀ x₁ (along-zero (xAxis g) x₀ x₁ p))
 
-  straight-y : alongOn (yAxis g) y₀ y₁ ≡ true → Straight (wayOf g x₀ y₀ x₁ y₁) (startOf g x₀ y₀ x₁ y₁)
+  pub straight-y : alongOn (yAxis g) y₀ y₁ ≡ true → Straight (wayOf g x₀ y₀ x₁ y₁) (startOf g x₀ y₀ x₁ y₁)
   unfolding wayOf startOf
   straight-y p = inr (far (yAxis g) y₀ y₁ (along-zero (yAxis g) y₀ y₁ p))
 
-  still : Shape (g .cols) (g .rows) → alongOn (xAxis g) x₀ x₁ ≡ true → alongOn (yAxis g) y₀ y₁ ≡ true → Still (wayOf g x₀ y₀ x₁ y₁) (startOf g x₀ y₀ x₁ y₁)
+  pub still : Shape (g .cols) (g .rows) → alongOn (xAxis g) x₀ x₁ ≡ true → alongOn (yAxis g) y₀ y₁ ≡ true → Still (wayOf g x₀ y₀ x₁ y₁) (startOf g x₀ y₀ x₁ y₁)
   unfolding wayOf startOf
   still s p q = record {
     x = stands (xAxis g) x₀ x₁ (along-zero (xAxis g) x₀ x₁ p) (s .wide);
@@ -115,7 +115,7 @@ module _ (g : Grid) (x₀ y₀ x₁ y₁ : Float) where
   some zero o h = absurd (h refl)
   some (suc n) o h = refl
 
-  segment-is : (way : Way) (w : Walk) → way ≡ wayOf g x₀ y₀ x₁ y₁ → w ≡ startOf g x₀ y₀ x₁ y₁ → (g .cols ≡ 0 → ⊥)
+  pub segment-is : (way : Way) (w : Walk) → way ≡ wayOf g x₀ y₀ x₁ y₁ → w ≡ startOf g x₀ y₀ x₁ y₁ → (g .cols ≡ 0 → ⊥)
       → segmentOf g x₀ y₀ x₁ y₁ ≡ answered g x₀ y₀ x₁ y₁ (walkedOf (g .cols) (g .rows) way w)
   unfolding segmentOf
   segment-is way w e f h = some (g .cols) _ h ∙ rw (← e, ← f)

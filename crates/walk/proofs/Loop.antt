@@ -44,7 +44,7 @@ module _ (k : Turn) (cols rows : ℕ) (way : Way) (w : Walk) where
       rw length-append
       (omega (arith, sides-le (k .x && k .y) cols rows way w, at-most-one cols rows (movedOf k way w .x .index) (movedOf k way w .y .index)))
 
-  one-way : (k .x && k .y) ≡ false → length (pushedBy k cols rows way w) ≤ 1
+  pub one-way : (k .x && k .y) ≡ false → length (pushedBy k cols rows way w) ≤ 1
   unfolding pushedBy
   one-way e = rw (sides-none (k .x && k .y) cols rows way w e) (at-most-one cols rows (movedOf k way w .x .index) (movedOf k way w .y .index))
 
@@ -110,7 +110,7 @@ never-both false true c k e = rw (← e)
 never-both false false true k e = rw (← e)
 never-both false false false k e = rw (← e)
 
-turn-lean : (way : Way) (w : Walk) → (w .x .«t_max» ≡ inf false) ⊎ (w .y .«t_max» ≡ inf false) → (turnOf way w .x && turnOf way w .y) ≡ false
+pub turn-lean : (way : Way) (w : Walk) → (w .x .«t_max» ≡ inf false) ⊎ (w .y .«t_max» ≡ inf false) → (turnOf way w .x && turnOf way w .y) ≡ false
 unfolding turnOf furtherOf
 turn-lean way w s =
     let tx = w .x .«t_max» in
@@ -118,7 +118,7 @@ turn-lean way w s =
     never-both (arrivedOf way w) (lt (add binary64 one (toleranceOf tx ty)) (leastOf tx ty)) (lt tx ty) (turnOf way w)
     (sym (rw (near-far tx ty (toleranceOf tx ty) s)))
 
-far-of : (way : Way) (w : Walk) → Straight way w → (w .x .«t_max» ≡ inf false) ⊎ (w .y .«t_max» ≡ inf false)
+pub far-of : (way : Way) (w : Walk) → Straight way w → (w .x .«t_max» ≡ inf false) ⊎ (w .y .«t_max» ≡ inf false)
 far-of way w (inl p) = inl (p .max)
 far-of way w (inr p) = inr (p .max)
 
@@ -127,7 +127,7 @@ unfolding advanced
 far-moved false c p f = f
 far-moved true c p f = record { max = sum-far (p .«t_max») (c .«t_delta») (f .max) (f .delta); delta = f .delta }
 
-straight-next : (way : Way) (w : Walk) → Straight way w → Straight way (nextOf way w)
+pub straight-next : (way : Way) (w : Walk) → Straight way w → Straight way (nextOf way w)
 unfolding nextOf movedOf
 straight-next way w (inl p) = inl (far-moved (turnOf way w .x) (way .x) (w .x) p)
 straight-next way w (inr p) = inr (far-moved (turnOf way w .y) (way .y) (w .y) p)
@@ -139,7 +139,7 @@ unfolding advanced
 stays true c p e = e
 stays false c p e = refl
 
-still-next : (way : Way) (w : Walk) → Still way w → nextOf way w ≡ w
+pub still-next : (way : Way) (w : Walk) → Still way w → nextOf way w ≡ w
 unfolding nextOf movedOf
 still-next way w p = rw (stays (turnOf way w .x) (way .x) (w .x) (p .x), stays (turnOf way w .y) (way .y) (w .y) (p .y))
 

@@ -128,3 +128,8 @@ pub record Walked (o : Outcome) (was : List ℕ) (r : Cells) (now : List ℕ) : 
   pub answer : r ≡ cellsOf o
   pub size : length now ≡ length was
   pub left : Left o was now
+
+-- what the walk of one segment promises
+pub record Entered (o : Outcome) (was : List ℕ) (r : Cells) (now : List ℕ) : Type 0 where
+  pub answer : r ≡ cellsOf o
+  pub left : now ≡ scratchOf o was

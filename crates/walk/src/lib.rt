@@ -11,7 +11,7 @@ use turns::started;
 use turns::way_of;
 ghost use mathlib.Core.Path.{_≡_};
 ghost use lib.ListN.{length};
-ghost use Rattle.walk.specs.Segment.{innerOf, Walked};
+ghost use Rattle.walk.specs.Segment.{innerOf, entryOf, Walked, Entered};
 
 // The number of cells, which stand in the lent scratch, or a refusal.
 pub enum Cells {
@@ -93,5 +93,47 @@ pub fn segment_cells(
             number: 7,
             value: 0,
         }),
+    }
+}
+
+// The walk of one segment: its cells, increasing, none twice, at the start of the scratch, and zero beyond them. Refusals 3, 1, 8 and 7.
+pub fn cells_of_segment(
+    grid: Grid,
+    start_x: f64,
+    start_y: f64,
+    end_x: f64,
+    end_y: f64,
+    scratch: &mut [u32],
+) -> Cells
+    ensures { λ r. ⌜ Entered (entryOf (length (now (scratch .entry))) grid «start_x» «start_y» «end_x» «end_y») (now (scratch .entry)) r (now (scratch .exit)) ⌝ }
+{
+    if scratch.len() < 16384 {
+        return Cells::Refused(Refusal {
+            number: 3,
+            value: 0,
+        });
+    }
+    if !grid::checks::is_segment(start_x, start_y, end_x, end_y) {
+        return Cells::Refused(Refusal {
+            number: 1,
+            value: 0,
+        });
+    }
+    if !grid::checks::is_fit(grid) {
+        return Cells::Refused(Refusal {
+            number: 8,
+            value: 0,
+        });
+    }
+    let r = segment_cells(grid, start_x, start_y, end_x, end_y, scratch);
+    match r {
+        Cells::Found(n) => {
+            slices::clear_from(scratch, n);
+            Cells::Found(n)
+        },
+        Cells::Refused(why) => {
+            slices::clear(scratch);
+            Cells::Refused(why)
+        },
     }
 }

@@ -30,6 +30,7 @@ use Rattle.walk.specs.Pushes.{Outcome, refused, found, walkedOf}
 use Rattle.walk.specs.Segment.{addedOf, alongOn, endOf, pushesOf, answered, unlessNone, segmentOf, checked, shapeCheck, innerOf, cellsOf, Left, Walked}
 use Rattle.walk.specs.Inside.{Grown, RanTo, RanWithin, Far, Straight, Still, Runs, share, shareOf}
 use Rattle.walk.proofs.Floats.{sum-far, step-none, index-le}
+use Rattle.walk.proofs.Grows.{then}
 use Rattle.walk.proofs.Loop.{within-done}
 use Rattle.walk.proofs.Added.{share-room}
 
@@ -85,11 +86,15 @@ module _ (g : Grid) (x₀ y₀ x₁ y₁ : Float) where
       (λ q. within-done R m 5002 d (r .few (rw (e, f) (straight-y q))))
       (λ p q. within-done R m 2 d (r .least (rw (e, f) (still h p q))))
 
-  pub pushes-are : (v h : Bool) {s t : List ℕ} {n r : ℕ} → v ≡ alongOn (xAxis g) x₀ x₁ → h ≡ alongOn (yAxis g) y₀ y₁
-      → Grown s t n r ((addedOf v h (g .cols) (take n s) ++ endOf g x₀ y₀) ++ endOf g x₁ y₁)
-      → take r t ≡ pushesOf g x₀ y₀ x₁ y₁ (take n s)
-  unfolding pushesOf
-  pushes-are v h {s} {t} {n} {r} e f p = rw (← e, ← f) (p .is)
+  module _ (v h : Bool) (e : v ≡ alongOn (xAxis g) x₀ x₁) (f : h ≡ alongOn (yAxis g) y₀ y₁) where
+    pub share-is : shareOf g x₀ y₀ x₁ y₁ ≡ share v h
+    unfolding shareOf
+    share-is = rw (e, f)
+
+    pub completes : {s t u w : List ℕ} {n a b r : ℕ} → Grown s t n a (addedOf v h (g .cols) (take n s)) → Grown t u a b (endOf g x₀ y₀) → Grown u w b r (endOf g x₁ y₁)
+        → (r ≤ length w) × (take r w ≡ pushesOf g x₀ y₀ x₁ y₁ (take n s))
+    unfolding pushesOf
+    completes p q k = let z = then (then p q) k in (z .within, rw (← e, ← f) (z .is))
 
   -- ---- the refusals, and the walk behind them
 

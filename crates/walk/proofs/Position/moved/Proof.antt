@@ -9,7 +9,7 @@ stepped-requires c κs = search needs
 
 returns : tie.Need-returns
 unfolding advanced
-returns c = rw (c .before .before .before .if1 .taken) (cc)
+returns c = rw (c .before .before .before .if1 .taken, c .before .before .stepped .ensures)
 
 returns-2 : tie.Need-returns-2
 unfolding advanced

@@ -12,7 +12,7 @@ moved-requires-2 c κs = search needs
 
 returns : tie.Need-returns
 unfolding movedOf
-returns c = cc
+returns c = rw (c .before .moved .ensures, c .moved2 .ensures)
 
 pub moved-spec : {M : Type 1} → statement M
 moved-spec = tie.close (tie.spec moved-requires moved-requires-2 returns)

@@ -4,16 +4,6 @@ use Prim.Native.Nat.{ℕ, zero, suc, _+_, _-_, _*_, _≤_, _<_}
 use native.Mathlib.Nat.{mul-le-mul-right, suc-mul}
 use native.Mathlib.Numerals.{add-one}
 use native.Mathlib.Omega.{arith}
-<<<<<<< HEAD
-use mathlib.Core.Bool.{Bool, true, false, _&&_}
-use mathlib.Core.List.{List, [], _∷_, _++_, append-nil, append-assoc}
-use lib.ListN.{length, take, set, length-set, length-append}
-use lib.Seq.{take-suc-set}
-use lib.Dec.{ltb}
-use borrow.Author.Tests.{lt-ltb, le-ltb}
-use Rattle.walk.specs.Pushes.{kept, pushOf}
-use Rattle.walk.specs.Inside.{Grown}
-=======
 use mathlib.Core.Bool.{Bool, true, false, _&&_, _||_, true≢false}
 use mathlib.Core.List.{List, [], _∷_, _++_, append-nil, append-assoc}
 use lib.ListN.{length, take, getD, set, length-set, length-append}
@@ -24,7 +14,6 @@ use Rattle.slices.specs.Lists.{any, elem}
 use Rattle.slices.proofs.Members.{any-append, elem-at}
 use Rattle.walk.specs.Pushes.{kept, pushOf}
 use Rattle.walk.specs.Inside.{Grown, Gained}
->>>>>>> 80fed5c24875043b8e4ce4704563a59680841d53
 
 pub none : {xs : List ℕ} {n : ℕ} → n ≤ length xs → Grown xs xs n n []
 none {xs} {n} h = record { len = refl; count = omega arith; within = h; is = sym (append-nil (take n xs)) }
@@ -76,8 +65,6 @@ module _ (cols rows col row : ℕ) where
   pub at-most-one : length (pushOf cols rows col row) ≤ 1
   unfolding pushOf
   at-most-one = kept-le (ltb col cols && ltb row rows) (row * cols + col)
-<<<<<<< HEAD
-=======
 
 -- ---- a push that leaves out what is there already
 
@@ -114,4 +101,3 @@ left-out {xs} {n} {c} {more} l e h = record {
 
 pub gained : {xs ys : List ℕ} {n r : ℕ} {more : List ℕ} → length more ≤ 1 → Grown xs ys n r more → Gained xs ys n r more
 gained l g = record { len = g .len; count = omega (arith, g .count); within = g .within; same = λ f. ap (any f) (g .is) }
->>>>>>> 80fed5c24875043b8e4ce4704563a59680841d53

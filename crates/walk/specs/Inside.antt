@@ -6,10 +6,7 @@ use mathlib.Core.List.{List, [], _∷_, _++_}
 use Prim.Native.Nat.{ℕ, _+_, _≤_}
 use lib.ListN.{length, take}
 use lib.Ieee.{Float}
-<<<<<<< HEAD
-=======
 use Rattle.slices.specs.Lists.{any}
->>>>>>> 80fed5c24875043b8e4ce4704563a59680841d53
 use Rattle.grid.specs.declared.Grid.{Grid}
 use Rattle.grid.specs.Axes.{xAxis, yAxis}
 use Rattle.grid.specs.Refusals.{refusal}
@@ -30,8 +27,6 @@ pub record Grown (xs ys : List ℕ) (n r : ℕ) (more : List ℕ) : Type 0 where
   pub within : r ≤ length ys
   pub is : take r ys ≡ take n xs ++ more
 
-<<<<<<< HEAD
-=======
 -- the same, but that a cell may be left out that is there already: each test finds the same
 pub record Gained (xs ys : List ℕ) (n r : ℕ) (more : List ℕ) : Type 0 where
   pub len : length ys ≡ length xs
@@ -39,7 +34,6 @@ pub record Gained (xs ys : List ℕ) (n r : ℕ) (more : List ℕ) : Type 0 wher
   pub within : r ≤ length ys
   pub same : (f : ℕ → Bool) → any f (take r ys) ≡ any f (take n xs ++ more)
 
->>>>>>> 80fed5c24875043b8e4ce4704563a59680841d53
 -- what a run leaves: the cells at the front of s, or refusal 7
 abbrev pub RanTo : Outcome → Ran → List ℕ → Type 0
 RanTo (refused why) (Done r) s = ⊥
@@ -73,8 +67,6 @@ pub record Runs (way : Way) (w : Walk) (o : Outcome) (n : ℕ) (r : Ran) (s : Li
   pub few : Straight way w → RanWithin r (n + 5000)
   pub least : Still way w → RanWithin r n
 
-<<<<<<< HEAD
-=======
 -- what a walk leaves: at the front of s just its cells, how often ever, or refusal 7
 abbrev pub WalkedTo : Outcome → Ran → List ℕ → Type 0
 WalkedTo (refused why) (Done r) s = ⊥
@@ -89,7 +81,6 @@ pub record Walks (way : Way) (w : Walk) (o : Outcome) (r : Ran) (s : List ℕ) :
   pub few : Straight way w → RanWithin r 5002
   pub least : Still way w → RanWithin r 2
 
->>>>>>> 80fed5c24875043b8e4ce4704563a59680841d53
 -- how many cells a cell adds at most
 unfoldable pub share : Bool → Bool → ℕ
 share true true = 3

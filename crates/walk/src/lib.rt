@@ -87,12 +87,8 @@ pub fn segment_cells(
     match r {
         Ran::Done(n) => {
             let m = completed(scratch, n, grid, start_x, start_y, end_x, end_y);
-<<<<<<< HEAD
-            Cells::Found(slices::order_and_keep(scratch, m))
-=======
             let count = slices::order_and_keep(scratch, m);
             Cells::Found(count)
->>>>>>> 80fed5c24875043b8e4ce4704563a59680841d53
         },
         Ran::Over => Cells::Refused(Refusal {
             number: 7,
@@ -137,11 +133,7 @@ pub fn cells_of_segment(
             Cells::Found(n)
         },
         Cells::Refused(why) => {
-<<<<<<< HEAD
-            slices::clear(scratch);
-=======
             slices::clear_from(scratch, 0);
->>>>>>> 80fed5c24875043b8e4ce4704563a59680841d53
             Cells::Refused(why)
         },
     }

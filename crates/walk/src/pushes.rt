@@ -4,20 +4,12 @@ use crate::Turn;
 use crate::Walk;
 use crate::Way;
 ghost use mathlib.Core.Path.{_≡_};
-<<<<<<< HEAD
-ghost use mathlib.Core.Bool.{_&&_};
-ghost use Prim.Native.Nat.{_+_, _*_, _≤_, _<_};
-ghost use lib.ListN.{length, take};
-ghost use Rattle.walk.specs.Pushes.{pushOf, sidesOf, before, goingOf, turns, walkedOf};
-ghost use Rattle.walk.specs.Inside.{Grown, Runs};
-=======
 ghost use mathlib.Core.Bool.{true, _&&_};
 ghost use Prim.Native.Nat.{_+_, _*_, _≤_, _<_};
 ghost use lib.ListN.{length, take};
 ghost use Rattle.slices.specs.Lists.{elem};
 ghost use Rattle.walk.specs.Pushes.{pushOf, sidesOf, before, goingOf, turns, walkedOf};
 ghost use Rattle.walk.specs.Inside.{Grown, Gained, Runs, Walks};
->>>>>>> 80fed5c24875043b8e4ce4704563a59680841d53
 
 // Pushes the cell, where it is inside the grid.
 fn put(s: &mut [u32], n: usize, cols: u32, rows: u32, col: u32, row: u32) -> usize
@@ -34,8 +26,6 @@ fn put(s: &mut [u32], n: usize, cols: u32, rows: u32, col: u32, row: u32) -> usi
     n
 }
 
-<<<<<<< HEAD
-=======
 fn last_is(s: &[u32], n: usize, c: u32) -> bool
     requires { ⌜ n ≤ length (now s) ⌝ }
     ensures { λ r. ⌜ (r ≡ true → elem c (take n (now (s .entry))) ≡ true) ⌝ }
@@ -65,7 +55,6 @@ fn put_other(s: &mut [u32], n: usize, cols: u32, rows: u32, col: u32, row: u32) 
     n
 }
 
->>>>>>> 80fed5c24875043b8e4ce4704563a59680841d53
 // Pushes the side cells of a turn both ways.
 fn sides(w: Walk, k: Turn, cols: u32, rows: u32, way: Way, s: &mut [u32], n: usize) -> usize
     requires { ⌜ n + 2 ≤ length (now s) ⌝ ∗ ⌜ rows * cols ≤ 1002001 ⌝ }
@@ -107,20 +96,12 @@ fn run(s: &mut [u32], n: usize, cols: u32, rows: u32, way: Way, start: Walk) -> 
 // The start cell, the turns, the end cell.
 pub(crate) fn walked(s: &mut [u32], cols: u32, rows: u32, way: Way, start: Walk) -> Ran
     requires { ⌜ 16384 ≤ length (now s) ⌝ ∗ ⌜ rows * cols ≤ 1002001 ⌝ }
-<<<<<<< HEAD
-    ensures { λ r. ⌜ Runs way start (walkedOf cols rows way start) 2 r (now (s .exit)) ⌝ }
-=======
     ensures { λ r. ⌜ Walks way start (walkedOf cols rows way start) r (now (s .exit)) ⌝ }
->>>>>>> 80fed5c24875043b8e4ce4704563a59680841d53
 {
     let n = put(s, 0, cols, rows, start.x.index, start.y.index);
     let r = run(s, n, cols, rows, way, start);
     match r {
-<<<<<<< HEAD
-        Ran::Done(m) => Ran::Done(put(s, m, cols, rows, way.x.end, way.y.end)),
-=======
         Ran::Done(m) => Ran::Done(put_other(s, m, cols, rows, way.x.end, way.y.end)),
->>>>>>> 80fed5c24875043b8e4ce4704563a59680841d53
         Ran::Over => Ran::Over,
     }
 }

@@ -10,11 +10,7 @@ use numbers::order::greatest;
 use numbers::order::least;
 use numbers::order::magnitude;
 ghost use mathlib.Core.Path.{_≡_};
-<<<<<<< HEAD
-ghost use mathlib.Core.Bool.{false};
-=======
 ghost use mathlib.Core.Bool.{true, false};
->>>>>>> 80fed5c24875043b8e4ce4704563a59680841d53
 ghost use lib.Ieee.{inf, binary64, sub};
 ghost use Rattle.walk.specs.Turns.{finiteOf, stepOf, deltaOf, nextOn, firstOn, courseOn, positionOn, wayOf, startOf, toleranceOf, nearOf, furtherOf, arrivedOf, turnOf, steppedOf, advanced, movedOf, goesOf};
 
@@ -165,18 +161,6 @@ impl Position {
         std::num::wrapping_add_u32(self.index, course.step)
     }
 
-<<<<<<< HEAD
-    fn moved(self, go: bool, course: Course) -> Position
-        ensures { λ r. ⌜ r ≡ advanced go course self ⌝ }
-    {
-        if go {
-            return Position {
-                index: self.stepped(course),
-                t_max: self.t_max + course.t_delta,
-            };
-        }
-        self
-=======
     // A move on the axis.
     fn moved(self, course: Course) -> Position
         ensures { λ r. ⌜ r ≡ advanced true course self ⌝ }
@@ -185,7 +169,6 @@ impl Position {
             index: self.stepped(course),
             t_max: self.t_max + course.t_delta,
         }
->>>>>>> 80fed5c24875043b8e4ce4704563a59680841d53
     }
 }
 
@@ -209,16 +192,6 @@ impl Walk {
         further(self.x.t_max, self.y.t_max)
     }
 
-<<<<<<< HEAD
-    // The state after the turn k.
-    pub(crate) fn moved(self, k: Turn, way: Way) -> Walk
-        ensures { λ r. ⌜ r ≡ movedOf k way self ⌝ }
-    {
-        Walk {
-            x: self.x.moved(k.x, way.x),
-            y: self.y.moved(k.y, way.y),
-        }
-=======
     // The state after the turn k. A branch for each way: which way comes next is guessed well, and choosing values without one is slower.
     pub(crate) fn moved(self, k: Turn, way: Way) -> Walk
         ensures { λ r. ⌜ r ≡ movedOf k way self ⌝ }
@@ -244,6 +217,5 @@ impl Walk {
             };
         }
         self
->>>>>>> 80fed5c24875043b8e4ce4704563a59680841d53
     }
 }

@@ -1,10 +1,6 @@
 -- `walk::Walk::moved` meets its contract. Assumes nothing.
 use borrow.Author.Needs.{needs}
-<<<<<<< HEAD
-use Rattle.walk.specs.Turns.{movedOf}
-=======
 use Rattle.walk.specs.Turns.{advanced, movedOf}
->>>>>>> 80fed5c24875043b8e4ce4704563a59680841d53
 use Rattle.walk.proofs.Walk.moved.Statement.{statement}
 use Rattle.walk.proofs.Walk.moved.Tie as tie
 
@@ -16,12 +12,6 @@ moved-requires-2 c κs = search needs
 
 returns : tie.Need-returns
 unfolding movedOf
-<<<<<<< HEAD
-returns c = cc
-
-pub moved-spec : {M : Type 1} → statement M
-moved-spec = tie.close (tie.spec moved-requires moved-requires-2 returns)
-=======
 returns c = rw (c .before .before .before .if1 .taken, c .before .before .if2 .taken, c .before .moved .ensures, c .moved2 .ensures)
 
 moved-requires-3 : tie.Need-moved-requires-3
@@ -54,4 +44,3 @@ moved-spec =
     moved-requires-4
     returns-3
     returns-4)
->>>>>>> 80fed5c24875043b8e4ce4704563a59680841d53

@@ -30,11 +30,7 @@ add-result c = let p = c .before .before .before .before .before .pre in let i :
 
 returns : tie.Need-returns
 unfolding cellOf
-<<<<<<< HEAD
-returns c = cc
-=======
 returns c = rw (c .before .before .before .index .ensures, c .index2 .ensures, c .before .before .before .before .y-axis .ensures, c .before .x-axis .ensures)
->>>>>>> 80fed5c24875043b8e4ce4704563a59680841d53
 
 pub cell-spec : {M : Type 1} → statement M
 cell-spec =

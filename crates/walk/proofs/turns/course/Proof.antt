@@ -15,11 +15,7 @@ index-requires c κs = search needs
 
 returns : tie.Need-returns
 unfolding courseOn
-<<<<<<< HEAD
-returns c = cc
-=======
 returns c = rw (c .before .before .step-of .ensures, c .before .delta-of .ensures, c .index .ensures)
->>>>>>> 80fed5c24875043b8e4ce4704563a59680841d53
 
 pub course-spec : {M : Type 1} → statement M
 course-spec = tie.close (tie.spec step-of-requires delta-of-requires index-requires returns)

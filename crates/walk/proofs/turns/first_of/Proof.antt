@@ -10,11 +10,7 @@ infinity-requires c κs = search needs
 
 returns : tie.Need-returns
 unfolding firstOn ofBits
-<<<<<<< HEAD
-returns c = rw (c .before .if1 .taken) (cc)
-=======
 returns c = rw (c .before .if1 .taken) (c .infinity .ensures)
->>>>>>> 80fed5c24875043b8e4ce4704563a59680841d53
 
 next-boundary-requires : tie.Need-next-boundary-requires
 next-boundary-requires c κs = search needs
@@ -24,11 +20,7 @@ greatest-requires c κs = search needs
 
 returns-2 : tie.Need-returns-2
 unfolding firstOn ofBits
-<<<<<<< HEAD
-returns-2 c = rw (c .before .before .if1 .left) (cc)
-=======
 returns-2 c = rw (c .before .before .if1 .left, c .greatest .ensures, c .before .next-boundary .ensures)
->>>>>>> 80fed5c24875043b8e4ce4704563a59680841d53
 
 pub first-of-spec : {M : Type 1} → statement M
 first-of-spec =

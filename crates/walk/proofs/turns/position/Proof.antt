@@ -12,11 +12,7 @@ first-of-requires c κs = search needs
 
 returns : tie.Need-returns
 unfolding positionOn
-<<<<<<< HEAD
-returns c = cc
-=======
 returns c = rw (c .before .index .ensures, c .first-of .ensures)
->>>>>>> 80fed5c24875043b8e4ce4704563a59680841d53
 
 pub position-spec : {M : Type 1} → statement M
 position-spec = tie.close (tie.spec index-requires first-of-requires returns)

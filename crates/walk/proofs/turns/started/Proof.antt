@@ -18,11 +18,7 @@ position-requires-2 c κs = search needs
 
 returns : tie.Need-returns
 unfolding startOf
-<<<<<<< HEAD
-returns c = cc
-=======
 returns c = rw (c .before .before .position .ensures, c .position2 .ensures, c .before .before .before .x-axis .ensures, c .before .y-axis .ensures)
->>>>>>> 80fed5c24875043b8e4ce4704563a59680841d53
 
 pub started-spec : {M : Type 1} → statement M
 started-spec =

@@ -1,0 +1,130 @@
+/* Morelturret: a uniform grid over line segments, proved.
+ *
+ * Link with the static library that `tools/build_library` builds. Nothing here allocates, keeps state between calls, or calls out. Every
+ * function ends on every argument and checks what it is handed.
+ *
+ * Slices. A slice is lent as the address of its first entry and the number of its entries. It stays the caller's, and nothing of it is kept
+ * after the call. The address is aligned for its type and not null, also where the length is 0; slices that are written (not `const`) must
+ * overlap no other slice of the call.
+ *
+ * The grid is passed as its five numbers: min_x, min_y, cell_size, cols, rows. It is fit if both minima are finite and at most 1e9 in
+ * magnitude, cell_size is from 0.25e-6 to 2e9, and cols and rows are both 0, or each 1 to 4,004 with product at most 1,002,001. A cell's
+ * number is row * cols + column.
+ *
+ * Answers. A function that can refuse returns MT_OK or the number of the refusal, and writes 64-bit words to the start of `out`:
+ *   on success     the words that its comment names ("out");
+ *   on a refusal   one word, the refusal's value;
+ * the rest of `out` stays as it was. Where `out` has fewer words than the success would write (and fewer than one), the function returns
+ * MT_OUT_SHORT and changes nothing at all.
+ * A float in `out` is the bit pattern of the double; a NaN is 0x7ff8000000000000.
+ *
+ * Refusals come in the order in which each comment lists them: the first that applies is answered. Refusals 4 to 7 leave zero throughout the
+ * slices that the call is lent to write (but not `out`); every other refusal changes nothing but the first word of `out`. */
+#ifndef MORELTURRET_H
+#define MORELTURRET_H
+
+#include <stddef.h>
+#include <stdint.h>
+
+#ifdef __cplusplus
+extern "C" {
+#endif
+
+/* What is returned, and the value that is then in out[0]. */
+enum {
+    MT_OK = 0,
+    MT_BAD_COORDINATE = 1,  /* a coordinate is not finite or above 1e9 in magnitude: the first such line (0 for a point or one segment) */
+    MT_TOO_MANY_LINES = 2,  /* more than 65,536 lines: the number of lines */
+    MT_BAD_LENGTHS = 3,     /* slices that belong together differ in length, or one is too short: 0 */
+    MT_SHORT_OFFSETS = 4,   /* a grid tried has more cells + 1 than the lent offsets: that cells + 1 */
+    MT_SHORT_ITEMS = 5,     /* items lent are fewer than the total: the total */
+    MT_SHORT_GLOBALS = 6,   /* globals lent are fewer than found: the number found */
+    MT_WALK_TOO_LONG = 7,   /* a walk made 5,000 turns and would make another: the line (0 for one segment) */
+    MT_UNFIT_GRID = 8,      /* the grid is not fit: 0 */
+    MT_BEYOND_END = 9,      /* a cell, global position or bookmark beyond its end: the cell's row, the position or the bookmark */
+    MT_MISFIT_TABLES = 10,  /* the tables do not fit: 0 */
+    MT_BAD_WKB = 11,        /* not a LineString that the reader takes: the byte position */
+    MT_UNFIT_SNAP = 12,     /* snap size or strategy unfit: 0 */
+    MT_OUT_SHORT = 100      /* `out` has too few words; nothing is written */
+};
+
+/* Snap strategies. */
+enum { MT_GRID = 0, MT_GEOS_COMPAT = 1 };
+
+/* ---- numbers: total on every double, nothing is refused ---- */
+
+/* The lesser of two. A NaN gives way to the other; of two that are equal it is a. */
+double mt_least(double a, double b);
+
+/* The greater of two. A NaN gives way to the other; of two that are equal it is a. */
+double mt_greatest(double a, double b);
+
+/* v with its sign clear. */
+double mt_magnitude(double v);
+
+/* The largest whole number that is at most v. A zero keeps its sign, infinities and NaN stay. */
+double mt_floor(double v);
+
+/* The floor of v brought into 0 .. count - 1; 0 for a NaN, and where count is 0. */
+uint32_t mt_clamped_floor(double v, uint32_t count);
+
+/* The smallest whole number that is at least v, brought into 0 .. 2^64 - 1; 0 for a NaN. */
+uint64_t mt_ceiling(double v);
+
+/* v rounded to the nearest whole number, halves away from zero. A zero has the sign of v, infinities and NaN stay. */
+double mt_round_half_away(double v);
+
+/* The square root, rounded to nearest. -0 for -0, a NaN below zero. */
+double mt_square_root(double v);
+
+/* ---- snapping and ownership ---- */
+
+/* Snaps a point to multiples of `size` (0, or 1e-6 to 1e6; 0 returns the point) by a strategy (MT_GRID or MT_GEOS_COMPAT).
+ * out (2 words): the bits of x and of y.
+ * Refuses by 1, 12. */
+uint32_t mt_snap(double x, double y, double size, uint32_t strategy, uint64_t *out, size_t out_len);
+
+/* Whether the cell (row, col) owns the point (x, y): low <= p < high on both axes; in the last column or row p = high counts too.
+ * out (1 word): 1 where it does, else 0.
+ * Refuses by 1, 8, 9. */
+uint32_t mt_point_owned(double min_x, double min_y, double cell_size, uint32_t cols, uint32_t rows, uint32_t row, uint32_t col, double x,
+                        double y, uint64_t *out, size_t out_len);
+
+/* Whether the cell (row, col) owns a collinear overlap whose first end is (x, y): that end, snapped, has low <= p < high on both axes, or the
+ * cell is (0, 0).
+ * out (1 word): 1 where it does, else 0.
+ * Refuses by 1, 8, 12, 9. */
+uint32_t mt_overlap_owned(double min_x, double min_y, double cell_size, uint32_t cols, uint32_t rows, uint32_t row, uint32_t col, double x,
+                          double y, double size, uint32_t strategy, uint64_t *out, size_t out_len);
+
+/* The first cell in row order that owns the point (x, y).
+ * out (3 words): 1, its row, its column; or 0, 0, 0 where the point is outside the grid.
+ * Refuses by 1, 8. */
+uint32_t mt_owner(double min_x, double min_y, double cell_size, uint32_t cols, uint32_t rows, double x, double y, uint64_t *out,
+                  size_t out_len);
+
+/* ---- standing tables ---- */
+
+/* Whether tables fit: offsets has at least cells + 1 entries, the first is 0, they never fall over those entries and the last is within items;
+ * each list and the first global_count globals strictly increase below the number of lines; global_count is within globals. The grid is not
+ * checked here: its cols and rows alone count.
+ * out (1 word): written only on a refusal.
+ * Refuses by 10. */
+uint32_t mt_check_tables(double min_x, double min_y, double cell_size, uint32_t cols, uint32_t rows, size_t lines, const uint32_t *offsets,
+                         size_t offsets_len, const uint32_t *items, size_t items_len, const uint32_t *globals, size_t globals_len,
+                         size_t global_count, uint64_t *out, size_t out_len);
+
+/* ---- the reader ---- */
+
+/* Reads one LineString in well-known binary (type 2, either byte order, 1 to 1,024 points, no bytes after it) into x and y, which both have
+ * the same length, at least 1,024. Beyond the points x and y are zeroed. Every NaN becomes the one NaN.
+ * out (1 word): the number of points.
+ * Refuses by 3, 11, and then writes nothing to x and y. */
+uint32_t mt_read_line_string(const uint8_t *bytes, size_t bytes_len, double *x, size_t x_len, double *y, size_t y_len, uint64_t *out,
+                             size_t out_len);
+
+#ifdef __cplusplus
+}
+#endif
+
+#endif

@@ -1,0 +1,2 @@
+-- `Showing`: the laws of the report of tables.
+pub mod Showing

@@ -1,0 +1,2 @@
+// What the program prints for the bytes that it reads.
+mod show;

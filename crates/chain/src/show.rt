@@ -1,0 +1,111 @@
+// The report of standing tables.
+ghost use mathlib.Core.Path.{_≡_};
+ghost use mathlib.Core.Bool.{false};
+ghost use lib.Ieee.{isNan};
+ghost use Rattle.tables.specs.Tables.{tables, cells};
+ghost use Rattle.report.specs.Pages.{page, Puts};
+ghost use Rattle.report.specs.Lines.{cellLine};
+ghost use Rattle.chain.specs.Printed.{cellLines, reportOf};
+ghost use Rattle.chain.specs.Inside.{CellAsks, TablesAsk};
+ghost use Rattle.tables.specs.Tables.{listOf};
+ghost use Prim.Native.Nat.{_/_, _%_};
+use grid::Grid;
+
+fn wide(x: u32) -> usize
+    ensures { λ r. ⌜ r ≡ x ⌝ }
+{
+    x as usize
+}
+
+// The line of one cell.
+fn put_cell(
+    grid: Grid,
+    lines: usize,
+    offsets: &[u32],
+    items: &[u32],
+    globals: &[u32],
+    global_count: usize,
+    cell: u32,
+    out: &mut [u8],
+    at: usize,
+) -> usize
+    requires { ⌜ CellAsks (tables grid lines (now offsets) (now items) (now globals) «global_count») cell ⌝ }
+    ensures { λ r. ⌜ Puts (cellLine (cell / grid .cols) (cell % grid .cols) (listOf (tables grid lines (now (offsets .entry)) (now (items .entry)) (now (globals .entry)) «global_count») cell)) (page (now (out .entry)) at) (page (now (out .exit)) r) ⌝ }
+{
+    let c = wide(cell);
+    let from = wide(offsets[c]);
+    let to = wide(offsets[c + 1]);
+    report::cell_line(
+        cell / grid.cols,
+        cell % grid.cols,
+        &items[from..to],
+        out,
+        at,
+    )
+}
+
+// A line for each nonempty cell.
+fn put_cells(
+    grid: Grid,
+    lines: usize,
+    offsets: &[u32],
+    items: &[u32],
+    globals: &[u32],
+    global_count: usize,
+    out: &mut [u8],
+    at: usize,
+) -> usize
+    requires { ⌜ TablesAsk (tables grid lines (now offsets) (now items) (now globals) «global_count») ⌝ }
+    ensures { λ r. ⌜ Puts (cellLines (tables grid lines (now (offsets .entry)) (now (items .entry)) (now (globals .entry)) «global_count») (cells (tables grid lines (now (offsets .entry)) (now (items .entry)) (now (globals .entry)) «global_count»))) (page (now (out .entry)) at) (page (now (out .exit)) r) ⌝ }
+{
+    let cells = grid.rows * grid.cols;
+    let mut at = at;
+    let mut cell = 0;
+    while cell < cells {
+        at = put_cell(
+            grid,
+            lines,
+            offsets,
+            items,
+            globals,
+            global_count,
+            cell,
+            out,
+            at,
+        );
+        cell += 1;
+    }
+    at
+}
+
+// The grid, the cells, the globals, the visit.
+pub(crate) fn put_report(
+    grid: Grid,
+    lines: usize,
+    offsets: &[u32],
+    items: &[u32],
+    globals: &[u32],
+    global_count: usize,
+    item_count: usize,
+    tests: u64,
+    overlaps: u64,
+    out: &mut [u8],
+    at: usize,
+) -> usize
+    requires { ⌜ TablesAsk (tables grid lines (now offsets) (now items) (now globals) «global_count») ⌝ ∗ ⌜ isNan (grid .«cell_size») ≡ false ⌝ }
+    ensures { λ r. ⌜ Puts (reportOf grid (tables grid lines (now (offsets .entry)) (now (items .entry)) (now (globals .entry)) «global_count») «item_count» tests overlaps) (page (now (out .entry)) at) (page (now (out .exit)) r) ⌝ }
+{
+    let bits = f64::to_bits(grid.cell_size);
+    let at = report::grid_line(
+        grid.cols,
+        grid.rows,
+        bits,
+        item_count,
+        global_count,
+        out,
+        at,
+    );
+    let at = put_cells(grid, lines, offsets, items, globals, global_count, out, at);
+    let at = report::global_line(&globals[..global_count], out, at);
+    report::visit_line(tests, overlaps, out, at)
+}

@@ -1,0 +1,66 @@
+-- How long the lines can be: a number has at most 20 digits. Assumes nothing.
+use mathlib.Core.Path.{_≡_, refl, ap, subst}
+use mathlib.Core.Bool.{Bool, true, false}
+use mathlib.Core.List.{List, [], _∷_, _++_}
+use Prim.Native.Nat.{ℕ, zero, suc, _+_, _*_, _/_, _%_, _≤_}
+use native.Mathlib.Omega.{arith}
+use lib.Dec.{eqb}
+use lib.ListN.{length, length-append}
+use Rattle.report.specs.Numbers.{glyph, noneIf, leading, decimal, hex}
+use Rattle.report.specs.Lines.{spaced, line, gridLine, cellLine, globalLine, visitLine, refusedLine}
+
+none-size : (b : Bool) (xs : List ℕ) (k : ℕ) → length xs ≤ k → length (noneIf b xs) ≤ k
+unfolding noneIf
+none-size true xs k h = omega arith
+none-size false xs k h = h
+
+leading-size : (k n : ℕ) → length (leading k n) ≤ k
+unfolding leading
+leading-size zero n = omega arith
+leading-size (suc k) n =
+    let h = leading-size k (n / 10) in
+    none-size (eqb n 0) (leading k (n / 10) ++ (glyph (n % 10) ∷ [])) (suc k) (simp length-append (omega arith))
+
+pub decimal-size : (n : ℕ) → length (decimal n) ≤ 20
+unfolding decimal
+decimal-size n = let h = leading-size 19 (n / 10) in simp length-append (omega arith)
+
+pub hex-size : (k n : ℕ) → length (hex k n) ≡ k
+unfolding hex
+hex-size zero n = refl
+hex-size (suc k) n = let h = hex-size k (n / 16) in simp length-append (omega arith)
+
+pub spaced-size : (ns : List ℕ) → length (spaced ns) ≤ 21 * length ns
+unfolding spaced
+spaced-size [] = omega arith
+spaced-size (n ∷ ns) = let h = decimal-size n in let k = spaced-size ns in simp length-append (omega arith)
+
+line-size : (word rest : List ℕ) → length (line word rest) ≡ length word + length rest + 1
+unfolding line
+line-size word rest = simp length-append (omega arith)
+
+pub grid-size : (cols rows bits items globals : ℕ) → length (gridLine cols rows bits items globals) ≤ 106
+unfolding gridLine
+grid-size cols rows bits items globals =
+    let a = spaced-size (cols ∷ rows ∷ []) in
+    let b = hex-size 16 bits in
+    let d = spaced-size (items ∷ globals ∷ []) in
+    simp (line-size, length-append) (omega arith)
+
+pub cell-size : (row col : ℕ) (ls : List ℕ) → length (cellLine row col ls) ≤ 47 + 21 * length ls
+unfolding cellLine
+cell-size row col [] = omega arith
+cell-size row col (l ∷ ls) = let a = spaced-size (row ∷ col ∷ l ∷ ls) in simp line-size (omega arith)
+
+pub global-size : (ls : List ℕ) → length (globalLine ls) ≤ 7 + 21 * length ls
+unfolding globalLine
+global-size [] = omega arith
+global-size (l ∷ ls) = let a = spaced-size (l ∷ ls) in simp line-size (omega arith)
+
+pub visit-size : (tests overlaps : ℕ) → length (visitLine tests overlaps) ≤ 48
+unfolding visitLine
+visit-size tests overlaps = let a = spaced-size (tests ∷ overlaps ∷ []) in simp line-size (omega arith)
+
+pub refused-size : (number : ℕ) → length (refusedLine number) ≤ 29
+unfolding refusedLine
+refused-size number = let a = spaced-size (number ∷ []) in simp line-size (omega arith)

@@ -1,0 +1,15 @@
+-- `report::refused_line` meets its contract. Assumes nothing.
+use borrow.Author.Needs.{needs}
+use mathlib.Core.Path.{sym}
+use Rattle.report.specs.Lines.{refusedLine}
+use Rattle.report.proofs.Putting.{puts-text, puts-line, spaced-one}
+use Rattle.report.proofs.refused_line.Statement.{statement}
+use Rattle.report.proofs.refused_line.Tie as tie
+
+returns : tie.Need-returns
+unfolding refusedLine
+returns c =
+    puts-line (c .before .before .before .before .before .before .before .before .before .before .put-all .ensures) (puts-text (sym (spaced-one _)) (c .before .before .before .before .before .before .put-number .ensures)) (c .before .before .put .ensures)
+
+pub refused-line-spec : {M : Type 1} → statement M
+refused-line-spec = tie.close (tie.spec (λ c. search needs) (λ c κs. tt) (λ c κs. tt) (λ c κs. tt) (λ c. search needs) returns)

@@ -1,0 +1,36 @@
+-- Document 01, "The program": the lines that it prints, as bytes in ASCII. Definitions only.
+use Prim.Native.Nat.{ℕ}
+use mathlib.Core.List.{List, [], _∷_, _++_}
+use Rattle.report.specs.Numbers.{decimal, hex}
+
+-- each number after a space
+unfoldable pub spaced : List ℕ → List ℕ
+spaced [] = []
+spaced (n ∷ ns) = (32 ∷ decimal n) ++ spaced ns
+
+-- a line: a word, what follows it, and the line's end
+unfoldable pub line : List ℕ → List ℕ → List ℕ
+line word rest = word ++ (rest ++ (10 ∷ []))
+
+-- `grid` cols rows, bits of cell_size in 16 hex digits, items, globals
+unfoldable pub gridLine : ℕ → ℕ → ℕ → ℕ → ℕ → List ℕ
+gridLine cols rows bits items globals =
+    line (103 ∷ 114 ∷ 105 ∷ 100 ∷ []) (spaced (cols ∷ rows ∷ []) ++ ((32 ∷ hex 16 bits) ++ spaced (items ∷ globals ∷ [])))
+
+-- `cell` row column and its lines, for a nonempty cell
+unfoldable pub cellLine : ℕ → ℕ → List ℕ → List ℕ
+cellLine row col [] = []
+cellLine row col (l ∷ ls) = line (99 ∷ 101 ∷ 108 ∷ 108 ∷ []) (spaced (row ∷ col ∷ l ∷ ls))
+
+-- `global` and its lines, if any
+unfoldable pub globalLine : List ℕ → List ℕ
+globalLine [] = []
+globalLine (l ∷ ls) = line (103 ∷ 108 ∷ 111 ∷ 98 ∷ 97 ∷ 108 ∷ []) (spaced (l ∷ ls))
+
+-- `visit` tests overlaps
+unfoldable pub visitLine : ℕ → ℕ → List ℕ
+visitLine tests overlaps = line (118 ∷ 105 ∷ 115 ∷ 105 ∷ 116 ∷ []) (spaced (tests ∷ overlaps ∷ []))
+
+-- `refused` and the number
+unfoldable pub refusedLine : ℕ → List ℕ
+refusedLine number = line (114 ∷ 101 ∷ 102 ∷ 117 ∷ 115 ∷ 101 ∷ 100 ∷ []) (spaced (number ∷ []))

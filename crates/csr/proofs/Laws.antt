@@ -43,6 +43,11 @@ pub sum-mono : (g : ℕ → ℕ) (a b : ℕ) → a ≤ b → sum g a ≤ sum g b
 unfolding sum
 sum-mono g a b h = le-ind (λ m. sum g a ≤ sum g m) (le-refl (sum g a)) (λ m k ih. omega arith) b h
 
+pub sum-most : (g h : ℕ → ℕ) → ((c : ℕ) → g c ≤ h c) → (n : ℕ) → sum g n ≤ sum h n
+unfolding sum
+sum-most g h e zero = omega arith
+sum-most g h e (suc n) = omega (arith, sum-most g h e n, e n)
+
 pub sum-below : (g : ℕ → ℕ) (a b : ℕ) → a < b → sum g a + g a ≤ sum g b
 unfolding sum
 sum-below g a b h = sum-mono g (suc a) b h
@@ -255,6 +260,25 @@ sum-hits (x ∷ xs) i n =
       sum-hits xs i n,
       sum-one x i n,
       sum-split (λ c. length (only (eqb c x) i ++ hits xs i c)) (λ c. length (only (eqb c x) i)) (λ c. length (hits xs i c)) (λ c. rw length-append (omega arith)) n,
+    )
+
+-- a cell that is in a list is found in it
+hits-some : (xs : List ℕ) (i c : ℕ) → length (only (elem c xs) i) ≤ length (hits xs i c)
+unfolding hits
+hits-some [] i c = omega arith
+hits-some (x ∷ xs) i c = go (hits-some xs i c) (eqb c x)
+  where
+    go : length (only (elem c xs) i) ≤ length (hits xs i c) → (b : Bool) → length (only (b || elem c xs) i) ≤ length (only b i ++ hits xs i c)
+    go ih true = rw length-append (omega arith)
+    go ih false = ih
+
+-- of any number of cells, at most as many are in a list as it has entries
+pub cells-few : (xs : List ℕ) (i n : ℕ) → sum (λ c. length (only (elem c xs) i)) n ≤ length xs
+cells-few xs i n =
+    omega (
+      arith,
+      sum-hits xs i n,
+      sum-most (λ c. length (only (elem c xs) i)) (λ c. length (hits xs i c)) (λ c. hits-some xs i c) n,
     )
 
 sums-go : (W : ℕ → List ℕ) (n cells b : ℕ) → Walks W n cells → ((i : ℕ) → i < n → length (W i) ≤ b) → (i : ℕ) → i ≤ n → sum (λ c. length (linesAt W i c)) cells ≤ i * b

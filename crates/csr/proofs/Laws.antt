@@ -409,6 +409,23 @@ concat-split F c n l =
     le-ind (λ m. (r : List ℕ) × (concat F m ≡ concat F c ++ (F c ++ r))) ([], rw append-nil)
     (λ m _ ih. (ih .0 ++ F m, rw (ih .1, append-assoc, append-assoc))) n l
 
+-- the offsets and the items keep the length of their slice, where it has room
+pub length-offsets : (F : ℕ → List ℕ) (cells len : ℕ) → suc cells ≤ len → length (offsetsOf F cells len) ≡ len
+unfolding offsetsOf
+length-offsets F cells len l = rw (length-append, length-tabulate (start F) (suc cells), length-replicate) (omega arith)
+
+pub length-items : (F : ℕ → List ℕ) (cells len : ℕ) → start F cells ≤ len → length (itemsOf F cells len) ≡ len
+unfolding itemsOf
+length-items F cells len l = rw (length-append, length-concat F cells, length-replicate) (omega arith)
+
+-- so they are a table
+pub table-made : {F : ℕ → List ℕ} {cells a b : ℕ} {o t : List ℕ} → suc cells ≤ a → start F cells ≤ b → o ≡ offsetsOf F cells a → t ≡ itemsOf F cells b → Table F cells o t
+table-made {F} {cells} {a} {b} l m x y =
+    record {
+      items-are = rw (y, length-items F cells b m);
+      offsets-are = rw (x, length-offsets F cells a l);
+    }
+
 -- where the list of the cell c begins, and where the last ends
 pub table-offset : {F : ℕ → List ℕ} {cells : ℕ} {o t : List ℕ} → Table F cells o t → (c : ℕ) → c ≤ cells → getD o c 0 ≡ start F c
 unfolding offsetsOf

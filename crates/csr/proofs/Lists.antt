@@ -8,7 +8,7 @@ use native.Mathlib.Decide.{decLt, ℕ-discrete}
 use native.Mathlib.Nat.{le-refl}
 use native.Mathlib.Numerals.{add-one}
 use native.Mathlib.Omega.{arith}
-use borrow.Author.Tests.{leb-true, leb-false, lt-ltb, le-ltb, eq-eqb, ne-eqb}
+use borrow.Author.Tests.{leb-true, leb-false, le-leb, lt-leb, lt-ltb, le-ltb, eq-eqb, ne-eqb}
 use lib.Dec.{eqb, ltb, leb}
 use lib.ListN.{length, length-append}
 use Rattle.slices.specs.Lists.{elem, any, Below, Rising}
@@ -34,6 +34,15 @@ long-says xs h = leb-true 2049 (length xs) h
 pub short-says : (xs : List ℕ) → long xs ≡ false → length xs ≤ 2048
 unfolding long
 short-says xs h = omega (arith, leb-false 2049 (length xs) h)
+
+-- a line is global, or visits at most 2,048 cells
+pub short-is : (xs : List ℕ) → not (long xs) ≡ leb (length xs) 2048
+unfolding long
+short-is xs = go (decLt 2048 (length xs))
+  where
+    go : Dec (2048 < length xs) → not (leb 2049 (length xs)) ≡ leb (length xs) 2048
+    go (yes l) = rw (le-leb 2049 (length xs) l, lt-leb (length xs) 2048 l)
+    go (no l) = let k : length xs ≤ 2048 = omega arith in rw (lt-leb 2049 (length xs) (omega arith), le-leb (length xs) 2048 k)
 
 -- by cases on whether a line is global
 local-cases : (P : List ℕ → Type 0) (W : ℕ → List ℕ) (i : ℕ) → P [] → (length (W i) ≤ 2048 → P (W i)) → P (local W i)

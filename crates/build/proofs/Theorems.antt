@@ -17,7 +17,7 @@ use Rattle.grid.proofs.Fine.{each-says}
 use Rattle.walk.specs.Pushes.{Outcome, refused, found}
 use Rattle.csr.specs.Tables.{long, only, sum, start, offsetsOf, itemsOf}
 use Rattle.csr.specs.States.{Table}
-use Rattle.csr.proofs.Laws.{sum-mono, table-made, table-offset, table-list, length-offsets, length-items}
+use Rattle.csr.proofs.Laws.{sum-mono, sum-same, table-made, table-offset, table-list, length-offsets, length-items}
 use Rattle.csr.proofs.Lists.{short-is, lines-rising, lines-below, globals-rising, globals-below, globals-hold, list-holds, lists-few}
 use Rattle.tables.specs.Tables.{tables, listIn}
 use Rattle.tables.specs.Fit.{Increasing, ListsFit, TablesFit, tablesCheck}
@@ -28,7 +28,7 @@ use Rattle.build.specs.declared.Built.the-variants as built
 use Rattle.build.specs.OnGrid.{cells, walkOn, ends, visited, cellsOn, listOn, globalsOn}
 use Rattle.build.specs.Choice.{turnsCheck}
 use Rattle.build.specs.Build.{total, End, untouched, cleared, made, endOf, answerOf, leftOf, BuildIs}
-use Rattle.build.specs.Passes.{localOn}
+use Rattle.build.specs.Passes.{localOn, oneIf}
 use Rattle.build.proofs.Settled.{Made, made-says}
 
 -- ---- the promise settles everything
@@ -173,6 +173,10 @@ module _ {ls : Lines} {st : Standing} {o t gs : List ℕ} (u : Success ls st o t
         counted = omega (arith, u .found-are, u .is .listed);
       }
 
+one-only : (b : Bool) (k : ℕ) → oneIf b ≡ length (only b k)
+one-only true k = refl
+one-only false k = refl
+
 -- ---- THE THEOREMS
 
 module _ {ls : Lines} {o t gs s : List ℕ} {r : Built} {o′ t′ gs′ s′ : List ℕ} {st : Standing} (h : BuildIs ls o t gs s r o′ t′ gs′ s′ (endOf ls (length o) (length t) (length gs) (length s))) (ok : r ≡ built.Tables st) where
@@ -195,7 +199,17 @@ module _ {ls : Lines} {o t gs s : List ℕ} {r : Built} {o′ t′ gs′ s′ : 
   pub no-misfit : tablesCheck (tables (st .grid) (count ls) o′ t′ gs′ (st .globals)) ≡ Fine
   no-misfit = facts-check _ (tables-fit (success h ok))
 
-  -- "a pair without a global is tested at most 2,048 times": at most so many cells list a line, each of them counting one
-  pub few-lists : (k : ℕ) → sum (λ c. length (only (elem k (listOn (st .grid) ls c)) k)) (cells (st .grid)) ≤ 2048
+  -- "invented .. item counts": the number of items is the sum of the lengths of the lists
+  pub items-counted : st .items ≡ sum (λ c. length (listIn o′ t′ c)) (cells (st .grid))
+  unfolding total
+  items-counted =
+      success h ok .items-are
+      ∙ sym (sum-same (λ c. length (listIn o′ t′ c)) (λ c. length (listOn (st .grid) ls c)) (cells (st .grid)) (λ c l. ap length (list-of c l)))
+
+  -- "a pair without a global is tested at most 2,048 times": at most so many cells list a line
+  pub few-lists : (k : ℕ) → sum (λ c. oneIf (elem k (listIn o′ t′ c))) (cells (st .grid)) ≤ 2048
   unfolding listOn
-  few-lists k = lists-few (cellsOn (st .grid) ls) (count ls) k (cells (st .grid))
+  few-lists k =
+      let n : ℕ = cells (st .grid) in
+      let e = sum-same (λ c. oneIf (elem k (listIn o′ t′ c))) (λ c. length (only (elem k (listOn (st .grid) ls c)) k)) n (λ c l. rw (list-of c l) (one-only (elem k (listOn (st .grid) ls c)) k)) in
+      omega (arith, lists-few (cellsOn (st .grid) ls) (count ls) k n)

@@ -43,10 +43,15 @@ pub sum-mono : (g : ℕ → ℕ) (a b : ℕ) → a ≤ b → sum g a ≤ sum g b
 unfolding sum
 sum-mono g a b h = le-ind (λ m. sum g a ≤ sum g m) (le-refl (sum g a)) (λ m k ih. omega arith) b h
 
-pub sum-most : (g h : ℕ → ℕ) → ((c : ℕ) → g c ≤ h c) → (n : ℕ) → sum g n ≤ sum h n
+pub sum-most : (g h : ℕ → ℕ) (n : ℕ) → ((c : ℕ) → c < n → g c ≤ h c) → sum g n ≤ sum h n
 unfolding sum
-sum-most g h e zero = omega arith
-sum-most g h e (suc n) = omega (arith, sum-most g h e n, e n)
+sum-most g h zero e = omega arith
+sum-most g h (suc n) e = omega (arith, sum-most g h n (λ c l. e c (omega arith)), e n (omega arith))
+
+pub sum-same : (g h : ℕ → ℕ) (n : ℕ) → ((c : ℕ) → c < n → g c ≡ h c) → sum g n ≡ sum h n
+unfolding sum
+sum-same g h zero e = refl
+sum-same g h (suc n) e = rw (sum-same g h n (λ c l. e c (omega arith)), e n (omega arith))
 
 pub sum-below : (g : ℕ → ℕ) (a b : ℕ) → a < b → sum g a + g a ≤ sum g b
 unfolding sum
@@ -278,7 +283,7 @@ cells-few xs i n =
     omega (
       arith,
       sum-hits xs i n,
-      sum-most (λ c. length (only (elem c xs) i)) (λ c. length (hits xs i c)) (λ c. hits-some xs i c) n,
+      sum-most (λ c. length (only (elem c xs) i)) (λ c. length (hits xs i c)) n (λ c l. hits-some xs i c),
     )
 
 sums-go : (W : ℕ → List ℕ) (n cells b : ℕ) → Walks W n cells → ((i : ℕ) → i < n → length (W i) ≤ b) → (i : ℕ) → i ≤ n → sum (λ c. length (linesAt W i c)) cells ≤ i * b

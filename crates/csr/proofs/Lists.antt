@@ -185,7 +185,7 @@ module _ (W : ℕ → List ℕ) (n : ℕ) where
         arith,
         local-few W k,
         cells-few (local W k) k cells,
-        sum-most (λ c. length (only (elem k (listAt W n c)) k)) (λ c. length (only (elem c (local W k)) k)) (λ c. rw (list-grown (local W) n c, grown-elem (λ i. elem c (local W i)) n k) (only-less (ltb k n) (elem c (local W k)) k)) cells,
+        sum-most (λ c. length (only (elem k (listAt W n c)) k)) (λ c. length (only (elem c (local W k)) k)) cells (λ c l. rw (list-grown (local W) n c, grown-elem (λ i. elem c (local W i)) n k) (only-less (ltb k n) (elem c (local W k)) k)),
       )
     where
       only-less : (a b : Bool) (k : ℕ) → length (only (a && b) k) ≤ length (only b k)

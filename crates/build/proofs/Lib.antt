@@ -1,4 +1,4 @@
--- Laws for the proofs of `build`.
+-- Laws for the proofs of `build`. For the crates above: `Settled` and `Theorems`.
 pub mod Visits
 pub mod Sums
 pub mod Walks
@@ -8,3 +8,5 @@ pub mod Choices
 pub mod Places
 pub mod Fills
 pub mod Entries
+pub mod Settled
+pub mod Theorems

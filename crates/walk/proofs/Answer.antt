@@ -7,7 +7,7 @@ use mathlib.Core.Bool.{Bool, true, false, _&&_}
 use mathlib.Core.List.{List, [], _∷_, _++_}
 use lib.ListN.{length, take, drop, replicate}
 use lib.Seq.{take-at}
-use lib.Dec.{leb}
+use lib.Dec.{leb, eqb}
 use lib.Ieee.{Float, inf, binary64, sub, eq}
 use borrow.Author.Tests.{le-leb, lt-leb}
 use Rattle.slices.specs.Slices.{sorted, distinctOf, OneOfEach}
@@ -28,12 +28,14 @@ use Rattle.walk.specs.declared.Cells.the-variants.{Found, Refused}
 use Rattle.walk.specs.Turns.{nought, deltaOf, firstOn, courseOn, positionOn, wayOf, startOf, steppedOf, advanced}
 use Rattle.walk.specs.Pushes.{Outcome, refused, found, walkedOf}
 use Rattle.walk.specs.Segment.{addedOf, alongOn, endOf, pushesOf, answered, unlessNone, segmentOf, checked, shapeCheck, innerOf, cellsOf, Left, Walked}
-use Rattle.walk.specs.Inside.{Grown, RanWithin, Far, Straight, Still, WalkedTo, Walks, share, shareOf}
+use Rattle.walk.specs.Inside.{Grown, Covers, Complete, RanWithin, Far, Straight, Still, WalkedTo, Walks, share, shareOf}
 use Rattle.walk.proofs.Floats.{sum-far, step-none, index-le}
-use Rattle.walk.proofs.Grows.{then}
+use Rattle.walk.proofs.Grows.{and-then}
 use Rattle.walk.proofs.Loop.{within-done}
-use Rattle.walk.proofs.Added.{share-room}
+use Rattle.walk.proofs.Added.{share-room, end-le}
 use Rattle.walk.proofs.Faithful.{same-answer}
+use Rattle.slices.specs.Lists.{any}
+use Rattle.slices.proofs.Distinct.{same-members}
 
 -- ---- an axis with d = 0
 
@@ -92,10 +94,12 @@ module _ (g : Grid) (x₀ y₀ x₁ y₁ : Float) where
     unfolding shareOf
     share-is = rw (e, f)
 
-    pub completes : {s t u w : List ℕ} {n a b r : ℕ} → Grown s t n a (addedOf v h (g .cols) (take n s)) → Grown t u a b (endOf g x₀ y₀) → Grown u w b r (endOf g x₁ y₁)
-        → (r ≤ length w) × (take r w ≡ pushesOf g x₀ y₀ x₁ y₁ (take n s))
+    pub completes : {s t u w : List ℕ} {n a c r b : ℕ} → Covers s t n a b (addedOf v h (g .cols) (take n s)) → Grown t u a c (endOf g x₀ y₀) → Grown u w c r (endOf g x₁ y₁)
+        → Complete w r (pushesOf g x₀ y₀ x₁ y₁ (take n s))
     unfolding pushesOf
-    completes p q k = let z = then (then p q) k in (z .within, rw (← e, ← f) (z .is))
+    completes p q k =
+        let z = and-then 3 (end-le g x₁ y₁) (and-then 3 (end-le g x₀ y₀) p q) k in
+        record { within = z .within; same = rw (← e, ← f) (z .same) }
 
   -- ---- the refusals, and the walk behind them
 
@@ -154,17 +158,17 @@ module _ (g : Grid) (x₀ y₀ x₁ y₁ : Float) (was : List ℕ) where
         inner : innerOf (length was) g x₀ y₀ x₁ y₁ ≡ answered g x₀ y₀ x₁ y₁ (walkedOf (g .cols) (g .rows) way w)
         inner = inner-is g x₀ y₀ x₁ y₁ (length was) long fits ∙ segment-is g x₀ y₀ x₁ y₁ way w e f some
 
-        ordered : (o : Outcome) (n : ℕ) (l : List ℕ) → WalkedTo o (Done n) s → l ≡ pushesOf g x₀ y₀ x₁ y₁ (take n s) → answered g x₀ y₀ x₁ y₁ o ≡ found (distinctOf (sorted l))
+        ordered : (o : Outcome) (n : ℕ) (l : List ℕ) → WalkedTo o (Done n) s → ((f : ℕ → Bool) → any f l ≡ any f (pushesOf g x₀ y₀ x₁ y₁ (take n s))) → answered g x₀ y₀ x₁ y₁ o ≡ found (distinctOf (sorted l))
         unfolding answered
         ordered (refused why) n l p q = absurd p
-        ordered (found xs) n l p q = ap found (sym (same-answer g x₀ y₀ x₁ y₁ (take n s) xs (p .1)) ∙ ap (λ (z : List ℕ). distinctOf (sorted z)) (sym q))
+        ordered (found xs) n l p q = ap found (sym (same-answer g x₀ y₀ x₁ y₁ (take n s) xs (p .1)) ∙ sym (same-members l (pushesOf g x₀ y₀ x₁ y₁ (take n s)) (λ u. q (eqb u))))
 
-        pub found-answer : (n m r : ℕ) (t u : List ℕ) → R ≡ Done n → take m t ≡ pushesOf g x₀ y₀ x₁ y₁ (take n s) → length u ≡ length was
+        pub found-answer : (n m r : ℕ) (t u : List ℕ) → R ≡ Done n → Complete t m (pushesOf g x₀ y₀ x₁ y₁ (take n s)) → length u ≡ length was
             → OneOfEach (sorted (take m t)) (sorted (take m t) ++ drop m t) u r
             → Walked (innerOf (length was) g x₀ y₀ x₁ y₁) was (Found r) u
         found-answer n m r t u d q l k =
             found-walked _ (distinctOf (sorted (take m t))) was u r
-            (inner ∙ ordered (walkedOf (g .cols) (g .rows) way w) n (take m t) (subst (λ (z : Ran). WalkedTo (walkedOf (g .cols) (g .rows) way w) z s) d (run .ran)) q)
+            (inner ∙ ordered (walkedOf (g .cols) (g .rows) way w) n (take m t) (subst (λ (z : Ran). WalkedTo (walkedOf (g .cols) (g .rows) way w) z s) d (run .ran)) (q .same))
             l (k .count) (rw (k .left) (take-at (distinctOf (sorted (take m t))) (drop r (sorted (take m t) ++ drop m t)) (length (distinctOf (sorted (take m t)))) refl))
 
         budget : (o : Outcome) → WalkedTo o Over s → answered g x₀ y₀ x₁ y₁ o ≡ refused (refusal 7 0)

@@ -13,7 +13,7 @@ use borrow.Author.Tests.{lt-ltb, le-ltb, eqb-true}
 use Rattle.slices.specs.Lists.{any, elem}
 use Rattle.slices.proofs.Members.{any-append, elem-at}
 use Rattle.walk.specs.Pushes.{kept, pushOf}
-use Rattle.walk.specs.Inside.{Grown, Gained}
+use Rattle.walk.specs.Inside.{Grown, Covers}
 
 pub none : {xs : List ℕ} {n : ℕ} → n ≤ length xs → Grown xs xs n n []
 none {xs} {n} h = record { len = refl; count = omega arith; within = h; is = sym (append-nil (take n xs)) }
@@ -91,7 +91,7 @@ last-elem s n c l h e =
     let i : getD (take n s) (n - 1) 0 ≡ c = getD-take n s (n - 1) 0 (omega arith) ∙ eqb-true (getD s (n - 1) 0) c e in
     subst (λ (v : ℕ). elem v (take n s) ≡ true) i (elem-at (take n s) (n - 1) (omega (arith, length-take-le n s l)))
 
-pub left-out : {xs : List ℕ} {n c : ℕ} {more : List ℕ} → n ≤ length xs → more ≡ c ∷ [] → elem c (take n xs) ≡ true → Gained xs xs n n more
+pub left-out : {xs : List ℕ} {n c : ℕ} {more : List ℕ} → n ≤ length xs → more ≡ c ∷ [] → elem c (take n xs) ≡ true → Covers xs xs n n 1 more
 left-out {xs} {n} {c} {more} l e h = record {
   len = refl;
   count = omega arith;
@@ -99,5 +99,18 @@ left-out {xs} {n} {c} {more} l e h = record {
   same = λ f. or-last (any f (take n xs)) (f c) (passes f c (take n xs) h) ∙ sym (any-append f (take n xs) (c ∷ [])) ∙ ap (λ (z : List ℕ). any f (take n xs ++ z)) (sym e);
 }
 
-pub gained : {xs ys : List ℕ} {n r : ℕ} {more : List ℕ} → length more ≤ 1 → Grown xs ys n r more → Gained xs ys n r more
-gained l g = record { len = g .len; count = omega (arith, g .count); within = g .within; same = λ f. ap (any f) (g .is) }
+pub covers : {xs ys : List ℕ} {n r : ℕ} {more : List ℕ} (b : ℕ) → length more ≤ b → Grown xs ys n r more → Covers xs ys n r b more
+covers b l g = record { len = g .len; count = omega (arith, g .count); within = g .within; same = λ f. ap (any f) (g .is) }
+
+pub and-then : {xs ys zs : List ℕ} {n m r b : ℕ} {more last : List ℕ} (d : ℕ) → length last ≤ d → Covers xs ys n m b more → Grown ys zs m r last → Covers xs zs n r (b + d) (more ++ last)
+and-then {xs} {ys} {zs} {n} {m} {r} {b} {more} {last} d l g h = record {
+  len = h .len ∙ g .len;
+  count = omega (arith, g .count, h .count);
+  within = h .within;
+  same = λ f.
+      ap (any f) (h .is)
+      ∙ any-append f (take m ys) last
+      ∙ ap (λ (z : Bool). z || any f last) (g .same f)
+      ∙ sym (any-append f (take n xs ++ more) last)
+      ∙ ap (any f) (append-assoc (take n xs) more last);
+}

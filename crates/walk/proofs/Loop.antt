@@ -20,7 +20,7 @@ use Rattle.walk.specs.declared.Ran.{Ran}
 use Rattle.walk.specs.declared.Ran.the-variants.{Done, Over}
 use Rattle.walk.specs.Turns.{one, infinite, finiteOf, toleranceOf, nearOf, stop, both, single, furtherOf, arrivedOf, turnOf, steppedOf, advanced, movedOf, goesOf}
 use Rattle.walk.specs.Pushes.{pushOf, sidesOf, pushedBy, Outcome, refused, found, before, after, nextOf, goingOf, turns, walkedOf}
-use Rattle.walk.specs.Inside.{Grown, Gained, RanTo, RanWithin, Far, Straight, Still, Runs, WalkedTo, Walks}
+use Rattle.walk.specs.Inside.{Grown, Covers, RanTo, RanWithin, Far, Straight, Still, Runs, WalkedTo, Walks}
 use Rattle.walk.proofs.Floats.{sum-far}
 use Rattle.walk.proofs.Grows.{then, at-most-one}
 
@@ -209,7 +209,7 @@ module _ {P Q : Type 0} {goal : Outcome} {n cols rows : ℕ} {way : Way} {left :
 pub within-done : (R : Ran) (m b : ℕ) → R ≡ Done m → RanWithin R b → m ≤ b
 within-done R m b e p = subst (λ (q : Ran). RanWithin q b) e p
 
-ran-after : (o : Outcome) (m r : ℕ) (s t ys : List ℕ) → RanTo o (Done m) s → Gained s t m r ys → WalkedTo (after o ys) (Done r) t
+ran-after : (o : Outcome) (m r : ℕ) (s t ys : List ℕ) → RanTo o (Done m) s → Covers s t m r 1 ys → WalkedTo (after o ys) (Done r) t
 unfolding after
 ran-after (refused why) m r s t ys p g = absurd p
 ran-after (found xs) m r s t ys p g = (g .within, λ f. g .same f ∙ ap (λ (l : List ℕ). any f (l ++ ys)) (p .1))
@@ -229,7 +229,7 @@ module _ (cols rows : ℕ) (way : Way) (w : Walk) {s₀ s₁ s₂ : List ℕ} {n
   unfolding first
   ran = rw (g .is) at (p .ran)
 
-  pub walked-done : {s₃ : List ℕ} {m r : ℕ} → R ≡ Done m → Gained s₂ s₃ m r (pushOf cols rows (way .x .end) (way .y .end))
+  pub walked-done : {s₃ : List ℕ} {m r : ℕ} → R ≡ Done m → Covers s₂ s₃ m r 1 (pushOf cols rows (way .x .end) (way .y .end))
       → Walks way w (walkedOf cols rows way w) (Done r) s₃
   unfolding walkedOf first
   walked-done {s₃} {m} {r} e h =

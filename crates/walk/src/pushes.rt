@@ -9,7 +9,7 @@ ghost use Prim.Native.Nat.{_+_, _*_, _≤_, _<_};
 ghost use lib.ListN.{length, take};
 ghost use Rattle.slices.specs.Lists.{elem};
 ghost use Rattle.walk.specs.Pushes.{pushOf, sidesOf, before, goingOf, turns, walkedOf};
-ghost use Rattle.walk.specs.Inside.{Grown, Gained, Runs, Walks};
+ghost use Rattle.walk.specs.Inside.{Grown, Covers, Runs, Walks};
 
 // Pushes the cell, where it is inside the grid.
 fn put(s: &mut [u32], n: usize, cols: u32, rows: u32, col: u32, row: u32) -> usize
@@ -39,7 +39,7 @@ fn last_is(s: &[u32], n: usize, c: u32) -> bool
 // Pushes the cell, where it is inside the grid and not the last pushed. A walk mostly ends in its end cell, which is thus pushed once.
 fn put_other(s: &mut [u32], n: usize, cols: u32, rows: u32, col: u32, row: u32) -> usize
     requires { ⌜ n < length (now s) ⌝ ∗ ⌜ rows * cols ≤ 1002001 ⌝ }
-    ensures { λ r. ⌜ Gained (now (s .entry)) (now (s .exit)) n r (pushOf cols rows col row) ⌝ }
+    ensures { λ r. ⌜ Covers (now (s .entry)) (now (s .exit)) n r 1 (pushOf cols rows col row) ⌝ }
 {
     if col < cols {
         if row < rows {

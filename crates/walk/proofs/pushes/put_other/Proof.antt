@@ -1,7 +1,7 @@
 -- `walk::pushes::put_other` meets its contract. Assumes nothing.
 use native.Mathlib.Omega.{arith}
 use borrow.Author.Needs.{needs}
-use Rattle.walk.proofs.Grows.{none, one, number, inside, beyond-row, beyond-col, at-most-one, gained, left-out}
+use Rattle.walk.proofs.Grows.{none, one, number, inside, beyond-row, beyond-col, at-most-one, covers, left-out}
 use Rattle.walk.proofs.pushes.put_other.Statement.{statement}
 use Rattle.walk.proofs.pushes.put_other.Tie as tie
 
@@ -33,13 +33,13 @@ same-length-2 : tie.Need-same-length-2
 same-length-2 c = search needs
 
 returns-2 : tie.Need-returns-2
-returns-2 c = gained (at-most-one _ _ _ _) (rw (inside _ _ _ _ (c .before .before .before .before .if1 .taken) (c .before .before .before .if2 .taken)) (one _ _ _ (omega arith)))
+returns-2 c = covers 1 (at-most-one _ _ _ _) (rw (inside _ _ _ _ (c .before .before .before .before .if1 .taken) (c .before .before .before .if2 .taken)) (one _ _ _ (omega arith)))
 
 returns-3 : tie.Need-returns-3
-returns-3 c = gained (at-most-one _ _ _ _) (rw (beyond-row _ _ _ _ (c .before .if1 .taken) (c .if2 .left)) (none (omega arith)))
+returns-3 c = covers 1 (at-most-one _ _ _ _) (rw (beyond-row _ _ _ _ (c .before .if1 .taken) (c .if2 .left)) (none (omega arith)))
 
 returns-4 : tie.Need-returns-4
-returns-4 c = gained (at-most-one _ _ _ _) (rw (beyond-col _ _ _ _ (c .if1 .left)) (none (omega arith)))
+returns-4 c = covers 1 (at-most-one _ _ _ _) (rw (beyond-col _ _ _ _ (c .if1 .left)) (none (omega arith)))
 
 pub put-other-spec : {M : Type 1} → statement M
 put-other-spec =

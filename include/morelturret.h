@@ -103,6 +103,34 @@ uint32_t mt_overlap_owned(double min_x, double min_y, double cell_size, uint32_t
 uint32_t mt_owner(double min_x, double min_y, double cell_size, uint32_t cols, uint32_t rows, double x, double y, uint64_t *out,
                   size_t out_len);
 
+/* ---- the walk ---- */
+
+/* The cells that the segment from (start_x, start_y) to (end_x, end_y) visits, increasing, none twice, at the start of the scratch; zero
+ * beyond them. The scratch has at least 16,384 entries.
+ * out (1 word): the number of cells.
+ * Refuses by 3, 1, 8, 7. */
+uint32_t mt_segment_cells(double min_x, double min_y, double cell_size, uint32_t cols, uint32_t rows, double start_x, double start_y,
+                          double end_x, double end_y, uint32_t *scratch, size_t scratch_len, uint64_t *out, size_t out_len);
+
+/* The same walk for a caller who walks many lines of a grid that he has checked. Of grid and coordinates only cols and rows are checked here,
+ * and the scratch is not zeroed: what stands beyond the cells, and throughout after refusal 7, is left open.
+ * out (1 word): the number of cells.
+ * Refuses by 3, 8 (of cols and rows alone), 7. */
+uint32_t mt_line_cells(double min_x, double min_y, double cell_size, uint32_t cols, uint32_t rows, double start_x, double start_y, double end_x,
+                       double end_y, uint32_t *scratch, size_t scratch_len, uint64_t *out, size_t out_len);
+
+/* ---- the build ---- */
+
+/* Picks a grid for the lines and writes its tables. Line i goes from (start_x[i], start_y[i]) to (end_x[i], end_y[i]). The list of cell c is
+ * items[offsets[c]] up to items[offsets[c + 1]]: the lines, increasing, that visit it. A line that visits more than 2,048 cells is in no list
+ * but in globals. Beyond what is written offsets, items and globals are zeroed, and so is all of the scratch, which has at least 16,384
+ * entries. Offsets for 1,002,002 entries, items for 2,048 times the lines and globals for the lines are always enough.
+ * out (7 words): the bits of min_x, min_y and cell_size, cols, rows, the number of items, the number of globals. The grid is fit.
+ * Refuses by 3, 2, 1; at each grid tried by 4, 7; then by 5, 6. */
+uint32_t mt_build(const double *start_x, size_t start_x_len, const double *start_y, size_t start_y_len, const double *end_x, size_t end_x_len,
+                  const double *end_y, size_t end_y_len, uint32_t *offsets, size_t offsets_len, uint32_t *items, size_t items_len,
+                  uint32_t *globals, size_t globals_len, uint32_t *scratch, size_t scratch_len, uint64_t *out, size_t out_len);
+
 /* ---- standing tables ---- */
 
 /* Whether tables fit: offsets has at least cells + 1 entries, the first is 0, they never fall over those entries and the last is within items;

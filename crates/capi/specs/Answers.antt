@@ -1,9 +1,6 @@
 -- Document 01's number and values for each case of each entry's answer. Definitions only.
-use Prim.Native.Nat.{ℕ}
-use mathlib.Core.Path.{_≡_}
-use mathlib.Core.List.{List, [], _∷_}
-use lib.Ieee.{Float, binary64, toBits}
-use lib.ListN.{length}
+use mathlib.Core.List.{[], _∷_}
+use lib.Ieee.{binary64, toBits}
 use Rattle.grid.specs.declared.Check.{Check}
 use Rattle.grid.specs.declared.Check.the-variants as check
 use Rattle.snap.specs.declared.Snapped.{Snapped}
@@ -14,8 +11,11 @@ use Rattle.own.specs.declared.Owner.{Owner}
 use Rattle.own.specs.declared.Owner.the-variants as owner
 use Rattle.wkb.specs.declared.Read.{Read}
 use Rattle.wkb.specs.declared.Read.the-variants as read
-use Rattle.wkb.specs.Reading.{outcome, answerOf, leftIn}
-use Rattle.capi.specs.Replies.{Reply, success, refusal, unlessShort, Replies}
+use Rattle.walk.specs.declared.Cells.{Cells}
+use Rattle.walk.specs.declared.Cells.the-variants as cells
+use Rattle.build.specs.declared.Built.{Built}
+use Rattle.build.specs.declared.Built.the-variants as built
+use Rattle.capi.specs.Replies.{Reply, success, refusal}
 
 -- ---- a check: no value where it finds nothing
 
@@ -47,7 +47,23 @@ unfoldable pub ofRead : Read → Reply
 ofRead (read.Points n) = success (n ∷ [])
 ofRead (read.Refused r) = refusal (r .number) (r .value)
 
-pub record ReadReplies (bytes : List ℕ) (x y : List Float) (out : List ℕ) (r : ℕ) (x′ y′ : List Float) (out′ : List ℕ) : Type 0 where
-  pub replies : Replies 1 (ofRead (answerOf (outcome (length x) (length y) bytes))) out r out′
-  pub in-x : x′ ≡ unlessShort 1 out x (leftIn (λ p. p .x) (outcome (length x) (length y) bytes) x)
-  pub in-y : y′ ≡ unlessShort 1 out y (leftIn (λ p. p .y) (outcome (length x) (length y) bytes) y)
+-- ---- the walk: the number of cells; the cells are in the scratch
+
+unfoldable pub ofCells : Cells → Reply
+ofCells (cells.Found n) = success (n ∷ [])
+ofCells (cells.Refused r) = refusal (r .number) (r .value)
+
+-- ---- the build: the grid, the number of items and the number of globals; the tables are in their slices
+
+unfoldable pub ofBuilt : Built → Reply
+ofBuilt (built.Tables t) =
+    success
+    (toBits binary64 (t .grid .«min_x»)
+    ∷ toBits binary64 (t .grid .«min_y»)
+    ∷ toBits binary64 (t .grid .«cell_size»)
+    ∷ t .grid .cols
+    ∷ t .grid .rows
+    ∷ t .items
+    ∷ t .globals
+    ∷ [])
+ofBuilt (built.Refused r) = refusal (r .number) (r .value)

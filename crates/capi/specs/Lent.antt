@@ -1,0 +1,42 @@
+-- The promises of exported functions that are lent slices to write beside `out`. Where `out` has the words of a result, the entry is called, and
+-- its own promise holds of those slices; where it is short, they stay as they were. Definitions only.
+use Prim.Native.Nat.{ℕ, _≤_, _<_}
+use mathlib.Core.Path.{_≡_}
+use mathlib.Core.List.{List}
+use lib.Ieee.{Float}
+use lib.ListN.{length}
+use Rattle.grid.specs.Domain.{Lines}
+use Rattle.wkb.specs.declared.Read.{Read}
+use Rattle.wkb.specs.Reading as wkb
+use Rattle.walk.specs.Pushes.{Outcome}
+use Rattle.walk.specs.Segment.{cellsOf, Walked, Entered}
+use Rattle.build.specs.Build as build
+use Rattle.capi.specs.Replies.{Replies}
+use Rattle.capi.specs.Answers.{ofRead, ofCells, ofBuilt}
+
+-- what the reader answers
+abbrev pub readAnswer : List ℕ → List Float → List Float → Read
+readAnswer bytes x y = wkb.answerOf (wkb.outcome (length x) (length y) bytes)
+
+pub record ReadReplies (bytes : List ℕ) (x y : List Float) (out : List ℕ) (r : ℕ) (x′ y′ : List Float) (out′ : List ℕ) : Type 0 where
+  pub replies : Replies 1 (ofRead (readAnswer bytes x y)) out r out′
+  pub called : 1 ≤ length out → wkb.ReadAs bytes x y (readAnswer bytes x y) x′ y′
+  pub short : length out < 1 → (x′ ≡ x) × (y′ ≡ y)
+
+-- the walk of one segment, whose outcome is o
+pub record WalkReplies (o : Outcome) (scratch out : List ℕ) (r : ℕ) (scratch′ out′ : List ℕ) : Type 0 where
+  pub replies : Replies 1 (ofCells (cellsOf o)) out r out′
+  pub called : 1 ≤ length out → Entered o scratch (cellsOf o) scratch′
+  pub short : length out < 1 → scratch′ ≡ scratch
+
+-- the walk of a line inside a larger call
+pub record LineReplies (o : Outcome) (scratch out : List ℕ) (r : ℕ) (scratch′ out′ : List ℕ) : Type 0 where
+  pub replies : Replies 1 (ofCells (cellsOf o)) out r out′
+  pub called : 1 ≤ length out → Walked o scratch (cellsOf o) scratch′
+  pub short : length out < 1 → scratch′ ≡ scratch
+
+-- a build that ends in e
+pub record BuildReplies (ls : Lines) (offsets items globals scratch out : List ℕ) (r : ℕ) (offsets′ items′ globals′ scratch′ out′ : List ℕ) (e : build.End) : Type 0 where
+  pub replies : Replies 7 (ofBuilt (build.answerOf e ls)) out r out′
+  pub called : 7 ≤ length out → build.BuildIs ls offsets items globals scratch (build.answerOf e ls) offsets′ items′ globals′ scratch′ e
+  pub short : length out < 7 → (offsets′ ≡ offsets) × (items′ ≡ items) × (globals′ ≡ globals) × (scratch′ ≡ scratch)

@@ -1,4 +1,4 @@
--- Laws for the proofs of `build`. For the crates above: `Settled` and `Theorems`.
+-- Laws for the proofs of `build`. For the crates above: `Settled`, `Theorems` and `Leavings`.
 pub mod Visits
 pub mod Sums
 pub mod Walks
@@ -10,3 +10,4 @@ pub mod Fills
 pub mod Entries
 pub mod Settled
 pub mod Theorems
+pub mod Leavings

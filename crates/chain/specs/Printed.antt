@@ -1,10 +1,25 @@
--- Document 01, "The program": what is printed. Definitions only.
-use Prim.Native.Nat.{ℕ, zero, suc, _/_, _%_}
-use mathlib.Core.List.{List, [], _++_}
-use lib.Ieee.{binary64, toBits}
+-- Document 01, "The program": what is printed for the bytes that are read. Definitions only.
+use Prim.Native.Nat.{ℕ, zero, suc, _*_, _-_, _/_, _%_}
+use mathlib.Core.Path.{_≡_}
+use mathlib.Core.List.{List, [], _++_, map}
+use lib.Ieee.{Float, binary64, ofBits, toBits}
+use lib.ListN.{length, take, drop, replicate}
+use Rattle.wkb.specs.Bytes.{Point}
+use Rattle.wkb.specs.Reading.{Found, points, refused, found}
 use Rattle.grid.specs.declared.Grid.{Grid}
+use Rattle.grid.specs.declared.Check.{Check}
+use Rattle.grid.specs.declared.Check.the-variants.{Fine, Refused}
+use Rattle.grid.specs.Domain.{Lines, lines}
+use Rattle.csr.specs.Tables.{itemsOf, offsetsOf}
+use Rattle.build.specs.OnGrid.{listOn, globalsOn}
+use Rattle.build.specs.Build.{End, untouched, cleared, made, endOf, total}
 use Rattle.tables.specs.Tables.{Tables, cells, listOf, globalsOf}
-use Rattle.report.specs.Lines.{gridLine, cellLine, globalLine, visitLine}
+use Rattle.visit.specs.Tests.{testsOf}
+use Rattle.visit.specs.Batches.{overlapping}
+use Rattle.visit.specs.Entries.{beside, visitCheck}
+use Rattle.report.specs.Lines.{gridLine, cellLine, globalLine, visitLine, refusedLine}
+
+-- ---- standing tables
 
 -- one line for each nonempty cell of the first n, in row order
 unfoldable pub cellLines : Tables → ℕ → List ℕ
@@ -16,3 +31,47 @@ unfoldable pub reportOf : Grid → Tables → ℕ → ℕ → ℕ → List ℕ
 reportOf g t items tests overlaps =
     gridLine (g .cols) (g .rows) (toBits binary64 (g .«cell_size»)) items (t .«global_count»)
     ++ (cellLines t (cells t) ++ (globalLine (globalsOf t) ++ visitLine tests overlaps))
+
+-- with all tests of a full visit and those of them that overlap, unless the visit is refused
+unfoldable pub reportBy : Check → Lines → Grid → Tables → ℕ → List ℕ
+reportBy Fine ls g t items = reportOf g t items (length (testsOf t)) (length (overlapping ls (testsOf t)))
+reportBy (Refused r) ls g t items = refusedLine (r .number)
+
+abbrev pub printedTables : Lines → Grid → Tables → ℕ → List ℕ
+printedTables ls g t items = reportBy (visitCheck ls g t) ls g t items
+
+-- ---- lines
+
+-- the tables that a build leaves in 4,096 offsets, 4,096 items and 64 globals
+unfoldable pub tablesOn : Lines → Grid → Tables
+tablesOn ls g =
+    beside ls g (offsetsOf (listOn g ls) (g .rows * g .cols) 4096) (itemsOf (listOn g ls) (g .rows * g .cols) 4096)
+    (globalsOn g ls ++ replicate (64 - length (globalsOn g ls)) 0)
+    (length (globalsOn g ls))
+
+unfoldable pub printedEnd : End → Lines → List ℕ
+printedEnd (untouched r) ls = refusedLine (r .number)
+printedEnd (cleared r) ls = refusedLine (r .number)
+printedEnd (made g) ls = printedTables ls g (tablesOn ls g) (total g ls)
+
+unfoldable pub printedLines : Lines → List ℕ
+printedLines ls = printedEnd (endOf ls 4096 4096 64 16384) ls
+
+-- ---- the input
+
+-- consecutive points make lines: all points but the last are starts, and all but the first are ends
+unfoldable pub chainOf : List Float → List Float → Lines
+chainOf xs ys = lines (take (length xs - 1) xs) (take (length ys - 1) ys) (drop 1 xs) (drop 1 ys)
+
+unfoldable pub printedFound : Found → List ℕ
+printedFound (points ps) = printedLines (chainOf (map (λ (p : Point). ofBits binary64 (p .x)) ps) (map (λ (p : Point). ofBits binary64 (p .y)) ps))
+printedFound (refused number value) = refusedLine number
+
+-- WHAT THE PROGRAM PRINTS for the bytes of its input
+unfoldable pub printed : List ℕ → List ℕ
+printed bs = printedFound (found bs)
+
+-- the promise: as much of the text as there is room for, its end, and zero beyond (`printed-fits`: 280,000 bytes hold every text)
+pub record Prints (text out out′ : List ℕ) (r : ℕ) : Type 0 where
+  pub end : r ≡ length (take (length out) text)
+  pub is : out′ ≡ take (length out) text ++ replicate (length out - r) 0

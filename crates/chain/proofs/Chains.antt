@@ -1,0 +1,100 @@
+-- Points and their lines, and what is printed for what the reader found. Assumes nothing.
+use mathlib.Core.Path.{_≡_, refl, sym, ap, _∙_}
+use mathlib.Core.List.{List, [], _∷_, _++_, map}
+use Prim.Native.Nat.{ℕ, zero, suc, _+_, _-_, _≤_, _<_}
+use native.Mathlib.Omega.{arith}
+use lib.Ieee.{Float, binary64, ofBits}
+use lib.ListN.{length, take, drop, replicate, length-append, length-map, length-replicate}
+use lib.Seq.{take-take, length-take-le, take-at}
+use Rattle.grid.specs.Domain.{Lines, lines}
+use Rattle.wkb.specs.Bytes.{Point, LineString}
+use Rattle.wkb.specs.Reading.{Found, points, refused, refuseUnless, outcome, found, answerOf, leftIn, nought, ReadAs}
+use Rattle.wkb.specs.declared.Refusal.{Refusal}
+use Rattle.wkb.specs.declared.Read.{Read}
+use Rattle.wkb.specs.declared.Read.the-variants.{Points, Refused}
+use Rattle.report.specs.Lines.{refusedLine}
+use Rattle.chain.specs.Printed.{chainOf, printedLines, printedFound, printed}
+
+-- ---- lines as parts of the points
+
+starts : (n : ℕ) (xs : List Float) → n ≤ length xs → take (length (take n xs) - 1) (take n xs) ≡ take (n - 1) xs
+starts n xs h = rw (length-take-le n xs h) (take-take (n - 1) n xs (omega arith))
+
+ends : (n : ℕ) (xs : List Float) → 1 ≤ n → drop 1 (take n xs) ≡ take (n - 1) (drop 1 xs)
+ends zero xs h = absurd (omega arith)
+ends (suc n) [] h = let e : suc n - 1 ≡ n = omega arith in rw e (empty n)
+  where
+    empty : (n : ℕ) → _≡_ {A = List Float} [] (take n [])
+    empty zero = refl
+    empty (suc n) = refl
+ends (suc n) (x ∷ xs) h = let e : suc n - 1 ≡ n = omega arith in rw e
+
+pub chain-parts : (n : ℕ) (xs ys : List Float) → 1 ≤ n → n ≤ length xs → n ≤ length ys → lines (take (n - 1) xs) (take (n - 1) ys) (take (n - 1) (drop 1 xs)) (take (n - 1) (drop 1 ys)) ≡ chainOf (take n xs) (take n ys)
+unfolding chainOf
+chain-parts n xs ys h k l = rw (starts n xs k, starts n ys l, ends n xs h, ends n ys h)
+
+-- ---- what the reader found
+
+found-is : (bs : List ℕ) → outcome 1024 1024 bs ≡ found bs
+unfolding outcome refuseUnless
+found-is bs = refl
+
+coordinates : (Point → ℕ) → List Point → List Float
+coordinates f ps = map (λ (p : Point). ofBits binary64 (f p)) ps
+
+left-points : (f : Point → ℕ) (ps : List Point) (s : List Float) → take (length ps) (leftIn f (points ps) s) ≡ coordinates f ps
+unfolding leftIn coordinates
+left-points f ps s = take-at (coordinates f ps) (replicate (length s - length ps) nought) (length ps) (length-map ps (λ (p : Point). ofBits binary64 (f p)))
+
+left-long : (f : Point → ℕ) (ps : List Point) (s : List Float) → length ps ≤ length (leftIn f (points ps) s)
+unfolding leftIn
+left-long f ps s =
+    let e = length-map ps (λ (p : Point). ofBits binary64 (f p)) in
+    simp length-append (omega arith)
+
+-- points were read: so many stand at the starts of the slices, and what is printed of them is what is printed of the bytes
+pub record PointsRead (bs : List ℕ) (n : ℕ) (x y : List Float) : Type 0 where
+  pub some : 1 ≤ n
+  pub in-x : n ≤ length x
+  pub in-y : n ≤ length y
+  pub text : printedLines (chainOf (take n x) (take n y)) ≡ printed bs
+
+module _ (bs : List ℕ) where
+  printed-points : (ps : List Point) → found bs ≡ points ps → printedLines (chainOf (coordinates (λ p. p .x) ps) (coordinates (λ p. p .y) ps)) ≡ printed bs
+  unfolding printed printedFound coordinates
+  printed-points ps e = sym (ap printedFound e)
+
+  printed-refused : (k v : ℕ) → found bs ≡ refused k v → refusedLine k ≡ printed bs
+  unfolding printed printedFound
+  printed-refused k v e = sym (ap printedFound e)
+
+module _ (bs : List ℕ) (x₀ y₀ x y : List Float) (lx : length x₀ ≡ 1024) (ly : length y₀ ≡ 1024) where
+  read-is : {r : Read} → ReadAs bs x₀ y₀ r x y → outcome (length x₀) (length y₀) bs ≡ found bs
+  read-is a = rw (lx, ly) (found-is bs)
+
+  pub points-read : (n : ℕ) → ReadAs bs x₀ y₀ (Points n) x y → PointsRead bs n x y
+  unfolding answerOf
+  points-read n a = go (found bs) refl (a .answer ∙ ap answerOf (read-is a)) (a .in-x ∙ ap (λ (f : Found). leftIn (λ p. p .x) f x₀) (read-is a)) (a .in-y ∙ ap (λ (f : Found). leftIn (λ p. p .y) f y₀) (read-is a)) (a .only)
+    where
+      go : (f : Found) → found bs ≡ f → Points n ≡ answerOf f → x ≡ leftIn (λ p. p .x) f x₀ → y ≡ leftIn (λ p. p .y) f y₀ → ((ps : List Point) → found bs ≡ points ps → LineString bs ps) → PointsRead bs n x y
+      go (refused k v) e r ex ey only = absurd (let z : _≡_ {A = ℕ} 0 1 = cc in omega arith)
+      go (points ps) e r ex ey only =
+          let n-is : n ≡ length ps = cc in
+          let s = only ps e in
+          record {
+            some = let k = s .some in omega arith;
+            in-x = rw (ex, n-is) (left-long (λ p. p .x) ps x₀);
+            in-y = rw (ey, n-is) (left-long (λ p. p .y) ps y₀);
+            text =
+                rw (ex, ey, n-is, left-points (λ p. p .x) ps x₀, left-points (λ p. p .y) ps y₀) (printed-points bs ps e);
+          }
+
+  pub refused-read : (q : Refusal) → ReadAs bs x₀ y₀ (Refused q) x y → refusedLine (q .number) ≡ printed bs
+  unfolding answerOf
+  refused-read q a = go (found bs) refl (a .answer ∙ ap answerOf (read-is a))
+    where
+      go : (f : Found) → found bs ≡ f → Refused q ≡ answerOf f → refusedLine (q .number) ≡ printed bs
+      go (points ps) e r = absurd (let z : _≡_ {A = ℕ} 0 1 = cc in omega arith)
+      go (refused k v) e r =
+          let n-is : q .number ≡ k = ap (λ (x : Refusal). x .number) (let w : q ≡ record { number = k; value = v } = cc in w) in
+          ap refusedLine n-is ∙ printed-refused bs k v e

@@ -140,7 +140,48 @@ uint32_t mt_build(const double *start_x, size_t start_x_len, const double *start
  * Refuses by 10. */
 uint32_t mt_check_tables(double min_x, double min_y, double cell_size, uint32_t cols, uint32_t rows, size_t lines, const uint32_t *offsets,
                          size_t offsets_len, const uint32_t *items, size_t items_len, const uint32_t *globals, size_t globals_len,
-                         size_t global_count, uint64_t *out, size_t out_len);
+                         uint64_t global_count, uint64_t *out, size_t out_len);
+
+/* The list of the cell (row, col): the lines that visit it, increasing, as a part of items.
+ * out (2 words): the index in items where the list starts, and its length.
+ * Refuses by 2, 8, 10, 9. */
+uint32_t mt_cell_list(double min_x, double min_y, double cell_size, uint32_t cols, uint32_t rows, size_t lines, const uint32_t *offsets,
+                      size_t offsets_len, const uint32_t *items, size_t items_len, const uint32_t *globals, size_t globals_len,
+                      uint64_t global_count, uint32_t row, uint32_t col, uint64_t *out, size_t out_len);
+
+/* The list of a global line, by its position among the globals: the globals from there on, as a part of globals.
+ * out (2 words): the index in globals where the list starts, and its length.
+ * Refuses by 2, 8, 10, 9. */
+uint32_t mt_global_list(double min_x, double min_y, double cell_size, uint32_t cols, uint32_t rows, size_t lines, const uint32_t *offsets,
+                        size_t offsets_len, const uint32_t *items, size_t items_len, const uint32_t *globals, size_t globals_len,
+                        uint64_t global_count, uint64_t position, uint64_t *out, size_t out_len);
+
+/* ---- the visit ----
+ *
+ * A visit makes the tests of the tables in order: the cells in row order, and in a list entry i with each later j, i outermost; then each
+ * global in order with every line in order, but not itself and not a lower global. A bookmark is the number of tests already made, 0 to the
+ * total. The pairs that are handed out are those whose boxes overlap. */
+
+/* One test by its bookmark.
+ * out (6 words): 0 for a test in a cell, 1 for one of a global line, 2 for the end mark, which stands at the total; the cell's row, or the
+ * global line's position; the cell's column, or 0; the first line; the second line; 1 where their boxes overlap, else 0. For the end mark the
+ * last five words are 0.
+ * Refuses by 3, 2, 1, 8, 10, 9. */
+uint32_t mt_test_at(double min_x, double min_y, double cell_size, uint32_t cols, uint32_t rows, const double *start_x, size_t start_x_len,
+                    const double *start_y, size_t start_y_len, const double *end_x, size_t end_x_len, const double *end_y,
+                    size_t end_y_len, const uint32_t *offsets, size_t offsets_len, const uint32_t *items, size_t items_len,
+                    const uint32_t *globals, size_t globals_len, uint64_t global_count, uint64_t bookmark, uint64_t *out, size_t out_len);
+
+/* The tests from a bookmark on, until the outputs first and second, of one length, are full of pairs or the end comes. Pair k is (first[k],
+ * second[k]); beyond the pairs both are zeroed. Outputs of length 0 make no test. Start with the bookmark 0 and go on with the one that comes
+ * back; the visit is over when a batch with outputs of some length makes no test.
+ * out (3 words): the tests made, the pairs handed out, the new bookmark.
+ * Refuses by 3, 2, 1, 8, 10, 9. */
+uint32_t mt_batch(double min_x, double min_y, double cell_size, uint32_t cols, uint32_t rows, const double *start_x, size_t start_x_len,
+                  const double *start_y, size_t start_y_len, const double *end_x, size_t end_x_len, const double *end_y, size_t end_y_len,
+                  const uint32_t *offsets, size_t offsets_len, const uint32_t *items, size_t items_len, const uint32_t *globals,
+                  size_t globals_len, uint64_t global_count, uint64_t bookmark, uint32_t *first, size_t first_len, uint32_t *second,
+                  size_t second_len, uint64_t *out, size_t out_len);
 
 /* ---- the reader ---- */
 

@@ -1,4 +1,6 @@
 -- Document 01's number and values for each case of each entry's answer. Definitions only.
+use Prim.Native.Nat.{ℕ, _-_}
+use mathlib.Core.Bool.{cond}
 use mathlib.Core.List.{[], _∷_}
 use lib.Ieee.{binary64, toBits}
 use Rattle.grid.specs.declared.Check.{Check}
@@ -15,6 +17,12 @@ use Rattle.walk.specs.declared.Cells.{Cells}
 use Rattle.walk.specs.declared.Cells.the-variants as cells
 use Rattle.build.specs.declared.Built.{Built}
 use Rattle.build.specs.declared.Built.the-variants as built
+use Rattle.visit.specs.declared.Place.{Place}
+use Rattle.visit.specs.declared.Place.the-variants as place
+use Rattle.visit.specs.declared.Answer.{Answer}
+use Rattle.visit.specs.declared.Answer.the-variants as answer
+use Rattle.visit.specs.declared.BatchAnswer.{BatchAnswer}
+use Rattle.visit.specs.declared.BatchAnswer.the-variants as batch
 use Rattle.capi.specs.Replies.{Reply, success, refusal}
 
 -- ---- a check: no value where it finds nothing
@@ -67,3 +75,28 @@ ofBuilt (built.Tables t) =
     ∷ t .globals
     ∷ [])
 ofBuilt (built.Refused r) = refusal (r .number) (r .value)
+
+-- ---- a list by its place: where its part starts, and its length. A cell's list is the part of the items from its offset to the next, as
+-- `listAt` takes it, and a global's the part of the globals from its position to their end.
+
+unfoldable pub ofPart : Check → ℕ → ℕ → Reply
+ofPart check.Fine from to = success (from ∷ (to - from) ∷ [])
+ofPart (check.Refused r) from to = refusal (r .number) (r .value)
+
+-- ---- one test: 0 for a cell with its row and column, 1 for a global line with its position, 2 for the end mark; the two lines; 1 where their
+-- boxes overlap, else 0
+
+unfoldable pub ofPlace : Place → ℕ → ℕ → ℕ → Reply
+ofPlace (place.Cell row col) first second overlap = success (0 ∷ row ∷ col ∷ first ∷ second ∷ overlap ∷ [])
+ofPlace (place.Global position) first second overlap = success (1 ∷ position ∷ 0 ∷ first ∷ second ∷ overlap ∷ [])
+
+unfoldable pub ofTest : Answer → Reply
+ofTest (answer.Made t) = ofPlace (t .place) (t .first) (t .second) (cond (t .overlap) 1 0)
+ofTest answer.End = success (2 ∷ 0 ∷ 0 ∷ 0 ∷ 0 ∷ 0 ∷ [])
+ofTest (answer.Refused r) = refusal (r .number) (r .value)
+
+-- ---- a batch: the tests made, the overlaps, the new bookmark; the pairs are in the outputs
+
+unfoldable pub ofBatch : BatchAnswer → Reply
+ofBatch (batch.Done t) = success (t .tests ∷ t .overlaps ∷ t .bookmark ∷ [])
+ofBatch (batch.Refused r) = refusal (r .number) (r .value)

@@ -9,4 +9,5 @@ pub mod reading;
 mod reply;
 pub mod snapping;
 pub mod standing;
+pub mod visiting;
 pub mod walking;

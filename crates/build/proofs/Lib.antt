@@ -1,4 +1,4 @@
--- Laws for the proofs of `build`.
+-- Laws for the proofs of `build`. For the crates above: `Settled`, `Theorems` and `Leavings`.
 pub mod Visits
 pub mod Sums
 pub mod Walks
@@ -8,3 +8,6 @@ pub mod Choices
 pub mod Places
 pub mod Fills
 pub mod Entries
+pub mod Settled
+pub mod Theorems
+pub mod Leavings

@@ -35,6 +35,27 @@ stored-three (x ∷ []) a b c h = absurd (omega arith)
 stored-three (x ∷ y ∷ []) a b c h = absurd (omega arith)
 stored-three (x ∷ y ∷ z ∷ xs) a b c h = refl
 
+pub stored-six : (out : List ℕ) (a b c d e f : ℕ) → 6 ≤ length out →
+    set (set (set (set (set (set out 0 a) 1 b) 2 c) 3 d) 4 e) 5 f ≡ (a ∷ b ∷ c ∷ d ∷ e ∷ f ∷ []) ++ drop 6 out
+stored-six [] a b c d e f h = absurd (omega arith)
+stored-six (x ∷ []) a b c d e f h = absurd (omega arith)
+stored-six (x ∷ y ∷ []) a b c d e f h = absurd (omega arith)
+stored-six (x ∷ y ∷ z ∷ []) a b c d e f h = absurd (omega arith)
+stored-six (x ∷ y ∷ z ∷ u ∷ []) a b c d e f h = absurd (omega arith)
+stored-six (x ∷ y ∷ z ∷ u ∷ v ∷ []) a b c d e f h = absurd (omega arith)
+stored-six (x ∷ y ∷ z ∷ u ∷ v ∷ w ∷ xs) a b c d e f h = refl
+
+pub stored-seven : (out : List ℕ) (a b c d e f g : ℕ) → 7 ≤ length out →
+    set (set (set (set (set (set (set out 0 a) 1 b) 2 c) 3 d) 4 e) 5 f) 6 g ≡ (a ∷ b ∷ c ∷ d ∷ e ∷ f ∷ g ∷ []) ++ drop 7 out
+stored-seven [] a b c d e f g h = absurd (omega arith)
+stored-seven (x ∷ []) a b c d e f g h = absurd (omega arith)
+stored-seven (x ∷ y ∷ []) a b c d e f g h = absurd (omega arith)
+stored-seven (x ∷ y ∷ z ∷ []) a b c d e f g h = absurd (omega arith)
+stored-seven (x ∷ y ∷ z ∷ u ∷ []) a b c d e f g h = absurd (omega arith)
+stored-seven (x ∷ y ∷ z ∷ u ∷ v ∷ []) a b c d e f g h = absurd (omega arith)
+stored-seven (x ∷ y ∷ z ∷ u ∷ v ∷ w ∷ []) a b c d e f g h = absurd (omega arith)
+stored-seven (x ∷ y ∷ z ∷ u ∷ v ∷ w ∷ t ∷ xs) a b c d e f g h = refl
+
 -- ---- promises
 
 -- `out` has the words of a result, or is short

@@ -1,9 +1,8 @@
 -- Document 01's number and values for each case of each entry's answer. Definitions only.
-use Prim.Native.Nat.{ℕ}
-use mathlib.Core.Path.{_≡_}
-use mathlib.Core.List.{List, [], _∷_}
-use lib.Ieee.{Float, binary64, toBits}
-use lib.ListN.{length}
+use Prim.Native.Nat.{ℕ, _-_}
+use mathlib.Core.Bool.{cond}
+use mathlib.Core.List.{[], _∷_}
+use lib.Ieee.{binary64, toBits}
 use Rattle.grid.specs.declared.Check.{Check}
 use Rattle.grid.specs.declared.Check.the-variants as check
 use Rattle.snap.specs.declared.Snapped.{Snapped}
@@ -14,8 +13,17 @@ use Rattle.own.specs.declared.Owner.{Owner}
 use Rattle.own.specs.declared.Owner.the-variants as owner
 use Rattle.wkb.specs.declared.Read.{Read}
 use Rattle.wkb.specs.declared.Read.the-variants as read
-use Rattle.wkb.specs.Reading.{outcome, answerOf, leftIn}
-use Rattle.capi.specs.Replies.{Reply, success, refusal, unlessShort, Replies}
+use Rattle.walk.specs.declared.Cells.{Cells}
+use Rattle.walk.specs.declared.Cells.the-variants as cells
+use Rattle.build.specs.declared.Built.{Built}
+use Rattle.build.specs.declared.Built.the-variants as built
+use Rattle.visit.specs.declared.Place.{Place}
+use Rattle.visit.specs.declared.Place.the-variants as place
+use Rattle.visit.specs.declared.Answer.{Answer}
+use Rattle.visit.specs.declared.Answer.the-variants as answer
+use Rattle.visit.specs.declared.BatchAnswer.{BatchAnswer}
+use Rattle.visit.specs.declared.BatchAnswer.the-variants as batch
+use Rattle.capi.specs.Replies.{Reply, success, refusal}
 
 -- ---- a check: no value where it finds nothing
 
@@ -47,7 +55,48 @@ unfoldable pub ofRead : Read → Reply
 ofRead (read.Points n) = success (n ∷ [])
 ofRead (read.Refused r) = refusal (r .number) (r .value)
 
-pub record ReadReplies (bytes : List ℕ) (x y : List Float) (out : List ℕ) (r : ℕ) (x′ y′ : List Float) (out′ : List ℕ) : Type 0 where
-  pub replies : Replies 1 (ofRead (answerOf (outcome (length x) (length y) bytes))) out r out′
-  pub in-x : x′ ≡ unlessShort 1 out x (leftIn (λ p. p .x) (outcome (length x) (length y) bytes) x)
-  pub in-y : y′ ≡ unlessShort 1 out y (leftIn (λ p. p .y) (outcome (length x) (length y) bytes) y)
+-- ---- the walk: the number of cells; the cells are in the scratch
+
+unfoldable pub ofCells : Cells → Reply
+ofCells (cells.Found n) = success (n ∷ [])
+ofCells (cells.Refused r) = refusal (r .number) (r .value)
+
+-- ---- the build: the grid, the number of items and the number of globals; the tables are in their slices
+
+unfoldable pub ofBuilt : Built → Reply
+ofBuilt (built.Tables t) =
+    success
+    (toBits binary64 (t .grid .«min_x»)
+    ∷ toBits binary64 (t .grid .«min_y»)
+    ∷ toBits binary64 (t .grid .«cell_size»)
+    ∷ t .grid .cols
+    ∷ t .grid .rows
+    ∷ t .items
+    ∷ t .globals
+    ∷ [])
+ofBuilt (built.Refused r) = refusal (r .number) (r .value)
+
+-- ---- a list by its place: where its part starts, and its length. A cell's list is the part of the items from its offset to the next, as
+-- `listAt` takes it, and a global's the part of the globals from its position to their end.
+
+unfoldable pub ofPart : Check → ℕ → ℕ → Reply
+ofPart check.Fine from to = success (from ∷ (to - from) ∷ [])
+ofPart (check.Refused r) from to = refusal (r .number) (r .value)
+
+-- ---- one test: 0 for a cell with its row and column, 1 for a global line with its position, 2 for the end mark; the two lines; 1 where their
+-- boxes overlap, else 0
+
+unfoldable pub ofPlace : Place → ℕ → ℕ → ℕ → Reply
+ofPlace (place.Cell row col) first second overlap = success (0 ∷ row ∷ col ∷ first ∷ second ∷ overlap ∷ [])
+ofPlace (place.Global position) first second overlap = success (1 ∷ position ∷ 0 ∷ first ∷ second ∷ overlap ∷ [])
+
+unfoldable pub ofTest : Answer → Reply
+ofTest (answer.Made t) = ofPlace (t .place) (t .first) (t .second) (cond (t .overlap) 1 0)
+ofTest answer.End = success (2 ∷ 0 ∷ 0 ∷ 0 ∷ 0 ∷ 0 ∷ [])
+ofTest (answer.Refused r) = refusal (r .number) (r .value)
+
+-- ---- a batch: the tests made, the overlaps, the new bookmark; the pairs are in the outputs
+
+unfoldable pub ofBatch : BatchAnswer → Reply
+ofBatch (batch.Done t) = success (t .tests ∷ t .overlaps ∷ t .bookmark ∷ [])
+ofBatch (batch.Refused r) = refusal (r .number) (r .value)

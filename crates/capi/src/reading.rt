@@ -4,7 +4,8 @@ use wkb::Read;
 ghost use Prim.Native.Nat.{_≤_};
 ghost use lib.ListN.{length};
 ghost use Rattle.capi.specs.Replies.{Handed};
-ghost use Rattle.capi.specs.Answers.{ofRead, ReadReplies};
+ghost use Rattle.capi.specs.Answers.{ofRead};
+ghost use Rattle.capi.specs.Lent.{ReadReplies};
 
 fn read(answer: Read, out: &mut [u64]) -> u32
     requires { ⌜ 1 ≤ length (now out) ⌝ }

@@ -53,3 +53,30 @@ pub(crate) fn three(a: u64, b: u64, c: u64, out: &mut [u64]) -> u32
     out[2] = c;
     0
 }
+
+pub(crate) fn six(a: u64, b: u64, c: u64, d: u64, e: u64, f: u64, out: &mut [u64]) -> u32
+    requires { ⌜ 6 ≤ length (now out) ⌝ }
+    ensures { λ r. ⌜ Handed (success (a ∷ b ∷ c ∷ d ∷ e ∷ f ∷ [])) (now (out .entry)) r (now (out .exit)) ⌝ }
+{
+    out[0] = a;
+    out[1] = b;
+    out[2] = c;
+    out[3] = d;
+    out[4] = e;
+    out[5] = f;
+    0
+}
+
+pub(crate) fn seven(a: u64, b: u64, c: u64, d: u64, e: u64, f: u64, g: u64, out: &mut [u64]) -> u32
+    requires { ⌜ 7 ≤ length (now out) ⌝ }
+    ensures { λ r. ⌜ Handed (success (a ∷ b ∷ c ∷ d ∷ e ∷ f ∷ g ∷ [])) (now (out .entry)) r (now (out .exit)) ⌝ }
+{
+    out[0] = a;
+    out[1] = b;
+    out[2] = c;
+    out[3] = d;
+    out[4] = e;
+    out[5] = f;
+    out[6] = g;
+    0
+}

@@ -31,7 +31,7 @@ pub extern "C" fn mt_check_tables(
     offsets: &[u32],
     items: &[u32],
     globals: &[u32],
-    global_count: usize,
+    global_count: u64,
     out: &mut [u64],
 ) -> u32
     ensures { λ r. ⌜ Replies 1 (ofCheck (tablesCheck (tables (gridBy «min_x» «min_y» «cell_size» cols rows) lines (now (offsets .entry)) (now (items .entry)) (now (globals .entry)) «global_count»))) (now (out .entry)) r (now (out .exit)) ⌝ }
@@ -47,7 +47,7 @@ pub extern "C" fn mt_check_tables(
         rows,
     };
     checked(
-        tables::check_tables(grid, lines, offsets, items, globals, global_count),
+        tables::check_tables(grid, lines, offsets, items, globals, global_count as usize),
         out,
     )
 }

@@ -43,6 +43,16 @@ pub sum-mono : (g : ℕ → ℕ) (a b : ℕ) → a ≤ b → sum g a ≤ sum g b
 unfolding sum
 sum-mono g a b h = le-ind (λ m. sum g a ≤ sum g m) (le-refl (sum g a)) (λ m k ih. omega arith) b h
 
+pub sum-most : (g h : ℕ → ℕ) (n : ℕ) → ((c : ℕ) → c < n → g c ≤ h c) → sum g n ≤ sum h n
+unfolding sum
+sum-most g h zero e = omega arith
+sum-most g h (suc n) e = omega (arith, sum-most g h n (λ c l. e c (omega arith)), e n (omega arith))
+
+pub sum-same : (g h : ℕ → ℕ) (n : ℕ) → ((c : ℕ) → c < n → g c ≡ h c) → sum g n ≡ sum h n
+unfolding sum
+sum-same g h zero e = refl
+sum-same g h (suc n) e = rw (sum-same g h n (λ c l. e c (omega arith)), e n (omega arith))
+
 pub sum-below : (g : ℕ → ℕ) (a b : ℕ) → a < b → sum g a + g a ≤ sum g b
 unfolding sum
 sum-below g a b h = sum-mono g (suc a) b h
@@ -257,6 +267,25 @@ sum-hits (x ∷ xs) i n =
       sum-split (λ c. length (only (eqb c x) i ++ hits xs i c)) (λ c. length (only (eqb c x) i)) (λ c. length (hits xs i c)) (λ c. rw length-append (omega arith)) n,
     )
 
+-- a cell that is in a list is found in it
+hits-some : (xs : List ℕ) (i c : ℕ) → length (only (elem c xs) i) ≤ length (hits xs i c)
+unfolding hits
+hits-some [] i c = omega arith
+hits-some (x ∷ xs) i c = go (hits-some xs i c) (eqb c x)
+  where
+    go : length (only (elem c xs) i) ≤ length (hits xs i c) → (b : Bool) → length (only (b || elem c xs) i) ≤ length (only b i ++ hits xs i c)
+    go ih true = rw length-append (omega arith)
+    go ih false = ih
+
+-- of any number of cells, at most as many are in a list as it has entries
+pub cells-few : (xs : List ℕ) (i n : ℕ) → sum (λ c. length (only (elem c xs) i)) n ≤ length xs
+cells-few xs i n =
+    omega (
+      arith,
+      sum-hits xs i n,
+      sum-most (λ c. length (only (elem c xs) i)) (λ c. length (hits xs i c)) n (λ c l. hits-some xs i c),
+    )
+
 sums-go : (W : ℕ → List ℕ) (n cells b : ℕ) → Walks W n cells → ((i : ℕ) → i < n → length (W i) ≤ b) → (i : ℕ) → i ≤ n → sum (λ c. length (linesAt W i c)) cells ≤ i * b
 unfolding linesAt
 sums-go W n cells b w few zero l = omega (arith, sum-zero (λ c. 0) cells (λ c l. refl))
@@ -384,6 +413,23 @@ unfolding concat
 concat-split F c n l =
     le-ind (λ m. (r : List ℕ) × (concat F m ≡ concat F c ++ (F c ++ r))) ([], rw append-nil)
     (λ m _ ih. (ih .0 ++ F m, rw (ih .1, append-assoc, append-assoc))) n l
+
+-- the offsets and the items keep the length of their slice, where it has room
+pub length-offsets : (F : ℕ → List ℕ) (cells len : ℕ) → suc cells ≤ len → length (offsetsOf F cells len) ≡ len
+unfolding offsetsOf
+length-offsets F cells len l = rw (length-append, length-tabulate (start F) (suc cells), length-replicate) (omega arith)
+
+pub length-items : (F : ℕ → List ℕ) (cells len : ℕ) → start F cells ≤ len → length (itemsOf F cells len) ≡ len
+unfolding itemsOf
+length-items F cells len l = rw (length-append, length-concat F cells, length-replicate) (omega arith)
+
+-- so they are a table
+pub table-made : {F : ℕ → List ℕ} {cells a b : ℕ} {o t : List ℕ} → suc cells ≤ a → start F cells ≤ b → o ≡ offsetsOf F cells a → t ≡ itemsOf F cells b → Table F cells o t
+table-made {F} {cells} {a} {b} l m x y =
+    record {
+      items-are = rw (y, length-items F cells b m);
+      offsets-are = rw (x, length-offsets F cells a l);
+    }
 
 -- where the list of the cell c begins, and where the last ends
 pub table-offset : {F : ℕ → List ℕ} {cells : ℕ} {o t : List ℕ} → Table F cells o t → (c : ℕ) → c ≤ cells → getD o c 0 ≡ start F c

@@ -5,15 +5,17 @@ use mathlib.Core.Bool.{Bool, true, false, not, _&&_, _||_}
 use mathlib.Core.List.{List, [], _∷_, _++_, append-nil}
 use Prim.Native.Nat.{ℕ, zero, suc, _+_, _≤_, _<_}
 use native.Mathlib.Decide.{decLt, ℕ-discrete}
+use native.Mathlib.Nat.{le-refl}
 use native.Mathlib.Numerals.{add-one}
 use native.Mathlib.Omega.{arith}
-use borrow.Author.Tests.{leb-true, leb-false, lt-ltb, le-ltb, eq-eqb, ne-eqb}
+use borrow.Author.Tests.{leb-true, leb-false, le-leb, lt-leb, lt-ltb, le-ltb, eq-eqb, ne-eqb}
 use lib.Dec.{eqb, ltb, leb}
 use lib.ListN.{length, length-append}
 use Rattle.slices.specs.Lists.{elem, any, Below, Rising}
 use Rattle.slices.proofs.Members.{any-append, below-append}
-use Rattle.csr.specs.Tables.{long, noneIf, local, only, linesAt, listAt, globalLines}
+use Rattle.csr.specs.Tables.{long, noneIf, local, only, linesAt, listAt, globalLines, sum}
 use Rattle.csr.specs.States.{Walks}
+use Rattle.csr.proofs.Laws.{sum-most, cells-few}
 
 -- ---- a line is global, or its cells count
 
@@ -32,6 +34,15 @@ long-says xs h = leb-true 2049 (length xs) h
 pub short-says : (xs : List ℕ) → long xs ≡ false → length xs ≤ 2048
 unfolding long
 short-says xs h = omega (arith, leb-false 2049 (length xs) h)
+
+-- a line is global, or visits at most 2,048 cells
+pub short-is : (xs : List ℕ) → not (long xs) ≡ leb (length xs) 2048
+unfolding long
+short-is xs = go (decLt 2048 (length xs))
+  where
+    go : Dec (2048 < length xs) → not (leb 2049 (length xs)) ≡ leb (length xs) 2048
+    go (yes l) = rw (le-leb 2049 (length xs) l, lt-leb (length xs) 2048 l)
+    go (no l) = let k : length xs ≤ 2048 = omega arith in rw (lt-leb 2049 (length xs) (omega arith), le-leb (length xs) 2048 k)
 
 -- by cases on whether a line is global
 local-cases : (P : List ℕ → Type 0) (W : ℕ → List ℕ) (i : ℕ) → P [] → (length (W i) ≤ 2048 → P (W i)) → P (local W i)
@@ -166,3 +177,18 @@ module _ (W : ℕ → List ℕ) (n : ℕ) where
   -- a cell lists exactly the lines whose walk visits it and visits at most 2,048 cells
   pub list-holds : (k c : ℕ) → elem k (listAt W n c) ≡ (ltb k n && (not (long (W k)) && elem c (W k)))
   list-holds k c = rw (list-grown (local W) n c) (grown-elem (λ i. elem c (local W i)) n k ∙ rw (elem-local k c))
+
+  -- at most 2,048 cells list a line: each such cell counts one
+  pub lists-few : (k cells : ℕ) → sum (λ c. length (only (elem k (listAt W n c)) k)) cells ≤ 2048
+  lists-few k cells =
+      omega (
+        arith,
+        local-few W k,
+        cells-few (local W k) k cells,
+        sum-most (λ c. length (only (elem k (listAt W n c)) k)) (λ c. length (only (elem c (local W k)) k)) cells (λ c l. rw (list-grown (local W) n c, grown-elem (λ i. elem c (local W i)) n k) (only-less (ltb k n) (elem c (local W k)) k)),
+      )
+    where
+      only-less : (a b : Bool) (k : ℕ) → length (only (a && b) k) ≤ length (only b k)
+      only-less true b k = le-refl (length (only b k))
+      only-less false true k = omega arith
+      only-less false false k = omega arith

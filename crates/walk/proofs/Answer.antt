@@ -7,7 +7,7 @@ use mathlib.Core.Bool.{Bool, true, false, _&&_}
 use mathlib.Core.List.{List, [], _∷_, _++_}
 use lib.ListN.{length, take, drop, replicate}
 use lib.Seq.{take-at}
-use lib.Dec.{leb}
+use lib.Dec.{leb, eqb}
 use lib.Ieee.{Float, inf, binary64, sub, eq}
 use borrow.Author.Tests.{le-leb, lt-leb}
 use Rattle.slices.specs.Slices.{sorted, distinctOf, OneOfEach}
@@ -28,10 +28,14 @@ use Rattle.walk.specs.declared.Cells.the-variants.{Found, Refused}
 use Rattle.walk.specs.Turns.{nought, deltaOf, firstOn, courseOn, positionOn, wayOf, startOf, steppedOf, advanced}
 use Rattle.walk.specs.Pushes.{Outcome, refused, found, walkedOf}
 use Rattle.walk.specs.Segment.{addedOf, alongOn, endOf, pushesOf, answered, unlessNone, segmentOf, checked, shapeCheck, innerOf, cellsOf, Left, Walked}
-use Rattle.walk.specs.Inside.{Grown, RanTo, RanWithin, Far, Straight, Still, Runs, share, shareOf}
+use Rattle.walk.specs.Inside.{Grown, Covers, Complete, RanWithin, Far, Straight, Still, WalkedTo, Walks, share, shareOf}
 use Rattle.walk.proofs.Floats.{sum-far, step-none, index-le}
+use Rattle.walk.proofs.Grows.{and-then}
 use Rattle.walk.proofs.Loop.{within-done}
-use Rattle.walk.proofs.Added.{share-room}
+use Rattle.walk.proofs.Added.{share-room, end-le}
+use Rattle.walk.proofs.Faithful.{same-answer}
+use Rattle.slices.specs.Lists.{any}
+use Rattle.slices.proofs.Distinct.{same-members}
 
 -- ---- an axis with d = 0
 
@@ -77,7 +81,7 @@ module _ (g : Grid) (x₀ y₀ x₁ y₁ : Float) where
   }
 
   pub room : Shape (g .cols) (g .rows) → (way : Way) (w : Walk) (o : Outcome) (R : Ran) (s : List ℕ) (m : ℕ) → way ≡ wayOf g x₀ y₀ x₁ y₁ → w ≡ startOf g x₀ y₀ x₁ y₁
-      → R ≡ Done m → Runs way w o 2 R s → m + m * shareOf g x₀ y₀ x₁ y₁ + 6 ≤ 15008
+      → R ≡ Done m → Walks way w o R s → m + m * shareOf g x₀ y₀ x₁ y₁ + 6 ≤ 15008
   unfolding shareOf
   room h way w o R s m e f d r =
       share-room (alongOn (xAxis g) x₀ x₁) (alongOn (yAxis g) y₀ y₁) m (within-done R m 15002 d (r .all))
@@ -85,11 +89,17 @@ module _ (g : Grid) (x₀ y₀ x₁ y₁ : Float) where
       (λ q. within-done R m 5002 d (r .few (rw (e, f) (straight-y q))))
       (λ p q. within-done R m 2 d (r .least (rw (e, f) (still h p q))))
 
-  pub pushes-are : (v h : Bool) {s t : List ℕ} {n r : ℕ} → v ≡ alongOn (xAxis g) x₀ x₁ → h ≡ alongOn (yAxis g) y₀ y₁
-      → Grown s t n r ((addedOf v h (g .cols) (take n s) ++ endOf g x₀ y₀) ++ endOf g x₁ y₁)
-      → take r t ≡ pushesOf g x₀ y₀ x₁ y₁ (take n s)
-  unfolding pushesOf
-  pushes-are v h {s} {t} {n} {r} e f p = rw (← e, ← f) (p .is)
+  module _ (v h : Bool) (e : v ≡ alongOn (xAxis g) x₀ x₁) (f : h ≡ alongOn (yAxis g) y₀ y₁) where
+    pub share-is : shareOf g x₀ y₀ x₁ y₁ ≡ share v h
+    unfolding shareOf
+    share-is = rw (e, f)
+
+    pub completes : {s t u w : List ℕ} {n a c r b : ℕ} → Covers s t n a b (addedOf v h (g .cols) (take n s)) → Grown t u a c (endOf g x₀ y₀) → Grown u w c r (endOf g x₁ y₁)
+        → Complete w r (pushesOf g x₀ y₀ x₁ y₁ (take n s))
+    unfolding pushesOf
+    completes p q k =
+        let z = and-then 3 (end-le g x₁ y₁) (and-then 3 (end-le g x₀ y₀) p q) k in
+        record { within = z .within; same = rw (← e, ← f) (z .same) }
 
   -- ---- the refusals, and the walk behind them
 
@@ -144,24 +154,24 @@ module _ (g : Grid) (x₀ y₀ x₁ y₁ : Float) (was : List ℕ) where
       none-answer e = found-walked _ [] was was 0 (inner-is g x₀ y₀ x₁ y₁ (length was) long fits ∙ none-is g x₀ y₀ x₁ y₁ e) refl refl refl
 
       module _ (way : Way) (w : Walk) (R : Ran) (s : List ℕ) (e : way ≡ wayOf g x₀ y₀ x₁ y₁) (f : w ≡ startOf g x₀ y₀ x₁ y₁) (some : g .cols ≡ 0 → ⊥)
-          (run : Runs way w (walkedOf (g .cols) (g .rows) way w) 2 R s) where
+          (run : Walks way w (walkedOf (g .cols) (g .rows) way w) R s) where
         inner : innerOf (length was) g x₀ y₀ x₁ y₁ ≡ answered g x₀ y₀ x₁ y₁ (walkedOf (g .cols) (g .rows) way w)
         inner = inner-is g x₀ y₀ x₁ y₁ (length was) long fits ∙ segment-is g x₀ y₀ x₁ y₁ way w e f some
 
-        ordered : (o : Outcome) (n : ℕ) (l : List ℕ) → RanTo o (Done n) s → l ≡ pushesOf g x₀ y₀ x₁ y₁ (take n s) → answered g x₀ y₀ x₁ y₁ o ≡ found (distinctOf (sorted l))
+        ordered : (o : Outcome) (n : ℕ) (l : List ℕ) → WalkedTo o (Done n) s → ((f : ℕ → Bool) → any f l ≡ any f (pushesOf g x₀ y₀ x₁ y₁ (take n s))) → answered g x₀ y₀ x₁ y₁ o ≡ found (distinctOf (sorted l))
         unfolding answered
         ordered (refused why) n l p q = absurd p
-        ordered (found xs) n l p q = rw (q, p .1)
+        ordered (found xs) n l p q = ap found (sym (same-answer g x₀ y₀ x₁ y₁ (take n s) xs (p .1)) ∙ sym (same-members l (pushesOf g x₀ y₀ x₁ y₁ (take n s)) (λ u. q (eqb u))))
 
-        pub found-answer : (n m r : ℕ) (t u : List ℕ) → R ≡ Done n → take m t ≡ pushesOf g x₀ y₀ x₁ y₁ (take n s) → length u ≡ length was
+        pub found-answer : (n m r : ℕ) (t u : List ℕ) → R ≡ Done n → Complete t m (pushesOf g x₀ y₀ x₁ y₁ (take n s)) → length u ≡ length was
             → OneOfEach (sorted (take m t)) (sorted (take m t) ++ drop m t) u r
             → Walked (innerOf (length was) g x₀ y₀ x₁ y₁) was (Found r) u
         found-answer n m r t u d q l k =
             found-walked _ (distinctOf (sorted (take m t))) was u r
-            (inner ∙ ordered (walkedOf (g .cols) (g .rows) way w) n (take m t) (subst (λ (z : Ran). RanTo (walkedOf (g .cols) (g .rows) way w) z s) d (run .ran)) q)
+            (inner ∙ ordered (walkedOf (g .cols) (g .rows) way w) n (take m t) (subst (λ (z : Ran). WalkedTo (walkedOf (g .cols) (g .rows) way w) z s) d (run .ran)) (q .same))
             l (k .count) (rw (k .left) (take-at (distinctOf (sorted (take m t))) (drop r (sorted (take m t) ++ drop m t)) (length (distinctOf (sorted (take m t)))) refl))
 
-        budget : (o : Outcome) → RanTo o Over s → answered g x₀ y₀ x₁ y₁ o ≡ refused (refusal 7 0)
+        budget : (o : Outcome) → WalkedTo o Over s → answered g x₀ y₀ x₁ y₁ o ≡ refused (refusal 7 0)
         unfolding answered
         budget (refused why) p = ap refused p
         budget (found xs) p = absurd p
@@ -169,5 +179,5 @@ module _ (g : Grid) (x₀ y₀ x₁ y₁ : Float) (was : List ℕ) where
         pub over-answer : R ≡ Over → length s ≡ length was → Walked (innerOf (length was) g x₀ y₀ x₁ y₁) was (Refused (refusal 7 0)) s
         over-answer d l =
             refused-walked _ (refusal 7 0) was s
-            (inner ∙ budget (walkedOf (g .cols) (g .rows) way w) (subst (λ (z : Ran). RanTo (walkedOf (g .cols) (g .rows) way w) z s) d (run .ran)))
+            (inner ∙ budget (walkedOf (g .cols) (g .rows) way w) (subst (λ (z : Ran). WalkedTo (walkedOf (g .cols) (g .rows) way w) z s) d (run .ran)))
             l (λ n. absurd (n refl))

@@ -4,7 +4,7 @@ use Prim.Native.Nat.{ℕ, _+_, _-_, _≤_, _<_}
 use native.Mathlib.Omega.{arith}
 use mathlib.Core.Bool.{Bool, true, false, _&&_}
 use mathlib.Core.List.{List, _++_}
-use lib.ListN.{length, take, replicate}
+use lib.ListN.{length, take}
 use lib.Ieee.{Float}
 use borrow.Author.Tests.{le-leb, lt-leb}
 use Rattle.slices.specs.Slices.{clearedFrom}
@@ -70,15 +70,16 @@ module _ (g : Grid) (x₀ y₀ x₁ y₁ : Float) (was : List ℕ) where
             → Entered (entryOf (length was) g x₀ y₀ x₁ y₁) was (Found n) left
         found-entry n now left w e = cells (entryOf (length was) g x₀ y₀ x₁ y₁) n now left (subst (λ (o : Outcome). Walked o was (Found n) now) (inner ∙ sym entry-is) w) e
 
-        zeroed : (o : Outcome) (why : Refusal) (now left : List ℕ) → o ≡ segmentOf g x₀ y₀ x₁ y₁ → Walked o was (Refused why) now → left ≡ replicate (length now) 0
+        zeroed : (o : Outcome) (why : Refusal) (now left : List ℕ) → o ≡ segmentOf g x₀ y₀ x₁ y₁ → Walked o was (Refused why) now → left ≡ clearedFrom 0 now
             → Entered o was (Refused why) left
-        unfolding cellsOf scratchOf leftBy
+        unfolding cellsOf scratchOf leftBy clearedFrom
         zeroed (refused y) why now left d w e =
             let l : y ≡ refusal 7 0 = segment-refused g x₀ y₀ x₁ y₁ y (sym d) in
-            record { answer = w .answer; left = e ∙ rw (l, w .size) }
+            let z : length now - 0 ≡ length was = omega (arith, w .size) in
+            record { answer = w .answer; left = e ∙ rw (l, z) }
         zeroed (found xs) why now left d w e = let z : _≡_ {A = ℕ} 0 1 = cc (w .answer) in absurd (omega arith)
 
-        pub over-entry : (why : Refusal) (now left : List ℕ) → Walked (innerOf (length was) g x₀ y₀ x₁ y₁) was (Refused why) now → left ≡ replicate (length now) 0
+        pub over-entry : (why : Refusal) (now left : List ℕ) → Walked (innerOf (length was) g x₀ y₀ x₁ y₁) was (Refused why) now → left ≡ clearedFrom 0 now
             → Entered (entryOf (length was) g x₀ y₀ x₁ y₁) was (Refused why) left
         over-entry why now left w e =
             zeroed (entryOf (length was) g x₀ y₀ x₁ y₁) why now left entry-is (subst (λ (o : Outcome). Walked o was (Refused why) now) (inner ∙ sym entry-is) w) e

@@ -4,14 +4,16 @@ use Prim.Native.Nat.{ℕ, zero, suc, _+_, _-_, _*_, _≤_, _<_}
 use native.Mathlib.Nat.{mul-le-mul-right, suc-mul}
 use native.Mathlib.Numerals.{add-one}
 use native.Mathlib.Omega.{arith}
-use mathlib.Core.Bool.{Bool, true, false, _&&_}
+use mathlib.Core.Bool.{Bool, true, false, _&&_, _||_, true≢false}
 use mathlib.Core.List.{List, [], _∷_, _++_, append-nil, append-assoc}
-use lib.ListN.{length, take, set, length-set, length-append}
-use lib.Seq.{take-suc-set}
-use lib.Dec.{ltb}
-use borrow.Author.Tests.{lt-ltb, le-ltb}
+use lib.ListN.{length, take, getD, set, length-set, length-append}
+use lib.Seq.{take-suc-set, getD-take, length-take-le}
+use lib.Dec.{ltb, eqb}
+use borrow.Author.Tests.{lt-ltb, le-ltb, eqb-true}
+use Rattle.slices.specs.Lists.{any, elem}
+use Rattle.slices.proofs.Members.{any-append, elem-at}
 use Rattle.walk.specs.Pushes.{kept, pushOf}
-use Rattle.walk.specs.Inside.{Grown}
+use Rattle.walk.specs.Inside.{Grown, Covers}
 
 pub none : {xs : List ℕ} {n : ℕ} → n ≤ length xs → Grown xs xs n n []
 none {xs} {n} h = record { len = refl; count = omega arith; within = h; is = sym (append-nil (take n xs)) }
@@ -63,3 +65,52 @@ module _ (cols rows col row : ℕ) where
   pub at-most-one : length (pushOf cols rows col row) ≤ 1
   unfolding pushOf
   at-most-one = kept-le (ltb col cols && ltb row rows) (row * cols + col)
+
+-- ---- a push that leaves out what is there already
+
+or-last : (a b : Bool) → (b ≡ true → a ≡ true) → a ≡ (a || (b || false))
+or-last true b h = refl
+or-last false true h = h refl
+or-last false false h = refl
+
+-- a test that passes at an entry passes in the list
+passes : (f : ℕ → Bool) (c : ℕ) (l : List ℕ) → elem c l ≡ true → f c ≡ true → any f l ≡ true
+passes f c [] e h = absurd (true≢false (sym e))
+passes f c (x ∷ l) e h = go (eqb c x) refl e (λ d. passes f c l d h)
+  where
+    or-right : (a b : Bool) → b ≡ true → (a || b) ≡ true
+    or-right true b k = refl
+    or-right false b k = k
+
+    go : (b : Bool) → eqb c x ≡ b → (b || elem c l) ≡ true → (elem c l ≡ true → any f l ≡ true) → (f x || any f l) ≡ true
+    go true k d later = rw (← eqb-true c x k, h)
+    go false k d later = or-right (f x) (any f l) (later d)
+
+pub last-elem : (s : List ℕ) (n c : ℕ) → n ≤ length s → 0 < n → eqb (getD s (n - 1) 0) c ≡ true → elem c (take n s) ≡ true
+last-elem s n c l h e =
+    let i : getD (take n s) (n - 1) 0 ≡ c = getD-take n s (n - 1) 0 (omega arith) ∙ eqb-true (getD s (n - 1) 0) c e in
+    subst (λ (v : ℕ). elem v (take n s) ≡ true) i (elem-at (take n s) (n - 1) (omega (arith, length-take-le n s l)))
+
+pub left-out : {xs : List ℕ} {n c : ℕ} {more : List ℕ} → n ≤ length xs → more ≡ c ∷ [] → elem c (take n xs) ≡ true → Covers xs xs n n 1 more
+left-out {xs} {n} {c} {more} l e h = record {
+  len = refl;
+  count = omega arith;
+  within = l;
+  same = λ f. or-last (any f (take n xs)) (f c) (passes f c (take n xs) h) ∙ sym (any-append f (take n xs) (c ∷ [])) ∙ ap (λ (z : List ℕ). any f (take n xs ++ z)) (sym e);
+}
+
+pub covers : {xs ys : List ℕ} {n r : ℕ} {more : List ℕ} (b : ℕ) → length more ≤ b → Grown xs ys n r more → Covers xs ys n r b more
+covers b l g = record { len = g .len; count = omega (arith, g .count); within = g .within; same = λ f. ap (any f) (g .is) }
+
+pub and-then : {xs ys zs : List ℕ} {n m r b : ℕ} {more last : List ℕ} (d : ℕ) → length last ≤ d → Covers xs ys n m b more → Grown ys zs m r last → Covers xs zs n r (b + d) (more ++ last)
+and-then {xs} {ys} {zs} {n} {m} {r} {b} {more} {last} d l g h = record {
+  len = h .len ∙ g .len;
+  count = omega (arith, g .count, h .count);
+  within = h .within;
+  same = λ f.
+      ap (any f) (h .is)
+      ∙ any-append f (take m ys) last
+      ∙ ap (λ (z : Bool). z || any f last) (g .same f)
+      ∙ sym (any-append f (take n xs ++ more) last)
+      ∙ ap (any f) (append-assoc (take n xs) more last);
+}

@@ -8,6 +8,7 @@ use mathlib.Core.List.{List, [], _∷_, _++_, append-nil, append-assoc}
 use lib.ListN.{length, take, length-append}
 use lib.Ieee.{Float, inf, binary64, add, sub, lt, le}
 use Rattle.numbers.specs.Order.{leastOf, magnitudeOf}
+use Rattle.slices.specs.Lists.{any}
 use Rattle.grid.specs.Refusals.{refusal}
 use Rattle.grid.specs.declared.Refusal.{Refusal}
 use Rattle.walk.specs.declared.Course.{Course}
@@ -19,7 +20,7 @@ use Rattle.walk.specs.declared.Ran.{Ran}
 use Rattle.walk.specs.declared.Ran.the-variants.{Done, Over}
 use Rattle.walk.specs.Turns.{one, infinite, finiteOf, toleranceOf, nearOf, stop, both, single, furtherOf, arrivedOf, turnOf, steppedOf, advanced, movedOf, goesOf}
 use Rattle.walk.specs.Pushes.{pushOf, sidesOf, pushedBy, Outcome, refused, found, before, after, nextOf, goingOf, turns, walkedOf}
-use Rattle.walk.specs.Inside.{Grown, RanTo, RanWithin, Far, Straight, Still, Runs}
+use Rattle.walk.specs.Inside.{Grown, Covers, RanTo, RanWithin, Far, Straight, Still, Runs, WalkedTo, Walks}
 use Rattle.walk.proofs.Floats.{sum-far}
 use Rattle.walk.proofs.Grows.{then, at-most-one}
 
@@ -208,12 +209,12 @@ module _ {P Q : Type 0} {goal : Outcome} {n cols rows : ℕ} {way : Way} {left :
 pub within-done : (R : Ran) (m b : ℕ) → R ≡ Done m → RanWithin R b → m ≤ b
 within-done R m b e p = subst (λ (q : Ran). RanWithin q b) e p
 
-ran-after : (o : Outcome) (m r : ℕ) (s t ys : List ℕ) → RanTo o (Done m) s → Grown s t m r ys → RanTo (after o ys) (Done r) t
+ran-after : (o : Outcome) (m r : ℕ) (s t ys : List ℕ) → RanTo o (Done m) s → Covers s t m r 1 ys → WalkedTo (after o ys) (Done r) t
 unfolding after
 ran-after (refused why) m r s t ys p g = absurd p
-ran-after (found xs) m r s t ys p g = (g .within, g .is ∙ ap (λ (l : List ℕ). l ++ ys) (p .1))
+ran-after (found xs) m r s t ys p g = (g .within, λ f. g .same f ∙ ap (λ (l : List ℕ). any f (l ++ ys)) (p .1))
 
-over-after : (o : Outcome) (s ys : List ℕ) → RanTo o Over s → RanTo (after o ys) Over s
+over-after : (o : Outcome) (s ys : List ℕ) → RanTo o Over s → WalkedTo (after o ys) Over s
 unfolding after
 over-after (refused why) s ys p = p
 over-after (found xs) s ys p = absurd p
@@ -228,12 +229,12 @@ module _ (cols rows : ℕ) (way : Way) (w : Walk) {s₀ s₁ s₂ : List ℕ} {n
   unfolding first
   ran = rw (g .is) at (p .ran)
 
-  pub walked-done : {s₃ : List ℕ} {m r : ℕ} → R ≡ Done m → Grown s₂ s₃ m r (pushOf cols rows (way .x .end) (way .y .end))
-      → Runs way w (walkedOf cols rows way w) 2 (Done r) s₃
+  pub walked-done : {s₃ : List ℕ} {m r : ℕ} → R ≡ Done m → Covers s₂ s₃ m r 1 (pushOf cols rows (way .x .end) (way .y .end))
+      → Walks way w (walkedOf cols rows way w) (Done r) s₃
   unfolding walkedOf first
   walked-done {s₃} {m} {r} e h =
       let a : n ≤ 1 = omega (arith, g .count, at-most-one cols rows (w .x .index) (w .y .index)) in
-      let b : r ≤ m + 1 = omega (arith, h .count, at-most-one cols rows (way .x .end) (way .y .end)) in
+      let b : r ≤ m + 1 = h .count in
       record {
         ran = ran-after first m r s₂ s₃ (pushOf cols rows (way .x .end) (way .y .end)) (subst (λ (k : Ran). RanTo first k s₂) e ran) h;
         all = omega (arith, within-done R m (n + 15000) e (p .all));
@@ -241,7 +242,7 @@ module _ (cols rows : ℕ) (way : Way) (w : Walk) {s₀ s₁ s₂ : List ℕ} {n
         least = λ q. omega (arith, within-done R m n e (p .least q));
       }
 
-  pub walked-over : R ≡ Over → Runs way w (walkedOf cols rows way w) 2 Over s₂
+  pub walked-over : R ≡ Over → Walks way w (walkedOf cols rows way w) Over s₂
   unfolding walkedOf first
   walked-over e = record {
     ran = over-after first s₂ (pushOf cols rows (way .x .end) (way .y .end)) (subst (λ (k : Ran). RanTo first k s₂) e ran);

@@ -1,11 +1,13 @@
 -- What the private functions of a walk promise to one another. Definitions only.
 use mathlib.Core.Path.{_≡_}
 use mathlib.Core.Logic.{_⊎_}
-use mathlib.Core.Bool.{Bool, true, false}
+use mathlib.Core.Bool.{Bool, true, false, cond}
 use mathlib.Core.List.{List, [], _∷_, _++_}
-use Prim.Native.Nat.{ℕ, _+_, _≤_}
+use Prim.Native.Nat.{ℕ, _+_, _-_, _%_, _≤_}
 use lib.ListN.{length, take}
+use lib.Dec.{eqb}
 use lib.Ieee.{Float}
+use Rattle.slices.specs.Lists.{any}
 use Rattle.grid.specs.declared.Grid.{Grid}
 use Rattle.grid.specs.Axes.{xAxis, yAxis}
 use Rattle.grid.specs.Refusals.{refusal}
@@ -25,6 +27,18 @@ pub record Grown (xs ys : List ℕ) (n r : ℕ) (more : List ℕ) : Type 0 where
   pub count : r ≡ n + length more
   pub within : r ≤ length ys
   pub is : take r ys ≡ take n xs ++ more
+
+-- the same, but that cells may stand in another order, and more or less often, r of them, at most b more than n: each test finds the same
+pub record Covers (xs ys : List ℕ) (n r b : ℕ) (more : List ℕ) : Type 0 where
+  pub len : length ys ≡ length xs
+  pub count : r ≤ n + b
+  pub within : r ≤ length ys
+  pub same : (f : ℕ → Bool) → any f (take r ys) ≡ any f (take n xs ++ more)
+
+-- the first r of s are just these cells, in some order, how often ever
+pub record Complete (s : List ℕ) (r : ℕ) (cells : List ℕ) : Type 0 where
+  pub within : r ≤ length s
+  pub same : (f : ℕ → Bool) → any f (take r s) ≡ any f cells
 
 -- what a run leaves: the cells at the front of s, or refusal 7
 abbrev pub RanTo : Outcome → Ran → List ℕ → Type 0
@@ -58,6 +72,24 @@ pub record Runs (way : Way) (w : Walk) (o : Outcome) (n : ℕ) (r : Ran) (s : Li
   pub all : RanWithin r (n + 15000)
   pub few : Straight way w → RanWithin r (n + 5000)
   pub least : Still way w → RanWithin r n
+
+-- what a walk leaves: at the front of s just its cells, how often ever, or refusal 7
+abbrev pub WalkedTo : Outcome → Ran → List ℕ → Type 0
+WalkedTo (refused why) (Done r) s = ⊥
+WalkedTo (refused why) Over s = why ≡ refusal 7 0
+WalkedTo (found xs) (Done r) s = (r ≤ length s) × ((f : ℕ → Bool) → any f (take r s) ≡ any f xs)
+WalkedTo (found xs) Over s = ⊥
+
+-- a walk, with its start cell and its end cell, and how much it pushes
+pub record Walks (way : Way) (w : Walk) (o : Outcome) (r : Ran) (s : List ℕ) : Type 0 where
+  pub ran : WalkedTo o r s
+  pub all : RanWithin r 15002
+  pub few : Straight way w → RanWithin r 5002
+  pub least : Still way w → RanWithin r 2
+
+-- the cell beside c in the lower column, and c itself where there is none
+unfoldable pub lowerOf : ℕ → ℕ → ℕ
+lowerOf cols c = cond (eqb (c % cols) 0) c (c - 1)
 
 -- how many cells a cell adds at most
 unfoldable pub share : Bool → Bool → ℕ

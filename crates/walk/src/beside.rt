@@ -2,11 +2,12 @@
 use grid::Axis;
 use grid::Grid;
 ghost use mathlib.Core.Path.{_≡_};
+ghost use mathlib.Core.Bool.{true, false};
 ghost use Prim.Native.Nat.{_+_, _*_, _≤_, _<_};
 ghost use lib.ListN.{length, take};
 ghost use Rattle.grid.proofs.Shapes.{Shape};
 ghost use Rattle.walk.specs.Segment.{lowColOf, lowRowOf, cornerOf, besideOf, addedOf, alongOn, cellOf, endOf, pushesOf};
-ghost use Rattle.walk.specs.Inside.{Grown, share, shareOf};
+ghost use Rattle.walk.specs.Inside.{Grown, Covers, Complete, lowerOf, share, shareOf};
 
 fn low_col(s: &mut [u32], n: usize, cols: u32, c: u32) -> usize
     requires { ⌜ n < length (now s) ⌝ ∗ ⌜ 0 < cols ⌝ }
@@ -74,6 +75,46 @@ fn besides(s: &mut [u32], n: usize, on_x: bool, on_y: bool, cols: u32) -> usize
     m
 }
 
+fn lower(cols: u32, c: u32) -> u32
+    requires { ⌜ 0 < cols ⌝ }
+    ensures { λ r. ⌜ r ≡ lowerOf cols c ⌝ }
+{
+    if c % cols == 0 {
+        return c;
+    }
+    c - 1
+}
+
+// Writes the lower column of each of the first n beside it, from the last to the first: so a walk up or down a boundary stays in order.
+fn spread(s: &mut [u32], n: usize, cols: u32) -> usize
+    requires { ⌜ n + n ≤ length (now s) ⌝ ∗ ⌜ 0 < cols ⌝ }
+    ensures { λ r. ⌜ Covers (now (s .entry)) (now (s .exit)) n r n (addedOf true false cols (take n (now (s .entry)))) ⌝ }
+{
+    let mut i = n;
+    while 0 < i {
+        i -= 1;
+        let c = s[i];
+        let k = i + i;
+        s[k + 1] = c;
+        s[k] = lower(cols, c);
+    }
+    n + n
+}
+
+// What the line adds to each of the first n.
+fn added(s: &mut [u32], n: usize, on_x: bool, on_y: bool, cols: u32) -> usize
+    requires { ⌜ n + n * share «on_x» «on_y» ≤ length (now s) ⌝ ∗ ⌜ 0 < cols ⌝ }
+    ensures { λ r. ⌜ Covers (now (s .entry)) (now (s .exit)) n r (n * share «on_x» «on_y») (addedOf «on_x» «on_y» cols (take n (now (s .entry)))) ⌝ }
+{
+    if on_x {
+        if on_y {
+            return besides(s, n, on_x, on_y, cols);
+        }
+        return spread(s, n, cols);
+    }
+    besides(s, n, on_x, on_y, cols)
+}
+
 // Whether a line runs along a boundary of the axis.
 fn along(axis: Axis, start: f64, end: f64) -> bool
     ensures { λ r. ⌜ r ≡ alongOn axis start end ⌝ }
@@ -113,11 +154,11 @@ pub(crate) fn completed(
     end_y: f64,
 ) -> usize
     requires { ⌜ Shape (grid .cols) (grid .rows) ⌝ ∗ ⌜ 0 < grid .cols ⌝ ∗ ⌜ n + n * shareOf grid «start_x» «start_y» «end_x» «end_y» + 6 ≤ length (now s) ⌝ }
-    ensures { λ r. ⌜ (r ≤ length (now (s .exit))) × (take r (now (s .exit)) ≡ pushesOf grid «start_x» «start_y» «end_x» «end_y» (take n (now (s .entry)))) ⌝ }
+    ensures { λ r. ⌜ Complete (now (s .exit)) r (pushesOf grid «start_x» «start_y» «end_x» «end_y» (take n (now (s .entry)))) ⌝ }
 {
     let on_x = along(grid.x_axis(), start_x, end_x);
     let on_y = along(grid.y_axis(), start_y, end_y);
-    let a = besides(s, n, on_x, on_y, grid.cols);
+    let a = added(s, n, on_x, on_y, grid.cols);
     let b = ended(s, a, grid, start_x, start_y);
     ended(s, b, grid, end_x, end_y)
 }

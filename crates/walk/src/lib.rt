@@ -87,7 +87,8 @@ pub fn segment_cells(
     match r {
         Ran::Done(n) => {
             let m = completed(scratch, n, grid, start_x, start_y, end_x, end_y);
-            Cells::Found(slices::order_and_keep(scratch, m))
+            let count = slices::order_and_keep(scratch, m);
+            Cells::Found(count)
         },
         Ran::Over => Cells::Refused(Refusal {
             number: 7,
@@ -132,7 +133,7 @@ pub fn cells_of_segment(
             Cells::Found(n)
         },
         Cells::Refused(why) => {
-            slices::clear(scratch);
+            slices::clear_from(scratch, 0);
             Cells::Refused(why)
         },
     }

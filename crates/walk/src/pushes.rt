@@ -4,11 +4,12 @@ use crate::Turn;
 use crate::Walk;
 use crate::Way;
 ghost use mathlib.Core.Path.{_≡_};
-ghost use mathlib.Core.Bool.{_&&_};
+ghost use mathlib.Core.Bool.{true, _&&_};
 ghost use Prim.Native.Nat.{_+_, _*_, _≤_, _<_};
 ghost use lib.ListN.{length, take};
+ghost use Rattle.slices.specs.Lists.{elem};
 ghost use Rattle.walk.specs.Pushes.{pushOf, sidesOf, before, goingOf, turns, walkedOf};
-ghost use Rattle.walk.specs.Inside.{Grown, Runs};
+ghost use Rattle.walk.specs.Inside.{Grown, Covers, Runs, Walks};
 
 // Pushes the cell, where it is inside the grid.
 fn put(s: &mut [u32], n: usize, cols: u32, rows: u32, col: u32, row: u32) -> usize
@@ -18,6 +19,35 @@ fn put(s: &mut [u32], n: usize, cols: u32, rows: u32, col: u32, row: u32) -> usi
     if col < cols {
         if row < rows {
             s[n] = row * cols + col;
+            return n + 1;
+        }
+        return n;
+    }
+    n
+}
+
+fn last_is(s: &[u32], n: usize, c: u32) -> bool
+    requires { ⌜ n ≤ length (now s) ⌝ }
+    ensures { λ r. ⌜ (r ≡ true → elem c (take n (now (s .entry))) ≡ true) ⌝ }
+{
+    if n == 0 {
+        return false;
+    }
+    s[n - 1] == c
+}
+
+// Pushes the cell, where it is inside the grid and not the last pushed. A walk mostly ends in its end cell, which is thus pushed once.
+fn put_other(s: &mut [u32], n: usize, cols: u32, rows: u32, col: u32, row: u32) -> usize
+    requires { ⌜ n < length (now s) ⌝ ∗ ⌜ rows * cols ≤ 1002001 ⌝ }
+    ensures { λ r. ⌜ Covers (now (s .entry)) (now (s .exit)) n r 1 (pushOf cols rows col row) ⌝ }
+{
+    if col < cols {
+        if row < rows {
+            let c = row * cols + col;
+            if last_is(s, n, c) {
+                return n;
+            }
+            s[n] = c;
             return n + 1;
         }
         return n;
@@ -66,12 +96,12 @@ fn run(s: &mut [u32], n: usize, cols: u32, rows: u32, way: Way, start: Walk) -> 
 // The start cell, the turns, the end cell.
 pub(crate) fn walked(s: &mut [u32], cols: u32, rows: u32, way: Way, start: Walk) -> Ran
     requires { ⌜ 16384 ≤ length (now s) ⌝ ∗ ⌜ rows * cols ≤ 1002001 ⌝ }
-    ensures { λ r. ⌜ Runs way start (walkedOf cols rows way start) 2 r (now (s .exit)) ⌝ }
+    ensures { λ r. ⌜ Walks way start (walkedOf cols rows way start) r (now (s .exit)) ⌝ }
 {
     let n = put(s, 0, cols, rows, start.x.index, start.y.index);
     let r = run(s, n, cols, rows, way, start);
     match r {
-        Ran::Done(m) => Ran::Done(put(s, m, cols, rows, way.x.end, way.y.end)),
+        Ran::Done(m) => Ran::Done(put_other(s, m, cols, rows, way.x.end, way.y.end)),
         Ran::Over => Ran::Over,
     }
 }

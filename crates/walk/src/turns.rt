@@ -10,7 +10,7 @@ use numbers::order::greatest;
 use numbers::order::least;
 use numbers::order::magnitude;
 ghost use mathlib.Core.Path.{_≡_};
-ghost use mathlib.Core.Bool.{false};
+ghost use mathlib.Core.Bool.{true, false};
 ghost use lib.Ieee.{inf, binary64, sub};
 ghost use Rattle.walk.specs.Turns.{finiteOf, stepOf, deltaOf, nextOn, firstOn, courseOn, positionOn, wayOf, startOf, toleranceOf, nearOf, furtherOf, arrivedOf, turnOf, steppedOf, advanced, movedOf, goesOf};
 
@@ -161,16 +161,14 @@ impl Position {
         std::num::wrapping_add_u32(self.index, course.step)
     }
 
-    fn moved(self, go: bool, course: Course) -> Position
-        ensures { λ r. ⌜ r ≡ advanced go course self ⌝ }
+    // A move on the axis.
+    fn moved(self, course: Course) -> Position
+        ensures { λ r. ⌜ r ≡ advanced true course self ⌝ }
     {
-        if go {
-            return Position {
-                index: self.stepped(course),
-                t_max: self.t_max + course.t_delta,
-            };
+        Position {
+            index: self.stepped(course),
+            t_max: self.t_max + course.t_delta,
         }
-        self
     }
 }
 
@@ -194,13 +192,30 @@ impl Walk {
         further(self.x.t_max, self.y.t_max)
     }
 
-    // The state after the turn k.
+    // The state after the turn k. A branch for each way: which way comes next is guessed well, and choosing values without one is slower.
     pub(crate) fn moved(self, k: Turn, way: Way) -> Walk
         ensures { λ r. ⌜ r ≡ movedOf k way self ⌝ }
     {
-        Walk {
-            x: self.x.moved(k.x, way.x),
-            y: self.y.moved(k.y, way.y),
+        let x = self.x;
+        let y = self.y;
+        if k.x {
+            if k.y {
+                return Walk {
+                    x: x.moved(way.x),
+                    y: y.moved(way.y),
+                };
+            }
+            return Walk {
+                x: x.moved(way.x),
+                y: y,
+            };
         }
+        if k.y {
+            return Walk {
+                x: x,
+                y: y.moved(way.y),
+            };
+        }
+        self
     }
 }

@@ -33,8 +33,8 @@ clear-from-requires c κs = search needs
 enum-known-r-2 : tie.Need-enum-known-r-2
 enum-known-r-2 c = search needs
 
-clear-requires : tie.Need-clear-requires
-clear-requires c κs = search needs
+clear-from-requires-2 : tie.Need-clear-from-requires-2
+clear-from-requires-2 c κs = search needs
 
 same-length : tie.Need-same-length
 same-length c = search needs
@@ -46,7 +46,7 @@ same-length-2 : tie.Need-same-length-2
 same-length-2 c = search needs
 
 returns-5 : tie.Need-returns-5
-returns-5 c = over-entry _ _ _ _ _ _ (c .before .before .before .before .before .before .before .before .before .before .before .before .before .before .before .if1 .left) (sym (c .before .before .before .before .before .before .before .before .before .before .before .before .before .before .is-segment .ensures) ∙ not-false _ (c .before .before .before .before .before .before .before .before .before .before .before .before .before .if2 .left)) (sym (c .before .before .before .before .before .before .before .before .before .before .before .before .is-fit .ensures) ∙ not-false _ (c .before .before .before .before .before .before .before .before .before .before .before .if3 .left)) _ _ _ (told (c .before .before .before .before .before .r2 .given .1) (c .before .before .before .before .before .before .before .before .before .segment-cells .ensures)) (c .before .before .clear .ensures)
+returns-5 c = over-entry _ _ _ _ _ _ (c .before .before .before .before .before .before .before .before .before .before .before .before .before .before .before .if1 .left) (sym (c .before .before .before .before .before .before .before .before .before .before .before .before .before .before .is-segment .ensures) ∙ not-false _ (c .before .before .before .before .before .before .before .before .before .before .before .before .before .if2 .left)) (sym (c .before .before .before .before .before .before .before .before .before .before .before .before .is-fit .ensures) ∙ not-false _ (c .before .before .before .before .before .before .before .before .before .before .before .if3 .left)) _ _ _ (told (c .before .before .before .before .before .r2 .given .1) (c .before .before .before .before .before .before .before .before .before .segment-cells .ensures)) (c .before .before .clear-from2 .ensures)
 
 pub cells-of-segment-spec : {M : Type 1} → statement M
 cells-of-segment-spec =
@@ -61,7 +61,7 @@ cells-of-segment-spec =
     enum-known-r
     clear-from-requires
     enum-known-r-2
-    clear-requires
+    clear-from-requires-2
     same-length
     returns-4
     same-length-2

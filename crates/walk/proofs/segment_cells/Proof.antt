@@ -45,7 +45,7 @@ same-length : tie.Need-same-length
 same-length c = search needs
 
 returns-4 : tie.Need-returns-4
-returns-4 c = found-answer _ _ _ _ _ _ (c .before .before .before .before .before .before .before .before .before .before .before .before .before .before .before .before .before .before .before .before .before .if1 .left) (sym (c .before .before .before .before .before .before .before .before .before .before .before .before .before .before .before .before .before .before .before .before .is-shape .ensures) ∙ not-false _ (c .before .before .before .before .before .before .before .before .before .before .before .before .before .before .before .before .before .before .before .if2 .left)) _ _ _ _ (c .before .before .before .before .before .before .before .before .before .before .before .before .before .before .before .before .way-of .ensures) (c .before .before .before .before .before .before .before .before .before .before .before .before .before .before .before .started .ensures) (c .before .before .before .before .before .before .before .before .before .before .before .before .before .before .before .before .before .if3 .left) (c .before .before .before .before .before .before .before .before .before .before .before .before .before .walked .ensures) _ (c .before .before .before .before .before .before .completed .result) _ (c .before .before .before .before .before .before .completed .last .0) _ (c .before .before .before .before .before .before .before .before .before .r .given .1) (c .before .before .before .before .before .before .completed .ensures .1) (c .before .before .order-and-keep .kept .0 ∙ c .before .before .before .before .before .before .completed .kept .0 ∙ c .before .before .before .before .before .before .before .before .before .before .before .before .before .walked .kept .0) (c .before .before .order-and-keep .ensures)
+returns-4 c = found-answer _ _ _ _ _ _ (c .before .before .before .before .before .before .before .before .before .before .before .before .before .before .before .before .before .before .before .before .before .if1 .left) (sym (c .before .before .before .before .before .before .before .before .before .before .before .before .before .before .before .before .before .before .before .before .is-shape .ensures) ∙ not-false _ (c .before .before .before .before .before .before .before .before .before .before .before .before .before .before .before .before .before .before .before .if2 .left)) _ _ _ _ (c .before .before .before .before .before .before .before .before .before .before .before .before .before .before .before .before .way-of .ensures) (c .before .before .before .before .before .before .before .before .before .before .before .before .before .before .before .started .ensures) (c .before .before .before .before .before .before .before .before .before .before .before .before .before .before .before .before .before .if3 .left) (c .before .before .before .before .before .before .before .before .before .before .before .before .before .walked .ensures) _ (c .before .before .before .before .before .before .completed .result) _ (c .before .before .before .before .before .before .completed .last .0) _ (c .before .before .before .before .before .before .before .before .before .r .given .1) (c .before .before .before .before .before .before .completed .ensures) (c .before .before .order-and-keep .kept .0 ∙ c .before .before .before .before .before .before .completed .kept .0 ∙ c .before .before .before .before .before .before .before .before .before .before .before .before .before .walked .kept .0) (c .before .before .order-and-keep .ensures)
 
 same-length-2 : tie.Need-same-length-2
 same-length-2 c = search needs

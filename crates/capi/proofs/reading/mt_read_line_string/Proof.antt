@@ -1,13 +1,17 @@
--- `capi::reading::mt_read_line_string` meets its contract: an `out` that is short, or what the reader answers and leaves. Assumes nothing.
-use mathlib.Core.Path.{ap, _∙_}
+-- `capi::reading::mt_read_line_string` meets its contract: an `out` that is short, or what the entry answers and leaves. Assumes nothing.
+use mathlib.Core.Path.{refl, ap}
+use native.Mathlib.Omega.{arith}
 use Rattle.capi.specs.Answers.{ofRead}
-use Rattle.capi.proofs.Handing.{enough, short, short-replies, handed-replies}
+use Rattle.wkb.specs.Reading.{ReadAs}
+use Rattle.capi.proofs.Handing.{short-replies, handed-replies}
 use borrow.Author.Needs.{needs}
 use Rattle.capi.proofs.reading.mt_read_line_string.Statement.{statement}
 use Rattle.capi.proofs.reading.mt_read_line_string.Tie as tie
 
 returns : tie.Need-returns
-returns c = record { replies = short-replies 1 _ _ (c .if1 .taken); in-x = short 1 _ _ _ (c .if1 .taken); in-y = short 1 _ _ _ (c .if1 .taken) }
+returns c =
+    let s = c .if1 .taken in
+    record { replies = short-replies 1 _ _ s; called = λ h. absurd (omega arith); short = λ h. (refl, refl) }
 
 read-line-string-requires : tie.Need-read-line-string-requires
 read-line-string-requires c κs = search needs
@@ -26,12 +30,12 @@ same-length-3 c = search needs
 
 returns-2 : tie.Need-returns-2
 returns-2 c =
-    let e = c .before .before .before .before .before .before .before .before .read-line-string .ensures in
     let h = c .before .before .before .before .before .before .before .before .before .before .before .if1 .left in
+    let e = c .before .before .before .before .before .before .before .before .read-line-string .ensures in
     record {
       replies = handed-replies 1 h (ap ofRead (e .answer)) (c .before .before .read .ensures);
-      in-x = e .in-x ∙ enough 1 _ _ _ h;
-      in-y = e .in-y ∙ enough 1 _ _ _ h;
+      called = λ _. record { answer = refl; in-x = e .in-x; in-y = e .in-y; only = e .only; every = e .every };
+      short = λ s. absurd (omega arith);
     }
 
 pub mt-read-line-string-spec : {M : Type 1} → statement M

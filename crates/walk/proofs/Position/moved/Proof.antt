@@ -9,11 +9,7 @@ stepped-requires c κs = search needs
 
 returns : tie.Need-returns
 unfolding advanced
-returns c = rw (c .before .before .before .if1 .taken) (cc)
-
-returns-2 : tie.Need-returns-2
-unfolding advanced
-returns-2 c = rw (c .if1 .left)
+returns c = rw (c .before .before .stepped .ensures)
 
 pub moved-spec : {M : Type 1} → statement M
-moved-spec = tie.close (tie.spec stepped-requires returns returns-2)
+moved-spec = tie.close (tie.spec stepped-requires returns)

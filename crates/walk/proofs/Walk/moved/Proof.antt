@@ -1,6 +1,6 @@
 -- `walk::Walk::moved` meets its contract. Assumes nothing.
 use borrow.Author.Needs.{needs}
-use Rattle.walk.specs.Turns.{movedOf}
+use Rattle.walk.specs.Turns.{advanced, movedOf}
 use Rattle.walk.proofs.Walk.moved.Statement.{statement}
 use Rattle.walk.proofs.Walk.moved.Tie as tie
 
@@ -12,7 +12,35 @@ moved-requires-2 c κs = search needs
 
 returns : tie.Need-returns
 unfolding movedOf
-returns c = cc
+returns c = rw (c .before .before .before .if1 .taken, c .before .before .if2 .taken, c .before .moved .ensures, c .moved2 .ensures)
+
+moved-requires-3 : tie.Need-moved-requires-3
+moved-requires-3 c κs = search needs
+
+returns-2 : tie.Need-returns-2
+unfolding movedOf advanced
+returns-2 c = rw (c .before .before .if1 .taken, c .before .if2 .left) (cc)
+
+moved-requires-4 : tie.Need-moved-requires-4
+moved-requires-4 c κs = search needs
+
+returns-3 : tie.Need-returns-3
+unfolding movedOf advanced
+returns-3 c = rw (c .before .before .if1 .left, c .before .if3 .taken) (cc)
+
+returns-4 : tie.Need-returns-4
+unfolding movedOf advanced
+returns-4 c = rw (c .before .if1 .left, c .if3 .left)
 
 pub moved-spec : {M : Type 1} → statement M
-moved-spec = tie.close (tie.spec moved-requires moved-requires-2 returns)
+moved-spec =
+    tie.close
+    (tie.spec
+    moved-requires
+    moved-requires-2
+    returns
+    moved-requires-3
+    returns-2
+    moved-requires-4
+    returns-3
+    returns-4)

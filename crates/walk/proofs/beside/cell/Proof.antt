@@ -30,7 +30,7 @@ add-result c = let p = c .before .before .before .before .before .pre in let i :
 
 returns : tie.Need-returns
 unfolding cellOf
-returns c = cc
+returns c = rw (c .before .before .before .index .ensures, c .index2 .ensures, c .before .before .before .before .y-axis .ensures, c .before .x-axis .ensures)
 
 pub cell-spec : {M : Type 1} → statement M
 cell-spec =

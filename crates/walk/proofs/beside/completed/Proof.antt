@@ -1,14 +1,12 @@
 -- `walk::beside::completed` meets its contract. Assumes nothing.
-use mathlib.Core.Path.{_≡_, ap}
+use mathlib.Core.Path.{ap, _∙_}
 use Prim.Native.Nat.{ℕ, _*_}
 use native.Mathlib.Omega.{arith}
 use borrow.Author.Needs.{needs}
-use Rattle.grid.specs.Axes.{xAxis, yAxis}
-use Rattle.walk.specs.Inside.{share, shareOf}
+use Rattle.grid.specs.declared.Axis.{Axis}
 use Rattle.walk.specs.Segment.{alongOn}
-use Rattle.walk.proofs.Answer.{pushes-are}
-use Rattle.walk.proofs.Grows.{then}
-use Rattle.walk.proofs.Added.{added-bound, end-le}
+use Rattle.walk.proofs.Answer.{share-is, completes}
+use Rattle.walk.proofs.Added.{end-le}
 use Rattle.walk.proofs.beside.completed.Statement.{statement}
 use Rattle.walk.proofs.beside.completed.Tie as tie
 
@@ -24,23 +22,20 @@ y-axis-requires c κs = search needs
 along-requires-2 : tie.Need-along-requires-2
 along-requires-2 c κs = search needs
 
-besides-requires : tie.Need-besides-requires
-unfolding shareOf
-besides-requires c κs = let a = c .before .before .before .before .before .before .args in let e : shareOf (a .grid) (a .start-x) (a .start-y) (a .end-x) (a .end-y) ≡ share (c .before .before .before .along .result) (c .before .along2 .result) = cc in let q = ap (λ (k : ℕ). a .n * k) e in let p = c .before .before .before .before .before .before .pre in (omega (arith, p .1 .1), p .1 .0)
+added-requires : tie.Need-added-requires
+added-requires c κs = let a = c .before .before .before .before .before .before .args in let p = c .before .before .before .before .before .before .pre in let x = c .before .before .before .along .ensures ∙ ap (λ (z : Axis). alongOn z (a .start-x) (a .end-x)) (c .before .before .before .before .x-axis .ensures) in let y = c .before .along2 .ensures ∙ ap (λ (z : Axis). alongOn z (a .start-y) (a .end-y)) (c .before .before .y-axis .ensures) in let q = ap (λ (k : ℕ). a .n * k) (share-is _ _ _ _ _ _ _ x y) in (omega (arith, p .1 .1), p .1 .0)
 
 ended-requires : tie.Need-ended-requires
-unfolding shareOf
-ended-requires c κs = let a = c .before .before .before .before .before .before .before .before .before .before .args in let e : shareOf (a .grid) (a .start-x) (a .start-y) (a .end-x) (a .end-y) ≡ share (c .before .before .before .before .before .before .before .along .result) (c .before .before .before .before .before .along2 .result) = cc in let q = ap (λ (k : ℕ). a .n * k) e in let p = c .before .before .before .before .before .before .before .before .before .before .pre in (omega (arith, p .1 .1, added-bound _ _ _ (omega arith) (c .before .before .before .besides .ensures), c .before .before .before .besides .ensures .len), (p .0, p .1 .0))
+ended-requires c κs = let a = c .before .before .before .before .before .before .before .before .before .before .args in let p = c .before .before .before .before .before .before .before .before .before .before .pre in let x = c .before .before .before .before .before .before .before .along .ensures ∙ ap (λ (z : Axis). alongOn z (a .start-x) (a .end-x)) (c .before .before .before .before .before .before .before .before .x-axis .ensures) in let y = c .before .before .before .before .before .along2 .ensures ∙ ap (λ (z : Axis). alongOn z (a .start-y) (a .end-y)) (c .before .before .before .before .before .before .y-axis .ensures) in let q = ap (λ (k : ℕ). a .n * k) (share-is _ _ _ _ _ _ _ x y) in (omega (arith, p .1 .1, c .before .before .before .added .ensures .count, c .before .before .before .added .ensures .len), (p .0, p .1 .0))
 
 ended-requires-2 : tie.Need-ended-requires-2
-unfolding shareOf
-ended-requires-2 c κs = let a = c .before .before .before .before .before .before .before .before .before .before .before .before .before .before .args in let e : shareOf (a .grid) (a .start-x) (a .start-y) (a .end-x) (a .end-y) ≡ share (c .before .before .before .before .before .before .before .before .before .before .before .along .result) (c .before .before .before .before .before .before .before .before .before .along2 .result) = cc in let q = ap (λ (k : ℕ). a .n * k) e in let p = c .before .before .before .before .before .before .before .before .before .before .before .before .before .before .pre in (omega (arith, p .1 .1, added-bound _ _ _ (omega arith) (c .before .before .before .before .before .before .before .besides .ensures), c .before .before .before .before .before .before .before .besides .ensures .len, c .before .before .before .ended .ensures .len, c .before .before .before .ended .ensures .count, end-le (a .grid) (a .start-x) (a .start-y)), (p .0, p .1 .0))
+ended-requires-2 c κs = let a = c .before .before .before .before .before .before .before .before .before .before .before .before .before .before .args in let p = c .before .before .before .before .before .before .before .before .before .before .before .before .before .before .pre in let x = c .before .before .before .before .before .before .before .before .before .before .before .along .ensures ∙ ap (λ (z : Axis). alongOn z (a .start-x) (a .end-x)) (c .before .before .before .before .before .before .before .before .before .before .before .before .x-axis .ensures) in let y = c .before .before .before .before .before .before .before .before .before .along2 .ensures ∙ ap (λ (z : Axis). alongOn z (a .start-y) (a .end-y)) (c .before .before .before .before .before .before .before .before .before .before .y-axis .ensures) in let q = ap (λ (k : ℕ). a .n * k) (share-is _ _ _ _ _ _ _ x y) in (omega (arith, p .1 .1, c .before .before .before .before .before .before .before .added .ensures .count, c .before .before .before .before .before .before .before .added .ensures .len, c .before .before .before .ended .ensures .len, c .before .before .before .ended .ensures .count, end-le (a .grid) (a .start-x) (a .start-y)), (p .0, p .1 .0))
 
 same-length : tie.Need-same-length
 same-length c = search needs
 
 returns : tie.Need-returns
-returns c = let a = c .before .before .before .before .before .before .before .before .before .before .before .before .before .before .before .before .before .args in let p = then (then (c .before .before .before .before .before .before .before .before .before .before .besides .ensures) (c .before .before .before .before .before .before .ended .ensures)) (c .before .before .ended2 .ensures) in let x : c .before .before .before .before .before .before .before .before .before .before .before .before .before .before .along .result ≡ alongOn (xAxis (a .grid)) (a .start-x) (a .end-x) = cc in let y : c .before .before .before .before .before .before .before .before .before .before .before .before .along2 .result ≡ alongOn (yAxis (a .grid)) (a .start-y) (a .end-y) = cc in (p .within, pushes-are _ _ _ _ _ _ _ x y p)
+returns c = let a = c .before .before .before .before .before .before .before .before .before .before .before .before .before .before .before .before .before .args in let p = c .before .before .before .before .before .before .before .before .before .before .before .before .before .before .before .before .before .pre in let x = c .before .before .before .before .before .before .before .before .before .before .before .before .before .before .along .ensures ∙ ap (λ (z : Axis). alongOn z (a .start-x) (a .end-x)) (c .before .before .before .before .before .before .before .before .before .before .before .before .before .before .before .x-axis .ensures) in let y = c .before .before .before .before .before .before .before .before .before .before .before .before .along2 .ensures ∙ ap (λ (z : Axis). alongOn z (a .start-y) (a .end-y)) (c .before .before .before .before .before .before .before .before .before .before .before .before .before .y-axis .ensures) in completes _ _ _ _ _ _ _ x y (c .before .before .before .before .before .before .before .before .before .before .added .ensures) (c .before .before .before .before .before .before .ended .ensures) (c .before .before .ended2 .ensures)
 
 pub completed-spec : {M : Type 1} → statement M
 completed-spec =
@@ -50,7 +45,7 @@ completed-spec =
     along-requires
     y-axis-requires
     along-requires-2
-    besides-requires
+    added-requires
     ended-requires
     ended-requires-2
     same-length

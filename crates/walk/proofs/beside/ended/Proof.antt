@@ -31,7 +31,7 @@ same-length c = search needs
 
 returns : tie.Need-returns
 unfolding endOf
-returns c = let a = c .before .before .before .before .before .before .before .before .before .before .args in let e : besideOf (c .before .before .before .before .before .before .before .on-boundary .result) (c .before .before .before .before .before .on-boundary2 .result) (a .grid .cols) (c .before .before .before .cell .result) ≡ endOf (a .grid) (a .x) (a .y) = cc in same e (c .before .before .beside .ensures)
+returns c = let a = c .before .before .before .before .before .before .before .before .before .before .args in let e : besideOf (c .before .before .before .before .before .before .before .on-boundary .result) (c .before .before .before .before .before .on-boundary2 .result) (a .grid .cols) (c .before .before .before .cell .result) ≡ endOf (a .grid) (a .x) (a .y) = rw (c .before .before .before .before .before .before .before .on-boundary .ensures, c .before .before .before .before .before .on-boundary2 .ensures, c .before .before .before .cell .ensures, c .before .before .before .before .before .before .before .before .x-axis .ensures, c .before .before .before .before .before .before .y-axis .ensures) in same e (c .before .before .beside .ensures)
 
 pub ended-spec : {M : Type 1} → statement M
 ended-spec =

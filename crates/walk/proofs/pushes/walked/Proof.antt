@@ -15,8 +15,8 @@ run-requires c κs = let a = c .before .before .before .before .before .before .
 enum-known-r : tie.Need-enum-known-r
 enum-known-r c = search needs
 
-put-requires-2 : tie.Need-put-requires-2
-put-requires-2 c κs = let a = c .before .before .before .before .before .before .before .before .before .before .before .before .before .args in let p = c .before .before .before .before .before .before .before .before .before .before .put .ensures in let q = c .before .before .before .before .before .before .run in let l = within-done _ _ _ (c .before .before .r .given .1) (q .ensures .all) in (omega (arith, p .count, p .len, q .kept .0, at-most-one (a .cols) (a .rows) (a .start .x .index) (a .start .y .index)), c .before .before .before .before .before .before .before .before .before .before .before .before .before .pre .1)
+put-other-requires : tie.Need-put-other-requires
+put-other-requires c κs = let a = c .before .before .before .before .before .before .before .before .before .before .before .before .before .args in let p = c .before .before .before .before .before .before .before .before .before .before .put .ensures in let q = c .before .before .before .before .before .before .run in let l = within-done _ _ _ (c .before .before .r .given .1) (q .ensures .all) in (omega (arith, p .count, p .len, q .kept .0, at-most-one (a .cols) (a .rows) (a .start .x .index) (a .start .y .index)), c .before .before .before .before .before .before .before .before .before .before .before .before .before .pre .1)
 
 enum-told : tie.Need-enum-told
 enum-told c = search needs
@@ -25,7 +25,7 @@ same-length : tie.Need-same-length
 same-length c = search needs
 
 returns : tie.Need-returns
-returns c = walked-done _ _ _ _ (c .before .before .before .before .before .before .before .before .before .before .before .before .before .put .ensures) (c .before .before .before .before .before .before .before .before .before .run .ensures) (c .before .before .before .before .before .r .given .1) (c .before .before .put2 .ensures)
+returns c = walked-done _ _ _ _ (c .before .before .before .before .before .before .before .before .before .before .before .before .before .put .ensures) (c .before .before .before .before .before .before .before .before .before .run .ensures) (c .before .before .before .before .before .r .given .1) (c .before .before .put-other .ensures)
 
 same-length-2 : tie.Need-same-length-2
 same-length-2 c = search needs
@@ -40,7 +40,7 @@ walked-spec =
     put-requires
     run-requires
     enum-known-r
-    put-requires-2
+    put-other-requires
     enum-told
     same-length
     returns

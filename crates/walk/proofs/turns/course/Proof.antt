@@ -15,7 +15,7 @@ index-requires c κs = search needs
 
 returns : tie.Need-returns
 unfolding courseOn
-returns c = cc
+returns c = rw (c .before .before .step-of .ensures, c .before .delta-of .ensures, c .index .ensures)
 
 pub course-spec : {M : Type 1} → statement M
 course-spec = tie.close (tie.spec step-of-requires delta-of-requires index-requires returns)

@@ -10,14 +10,14 @@ infinity-requires c κs = search needs
 
 returns : tie.Need-returns
 unfolding deltaOf ofBits
-returns c = rw (c .before .if1 .taken) (cc)
+returns c = rw (c .before .if1 .taken) (c .infinity .ensures)
 
 magnitude-requires : tie.Need-magnitude-requires
 magnitude-requires c κs = search needs
 
 returns-2 : tie.Need-returns-2
 unfolding deltaOf ofBits
-returns-2 c = rw (c .before .if1 .left) (cc)
+returns-2 c = rw (c .before .if1 .left, c .magnitude .ensures)
 
 pub delta-of-spec : {M : Type 1} → statement M
 delta-of-spec = tie.close (tie.spec infinity-requires returns magnitude-requires returns-2)

@@ -10,7 +10,7 @@ infinity-requires c κs = search needs
 
 returns : tie.Need-returns
 unfolding firstOn ofBits
-returns c = rw (c .before .if1 .taken) (cc)
+returns c = rw (c .before .if1 .taken) (c .infinity .ensures)
 
 next-boundary-requires : tie.Need-next-boundary-requires
 next-boundary-requires c κs = search needs
@@ -20,7 +20,7 @@ greatest-requires c κs = search needs
 
 returns-2 : tie.Need-returns-2
 unfolding firstOn ofBits
-returns-2 c = rw (c .before .before .if1 .left) (cc)
+returns-2 c = rw (c .before .before .if1 .left, c .greatest .ensures, c .before .next-boundary .ensures)
 
 pub first-of-spec : {M : Type 1} → statement M
 first-of-spec =

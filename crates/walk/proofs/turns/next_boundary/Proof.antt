@@ -18,14 +18,14 @@ low-edge-requires c κs = search needs
 
 returns : tie.Need-returns
 unfolding nextOn ofBits
-returns c = rw (c .before .if1 .taken) (cc)
+returns c = rw (c .before .if1 .taken, c .low-edge .ensures, c .before .before .index .ensures)
 
 low-edge-requires-2 : tie.Need-low-edge-requires-2
 low-edge-requires-2 c κs = search needs
 
 returns-2 : tie.Need-returns-2
 unfolding nextOn ofBits
-returns-2 c = rw (c .before .if1 .left) (cc)
+returns-2 c = rw (c .before .if1 .left, c .low-edge2 .ensures, c .before .before .index .ensures)
 
 pub next-boundary-spec : {M : Type 1} → statement M
 next-boundary-spec =

@@ -12,7 +12,7 @@ first-of-requires c κs = search needs
 
 returns : tie.Need-returns
 unfolding positionOn
-returns c = cc
+returns c = rw (c .before .index .ensures, c .first-of .ensures)
 
 pub position-spec : {M : Type 1} → statement M
 position-spec = tie.close (tie.spec index-requires first-of-requires returns)

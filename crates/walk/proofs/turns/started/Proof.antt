@@ -18,7 +18,7 @@ position-requires-2 c κs = search needs
 
 returns : tie.Need-returns
 unfolding startOf
-returns c = cc
+returns c = rw (c .before .before .position .ensures, c .position2 .ensures, c .before .before .before .x-axis .ensures, c .before .y-axis .ensures)
 
 pub started-spec : {M : Type 1} → statement M
 started-spec =

@@ -18,7 +18,7 @@ course-requires-2 c κs = search needs
 
 returns : tie.Need-returns
 unfolding wayOf
-returns c = cc
+returns c = rw (c .before .before .course .ensures, c .course2 .ensures, c .before .before .before .x-axis .ensures, c .before .y-axis .ensures)
 
 pub way-of-spec : {M : Type 1} → statement M
 way-of-spec =

@@ -1,0 +1,57 @@
+-- The promises of exported functions that are lent slices to write beside `out`. Where `out` has the words of a result, the entry is called, and
+-- its own promise holds of those slices; where it is short, they stay as they were. Definitions only.
+use Prim.Native.Nat.{ℕ, _≤_, _<_}
+use mathlib.Core.Path.{_≡_}
+use mathlib.Core.List.{List}
+use lib.Ieee.{Float}
+use lib.ListN.{length, drop}
+use Rattle.grid.specs.Domain.{Lines}
+use Rattle.grid.specs.declared.Grid.{Grid}
+use Rattle.tables.specs.Tables.{Tables}
+use Rattle.wkb.specs.declared.Read.{Read}
+use Rattle.wkb.specs.Reading as wkb
+use Rattle.walk.specs.Pushes.{Outcome}
+use Rattle.walk.specs.Segment.{cellsOf, Walked, Entered}
+use Rattle.build.specs.Build as build
+use Rattle.visit.specs.declared.BatchAnswer.{BatchAnswer}
+use Rattle.visit.specs.Tests.{testsOf}
+use Rattle.visit.specs.Entries.{batchCheck, batchOf, tallyOf, BatchIs}
+use Rattle.capi.specs.Replies.{Replies}
+use Rattle.capi.specs.Answers.{ofRead, ofCells, ofBuilt, ofBatch}
+
+-- what the reader answers
+abbrev pub readAnswer : List ℕ → List Float → List Float → Read
+readAnswer bytes x y = wkb.answerOf (wkb.outcome (length x) (length y) bytes)
+
+pub record ReadReplies (bytes : List ℕ) (x y : List Float) (out : List ℕ) (r : ℕ) (x′ y′ : List Float) (out′ : List ℕ) : Type 0 where
+  pub replies : Replies 1 (ofRead (readAnswer bytes x y)) out r out′
+  pub called : 1 ≤ length out → wkb.ReadAs bytes x y (readAnswer bytes x y) x′ y′
+  pub short : length out < 1 → (x′ ≡ x) × (y′ ≡ y)
+
+-- the walk of one segment, whose outcome is o
+pub record WalkReplies (o : Outcome) (scratch out : List ℕ) (r : ℕ) (scratch′ out′ : List ℕ) : Type 0 where
+  pub replies : Replies 1 (ofCells (cellsOf o)) out r out′
+  pub called : 1 ≤ length out → Entered o scratch (cellsOf o) scratch′
+  pub short : length out < 1 → scratch′ ≡ scratch
+
+-- the walk of a line inside a larger call
+pub record LineReplies (o : Outcome) (scratch out : List ℕ) (r : ℕ) (scratch′ out′ : List ℕ) : Type 0 where
+  pub replies : Replies 1 (ofCells (cellsOf o)) out r out′
+  pub called : 1 ≤ length out → Walked o scratch (cellsOf o) scratch′
+  pub short : length out < 1 → scratch′ ≡ scratch
+
+-- a build that ends in e
+pub record BuildReplies (ls : Lines) (offsets items globals scratch out : List ℕ) (r : ℕ) (offsets′ items′ globals′ scratch′ out′ : List ℕ) (e : build.End) : Type 0 where
+  pub replies : Replies 7 (ofBuilt (build.answerOf e ls)) out r out′
+  pub called : 7 ≤ length out → build.BuildIs ls offsets items globals scratch (build.answerOf e ls) offsets′ items′ globals′ scratch′ e
+  pub short : length out < 7 → (offsets′ ≡ offsets) × (items′ ≡ items) × (globals′ ≡ globals) × (scratch′ ≡ scratch)
+
+-- what a batch answers, by its outputs before
+abbrev pub batchAnswer : Lines → Grid → Tables → ℕ → List ℕ → List ℕ → BatchAnswer
+batchAnswer ls g t b first second = batchOf (batchCheck ls g t b first second) (tallyOf ls (drop b (testsOf t)) b (length first))
+
+-- a batch from the bookmark b
+pub record BatchReplies (ls : Lines) (g : Grid) (t : Tables) (b : ℕ) (first second out : List ℕ) (r : ℕ) (first′ second′ out′ : List ℕ) : Type 0 where
+  pub replies : Replies 3 (ofBatch (batchAnswer ls g t b first second)) out r out′
+  pub called : 3 ≤ length out → BatchIs ls g t b first second first′ second′ (batchAnswer ls g t b first second)
+  pub short : length out < 3 → (first′ ≡ first) × (second′ ≡ second)

@@ -1,0 +1,2 @@
+-- The table of measured points.
+pub mod Table

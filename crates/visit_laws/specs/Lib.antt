@@ -1,0 +1,2 @@
+-- The words of the laws of a full visit.
+pub mod Words

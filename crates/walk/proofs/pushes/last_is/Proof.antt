@@ -1,0 +1,27 @@
+-- `walk::pushes::last_is` meets its contract. Assumes nothing.
+use mathlib.Core.Bool.{true≢false}
+use mathlib.Core.Path.{sym}
+use native.Mathlib.Omega.{arith}
+use borrow.Author.Needs.{needs}
+use Rattle.walk.proofs.Grows.{last-elem}
+use Rattle.walk.proofs.pushes.last_is.Statement.{statement}
+use Rattle.walk.proofs.pushes.last_is.Tie as tie
+
+returns : tie.Need-returns
+returns c = λ p. absurd (true≢false (sym p))
+
+sub-result : tie.Need-sub-result
+sub-result c = search needs
+
+mul-result : tie.Need-mul-result
+mul-result c = search needs
+
+shared-slice-read-result : tie.Need-shared-slice-read-result
+shared-slice-read-result c = search needs
+
+returns-2 : tie.Need-returns-2
+returns-2 c = let a = c .before .before .args in λ p. last-elem (a .s .now) (a .n) (a .c) (omega arith) (omega arith) p
+
+pub last-is-spec : {M : Type 1} → statement M
+last-is-spec =
+    tie.close (tie.spec returns sub-result mul-result shared-slice-read-result returns-2)

@@ -1,0 +1,199 @@
+/* Morelturret: a uniform grid over line segments, proved.
+ *
+ * Link with the static library that `tools/build_library` builds. Nothing here allocates, keeps state between calls, or calls out. Every
+ * function ends on every argument and checks what it is handed.
+ *
+ * Slices. A slice is lent as the address of its first entry and the number of its entries. It stays the caller's, and nothing of it is kept
+ * after the call. The address is aligned for its type and not null, also where the length is 0; slices that are written (not `const`) must
+ * overlap no other slice of the call.
+ *
+ * The grid is passed as its five numbers: min_x, min_y, cell_size, cols, rows. It is fit if both minima are finite and at most 1e9 in
+ * magnitude, cell_size is from 0.25e-6 to 2e9, and cols and rows are both 0, or each 1 to 4,004 with product at most 1,002,001. A cell's
+ * number is row * cols + column.
+ *
+ * Answers. A function that can refuse returns MT_OK or the number of the refusal, and writes 64-bit words to the start of `out`:
+ *   on success     the words that its comment names ("out");
+ *   on a refusal   one word, the refusal's value;
+ * the rest of `out` stays as it was. Where `out` has fewer words than the success would write (and fewer than one), the function returns
+ * MT_OUT_SHORT and changes nothing at all.
+ * A float in `out` is the bit pattern of the double; a NaN is 0x7ff8000000000000.
+ *
+ * Refusals come in the order in which each comment lists them: the first that applies is answered. Refusals 4 to 7 leave zero throughout the
+ * slices that the call is lent to write (but not `out`); every other refusal changes nothing but the first word of `out`. */
+#ifndef MORELTURRET_H
+#define MORELTURRET_H
+
+#include <stddef.h>
+#include <stdint.h>
+
+#ifdef __cplusplus
+extern "C" {
+#endif
+
+/* What is returned, and the value that is then in out[0]. */
+enum {
+    MT_OK = 0,
+    MT_BAD_COORDINATE = 1,  /* a coordinate is not finite or above 1e9 in magnitude: the first such line (0 for a point or one segment) */
+    MT_TOO_MANY_LINES = 2,  /* more than 65,536 lines: the number of lines */
+    MT_BAD_LENGTHS = 3,     /* slices that belong together differ in length, or one is too short: 0 */
+    MT_SHORT_OFFSETS = 4,   /* a grid tried has more cells + 1 than the lent offsets: that cells + 1 */
+    MT_SHORT_ITEMS = 5,     /* items lent are fewer than the total: the total */
+    MT_SHORT_GLOBALS = 6,   /* globals lent are fewer than found: the number found */
+    MT_WALK_TOO_LONG = 7,   /* a walk made 5,000 turns and would make another: the line (0 for one segment) */
+    MT_UNFIT_GRID = 8,      /* the grid is not fit: 0 */
+    MT_BEYOND_END = 9,      /* a cell, global position or bookmark beyond its end: the cell's row, the position or the bookmark */
+    MT_MISFIT_TABLES = 10,  /* the tables do not fit: 0 */
+    MT_BAD_WKB = 11,        /* not a LineString that the reader takes: the byte position */
+    MT_UNFIT_SNAP = 12,     /* snap size or strategy unfit: 0 */
+    MT_OUT_SHORT = 100      /* `out` has too few words; nothing is written */
+};
+
+/* Snap strategies. */
+enum { MT_GRID = 0, MT_GEOS_COMPAT = 1 };
+
+/* ---- numbers: total on every double, nothing is refused ---- */
+
+/* The lesser of two. A NaN gives way to the other; of two that are equal it is a. */
+double mt_least(double a, double b);
+
+/* The greater of two. A NaN gives way to the other; of two that are equal it is a. */
+double mt_greatest(double a, double b);
+
+/* v with its sign clear. */
+double mt_magnitude(double v);
+
+/* The largest whole number that is at most v. A zero keeps its sign, infinities and NaN stay. */
+double mt_floor(double v);
+
+/* The floor of v brought into 0 .. count - 1; 0 for a NaN, and where count is 0. */
+uint32_t mt_clamped_floor(double v, uint32_t count);
+
+/* The smallest whole number that is at least v, brought into 0 .. 2^64 - 1; 0 for a NaN. */
+uint64_t mt_ceiling(double v);
+
+/* v rounded to the nearest whole number, halves away from zero. A zero has the sign of v, infinities and NaN stay. */
+double mt_round_half_away(double v);
+
+/* The square root, rounded to nearest. -0 for -0, a NaN below zero. */
+double mt_square_root(double v);
+
+/* ---- snapping and ownership ---- */
+
+/* Snaps a point to multiples of `size` (0, or 1e-6 to 1e6; 0 returns the point) by a strategy (MT_GRID or MT_GEOS_COMPAT).
+ * out (2 words): the bits of x and of y.
+ * Refuses by 1, 12. */
+uint32_t mt_snap(double x, double y, double size, uint32_t strategy, uint64_t *out, size_t out_len);
+
+/* Whether the cell (row, col) owns the point (x, y): low <= p < high on both axes; in the last column or row p = high counts too.
+ * out (1 word): 1 where it does, else 0.
+ * Refuses by 1, 8, 9. */
+uint32_t mt_point_owned(double min_x, double min_y, double cell_size, uint32_t cols, uint32_t rows, uint32_t row, uint32_t col, double x,
+                        double y, uint64_t *out, size_t out_len);
+
+/* Whether the cell (row, col) owns a collinear overlap whose first end is (x, y): that end, snapped, has low <= p < high on both axes, or the
+ * cell is (0, 0).
+ * out (1 word): 1 where it does, else 0.
+ * Refuses by 1, 8, 12, 9. */
+uint32_t mt_overlap_owned(double min_x, double min_y, double cell_size, uint32_t cols, uint32_t rows, uint32_t row, uint32_t col, double x,
+                          double y, double size, uint32_t strategy, uint64_t *out, size_t out_len);
+
+/* The first cell in row order that owns the point (x, y).
+ * out (3 words): 1, its row, its column; or 0, 0, 0 where the point is outside the grid.
+ * Refuses by 1, 8. */
+uint32_t mt_owner(double min_x, double min_y, double cell_size, uint32_t cols, uint32_t rows, double x, double y, uint64_t *out,
+                  size_t out_len);
+
+/* ---- the walk ---- */
+
+/* The cells that the segment from (start_x, start_y) to (end_x, end_y) visits, increasing, none twice, at the start of the scratch; zero
+ * beyond them. The scratch has at least 16,384 entries.
+ * out (1 word): the number of cells.
+ * Refuses by 3, 1, 8, 7. */
+uint32_t mt_segment_cells(double min_x, double min_y, double cell_size, uint32_t cols, uint32_t rows, double start_x, double start_y,
+                          double end_x, double end_y, uint32_t *scratch, size_t scratch_len, uint64_t *out, size_t out_len);
+
+/* The same walk for a caller who walks many lines of a grid that he has checked. Of grid and coordinates only cols and rows are checked here,
+ * and the scratch is not zeroed: what stands beyond the cells, and throughout after refusal 7, is left open.
+ * out (1 word): the number of cells.
+ * Refuses by 3, 8 (of cols and rows alone), 7. */
+uint32_t mt_line_cells(double min_x, double min_y, double cell_size, uint32_t cols, uint32_t rows, double start_x, double start_y, double end_x,
+                       double end_y, uint32_t *scratch, size_t scratch_len, uint64_t *out, size_t out_len);
+
+/* ---- the build ---- */
+
+/* Picks a grid for the lines and writes its tables. Line i goes from (start_x[i], start_y[i]) to (end_x[i], end_y[i]). The list of cell c is
+ * items[offsets[c]] up to items[offsets[c + 1]]: the lines, increasing, that visit it. A line that visits more than 2,048 cells is in no list
+ * but in globals. Beyond what is written offsets, items and globals are zeroed, and so is all of the scratch, which has at least 16,384
+ * entries. Offsets for 1,002,002 entries, items for 2,048 times the lines and globals for the lines are always enough.
+ * out (7 words): the bits of min_x, min_y and cell_size, cols, rows, the number of items, the number of globals. The grid is fit.
+ * Refuses by 3, 2, 1; at each grid tried by 4, 7; then by 5, 6. */
+uint32_t mt_build(const double *start_x, size_t start_x_len, const double *start_y, size_t start_y_len, const double *end_x, size_t end_x_len,
+                  const double *end_y, size_t end_y_len, uint32_t *offsets, size_t offsets_len, uint32_t *items, size_t items_len,
+                  uint32_t *globals, size_t globals_len, uint32_t *scratch, size_t scratch_len, uint64_t *out, size_t out_len);
+
+/* ---- standing tables ---- */
+
+/* Whether tables fit: offsets has at least cells + 1 entries, the first is 0, they never fall over those entries and the last is within items;
+ * each list and the first global_count globals strictly increase below the number of lines; global_count is within globals. The grid is not
+ * checked here: its cols and rows alone count.
+ * out (1 word): written only on a refusal.
+ * Refuses by 10. */
+uint32_t mt_check_tables(double min_x, double min_y, double cell_size, uint32_t cols, uint32_t rows, size_t lines, const uint32_t *offsets,
+                         size_t offsets_len, const uint32_t *items, size_t items_len, const uint32_t *globals, size_t globals_len,
+                         uint64_t global_count, uint64_t *out, size_t out_len);
+
+/* The list of the cell (row, col): the lines that visit it, increasing, as a part of items.
+ * out (2 words): the index in items where the list starts, and its length.
+ * Refuses by 2, 8, 10, 9. */
+uint32_t mt_cell_list(double min_x, double min_y, double cell_size, uint32_t cols, uint32_t rows, size_t lines, const uint32_t *offsets,
+                      size_t offsets_len, const uint32_t *items, size_t items_len, const uint32_t *globals, size_t globals_len,
+                      uint64_t global_count, uint32_t row, uint32_t col, uint64_t *out, size_t out_len);
+
+/* The list of a global line, by its position among the globals: the globals from there on, as a part of globals.
+ * out (2 words): the index in globals where the list starts, and its length.
+ * Refuses by 2, 8, 10, 9. */
+uint32_t mt_global_list(double min_x, double min_y, double cell_size, uint32_t cols, uint32_t rows, size_t lines, const uint32_t *offsets,
+                        size_t offsets_len, const uint32_t *items, size_t items_len, const uint32_t *globals, size_t globals_len,
+                        uint64_t global_count, uint64_t position, uint64_t *out, size_t out_len);
+
+/* ---- the visit ----
+ *
+ * A visit makes the tests of the tables in order: the cells in row order, and in a list entry i with each later j, i outermost; then each
+ * global in order with every line in order, but not itself and not a lower global. A bookmark is the number of tests already made, 0 to the
+ * total. The pairs that are handed out are those whose boxes overlap. */
+
+/* One test by its bookmark.
+ * out (6 words): 0 for a test in a cell, 1 for one of a global line, 2 for the end mark, which stands at the total; the cell's row, or the
+ * global line's position; the cell's column, or 0; the first line; the second line; 1 where their boxes overlap, else 0. For the end mark the
+ * last five words are 0.
+ * Refuses by 3, 2, 1, 8, 10, 9. */
+uint32_t mt_test_at(double min_x, double min_y, double cell_size, uint32_t cols, uint32_t rows, const double *start_x, size_t start_x_len,
+                    const double *start_y, size_t start_y_len, const double *end_x, size_t end_x_len, const double *end_y,
+                    size_t end_y_len, const uint32_t *offsets, size_t offsets_len, const uint32_t *items, size_t items_len,
+                    const uint32_t *globals, size_t globals_len, uint64_t global_count, uint64_t bookmark, uint64_t *out, size_t out_len);
+
+/* The tests from a bookmark on, until the outputs first and second, of one length, are full of pairs or the end comes. Pair k is (first[k],
+ * second[k]); beyond the pairs both are zeroed. Outputs of length 0 make no test. Start with the bookmark 0 and go on with the one that comes
+ * back; the visit is over when a batch with outputs of some length makes no test.
+ * out (3 words): the tests made, the pairs handed out, the new bookmark.
+ * Refuses by 3, 2, 1, 8, 10, 9. */
+uint32_t mt_batch(double min_x, double min_y, double cell_size, uint32_t cols, uint32_t rows, const double *start_x, size_t start_x_len,
+                  const double *start_y, size_t start_y_len, const double *end_x, size_t end_x_len, const double *end_y, size_t end_y_len,
+                  const uint32_t *offsets, size_t offsets_len, const uint32_t *items, size_t items_len, const uint32_t *globals,
+                  size_t globals_len, uint64_t global_count, uint64_t bookmark, uint32_t *first, size_t first_len, uint32_t *second,
+                  size_t second_len, uint64_t *out, size_t out_len);
+
+/* ---- the reader ---- */
+
+/* Reads one LineString in well-known binary (type 2, either byte order, 1 to 1,024 points, no bytes after it) into x and y, which both have
+ * the same length, at least 1,024. Beyond the points x and y are zeroed. Every NaN becomes the one NaN.
+ * out (1 word): the number of points.
+ * Refuses by 3, 11, and then writes nothing to x and y. */
+uint32_t mt_read_line_string(const uint8_t *bytes, size_t bytes_len, double *x, size_t x_len, double *y, size_t y_len, uint64_t *out,
+                             size_t out_len);
+
+#ifdef __cplusplus
+}
+#endif
+
+#endif

@@ -177,14 +177,15 @@ others-rising xs (suc left) k = go (elem k xs) refl (others-rising xs left (suc 
     go true e r = rw (others-in xs left k e) (rising-low k (suc k) (others xs left (suc k)) (omega arith) r)
     go false e r = rw (others-out xs left k e) (omega arith, r)
 
-elem-over : (v : ℕ) (ys : List ℕ) → Rising (suc v) ys → elem v ys ≡ false
+-- a line below a list that rises is not in it
+pub elem-over : (v : ℕ) (ys : List ℕ) → Rising (suc v) ys → elem v ys ≡ false
 elem-over v [] r = refl
 elem-over v (y ∷ ys) r =
     let e : eqb v y ≡ false = ne-eqb v y (λ e. omega (arith, r .0)) in
     rw e (elem-over v ys (rising-low (suc v) (suc y) ys (omega (arith, r .0)) (r .1)))
 
 -- a line is among them exactly if it is not in the list
-elem-others : (xs : List ℕ) (v left k : ℕ) → k ≤ v → v < k + left → elem v (others xs left k) ≡ not (elem v xs)
+pub elem-others : (xs : List ℕ) (v left k : ℕ) → k ≤ v → v < k + left → elem v (others xs left k) ≡ not (elem v xs)
 elem-others xs v zero k h l = absurd (omega arith)
 elem-others xs v (suc left) k h l = go (ℕ-discrete v k) (elem k xs) refl (λ n. elem-others xs v left (suc k) n (omega arith))
   where

@@ -43,6 +43,11 @@ unfoldable pub times : ℕ → ℕ → List Pair → ℕ
 times a b [] = 0
 times a b (p ∷ ps) = one (testOfBoth a b p) + times a b ps
 
+-- each is a test of two different lines, both below n
+abbrev pub Different : ℕ → List Pair → Type 0
+Different n [] = Unit {0}
+Different n (p ∷ ps) = ((p .first < n) × (p .second < n) × (p .first ≡ p .second → ⊥)) × Different n ps
+
 -- tables whose global lines stand in no cell's list, as a build leaves them
 pub record Apart (t : Tables) : Type 0 where
   pub apart : (v : ℕ) → elem v (globalsOf t) ≡ true → (c : ℕ) → c < cells t → elem v (listOf t c) ≡ false

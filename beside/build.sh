@@ -30,7 +30,8 @@ if grep -q '^capi:' crates.txt; then
         tools/native_lib capi "$archive" >"$built/native_lib.log" 2>&1 || { tail -n 20 "$built/native_lib.log"; echo "${0##*/}: the port's library was not built"; exit 1; }
     fi
     export MORELTURRET_PORT_LIB=$archive
-    exported() { for f in "$@"; do nm "$archive" 2>/dev/null | grep -q " T mt_$f\$" || return 1; done; }
+    names=$(nm "$archive" 2>/dev/null | sed -n 's/^.* T mt_//p')
+    exported() { for f in "$@"; do [[ $'\n'$names$'\n' == *$'\n'$f$'\n'* ]] || return 1; done; }
     ! exported least greatest magnitude floor clamped_floor ceiling round_half_away square_root || features+=,numbers
     ! exported segment_cells || features+=,walk
     ! exported build || features+=,build

@@ -27,7 +27,7 @@ fn samples() -> Vec<(&'static str, LineVec)> {
         [from.0, from.1, at.0, at.1]
     });
     let chain = chain.collect();
-    let lattice = (0..8).flat_map(|i| [[i as f64, 0.0, i as f64, 7.0], [0.0, i as f64, 7.0, i as f64]]).collect();
+    let lattice = (0..20).flat_map(|i| [[i as f64, 0.0, i as f64, 19.0], [0.0, i as f64, 19.0, i as f64]]).collect();
     let mut globals: LineVec = vec![[100.1, 0.0, 100.1, 0.0]; 505].into_iter().collect();
     globals.extend([[0.0, 0.0, 1000.0, 0.0], [300.0, 0.0, 301.0, 0.0], [1000.0, 0.0, 0.0, 0.0]]);
     vec![("spread", spread), ("chain", chain), ("lattice", lattice), ("globals", globals), ("none", LineVec::new())]

@@ -121,14 +121,18 @@ fn four_five_six_room() {
     assert_eq!(tables.globals(), [511, 512]);
     let room = Room { globals: 1, ..Room::enough_for(lines.len()) };
     assert_eq!(refused_build(lines, room, SCRATCH), ((6, 2), ZEROED));
-    // the refused tables are those of no lines, and can be built again
+    // tables that stood are those of no lines after such a refusal, and can be built again
+    let square = square();
     let mut tables = Tables::with_room(room);
-    assert_eq!(of(tables.build(lines)), (6, 2));
-    assert_eq!((tables.grid(), tables.line_count(), tables.items().len(), tables.globals().len()), (Grid::EMPTY, 0, 0, 0));
-    assert_eq!(tables.standing().check_tables(), Ok(()));
-    let owned = square();
-    tables.build(owned.lines()).unwrap();
-    assert_eq!(tables.cell(0, 0), [0, 3]);
+    for _ in 0..2 {
+        tables.build(square.lines()).unwrap();
+        assert_eq!((tables.cell(0, 0), tables.line_count()), (&[0, 3][..], 4));
+        assert_eq!(of(tables.build(lines)), (6, 2));
+        assert_eq!((tables.grid(), tables.line_count(), tables.items().len(), tables.globals().len()), (Grid::EMPTY, 0, 0, 0));
+        assert!(tables.cell(0, 0).is_empty());
+        assert_eq!(tables.standing().check_tables(), Ok(()));
+    }
+    tables.build(square.lines()).unwrap();
     // refusals 1 to 3 let them stand
     let bad: LineVec = [[0.0, 0.0, f64::NAN, 0.0]].into_iter().collect();
     assert_eq!(of(tables.build(bad.lines())), (1, 0));

@@ -5,7 +5,8 @@
 //! answers in Rust's way. `tools/build_library`, at the top of the repository, builds the library into `target/library`, where this crate's
 //! build seeks it; `MORELTURRET_LIB` names another folder.
 //!
-//! Nothing panics on what it is handed: what cannot be done is refused by a number and a value, a [`Refusal`].
+//! No coordinate, length, table or byte that is handed in makes a call panic: what cannot be done is refused by a number and a value, a
+//! [`Refusal`].
 //!
 //! ```
 //! use morelturret::{Lines, Tables};

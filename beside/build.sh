@@ -19,18 +19,17 @@ if ! ls -d "$registry"/smallvec-1.* >/dev/null 2>&1; then
         skip "Debian's librust-smallvec-dev could not be installed"
 fi
 
-# The port's library, where the repository has it, built again when a crate has changed; and the kinds whose functions it exports.
+# The port's library, the one that C and Rust programs link, built again when a crate has changed; and the kinds whose functions it exports.
 built=$PWD/target/beside
 mkdir -p "$built"
 features=
 unset MORELTURRET_PORT_LIB
 if grep -q '^capi:' crates.txt; then
-    archive=$built/libcapi.a
-    if [ ! -f "$archive" ] || [ -n "$(find crates crates.txt -newer "$archive" -print -quit)" ]; then
-        tools/native_lib capi "$archive" >"$built/native_lib.log" 2>&1 || { tail -n 20 "$built/native_lib.log"; echo "${0##*/}: the port's library was not built"; exit 1; }
-    fi
+    archive=$PWD/target/library/libmorelturret.a
+    tools/build_library >"$built/library.log" 2>&1 || { cat "$built/library.log"; echo "${0##*/}: the port's library was not built"; exit 1; }
     export MORELTURRET_PORT_LIB=$archive
-    exported() { for f in "$@"; do nm "$archive" 2>/dev/null | grep -q " T mt_$f\$" || return 1; done; }
+    names=$(nm "$archive" 2>/dev/null | sed -n 's/^.* T mt_//p')
+    exported() { for f in "$@"; do [[ $'\n'$names$'\n' == *$'\n'$f$'\n'* ]] || return 1; done; }
     ! exported least greatest magnitude floor clamped_floor ceiling round_half_away square_root || features+=,numbers
     ! exported segment_cells || features+=,walk
     ! exported build || features+=,build

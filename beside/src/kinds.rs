@@ -50,8 +50,8 @@ pub fn run<K: Kind>(seed: u64, cases: u64, fixed: Vec<(&'static str, K::Case)>) 
     let sides = match (K::PORT, K::RUST) {
         (true, true) => "port, Rust and model",
         (true, false) => "port and model",
-        (false, true) => "Rust and model, no port yet",
-        (false, false) => "the model alone, no port yet",
+        (false, true) => "Rust and model, without the port",
+        (false, false) => "the model alone, without the port",
     };
     println!("{}: {total} cases, {sides}: no difference", K::NAME);
     let mut shapes: BTreeMap<&str, Vec<String>> = BTreeMap::new();

@@ -1,4 +1,4 @@
-//! The port: the exported functions of its crate `capi`, and the only place that names them.
+//! The port: the exported functions of its crate `capi`, and the only place in this package that names them.
 //! A slice goes in as its address and its length, a grid as its five numbers. The answer is document 01's number, 0 for success,
 //! with values in `out`. Each kind stands behind its own feature, which the scripts switch on where the library exports its functions.
 

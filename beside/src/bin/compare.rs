@@ -49,14 +49,13 @@ fn main() {
             _ => stop(&format!("compare [--seed S] [--cases N | --share P] [--port] [KIND..], with KIND one of {}", KINDS.map(|k| k.0).join(" "))),
         }
     }
-    for (kind, full) in KINDS {
-        if !asked.is_empty() && !asked.iter().any(|a| a == kind) {
-            continue;
-        }
+    let kinds = KINDS.iter().copied().filter(|k| asked.is_empty() || asked.iter().any(|a| a == k.0));
+    let missing: Vec<&str> = kinds.clone().map(|k| k.0).filter(|kind| !PORTED.contains(kind)).collect();
+    if port && !missing.is_empty() {
+        stop(&format!("the port's library does not export what these kinds need: {}", missing.join(" ")));
+    }
+    for (kind, full) in kinds {
         let n = cases.unwrap_or(full * share / 100).max(1);
-        if port && !PORTED.contains(&kind) {
-            stop(&format!("{kind}: the port's library does not export it"));
-        }
         let begun = std::time::Instant::now();
         let right = match kind {
             "sample" => sample(),

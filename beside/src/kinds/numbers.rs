@@ -169,7 +169,7 @@ pub fn run(seed: u64, cases: u64) -> bool {
         }
     }
     if port().is_none() {
-        println!("numbers: no port yet");
+        println!("numbers: without the port");
     }
     right
 }

@@ -1,0 +1,59 @@
+//! visit_chain FILE: from a chain of points to the pairs of lines that may cross.
+//!
+//! FILE holds one LineString in well-known binary. Consecutive points make lines, numbered from 0. Printed are the grid that is picked for them, how
+//! long its tables are, how many tests a whole visit makes, how many of them found two lines whose boxes overlap, and the first such pairs.
+//! The exit status is 0; 1 where the library refuses, which is printed with its number and value; 2 where FILE can't be read.
+//!
+//! `cargo run --offline --example visit_chain FILE` runs it, in bindings/rust, once `tools/build_library` has built the library. `tools/run_examples`
+//! does both, and runs it beside examples/c/visit_chain.c, which prints the same.
+
+use morelturret::{read_points, Lines, Refusal, Tables};
+use std::process::ExitCode;
+
+/// How many pairs one batch hands out, and how many are printed.
+const BATCH: usize = 256;
+const SHOWN: usize = 5;
+
+fn main() -> ExitCode {
+    let mut words = std::env::args_os().skip(1);
+    let (Some(path), None) = (words.next(), words.next()) else {
+        eprintln!("visit_chain: one FILE is needed, a LineString in well-known binary");
+        return ExitCode::from(2);
+    };
+    let Ok(bytes) = std::fs::read(&path) else {
+        eprintln!("visit_chain: {} can't be read", path.to_string_lossy());
+        return ExitCode::from(2);
+    };
+    match visit(&bytes) {
+        Ok(()) => ExitCode::SUCCESS,
+        Err(Refusal { number, value }) => {
+            println!("refused {number}, value {value}");
+            ExitCode::from(1)
+        }
+    }
+}
+
+fn visit(bytes: &[u8]) -> Result<(), Refusal> {
+    // Bytes to points, and points to lines: line i goes from point i to point i + 1. Nothing is copied.
+    let (x, y) = read_points(bytes)?;
+    let lines = Lines::chain(&x, &y);
+
+    // A grid, and the tables on it. `Tables::of` makes its buffers as large as these lines need.
+    let tables = Tables::of(lines)?;
+    let grid = tables.grid();
+    println!("lines {}", tables.line_count());
+    println!("grid {} columns, {} rows, cell size {:.9} (bits {:016x})", grid.cols, grid.rows, grid.cell_size, grid.cell_size.to_bits());
+    println!("items {}", tables.items().len());
+    println!("globals {}", tables.globals().len());
+
+    // The visit. The pairs come from batches behind the iterator. A program would work on its pairs here; the first few are kept, to be printed.
+    let mut pairs = tables.pairs(lines, BATCH)?;
+    let shown: Vec<(u32, u32)> = pairs.by_ref().take(SHOWN).collect();
+    let overlaps = shown.len() + pairs.by_ref().count();
+    println!("tests {}", pairs.bookmark());
+    println!("overlaps {overlaps}");
+    for (first, second) in shown {
+        println!("pair {first} {second}");
+    }
+    Ok(())
+}

@@ -1,0 +1,73 @@
+//! A uniform grid over line segments: the cells that a segment visits, the tables of many lines, the pairs of lines that may cross, the owner
+//! of a crossing, and snap rounding.
+//!
+//! The work is done by a static library whose every function is proved to meet its contract, on every input. This crate hands slices to it and
+//! answers in Rust's way. `tools/build_library`, at the top of the repository, builds the library into `target/library`, where this crate's
+//! build seeks it; `MORELTURRET_LIB` names another folder.
+//!
+//! No coordinate, length, table or byte that is handed in makes a call panic: what cannot be done is refused by a number and a value, a
+//! [`Refusal`].
+//!
+//! ```
+//! use morelturret::{Lines, Tables};
+//!
+//! // The points of a square; consecutive points make lines, numbered from 0.
+//! let (x, y) = ([0.0, 2.0, 2.0, 0.0, 0.0], [0.0, 0.0, 2.0, 2.0, 0.0]);
+//! let lines = Lines::chain(&x, &y);
+//!
+//! let tables = Tables::of(lines)?;
+//! assert_eq!((tables.grid().cols, tables.grid().rows), (3, 3));
+//! assert_eq!(tables.cell(0, 0), [0, 3]); // the lines that visit the cell in row 0 and column 0
+//!
+//! // The pairs whose boxes overlap, in the order of the visit: a pair comes once for each cell that both visit.
+//! let pairs: Vec<(u32, u32)> = tables.pairs(lines, 256)?.collect();
+//! assert_eq!(pairs.len(), 9);
+//! assert_eq!(pairs[..3], [(0, 3), (0, 1), (0, 1)]);
+//! # Ok::<(), morelturret::Refusal>(())
+//! ```
+//!
+//! # The domain
+//!
+//! At most [`MAX_LINES`] lines; each coordinate finite and at most 1e9 in magnitude. A walk needs [`SCRATCH`] entries of scratch. A [`Grid`] is
+//! fit if both minima obey the coordinate rule, its cell size is from a quarter of 1e-6 to 2e9, and its columns and rows are both 0, or each 1 to
+//! 4,004 with product at most 1,002,001.
+//!
+//! # Refusals
+//!
+//! [`Refusal`] has the numbers. Where several apply, the first in the order 3, 2, 1, 8, 12, 10, 9 is given; a build then goes by 4 and 7 at each
+//! grid that it tries, and at last by 5 and 6; the reader goes by 3 and 11. Refusals 4 to 7 leave zeros in the slices that the call was lent to
+//! write. All others change nothing.
+
+#![deny(unsafe_code, missing_docs)]
+
+mod lines;
+pub mod numbers;
+mod place;
+mod read;
+mod refusal;
+#[allow(unsafe_code)]
+mod sys;
+mod tables;
+mod walk;
+
+pub use lines::{LineVec, Lines};
+pub use place::{overlap_owned, owner, point_owned, snap, Grid, Strategy};
+pub use read::{read_line_string, read_points};
+pub use refusal::Refusal;
+pub use tables::{build, Batch, Built, Pairs, Place, Room, Standing, Tables, Test};
+pub use walk::{line_cells, segment_cells};
+
+/// The most lines that a build or a visit takes: above it refusal 2.
+pub const MAX_LINES: usize = 65_536;
+
+/// The entries of scratch that a walk and a build need: below it refusal 3.
+pub const SCRATCH: usize = 16_384;
+
+/// The most points that the reader takes, and the entries that its point slices need: below it refusal 3.
+pub const MAX_POINTS: usize = 1_024;
+
+/// The offsets that are enough for every build.
+pub const MAX_OFFSETS: usize = 1_002_002;
+
+/// A line that visits more cells than this is global: it is in no cell's list.
+pub const MAX_CELLS_OF_LINE: usize = 2_048;

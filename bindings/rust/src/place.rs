@@ -1,0 +1,102 @@
+//! The grid record, snapping, and which cell owns a point.
+
+use crate::refusal::{answer, Refusal};
+use crate::sys;
+
+/// A grid: its lower corner, the size of its cells, and how many columns and rows it has. A cell's number is row * cols + column.
+///
+/// It is fit if both minima are finite and at most 1e9 in magnitude, `cell_size` is from a quarter of 1e-6 to 2e9, and `cols` and `rows` are both
+/// 0, or each 1 to 4,004 with product at most 1,002,001. An unfit grid is refused by 8. Every grid that a build answers is fit.
+#[derive(Clone, Copy, PartialEq, Debug)]
+pub struct Grid {
+    /// x of the lower corner.
+    pub min_x: f64,
+    /// y of the lower corner.
+    pub min_y: f64,
+    /// Width and height of a cell.
+    pub cell_size: f64,
+    /// The number of columns.
+    pub cols: u32,
+    /// The number of rows.
+    pub rows: u32,
+}
+
+impl Grid {
+    /// The grid of no lines: minima 0, cell size 1, 0 by 0.
+    pub const EMPTY: Grid = Grid { min_x: 0.0, min_y: 0.0, cell_size: 1.0, cols: 0, rows: 0 };
+}
+
+/// How a coordinate is snapped. The two differ where v / size plus a half is rounded up to the next whole number.
+#[derive(Clone, Copy, PartialEq, Eq, Hash, Debug)]
+#[repr(u32)]
+pub enum Strategy {
+    /// Round half away of v / size, a zero signed as v / size, times size.
+    Grid = 0,
+    /// Floor of (|v / size| + 0.5), with the sign of v / size, times size.
+    GeosCompat = 1,
+}
+
+/// Snaps a point to multiples of `size`, which is 0 or from 1e-6 to 1e6; size 0 returns the point.
+///
+/// Refuses by 1 (a coordinate), 12 (the size).
+///
+/// ```
+/// use morelturret::{snap, Strategy};
+///
+/// assert_eq!(snap(-2.5, 0.49999999999999994, 1.0, Strategy::Grid), Ok((-3.0, 0.0)));
+/// assert_eq!(snap(-2.5, 0.49999999999999994, 1.0, Strategy::GeosCompat), Ok((-3.0, 1.0)));
+/// assert_eq!(snap(0.5, 0.5, 1e7, Strategy::Grid).unwrap_err().number, 12);
+/// ```
+pub fn snap(x: f64, y: f64, size: f64, strategy: Strategy) -> Result<(f64, f64), Refusal> {
+    let [x, y] = answer(|out| sys::snap(x, y, size, strategy as u32, out))?;
+    Ok((f64::from_bits(x), f64::from_bits(y)))
+}
+
+/// Whether the cell (row, col) owns the point (x, y): low <= p < high on both axes; in the last column or row p = high counts too.
+///
+/// Refuses by 1 (a coordinate), 8 (the grid), 9 (the cell).
+///
+/// ```
+/// use morelturret::{point_owned, Grid};
+///
+/// let grid = Grid { min_x: 0.0, min_y: 0.0, cell_size: 1.0, cols: 4, rows: 4 };
+/// assert_eq!(point_owned(grid, 0, 1, 1.0, 0.5), Ok(true));
+/// assert_eq!(point_owned(grid, 0, 0, 1.0, 0.5), Ok(false));
+/// ```
+pub fn point_owned(grid: Grid, row: u32, col: u32, x: f64, y: f64) -> Result<bool, Refusal> {
+    let [owned] = answer(|out| sys::point_owned(grid, (row, col), (x, y), out))?;
+    Ok(owned == 1)
+}
+
+/// Whether the cell (row, col) owns a collinear overlap whose first end is (x, y): that end, snapped, has low <= p < high on both axes, or the
+/// cell is (0, 0).
+///
+/// Refuses by 1 (a coordinate), 8 (the grid), 12 (the snap size), 9 (the cell).
+///
+/// ```
+/// use morelturret::{overlap_owned, Grid, Strategy};
+///
+/// let grid = Grid { min_x: 0.0, min_y: 0.0, cell_size: 1.0, cols: 4, rows: 4 };
+/// assert_eq!(overlap_owned(grid, 0, 2, 1.75, 0.5, 0.5, Strategy::Grid), Ok(true)); // 1.75 is snapped to 2
+/// assert_eq!(overlap_owned(grid, 0, 1, 1.75, 0.5, 0.5, Strategy::Grid), Ok(false));
+/// ```
+pub fn overlap_owned(grid: Grid, row: u32, col: u32, x: f64, y: f64, size: f64, strategy: Strategy) -> Result<bool, Refusal> {
+    let [owned] = answer(|out| sys::overlap_owned(grid, (row, col), (x, y), size, strategy as u32, out))?;
+    Ok(owned == 1)
+}
+
+/// The first cell in row order that owns the point (x, y), as row and column; none where the point is outside the grid.
+///
+/// Refuses by 1 (a coordinate), 8 (the grid).
+///
+/// ```
+/// use morelturret::{owner, Grid};
+///
+/// let grid = Grid { min_x: 0.0, min_y: 0.0, cell_size: 1.0, cols: 4, rows: 4 };
+/// assert_eq!(owner(grid, 2.5, 1.0), Ok(Some((1, 2))));
+/// assert_eq!(owner(grid, 4.5, 1.0), Ok(None));
+/// ```
+pub fn owner(grid: Grid, x: f64, y: f64) -> Result<Option<(u32, u32)>, Refusal> {
+    let [found, row, col] = answer(|out| sys::owner(grid, (x, y), out))?;
+    Ok((found == 1).then_some((row as u32, col as u32)))
+}

@@ -1,0 +1,96 @@
+//! What is refused: a number and a value.
+
+use std::error::Error;
+use std::fmt;
+
+/// A call that was refused: by which number, and the value that goes with it.
+///
+/// | number | given exactly when | value |
+/// |---|---|---|
+/// | 1 | a coordinate is not finite, or above 1e9 in magnitude | the first such line (0 for a point or one segment) |
+/// | 2 | more than 65,536 lines | the number of lines |
+/// | 3 | slices that belong together differ in length, or one is too short | 0 |
+/// | 4 | a grid tried has more cells + 1 than the lent offsets | that cells + 1 |
+/// | 5 | items lent are fewer than the total | the total |
+/// | 6 | globals lent are fewer than found | the number found |
+/// | 7 | a walk made 5,000 turns and would make another | the line (0 for one segment) |
+/// | 8 | the grid is unfit | 0 |
+/// | 9 | a cell, global position or bookmark is beyond its end | the cell's row, the position or the bookmark |
+/// | 10 | the tables do not fit | 0 |
+/// | 11 | the bytes are no LineString that the reader takes | the byte position |
+/// | 12 | snap size or strategy unfit | 0 |
+///
+/// ```
+/// use morelturret::{snap, Refusal, Strategy};
+///
+/// let refusal = snap(f64::NAN, 0.0, 1.0, Strategy::Grid).unwrap_err();
+/// assert_eq!(refusal, Refusal { number: Refusal::BAD_COORDINATE, value: 0 });
+/// assert_eq!(refusal.to_string(), "refused 1: a coordinate is not finite or above 1e9 in magnitude (line 0)");
+/// ```
+#[derive(Clone, Copy, PartialEq, Eq, Hash, Debug)]
+pub struct Refusal {
+    /// Which refusal: 1 to 12.
+    pub number: u32,
+    /// What goes with it.
+    pub value: u64,
+}
+
+impl Refusal {
+    /// A coordinate is not finite or above 1e9 in magnitude. The value is the first such line, 0 for a point or one segment.
+    pub const BAD_COORDINATE: u32 = 1;
+    /// More than 65,536 lines. The value is their number.
+    pub const TOO_MANY_LINES: u32 = 2;
+    /// Slices that belong together differ in length, or one is too short. The value is 0.
+    pub const BAD_LENGTHS: u32 = 3;
+    /// A grid tried has more cells + 1 than the lent offsets. The value is that cells + 1.
+    pub const SHORT_OFFSETS: u32 = 4;
+    /// Items lent are fewer than the total. The value is the total.
+    pub const SHORT_ITEMS: u32 = 5;
+    /// Globals lent are fewer than found. The value is the number found.
+    pub const SHORT_GLOBALS: u32 = 6;
+    /// A walk made 5,000 turns and would make another. The value is the line, 0 for one segment.
+    pub const WALK_TOO_LONG: u32 = 7;
+    /// The grid is unfit. The value is 0.
+    pub const UNFIT_GRID: u32 = 8;
+    /// A cell, global position or bookmark is beyond its end. The value is the cell's row, the position or the bookmark.
+    pub const BEYOND_END: u32 = 9;
+    /// The tables do not fit. The value is 0.
+    pub const MISFIT_TABLES: u32 = 10;
+    /// The bytes are no LineString that the reader takes. The value is the byte position.
+    pub const BAD_WKB: u32 = 11;
+    /// Snap size or strategy unfit. The value is 0.
+    pub const UNFIT_SNAP: u32 = 12;
+}
+
+impl fmt::Display for Refusal {
+    fn fmt(&self, f: &mut fmt::Formatter) -> fmt::Result {
+        let Refusal { number, value } = *self;
+        write!(f, "refused {number}: ")?;
+        match number {
+            Refusal::BAD_COORDINATE => write!(f, "a coordinate is not finite or above 1e9 in magnitude (line {value})"),
+            Refusal::TOO_MANY_LINES => write!(f, "more than 65,536 lines ({value})"),
+            Refusal::BAD_LENGTHS => write!(f, "slices that belong together differ in length, or one is too short"),
+            Refusal::SHORT_OFFSETS => write!(f, "a grid tried has more cells + 1 than the lent offsets ({value} needed)"),
+            Refusal::SHORT_ITEMS => write!(f, "items lent are fewer than the total ({value} needed)"),
+            Refusal::SHORT_GLOBALS => write!(f, "globals lent are fewer than found ({value} needed)"),
+            Refusal::WALK_TOO_LONG => write!(f, "a walk made 5,000 turns and would make another (line {value})"),
+            Refusal::UNFIT_GRID => write!(f, "grid record unfit"),
+            Refusal::BEYOND_END => write!(f, "cell, global position or bookmark beyond its end ({value})"),
+            Refusal::MISFIT_TABLES => write!(f, "tables misfit"),
+            Refusal::BAD_WKB => write!(f, "WKB refused (byte {value})"),
+            Refusal::UNFIT_SNAP => write!(f, "snap size or strategy unfit"),
+            _ => write!(f, "value {value}"),
+        }
+    }
+}
+
+impl Error for Refusal {}
+
+/// The words of an answer, or its refusal. `out` has as many words as the success writes, so the library's 100, "out is short", never comes.
+pub(crate) fn answer<const N: usize>(ask: impl FnOnce(&mut [u64]) -> u32) -> Result<[u64; N], Refusal> {
+    let mut out = [0; N];
+    match ask(&mut out) {
+        0 => Ok(out),
+        number => Err(Refusal { number, value: out[0] }),
+    }
+}

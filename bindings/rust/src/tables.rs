@@ -1,0 +1,417 @@
+//! The build, its tables, and the visit of their tests.
+
+use crate::refusal::{answer, Refusal};
+use crate::{sys, Grid, Lines, MAX_CELLS_OF_LINE, MAX_LINES, MAX_OFFSETS, SCRATCH};
+use std::iter::FusedIterator;
+
+/// What a build answers beside the tables that it wrote.
+#[derive(Clone, Copy, PartialEq, Debug)]
+pub struct Built {
+    /// The grid that was picked. It is fit.
+    pub grid: Grid,
+    /// The number of items.
+    pub items: usize,
+    /// The number of global lines.
+    pub globals: usize,
+}
+
+/// Picks a grid for the lines and writes its tables into lent slices. [`Tables`] does the same with slices of its own.
+///
+/// The list of cell c is `items[offsets[c]..offsets[c + 1]]`: the lines, increasing, that visit it. A line that visits more than 2,048 cells is in
+/// no list but in `globals`. Beyond what is written all four slices are zeroed. The scratch has at least [`SCRATCH`] entries; [`Room`] tells what
+/// is enough of the others.
+///
+/// Refuses by 3 (lengths, scratch), 2 (too many lines), 1 (a coordinate); at each grid tried by 4 (offsets), 7 (a walk too long); then by 5 (items),
+/// 6 (globals). Refusals 4 to 7 leave zeros in the four slices, the others change nothing.
+///
+/// ```
+/// use morelturret::{build, Lines, Standing, SCRATCH};
+///
+/// let lines = Lines { start_x: &[0.0], start_y: &[0.0], end_x: &[2.0], end_y: &[2.0] };
+/// let (mut offsets, mut items, mut globals, mut scratch) = ([0; 16], [0; 16], [0; 4], [0; SCRATCH]);
+/// let built = build(lines, &mut offsets, &mut items, &mut globals, &mut scratch)?;
+/// assert_eq!((built.grid.cell_size, built.grid.cols, built.grid.rows), (2.0, 2, 2));
+/// assert_eq!(offsets[..5], [0, 1, 2, 3, 4]); // the line is in each of the four cells
+///
+/// // The tables can be asked from now on.
+/// let standing = Standing { grid: built.grid, line_count: 1, offsets: &offsets, items: &items, globals: &globals, global_count: 0 };
+/// assert_eq!(standing.cell_list(1, 1)?, [0]);
+/// # Ok::<(), morelturret::Refusal>(())
+/// ```
+pub fn build(lines: Lines, offsets: &mut [u32], items: &mut [u32], globals: &mut [u32], scratch: &mut [u32]) -> Result<Built, Refusal> {
+    let [min_x, min_y, cell_size, cols, rows, items, globals] = answer(|out| sys::build(lines, offsets, items, globals, scratch, out))?;
+    let [min_x, min_y, cell_size] = [min_x, min_y, cell_size].map(f64::from_bits);
+    let grid = Grid { min_x, min_y, cell_size, cols: cols as u32, rows: rows as u32 };
+    Ok(Built { grid, items: items as usize, globals: globals as usize })
+}
+
+/// How many entries [`Tables`] have for a build.
+#[derive(Clone, Copy, PartialEq, Eq, Hash, Debug)]
+pub struct Room {
+    /// Entries for offsets: a grid needs one more than it has cells. Too few are refused by 4.
+    pub offsets: usize,
+    /// Entries for items: a line needs one for each cell that it visits, unless it is global. Too few are refused by 5.
+    pub items: usize,
+    /// Entries for global lines. Too few are refused by 6.
+    pub globals: usize,
+}
+
+impl Room {
+    /// Room that is enough for every build of so many lines: 1,002,002 offsets, 2,048 items for each line, and a global for each. That is far more
+    /// than most lines need; [`Tables::of`] takes what is needed.
+    pub fn enough_for(lines: usize) -> Room {
+        let lines = lines.min(MAX_LINES);
+        Room { offsets: MAX_OFFSETS, items: lines * MAX_CELLS_OF_LINE, globals: lines }
+    }
+}
+
+/// The tables of a build, in slices that they own: the grid, the list of each cell, and the global lines.
+///
+/// ```
+/// use morelturret::{Lines, Room, Tables};
+///
+/// let lines = Lines { start_x: &[0.0, 0.0], start_y: &[0.0, 2.0], end_x: &[2.0, 2.0], end_y: &[2.0, 0.0] };
+/// let mut tables = Tables::with_room(Room { offsets: 64, items: 64, globals: 4 });
+/// tables.build(lines)?;
+/// assert_eq!(tables.cell(0, 0), [0, 1]);
+/// assert!(tables.globals().is_empty());
+/// # Ok::<(), morelturret::Refusal>(())
+/// ```
+#[derive(Clone, Debug)]
+pub struct Tables {
+    grid: Grid,
+    line_count: usize,
+    offsets: Vec<u32>,
+    items: Vec<u32>,
+    item_count: usize,
+    globals: Vec<u32>,
+    global_count: usize,
+    scratch: Vec<u32>,
+}
+
+impl Tables {
+    /// Tables of no lines, with room for a build. This allocates; no later call on these tables does, save [`Tables::pairs`].
+    pub fn with_room(room: Room) -> Tables {
+        Tables {
+            grid: Grid::EMPTY,
+            line_count: 0,
+            offsets: vec![0; room.offsets],
+            items: vec![0; room.items],
+            item_count: 0,
+            globals: vec![0; room.globals],
+            global_count: 0,
+            scratch: vec![0; SCRATCH],
+        }
+    }
+
+    /// The tables of these lines, with as much room as they need: what refusals 4, 5 and 6 ask for is given, and the build made again.
+    ///
+    /// Refuses by 3 (lengths), 2 (too many lines), 1 (a coordinate), 7 (a walk too long).
+    ///
+    /// ```
+    /// use morelturret::{Lines, Tables};
+    ///
+    /// let tables = Tables::of(Lines::chain(&[0.0, 0.0], &[0.0, 0.0]))?;
+    /// assert_eq!((tables.grid().cols, tables.grid().rows, tables.items()), (1, 1, &[0][..]));
+    /// # Ok::<(), morelturret::Refusal>(())
+    /// ```
+    pub fn of(lines: Lines) -> Result<Tables, Refusal> {
+        // most grids have about as many cells as there are lines, and most lines visit few cells
+        let n = lines.len().min(MAX_LINES);
+        let mut tables = Tables::with_room(Room { offsets: 4 * n + 16, items: 8 * n, globals: 0 });
+        loop {
+            let Err(refusal) = tables.build(lines) else { return Ok(tables) };
+            let short = match refusal.number {
+                Refusal::SHORT_OFFSETS => &mut tables.offsets,
+                Refusal::SHORT_ITEMS => &mut tables.items,
+                Refusal::SHORT_GLOBALS => &mut tables.globals,
+                _ => return Err(refusal),
+            };
+            short.resize(refusal.value as usize, 0);
+        }
+    }
+
+    /// Builds the tables of these lines in place of those that stood. After refusals 1 to 3 the tables stand as they were; after 4 to 7 they are
+    /// those of no lines.
+    ///
+    /// Refuses by 3 (lengths), 2 (too many lines), 1 (a coordinate); at each grid tried by 4 (offsets), 7 (a walk too long); then by 5 (items),
+    /// 6 (globals).
+    pub fn build(&mut self, lines: Lines) -> Result<(), Refusal> {
+        let built = build(lines, &mut self.offsets, &mut self.items, &mut self.globals, &mut self.scratch);
+        let (now, line_count) = match built {
+            Ok(built) => (built, lines.len()),
+            Err(refusal) if refusal.number <= Refusal::BAD_LENGTHS => return Err(refusal),
+            Err(_) => (Built { grid: Grid::EMPTY, items: 0, globals: 0 }, 0),
+        };
+        (self.grid, self.item_count, self.global_count, self.line_count) = (now.grid, now.items, now.globals, line_count);
+        built.map(|_| ())
+    }
+
+    /// The grid.
+    pub fn grid(&self) -> Grid {
+        self.grid
+    }
+
+    /// The number of lines that were built.
+    pub fn line_count(&self) -> usize {
+        self.line_count
+    }
+
+    /// How many entries there are for a build.
+    pub fn room(&self) -> Room {
+        Room { offsets: self.offsets.len(), items: self.items.len(), globals: self.globals.len() }
+    }
+
+    /// All lists, one after the other, in row order.
+    pub fn items(&self) -> &[u32] {
+        &self.items[..self.item_count]
+    }
+
+    /// The lines that visit more than 2,048 cells, increasing.
+    pub fn globals(&self) -> &[u32] {
+        &self.globals[..self.global_count]
+    }
+
+    /// The list of the cell (row, col): the lines that visit it, increasing. A cell beyond the grid's end has the empty list;
+    /// [`Standing::cell_list`] refuses it.
+    pub fn cell(&self, row: u32, col: u32) -> &[u32] {
+        let Grid { cols, rows, .. } = self.grid;
+        if row >= rows || col >= cols {
+            return &[];
+        }
+        let cell = row as usize * cols as usize + col as usize;
+        &self.items[self.offsets[cell] as usize..self.offsets[cell + 1] as usize]
+    }
+
+    /// These tables, lent.
+    pub fn standing(&self) -> Standing<'_> {
+        Standing {
+            grid: self.grid,
+            line_count: self.line_count,
+            offsets: &self.offsets,
+            items: &self.items,
+            globals: &self.globals,
+            global_count: self.global_count as u64,
+        }
+    }
+
+    /// One test by its bookmark: [`Standing::test_at`]. The lines are those that were built.
+    ///
+    /// Refuses by 3 (lengths), 2 (too many lines), 1 (a coordinate), 10 (fewer lines than were built), 9 (the bookmark).
+    pub fn test_at(&self, lines: Lines, bookmark: u64) -> Result<Option<Test>, Refusal> {
+        self.standing().test_at(lines, bookmark)
+    }
+
+    /// The tests from a bookmark on: [`Standing::batch`]. The lines are those that were built.
+    ///
+    /// Refuses by 3 (lengths), 2 (too many lines), 1 (a coordinate), 10 (fewer lines than were built), 9 (the bookmark).
+    pub fn batch(&self, lines: Lines, bookmark: u64, first: &mut [u32], second: &mut [u32]) -> Result<Batch, Refusal> {
+        self.standing().batch(lines, bookmark, first, second)
+    }
+
+    /// All pairs whose boxes overlap: [`Standing::pairs`]. The lines are those that were built.
+    ///
+    /// Refuses by 3 (lengths), 2 (too many lines), 1 (a coordinate), 10 (fewer lines than were built).
+    pub fn pairs<'a>(&'a self, lines: Lines<'a>, room: usize) -> Result<Pairs<'a>, Refusal> {
+        self.standing().pairs(lines, room)
+    }
+}
+
+/// Tables that stand in lent slices, wherever they come from. Every call checks them, so each takes time in proportion to their length.
+///
+/// They fit if `offsets` has at least cells + 1 entries, the first is 0, they never fall over those entries and the last is within `items`; each
+/// list and the first `global_count` globals strictly increase below the number of lines; and `global_count` is within `globals`. Tables that do
+/// not fit are refused by 10.
+#[derive(Clone, Copy, PartialEq, Debug)]
+pub struct Standing<'a> {
+    /// The grid. It has to be fit: else refusal 8.
+    pub grid: Grid,
+    /// The number of lines. Calls that are handed the lines count those instead.
+    pub line_count: usize,
+    /// The list of cell c is `items[offsets[c]..offsets[c + 1]]`.
+    pub offsets: &'a [u32],
+    /// The lists.
+    pub items: &'a [u32],
+    /// The global lines, at the start of the slice.
+    pub globals: &'a [u32],
+    /// How many there are.
+    pub global_count: u64,
+}
+
+impl<'a> Standing<'a> {
+    /// Whether the tables fit. Of the grid, its columns and rows alone count here.
+    ///
+    /// Refuses by 10 (they do not).
+    pub fn check_tables(&self) -> Result<(), Refusal> {
+        answer::<1>(|out| sys::check_tables(self, out)).map(|_| ())
+    }
+
+    /// The list of the cell (row, col): the lines that visit it, increasing, as a part of the items.
+    ///
+    /// Refuses by 2 (too many lines), 8 (the grid), 10 (the tables), 9 (the cell).
+    pub fn cell_list(&self, row: u32, col: u32) -> Result<&'a [u32], Refusal> {
+        let [from, length] = answer(|out| sys::cell_list(self, row, col, out))?;
+        Ok(&self.items[from as usize..][..length as usize])
+    }
+
+    /// The list of a global line, by its position among the globals: the globals from there on, as a part of them.
+    ///
+    /// Refuses by 2 (too many lines), 8 (the grid), 10 (the tables), 9 (the position).
+    pub fn global_list(&self, position: u64) -> Result<&'a [u32], Refusal> {
+        let [from, length] = answer(|out| sys::global_list(self, position, out))?;
+        Ok(&self.globals[from as usize..][..length as usize])
+    }
+
+    /// One test by its bookmark, the number of tests before it; none at the total, where the visit ends.
+    ///
+    /// Refuses by 3 (lengths), 2 (too many lines), 1 (a coordinate), 8 (the grid), 10 (the tables), 9 (the bookmark).
+    ///
+    /// ```
+    /// use morelturret::{Lines, Place, Tables, Test};
+    ///
+    /// let lines = Lines { start_x: &[0.0, 0.0], start_y: &[0.0, 2.0], end_x: &[2.0, 2.0], end_y: &[2.0, 0.0] };
+    /// let tables = Tables::of(lines)?;
+    /// let test = Test { place: Place::Cell { row: 0, col: 0 }, first: 0, second: 1, overlap: true };
+    /// assert_eq!(tables.standing().test_at(lines, 0)?, Some(test));
+    /// # Ok::<(), morelturret::Refusal>(())
+    /// ```
+    pub fn test_at(&self, lines: Lines, bookmark: u64) -> Result<Option<Test>, Refusal> {
+        let [kind, at, col, first, second, overlap] = answer(|out| sys::test_at(self, lines, bookmark, out))?;
+        let place = match kind {
+            0 => Place::Cell { row: at as u32, col: col as u32 },
+            1 => Place::Global { position: at },
+            _ => return Ok(None),
+        };
+        Ok(Some(Test { place, first: first as u32, second: second as u32, overlap: overlap == 1 }))
+    }
+
+    /// The tests from a bookmark on, until `first` and `second`, which are of one length, are full of pairs or the end comes. Pair k is
+    /// `(first[k], second[k])`, two lines whose boxes overlap; beyond the pairs both are zeroed. Outputs of length 0 make no test.
+    ///
+    /// Start with the bookmark 0 and go on with the one that comes back. The visit is over when a batch leaves an output unfilled, or makes no test.
+    ///
+    /// Refuses by 3 (lengths), 2 (too many lines), 1 (a coordinate), 8 (the grid), 10 (the tables), 9 (the bookmark).
+    ///
+    /// ```
+    /// use morelturret::{Lines, Tables};
+    ///
+    /// let lines = Lines::chain(&[0.0, 2.0, 2.0, 0.0, 0.0], &[0.0, 0.0, 2.0, 2.0, 0.0]);
+    /// let tables = Tables::of(lines)?;
+    /// let (mut first, mut second) = ([0; 4], [0; 4]);
+    /// let (mut bookmark, mut overlaps) = (0, 0);
+    /// loop {
+    ///     let batch = tables.standing().batch(lines, bookmark, &mut first, &mut second)?;
+    ///     overlaps += batch.overlaps; // first[..batch.overlaps] and second[..batch.overlaps] have the pairs
+    ///     bookmark = batch.bookmark;
+    ///     if batch.overlaps < first.len() {
+    ///         break;
+    ///     }
+    /// }
+    /// assert_eq!((bookmark, overlaps), (9, 9));
+    /// # Ok::<(), morelturret::Refusal>(())
+    /// ```
+    pub fn batch(&self, lines: Lines, bookmark: u64, first: &mut [u32], second: &mut [u32]) -> Result<Batch, Refusal> {
+        let [tests, overlaps, bookmark] = answer(|out| sys::batch(self, lines, bookmark, first, second, out))?;
+        Ok(Batch { tests, overlaps: overlaps as usize, bookmark })
+    }
+
+    /// All pairs whose boxes overlap, in the order of the visit, found in batches of `room` pairs (0 is taken as 1). A pair comes once for each
+    /// test of it: in each cell that both lines visit, and once for a global line.
+    ///
+    /// Every batch checks lines and tables once more, so small batches of large tables take long: 256 suits some thousand items, and about
+    /// as many as there are items suits larger tables.
+    ///
+    /// Refuses by 3 (lengths), 2 (too many lines), 1 (a coordinate), 8 (the grid), 10 (the tables). All of that shows at once: the pairs
+    /// themselves are not refused.
+    pub fn pairs(&self, lines: Lines<'a>, room: usize) -> Result<Pairs<'a>, Refusal> {
+        let room = room.max(1);
+        let (mut first, mut second) = (vec![0; room], vec![0; room]);
+        let batch = self.batch(lines, 0, &mut first, &mut second)?;
+        Ok(Pairs { standing: *self, lines, first, second, batch, handed: 0 })
+    }
+}
+
+/// Where a test is made.
+#[derive(Clone, Copy, PartialEq, Eq, Hash, Debug)]
+pub enum Place {
+    /// In a cell, among the lines of its list.
+    Cell {
+        /// The cell's row.
+        row: u32,
+        /// The cell's column.
+        col: u32,
+    },
+    /// For a global line, which is tested with every line but itself and lower globals.
+    Global {
+        /// Its position among the globals.
+        position: u64,
+    },
+}
+
+/// One test of a visit.
+#[derive(Clone, Copy, PartialEq, Eq, Hash, Debug)]
+pub struct Test {
+    /// Where it is made.
+    pub place: Place,
+    /// The first line.
+    pub first: u32,
+    /// The second line.
+    pub second: u32,
+    /// Whether the boxes of the two overlap, borders included.
+    pub overlap: bool,
+}
+
+/// What a batch of tests came to.
+#[derive(Clone, Copy, PartialEq, Eq, Hash, Debug)]
+pub struct Batch {
+    /// The tests made.
+    pub tests: u64,
+    /// The pairs handed out.
+    pub overlaps: usize,
+    /// Where the next batch starts: the number of tests made since the start of the visit.
+    pub bookmark: u64,
+}
+
+/// The pairs of a visit: see [`Standing::pairs`].
+#[derive(Clone, Debug)]
+pub struct Pairs<'a> {
+    standing: Standing<'a>,
+    lines: Lines<'a>,
+    first: Vec<u32>,
+    second: Vec<u32>,
+    batch: Batch,
+    /// How many pairs of the batch are handed on already.
+    handed: usize,
+}
+
+impl Pairs<'_> {
+    /// The tests made so far, by whole batches. Once the pairs have come to their end, it is the number of all tests of the visit.
+    pub fn bookmark(&self) -> u64 {
+        self.batch.bookmark
+    }
+}
+
+impl Iterator for Pairs<'_> {
+    type Item = (u32, u32);
+
+    fn next(&mut self) -> Option<(u32, u32)> {
+        if self.handed == self.batch.overlaps {
+            // a batch that did not fill its outputs came to the end of the visit
+            if self.batch.overlaps < self.first.len() {
+                return None;
+            }
+            let next = self.standing.batch(self.lines, self.batch.bookmark, &mut self.first, &mut self.second);
+            // the first batch checked the same tables and lines, which are lent since, and a bookmark that came back is never beyond the end
+            self.batch = next.expect("what was taken once is taken again");
+            self.handed = 0;
+            if self.batch.overlaps == 0 {
+                return None;
+            }
+        }
+        let pair = (self.first[self.handed], self.second[self.handed]);
+        self.handed += 1;
+        Some(pair)
+    }
+}
+
+impl FusedIterator for Pairs<'_> {}

@@ -1,0 +1,209 @@
+//! Document 01's values: the sample, the measured points, the two small builds. And what each function leaves in lent slices.
+
+use morelturret::*;
+
+const FOUR: Grid = Grid { min_x: 0.0, min_y: 0.0, cell_size: 1.0, cols: 4, rows: 4 };
+
+/// Entries that no call writes by itself: one that is left alone shows.
+const JUNK: u32 = 0xdead_beef;
+
+fn cells(grid: Grid, line: [f64; 4]) -> Vec<u32> {
+    let (start, end) = ((line[0], line[1]), (line[2], line[3]));
+    let mut scratch = vec![JUNK; SCRATCH + 3];
+    let found = segment_cells(grid, start, end, &mut scratch).unwrap().to_vec();
+    assert_eq!(scratch[..found.len()], found);
+    assert!(scratch[found.len()..].iter().all(|&entry| entry == 0), "zero beyond the cells");
+    let mut again = vec![JUNK; SCRATCH];
+    assert_eq!(line_cells(grid, start, end, &mut again).unwrap(), found, "both walks find the same");
+    found
+}
+
+#[test]
+fn walks() {
+    assert_eq!(cells(FOUR, [0.5, 0.5, 2.5, 0.5]), [0, 1, 2], "P1");
+    assert_eq!(cells(FOUR, [1.0, 0.5, 1.0, 2.5]), [0, 1, 4, 5, 8, 9], "P2");
+    assert_eq!(cells(FOUR, [1.0; 4]), [0, 1, 4, 5], "P3");
+    let at = |x: f64| cells(FOUR, [x, 0.5, x, 0.5]);
+    assert_eq!(at(1.0 + 2f64.powi(-41)), [0, 1], "P4");
+    assert_eq!(at(1.0 + 2f64.powi(-39)), [1], "P5");
+    assert_eq!(at(1.0 - 2f64.powi(-41)), [0], "P6");
+    let row = Grid { cols: 4004, rows: 1, ..FOUR };
+    assert_eq!(cells(row, [0.5, 0.5, 2047.5, 0.5]), (0..2048).collect::<Vec<u32>>());
+    assert_eq!(cells(row, [0.5, 0.5, 2048.5, 0.5]), (0..2049).collect::<Vec<u32>>());
+    assert!(cells(Grid { cols: 0, rows: 0, ..FOUR }, [0.5, 0.5, 2.5, 0.5]).is_empty(), "a grid of 0 columns visits nothing");
+}
+
+#[test]
+fn owners() {
+    assert_eq!(point_owned(FOUR, 0, 1, 1.0, 0.5), Ok(true), "P7");
+    assert_eq!(point_owned(FOUR, 0, 0, 1.0, 0.5), Ok(false), "P7");
+    assert_eq!(point_owned(FOUR, 3, 3, 4.0, 4.0), Ok(true), "P8");
+    assert_eq!(owner(FOUR, 1.0, 0.5), Ok(Some((0, 1))));
+    assert_eq!(owner(FOUR, 4.0, 4.0), Ok(Some((3, 3))));
+    assert_eq!(owner(FOUR, 4.5, 4.0), Ok(None));
+    assert_eq!(owner(FOUR, -0.5, 0.5), Ok(None));
+    // row and column keep their places
+    assert_eq!(owner(FOUR, 2.5, 1.5), Ok(Some((1, 2))));
+    // a collinear overlap: by its snapped end, and the high edge of the last column does not count
+    assert_eq!(overlap_owned(FOUR, 1, 2, 1.9, 1.5, 0.5, Strategy::Grid), Ok(true));
+    assert_eq!(overlap_owned(FOUR, 1, 1, 1.9, 1.5, 0.5, Strategy::Grid), Ok(false));
+    assert_eq!(overlap_owned(FOUR, 1, 1, 1.9, 1.5, 0.0, Strategy::Grid), Ok(true));
+    assert_eq!(overlap_owned(FOUR, 3, 3, 4.0, 4.0, 0.0, Strategy::Grid), Ok(false));
+    assert_eq!(overlap_owned(FOUR, 0, 0, 4.0, 4.0, 0.0, Strategy::Grid), Ok(true));
+    let near_half = 0.49999999999999994;
+    assert_eq!(overlap_owned(FOUR, 0, 1, near_half, near_half, 1.0, Strategy::GeosCompat), Ok(false));
+    assert_eq!(overlap_owned(FOUR, 1, 1, near_half, near_half, 1.0, Strategy::GeosCompat), Ok(true));
+    assert_eq!(overlap_owned(FOUR, 1, 1, near_half, near_half, 1.0, Strategy::Grid), Ok(false));
+}
+
+#[test]
+fn snaps() {
+    let near_half = 0.49999999999999994;
+    assert_eq!(snap(near_half, -2.5, 1.0, Strategy::Grid), Ok((0.0, -3.0)), "P9, P10");
+    assert_eq!(snap(near_half, -2.5, 1.0, Strategy::GeosCompat), Ok((1.0, -3.0)), "P9, P10");
+    assert_eq!(snap(near_half, -2.5, 0.0, Strategy::GeosCompat), Ok((near_half, -2.5)), "size 0 returns the point");
+    assert_eq!(snap(7.3, -7.3, 0.5, Strategy::Grid), Ok((7.5, -7.5)));
+    let (x, y) = snap(-0.25, 0.25, 1.0, Strategy::Grid).unwrap();
+    assert_eq!((x.to_bits(), y.to_bits()), ((-0.0f64).to_bits(), 0), "a zero has the sign of v / size");
+}
+
+#[test]
+fn numbers_as_std_has_them() {
+    use morelturret::numbers::*;
+    let samples = [
+        0.0,
+        -0.0,
+        0.5,
+        -0.5,
+        0.49999999999999994,
+        1.0,
+        -1.5,
+        2.5,
+        -2.5,
+        1e-300,
+        4503599627370497.5,
+        1e19,
+        -1e19,
+        1e300,
+        f64::MAX,
+        f64::MIN_POSITIVE,
+    ];
+    for v in samples.into_iter().chain([f64::INFINITY, f64::NEG_INFINITY]) {
+        assert_eq!(magnitude(v).to_bits(), v.abs().to_bits(), "{v}");
+        assert_eq!(floor(v).to_bits(), v.floor().to_bits(), "{v}");
+        assert_eq!(ceiling(v), v.ceil() as u64, "{v}");
+        assert_eq!(round_half_away(v).to_bits(), v.round().to_bits(), "{v}");
+        for count in [0u32, 1, 4, u32::MAX] {
+            let wanted = (v.floor() as i64).clamp(0, (count as i64 - 1).max(0)) as u32;
+            assert_eq!(clamped_floor(v, count), wanted, "{v} {count}");
+        }
+        match v.sqrt() {
+            root if root.is_nan() => assert!(square_root(v).is_nan(), "{v}"),
+            root => assert_eq!(square_root(v).to_bits(), root.to_bits(), "{v}"),
+        }
+        for w in samples {
+            assert_eq!(least(v, w), v.min(w), "{v} {w}");
+            assert_eq!(greatest(v, w), v.max(w), "{v} {w}");
+        }
+        assert_eq!(least(f64::NAN, v), v);
+        assert_eq!(greatest(v, f64::NAN), v);
+    }
+    assert!(least(f64::NAN, f64::NAN).is_nan() && floor(f64::NAN).is_nan() && round_half_away(f64::NAN).is_nan() && magnitude(f64::NAN).is_nan());
+    assert_eq!((ceiling(f64::NAN), clamped_floor(f64::NAN, 4)), (0, 0));
+    assert_eq!(least(0.0, -0.0).to_bits(), 0, "the first of two that are equal");
+    assert_eq!(greatest(-0.0, 0.0).to_bits(), (-0.0f64).to_bits(), "the first of two that are equal");
+}
+
+/// Document 01's sample, in the program's words.
+const SQUARE: &str = "grid 3 3 3ff0000000000000 18 0
+cell 0 0 0 3
+cell 0 1 0 1
+cell 0 2 0 1
+cell 1 0 2 3
+cell 1 1 1 2
+cell 1 2 1 2
+cell 2 0 2 3
+cell 2 1 1 2
+cell 2 2 1 2
+visit 9 9
+";
+
+fn report(tables: &Tables, lines: Lines) -> String {
+    let grid = tables.grid();
+    let bits = grid.cell_size.to_bits();
+    let mut text = format!("grid {} {} {bits:016x} {} {}\n", grid.cols, grid.rows, tables.items().len(), tables.globals().len());
+    for (row, col) in (0..grid.rows).flat_map(|row| (0..grid.cols).map(move |col| (row, col))) {
+        let list = tables.cell(row, col);
+        assert_eq!(tables.standing().cell_list(row, col).unwrap(), list);
+        if !list.is_empty() {
+            let words: String = list.iter().map(|line| format!(" {line}")).collect();
+            text += &format!("cell {row} {col}{words}\n");
+        }
+    }
+    let mut pairs = tables.pairs(lines, 7).unwrap();
+    let overlaps = pairs.by_ref().count();
+    text + &format!("visit {} {overlaps}\n", pairs.bookmark())
+}
+
+#[test]
+fn the_square() {
+    for big in [false, true] {
+        let points = [(0.0, 0.0), (2.0, 0.0), (2.0, 2.0), (0.0, 2.0), (0.0, 0.0f64)];
+        let float = |v: f64| if big { v.to_be_bytes() } else { v.to_le_bytes() };
+        let mut bytes = if big { vec![0, 0, 0, 0, 2, 0, 0, 0, 5] } else { vec![1, 2, 0, 0, 0, 5, 0, 0, 0] };
+        points.iter().for_each(|&(x, y)| bytes.extend([float(x), float(y)].concat()));
+        let (x, y) = read_points(&bytes).unwrap();
+        assert_eq!(x.iter().copied().zip(y.iter().copied()).collect::<Vec<_>>(), points);
+        let lines = Lines::chain(&x, &y);
+        assert_eq!(report(&Tables::of(lines).unwrap(), lines), SQUARE);
+        let mut tables = Tables::with_room(Room::enough_for(lines.len()));
+        tables.build(lines).unwrap();
+        assert_eq!(report(&tables, lines), SQUARE);
+    }
+}
+
+#[test]
+fn small_builds() {
+    let one = |line: [f64; 4]| Tables::of([line].into_iter().collect::<LineVec>().lines()).unwrap();
+    let diagonal = one([0.0, 0.0, 2.0, 2.0]);
+    assert_eq!(diagonal.grid(), Grid { min_x: 0.0, min_y: 0.0, cell_size: 2.0, cols: 2, rows: 2 });
+    assert_eq!(diagonal.items(), [0, 0, 0, 0]);
+    assert!((0..2).all(|row| (0..2).all(|col| diagonal.cell(row, col) == [0])));
+    assert!(diagonal.cell(2, 0).is_empty() && diagonal.cell(0, 2).is_empty());
+    let point = one([0.0; 4]);
+    assert_eq!((point.grid().cols, point.grid().rows, point.items()), (1, 1, &[0][..]));
+    let none = Tables::of(Lines::default()).unwrap();
+    assert_eq!((none.grid(), none.line_count(), none.items().len(), none.globals().len()), (Grid::EMPTY, 0, 0, 0));
+    assert_eq!(none.pairs(Lines::default(), 4).unwrap().count(), 0);
+    assert_eq!(none.test_at(Lines::default(), 0), Ok(None));
+    // one point makes no line
+    assert_eq!(Tables::of(Lines::chain(&[281.5], &[36.25])).unwrap().grid(), Grid::EMPTY);
+}
+
+#[test]
+fn a_build_into_lent_slices() {
+    let (x, y) = ([0.0, 2.0, 2.0, 0.0, 0.0], [0.0, 0.0, 2.0, 2.0, 0.0]);
+    let lines = Lines::chain(&x, &y);
+    let (mut offsets, mut items, mut globals, mut scratch) = ([JUNK; 12], [JUNK; 20], [JUNK; 2], [JUNK; SCRATCH]);
+    let built = build(lines, &mut offsets, &mut items, &mut globals, &mut scratch).unwrap();
+    assert_eq!(built, Built { grid: Grid { min_x: 0.0, min_y: 0.0, cell_size: 1.0, cols: 3, rows: 3 }, items: 18, globals: 0 });
+    assert_eq!(offsets, [0, 2, 4, 6, 8, 10, 12, 14, 16, 18, 0, 0]);
+    assert_eq!(items, [0, 3, 0, 1, 0, 1, 2, 3, 1, 2, 1, 2, 2, 3, 1, 2, 1, 2, 0, 0]);
+    assert!(globals.iter().chain(&scratch).all(|&entry| entry == 0));
+    let standing = Standing { grid: built.grid, line_count: 4, offsets: &offsets, items: &items, globals: &globals, global_count: 0 };
+    assert_eq!(standing.check_tables(), Ok(()));
+    // the list is the very part of the items
+    let list = standing.cell_list(1, 0).unwrap();
+    assert_eq!((list, list.as_ptr()), (&[2, 3][..], items[6..].as_ptr()));
+}
+
+#[test]
+fn what_the_reader_leaves() {
+    let mut bytes = vec![1, 2, 0, 0, 0, 2, 0, 0, 0];
+    [281.5f64, 36.25, -0.0, f64::from_bits(0xfff8_0000_0000_0001)].iter().for_each(|v| bytes.extend(v.to_le_bytes()));
+    let (mut x, mut y) = (vec![7.0; MAX_POINTS + 2], vec![7.0; MAX_POINTS + 2]);
+    assert_eq!(read_line_string(&bytes, &mut x, &mut y), Ok(2));
+    assert_eq!((x[0], y[0], x[1].to_bits()), (281.5, 36.25, (-0.0f64).to_bits()));
+    assert_eq!(y[1].to_bits(), 0x7ff8_0000_0000_0000, "every NaN becomes the one NaN");
+    assert!(x[2..].iter().chain(&y[2..]).all(|v| v.to_bits() == 0));
+}

@@ -1,0 +1,309 @@
+//! Each refusal at least once, with its number and value, and what it leaves in lent slices.
+
+use morelturret::*;
+
+const FOUR: Grid = Grid { min_x: 0.0, min_y: 0.0, cell_size: 1.0, cols: 4, rows: 4 };
+const UNFIT: Grid = Grid { cell_size: 0.0, ..FOUR };
+const JUNK: u32 = 0xdead_beef;
+
+/// The refusal of an answer, as number and value.
+fn of<T: std::fmt::Debug>(answer: Result<T, Refusal>) -> (u32, u64) {
+    let refusal = answer.unwrap_err();
+    (refusal.number, refusal.value)
+}
+
+fn square() -> LineVec {
+    [[0.0, 0.0, 2.0, 0.0], [2.0, 0.0, 2.0, 2.0], [2.0, 2.0, 0.0, 2.0], [0.0, 2.0, 0.0, 0.0]].into_iter().collect()
+}
+
+/// 510 lines at one place, then two that visit 4,001 cells each of the grid that so many lines in one cell lead to.
+fn with_globals() -> LineVec {
+    let mut lines: LineVec = vec![[100.1, 0.0, 100.1, 0.0]; 510].into_iter().collect();
+    lines.extend([[100.1, 0.0, 0.0, 0.0], [0.0, 0.0, 1000.0, 0.0], [1000.0, 0.0, 0.0, 0.0]]);
+    lines
+}
+
+/// A build into slices full of junk: its refusal, and what the slices hold then, each that holds one value throughout as that value.
+fn refused_build(lines: Lines, room: Room, scratch: usize) -> ((u32, u64), [Option<u32>; 4]) {
+    let mut slices = [room.offsets, room.items, room.globals, scratch].map(|length| vec![JUNK; length]);
+    let [offsets, items, globals, scratch] = &mut slices;
+    let refusal = of(build(lines, offsets, items, globals, scratch));
+    (refusal, slices.map(|s| s.first().copied().filter(|v| s.iter().all(|w| w == v))))
+}
+
+const ROOM: Room = Room { offsets: 64, items: 64, globals: 8 };
+const LEFT: [Option<u32>; 4] = [Some(JUNK); 4];
+const ZEROED: [Option<u32>; 4] = [Some(0); 4];
+
+#[test]
+fn one_a_coordinate() {
+    for bad in [f64::NAN, f64::INFINITY, -f64::INFINITY, 1.0000000001e9, -1e300] {
+        for place in 0..4 {
+            let mut lines: Vec<[f64; 4]> = vec![[0.0, 0.0, 2.0, 2.0]; 5];
+            lines[3][place] = bad;
+            lines[4] = [bad; 4];
+            let lines: LineVec = lines.into_iter().collect();
+            assert_eq!(refused_build(lines.lines(), ROOM, SCRATCH), ((1, 3), LEFT), "the first such line");
+        }
+        assert_eq!(of(snap(bad, 0.0, 1.0, Strategy::Grid)), (1, 0));
+        assert_eq!(of(point_owned(FOUR, 0, 0, 0.0, bad)), (1, 0));
+        assert_eq!(of(overlap_owned(FOUR, 0, 0, bad, 0.0, 1.0, Strategy::Grid)), (1, 0));
+        assert_eq!(of(owner(FOUR, 0.0, bad)), (1, 0));
+        let mut scratch = vec![JUNK; SCRATCH];
+        assert_eq!(of(segment_cells(FOUR, (0.0, 0.0), (bad, 0.0), &mut scratch)), (1, 0));
+        assert!(scratch.iter().all(|&entry| entry == JUNK));
+    }
+    let edge: LineVec = [[1e9, -1e9, 1e9, -1e9]].into_iter().collect();
+    assert!(Tables::of(edge.lines()).is_ok(), "1e9 itself is taken");
+}
+
+#[test]
+fn two_too_many_lines() {
+    let zeros = vec![0.0; MAX_LINES + 1];
+    let lines = |n: usize| Lines { start_x: &zeros[..n], start_y: &zeros[..n], end_x: &zeros[..n], end_y: &zeros[..n] };
+    let ((number, value), left) = refused_build(lines(MAX_LINES + 1), ROOM, SCRATCH);
+    assert_eq!((number, value, left), (2, 65_537, LEFT));
+    let tables = Tables::of(lines(MAX_LINES)).unwrap();
+    assert_eq!((tables.line_count(), tables.items().len()), (65_536, 65_536));
+    let too_many = Standing { line_count: MAX_LINES + 1, ..tables.standing() };
+    assert_eq!(of(too_many.cell_list(0, 0)), (2, 65_537));
+    assert_eq!(of(too_many.global_list(0)), (2, 65_537));
+    assert_eq!(of(tables.batch(lines(MAX_LINES + 1), 0, &mut [0], &mut [0])), (2, 65_537));
+}
+
+#[test]
+fn three_lengths() {
+    let v = [0.0; 4];
+    let unequal = [
+        Lines { start_x: &v[..3], start_y: &v, end_x: &v, end_y: &v },
+        Lines { start_x: &v, start_y: &v[..3], end_x: &v, end_y: &v },
+        Lines { start_x: &v, start_y: &v, end_x: &v[..3], end_y: &v },
+        Lines { start_x: &v, start_y: &v, end_x: &v, end_y: &v[..3] },
+        Lines::chain(&v, &v[..2]),
+    ];
+    let owned = square();
+    let tables = Tables::of(owned.lines()).unwrap();
+    for lines in unequal {
+        assert_eq!(refused_build(lines, ROOM, SCRATCH), ((3, 0), LEFT));
+        assert_eq!(of(Tables::of(lines)), (3, 0));
+        assert_eq!(of(tables.test_at(lines, 0)), (3, 0));
+        assert_eq!(of(tables.pairs(lines, 8)), (3, 0));
+    }
+    assert_eq!(refused_build(owned.lines(), ROOM, SCRATCH - 1), ((3, 0), LEFT));
+    let mut short = vec![JUNK; SCRATCH - 1];
+    assert_eq!(of(segment_cells(FOUR, (0.5, 0.5), (0.5, 0.5), &mut short)), (3, 0));
+    assert_eq!(of(line_cells(FOUR, (0.5, 0.5), (0.5, 0.5), &mut short)), (3, 0));
+    let (mut first, mut second) = ([JUNK; 3], [JUNK; 4]);
+    assert_eq!(of(tables.batch(owned.lines(), 0, &mut first, &mut second)), (3, 0));
+    assert_eq!((first, second), ([JUNK; 3], [JUNK; 4]));
+    let mut points = vec![7.0; 2 * MAX_POINTS + 1];
+    let (x, y) = points.split_at_mut(MAX_POINTS);
+    assert_eq!(of(read_line_string(b"", x, y)), (3, 0), "the lengths are looked at before the bytes");
+    assert_eq!(of(read_line_string(b"", &mut x[1..], &mut y[2..])), (3, 0));
+    assert!(points.iter().all(|&v| v == 7.0));
+}
+
+#[test]
+fn four_five_six_room() {
+    let owned = square();
+    let lines = owned.lines();
+    let exact = Room { offsets: 10, items: 18, globals: 0 };
+    assert_eq!(refused_build(lines, Room { offsets: 9, ..ROOM }, SCRATCH), ((4, 10), ZEROED));
+    assert_eq!(refused_build(lines, Room { items: 17, ..ROOM }, SCRATCH), ((5, 18), ZEROED));
+    assert_eq!(refused_build(Lines::default(), Room { offsets: 0, ..ROOM }, SCRATCH), ((4, 1), [None, Some(0), Some(0), Some(0)]));
+    let mut tables = Tables::with_room(exact);
+    assert_eq!((tables.build(lines), tables.room()), (Ok(()), exact), "just enough is enough");
+    assert_eq!(of(Tables::with_room(Room { offsets: 9, ..exact }).build(lines)), (4, 10));
+
+    let owned = with_globals();
+    let lines = owned.lines();
+    let tables = Tables::of(lines).unwrap();
+    assert_eq!(tables.globals(), [511, 512]);
+    let room = Room { globals: 1, ..Room::enough_for(lines.len()) };
+    assert_eq!(refused_build(lines, room, SCRATCH), ((6, 2), ZEROED));
+    // tables that stood are those of no lines after such a refusal, and can be built again
+    let square = square();
+    let mut tables = Tables::with_room(room);
+    for _ in 0..2 {
+        tables.build(square.lines()).unwrap();
+        assert_eq!((tables.cell(0, 0), tables.line_count()), (&[0, 3][..], 4));
+        assert_eq!(of(tables.build(lines)), (6, 2));
+        assert_eq!((tables.grid(), tables.line_count(), tables.items().len(), tables.globals().len()), (Grid::EMPTY, 0, 0, 0));
+        assert!(tables.cell(0, 0).is_empty());
+        assert_eq!(tables.standing().check_tables(), Ok(()));
+    }
+    tables.build(square.lines()).unwrap();
+    // refusals 1 to 3 let them stand
+    let bad: LineVec = [[0.0, 0.0, f64::NAN, 0.0]].into_iter().collect();
+    assert_eq!(of(tables.build(bad.lines())), (1, 0));
+    assert_eq!((tables.cell(0, 0), tables.line_count()), (&[0, 3][..], 4));
+}
+
+#[test]
+fn seven_a_walk_too_long() {
+    // Line 1 is parallel to the y axis but for 1e-300. It starts on a boundary, is taken to be in the column below it, and never comes back.
+    let x = [[-18.2, 0.0, 1e-300].as_slice(), &[1.3; 10]].concat();
+    let y = [[0.0, 0.0, 4.16].as_slice(), &[0.0; 10]].concat();
+    let lines = Lines::chain(&x, &y);
+    assert_eq!(of(Tables::of(lines)), (7, 1));
+    assert_eq!(refused_build(lines, Room::enough_for(lines.len()), SCRATCH), ((7, 1), ZEROED));
+    // The same segment alone, on the grid of the other lines.
+    let others: LineVec = (0..lines.len()).map(|i| if i == 1 { [0.0, 0.0, 0.0, 4.16] } else { lines.get(i).unwrap() }).collect();
+    let grid = Tables::of(others.lines()).unwrap().grid();
+    let mut scratch = vec![JUNK; SCRATCH];
+    assert_eq!(of(line_cells(grid, (0.0, 0.0), (1e-300, 4.16), &mut scratch)), (7, 0));
+    assert_eq!(of(segment_cells(grid, (0.0, 0.0), (1e-300, 4.16), &mut scratch)), (7, 0));
+    assert!(scratch.iter().all(|&entry| entry == 0));
+}
+
+#[test]
+fn eight_an_unfit_grid() {
+    let mut scratch = vec![JUNK; SCRATCH];
+    let unfit = [
+        UNFIT,
+        Grid { cell_size: f64::NAN, ..FOUR },
+        Grid { cell_size: 2.5e9, ..FOUR },
+        Grid { min_x: f64::INFINITY, ..FOUR },
+        Grid { min_y: -1.5e9, ..FOUR },
+        Grid { cols: 0, ..FOUR },
+        Grid { rows: 4005, cols: 1, ..FOUR },
+        Grid { rows: 1002, cols: 1001, ..FOUR },
+    ];
+    let owned = square();
+    let tables = Tables::of(owned.lines()).unwrap();
+    for grid in unfit {
+        assert_eq!(of(segment_cells(grid, (0.5, 0.5), (0.5, 0.5), &mut scratch)), (8, 0), "{grid:?}");
+        assert_eq!(of(point_owned(grid, 0, 0, 0.5, 0.5)), (8, 0));
+        assert_eq!(of(overlap_owned(grid, 0, 0, 0.5, 0.5, 1.0, Strategy::Grid)), (8, 0));
+        assert_eq!(of(owner(grid, 0.5, 0.5)), (8, 0));
+        let standing = Standing { grid, ..tables.standing() };
+        assert_eq!(of(standing.cell_list(0, 0)), (8, 0));
+        assert_eq!(of(standing.global_list(0)), (8, 0));
+        assert_eq!(of(standing.test_at(owned.lines(), 0)), (8, 0));
+        assert_eq!(of(standing.pairs(owned.lines(), 4)), (8, 0));
+    }
+    assert_eq!(of(line_cells(Grid { cols: 0, ..FOUR }, (0.5, 0.5), (0.5, 0.5), &mut scratch)), (8, 0), "columns and rows alone");
+    assert!(line_cells(Grid { min_x: f64::NAN, ..FOUR }, (0.5, 0.5), (0.5, 0.5), &mut scratch).is_ok());
+}
+
+#[test]
+fn nine_beyond_the_end() {
+    assert_eq!(of(point_owned(FOUR, 4, 0, 0.5, 0.5)), (9, 4));
+    assert_eq!(of(point_owned(FOUR, 2, 4, 0.5, 0.5)), (9, 2), "the row, also where the column is beyond");
+    assert_eq!(of(overlap_owned(FOUR, 7, 0, 0.5, 0.5, 1.0, Strategy::GeosCompat)), (9, 7));
+    let owned = square();
+    let lines = owned.lines();
+    let tables = Tables::of(lines).unwrap();
+    let standing = tables.standing();
+    assert_eq!(of(standing.cell_list(3, 0)), (9, 3));
+    assert_eq!(of(standing.cell_list(1, u32::MAX)), (9, 1));
+    assert_eq!(of(standing.global_list(0)), (9, 0));
+    assert_eq!(tables.test_at(lines, 9), Ok(None), "the end mark stands at the total");
+    assert_eq!(of(tables.test_at(lines, 10)), (9, 10));
+    assert_eq!(of(tables.batch(lines, u64::MAX, &mut [0], &mut [0])), (9, u64::MAX));
+    let owned = with_globals();
+    let tables = Tables::of(owned.lines()).unwrap();
+    assert_eq!(tables.standing().global_list(0).unwrap(), [511, 512]);
+    assert_eq!(tables.standing().global_list(1).unwrap(), [512]);
+    assert_eq!(of(tables.standing().global_list(2)), (9, 2));
+}
+
+#[test]
+fn ten_tables_that_do_not_fit() {
+    let owned = square();
+    let lines = owned.lines();
+    let tables = Tables::of(lines).unwrap();
+    let fit = tables.standing();
+    assert_eq!(fit.check_tables(), Ok(()));
+    let mut falling = fit.offsets.to_vec();
+    falling[4] = 1;
+    let mut not_from_zero = fit.offsets.to_vec();
+    not_from_zero[0] = 1;
+    let mut repeat = fit.items.to_vec();
+    repeat[1] = repeat[0];
+    let mut no_such_line = fit.items.to_vec();
+    no_such_line[17] = 4;
+    let damaged = [
+        Standing { offsets: &fit.offsets[..9], ..fit },
+        Standing { offsets: &falling, ..fit },
+        Standing { offsets: &not_from_zero, ..fit },
+        Standing { items: &fit.items[..17], ..fit },
+        Standing { items: &repeat, ..fit },
+        Standing { items: &no_such_line, ..fit },
+        Standing { globals: &[4], global_count: 1, ..fit },
+        Standing { globals: &[1, 1], global_count: 2, ..fit },
+        Standing { globals: &[1], global_count: 2, ..fit },
+        Standing { globals: &[1], global_count: u64::MAX, ..fit },
+        Standing { offsets: &[], items: &[], globals: &[], ..fit },
+    ];
+    for (i, standing) in damaged.iter().enumerate() {
+        assert_eq!(of(standing.check_tables()), (10, 0), "damage {i}");
+        assert_eq!(of(standing.cell_list(0, 0)), (10, 0), "damage {i}");
+        assert_eq!(of(standing.global_list(0)), (10, 0), "damage {i}");
+        assert_eq!(of(standing.test_at(lines, 0)), (10, 0), "damage {i}");
+        assert_eq!(of(standing.pairs(lines, 4)), (10, 0), "damage {i}");
+        let (mut first, mut second) = ([JUNK; 4], [JUNK; 4]);
+        assert_eq!(of(standing.batch(lines, 0, &mut first, &mut second)), (10, 0), "damage {i}");
+        assert_eq!((first, second), ([JUNK; 4], [JUNK; 4]));
+    }
+    assert_eq!(of(Standing { line_count: 3, ..fit }.check_tables()), (10, 0), "a list has line 3");
+    let fewer: LineVec = (0..3).map(|i| lines.get(i).unwrap()).collect();
+    assert_eq!(of(tables.pairs(fewer.lines(), 4)), (10, 0));
+}
+
+#[test]
+fn eleven_bytes() {
+    let point = |bytes: &mut Vec<u8>| bytes.extend([281.5f64.to_le_bytes(), 36.25f64.to_le_bytes()].concat());
+    let mut fine = vec![1, 2, 0, 0, 0, 2, 0, 0, 0];
+    point(&mut fine);
+    point(&mut fine);
+    let changed = |at: usize, byte: u8| {
+        let mut bytes = fine.clone();
+        bytes[at] = byte;
+        bytes
+    };
+    let mut longer = fine.clone();
+    longer.push(b'\n');
+    let mut too_many = vec![1, 2, 0, 0, 0, 1, 4, 0, 0];
+    (0..1025).for_each(|_| point(&mut too_many));
+    for (what, bytes, position) in [
+        ("empty", vec![], 0),
+        ("no byte order", changed(0, 2), 0),
+        ("a point", changed(1, 1), 1),
+        ("no points", changed(5, 0), 5),
+        ("too many points", too_many, 5),
+        ("cut in the count", fine[..7].to_vec(), 7),
+        ("cut in a point", fine[..40].to_vec(), 40),
+        ("a byte after it", longer, 41),
+    ] {
+        let (mut x, mut y) = (vec![7.0; MAX_POINTS], vec![7.0; MAX_POINTS]);
+        assert_eq!(of(read_line_string(&bytes, &mut x, &mut y)), (11, position), "{what}");
+        assert!(x.iter().chain(&y).all(|&v| v == 7.0), "{what}: nothing is written");
+        assert_eq!(of(read_points(&bytes)), (11, position), "{what}");
+    }
+    assert_eq!(read_points(&fine), Ok((vec![281.5; 2], vec![36.25; 2])));
+}
+
+#[test]
+fn twelve_a_snap_size() {
+    for size in [9.9e-7, 1.1e6, -1.0, f64::NAN, f64::INFINITY] {
+        for strategy in [Strategy::Grid, Strategy::GeosCompat] {
+            assert_eq!(of(snap(0.5, 0.5, size, strategy)), (12, 0));
+            assert_eq!(of(overlap_owned(FOUR, 9, 9, 0.5, 0.5, size, strategy)), (12, 0), "before 9");
+        }
+    }
+    assert!(snap(0.5, 0.5, 1e-6, Strategy::Grid).is_ok() && snap(0.5, 0.5, 1e6, Strategy::Grid).is_ok());
+}
+
+#[test]
+fn words() {
+    let texts: Vec<String> = (1..=12).map(|number| Refusal { number, value: 77 }.to_string()).collect();
+    for (i, text) in texts.iter().enumerate() {
+        assert!(text.starts_with(&format!("refused {}: ", i + 1)), "{text}");
+        // those whose value says something say it
+        assert_eq!(text.contains("77"), [1, 2, 4, 5, 6, 7, 9, 11].contains(&(i + 1)), "{text}");
+        assert!(!text.contains("value"), "{text} has words of its own");
+    }
+    let error: Box<dyn std::error::Error> = Box::new(Refusal { number: Refusal::MISFIT_TABLES, value: 0 });
+    assert_eq!(error.to_string(), "refused 10: tables misfit");
+}

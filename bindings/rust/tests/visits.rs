@@ -1,0 +1,153 @@
+//! The visit: in batches of any size, test by test, and by the lists themselves.
+
+use morelturret::*;
+
+/// Numbers from 0 up to 1, the same ones in each run.
+struct Random(u64);
+
+impl Random {
+    fn next(&mut self) -> f64 {
+        self.0 = self.0.wrapping_mul(6364136223846793005).wrapping_add(1442695040888963407);
+        (self.0 >> 11) as f64 / (1u64 << 53) as f64
+    }
+}
+
+/// Lines to visit: short ones spread about, a chain, lines on boundaries, and lines among which some are global.
+fn samples() -> Vec<(&'static str, LineVec)> {
+    let mut r = Random(7);
+    let spread = (0..300).map(|_| {
+        let (x, y) = (r.next() * 50.0, r.next() * 20.0);
+        [x, y, x + r.next() * 3.0 - 1.5, y + r.next() * 3.0 - 1.5]
+    });
+    let spread = spread.collect();
+    let mut at = (280.0, 36.0);
+    let chain = (0..200).map(|_| {
+        let from = at;
+        at = (at.0 + r.next() - 0.5, at.1 + r.next() - 0.5);
+        [from.0, from.1, at.0, at.1]
+    });
+    let chain = chain.collect();
+    let lattice = (0..20).flat_map(|i| [[i as f64, 0.0, i as f64, 19.0], [0.0, i as f64, 19.0, i as f64]]).collect();
+    let mut globals: LineVec = vec![[100.1, 0.0, 100.1, 0.0]; 505].into_iter().collect();
+    globals.extend([[0.0, 0.0, 1000.0, 0.0], [300.0, 0.0, 301.0, 0.0], [1000.0, 0.0, 0.0, 0.0]]);
+    vec![("spread", spread), ("chain", chain), ("lattice", lattice), ("globals", globals), ("none", LineVec::new())]
+}
+
+fn boxes_overlap(a: [f64; 4], b: [f64; 4]) -> bool {
+    let span = |p: f64, q: f64| (p.min(q), p.max(q));
+    let meet = |(low, high): (f64, f64), (other_low, other_high): (f64, f64)| low <= other_high && other_low <= high;
+    meet(span(a[0], a[2]), span(b[0], b[2])) && meet(span(a[1], a[3]), span(b[1], b[3]))
+}
+
+/// All tests, from the lists alone: the cells in row order and in a list entry i with each later j; then each global with every line, but not itself
+/// and not a lower global.
+fn tests_of(tables: &Tables, lines: Lines) -> Vec<Test> {
+    let mut all = Vec::new();
+    let mut test = |place, first: u32, second: u32| {
+        let overlap = boxes_overlap(lines.get(first as usize).unwrap(), lines.get(second as usize).unwrap());
+        all.push(Test { place, first, second, overlap });
+    };
+    for row in 0..tables.grid().rows {
+        for col in 0..tables.grid().cols {
+            let list = tables.cell(row, col);
+            for i in 0..list.len() {
+                list[i + 1..].iter().for_each(|&second| test(Place::Cell { row, col }, list[i], second));
+            }
+        }
+    }
+    for (position, &first) in tables.globals().iter().enumerate() {
+        for second in 0..lines.len() as u32 {
+            if second != first && !tables.globals()[..position].contains(&second) {
+                test(Place::Global { position: position as u64 }, first, second);
+            }
+        }
+    }
+    all
+}
+
+#[test]
+fn batches_end_to_end_are_the_visit() {
+    for (name, owned) in samples() {
+        let lines = owned.lines();
+        let tables = Tables::of(lines).unwrap();
+        let tests = tests_of(&tables, lines);
+        let wanted: Vec<(u32, u32)> = tests.iter().filter(|t| t.overlap).map(|t| (t.first, t.second)).collect();
+        if name != "none" {
+            assert!(wanted.len() > 100 && (name == "globals" || wanted.len() < tests.len()), "{name}: {} of {}", wanted.len(), tests.len());
+        }
+        // batches of one are many: they are made of the shorter visits alone
+        for room in [1, 2, 3, 7, 256, wanted.len(), wanted.len() + 1, 200_000] {
+            if room == 0 || wanted.len() / room > 5_000 {
+                continue;
+            }
+            let (mut bookmark, mut joined, mut made) = (0, Vec::new(), 0);
+            loop {
+                let (mut first, mut second) = (vec![u32::MAX; room], vec![u32::MAX; room]);
+                let batch = tables.batch(lines, bookmark, &mut first, &mut second).unwrap();
+                assert_eq!(batch.bookmark, bookmark + batch.tests, "{name} {room}");
+                let of_batch = &tests[bookmark as usize..batch.bookmark as usize];
+                assert_eq!(of_batch.iter().filter(|t| t.overlap).count(), batch.overlaps, "{name} {room}");
+                joined.extend(first.iter().copied().zip(second.iter().copied()).take(batch.overlaps));
+                assert!(first[batch.overlaps..].iter().chain(&second[batch.overlaps..]).all(|&entry| entry == 0), "zero beyond the pairs");
+                made += batch.tests;
+                bookmark = batch.bookmark;
+                if batch.tests == 0 {
+                    break;
+                }
+            }
+            assert!(joined == wanted, "{name}: batches of {room} joined");
+            assert_eq!(made, tests.len() as u64, "{name} {room}");
+            let mut pairs = tables.pairs(lines, room).unwrap();
+            assert!(pairs.by_ref().eq(wanted.iter().copied()), "{name}: pairs in batches of {room}");
+            assert_eq!((pairs.bookmark(), pairs.next()), (tests.len() as u64, None), "{name} {room}");
+        }
+        assert!(tables.pairs(lines, 0).unwrap().take(500).eq(wanted.iter().copied().take(500)), "room 0 is taken as 1");
+    }
+}
+
+#[test]
+fn each_test_by_its_bookmark() {
+    for (name, owned) in samples() {
+        let lines = owned.lines();
+        let tables = Tables::of(lines).unwrap();
+        let tests = tests_of(&tables, lines);
+        // every one of the first and the last, where the globals are, and some between
+        let some = (0..tests.len()).filter(|k| *k < 500 || k + 1500 > tests.len() || k % 997 == 0);
+        for k in some {
+            assert_eq!(tables.test_at(lines, k as u64), Ok(Some(tests[k])), "{name}: test {k}");
+        }
+        let total = tests.len() as u64;
+        assert_eq!(tables.test_at(lines, total), Ok(None), "{name}: the end mark");
+        assert_eq!(tables.test_at(lines, total + 1), Err(Refusal { number: Refusal::BEYOND_END, value: total + 1 }), "{name}");
+    }
+}
+
+#[test]
+fn outputs_of_length_0_make_no_test() {
+    let (_, owned) = samples().remove(0);
+    let tables = Tables::of(owned.lines()).unwrap();
+    assert_eq!(tables.batch(owned.lines(), 5, &mut [], &mut []), Ok(Batch { tests: 0, overlaps: 0, bookmark: 5 }));
+}
+
+#[test]
+fn some_samples_have_globals() {
+    let (name, owned) = samples().remove(3);
+    let tables = Tables::of(owned.lines()).unwrap();
+    assert_eq!((name, tables.globals()), ("globals", &[505, 507][..]));
+    assert!(tests_of(&tables, owned.lines()).iter().any(|t| t.place == Place::Global { position: 1 } && t.first == 507 && t.second == 506));
+}
+
+#[test]
+fn empty_slices() {
+    // every slice that may be empty is: what goes over the boundary is an address all the same
+    let standing = Standing { grid: Grid::EMPTY, line_count: 0, offsets: &[0], items: &[], globals: &[], global_count: 0 };
+    assert_eq!(standing.check_tables(), Ok(()));
+    assert_eq!(standing.test_at(Lines::default(), 0), Ok(None));
+    assert_eq!(standing.batch(Lines::default(), 0, &mut [], &mut []), Ok(Batch { tests: 0, overlaps: 0, bookmark: 0 }));
+    assert_eq!(standing.cell_list(0, 0), Err(Refusal { number: 9, value: 0 }));
+    let mut scratch = vec![7; SCRATCH];
+    let built = build(Lines::default(), &mut [9], &mut [], &mut [], &mut scratch);
+    assert_eq!(built, Ok(Built { grid: Grid::EMPTY, items: 0, globals: 0 }));
+    assert_eq!(segment_cells(Grid::EMPTY, (0.0, 0.0), (1.0, 1.0), &mut []), Err(Refusal { number: 3, value: 0 }));
+    assert_eq!(read_line_string(&[], &mut [], &mut []), Err(Refusal { number: 3, value: 0 }));
+}

@@ -1,0 +1,108 @@
+/* visit_chain FILE: from a chain of points to the pairs of lines that may cross, by the library's C functions.
+ *
+ * FILE holds one LineString in well-known binary. Consecutive points make lines, numbered from 0. Printed are the grid that the library picks for
+ * them, how long its tables are, how many tests a whole visit makes, how many of them found two lines whose boxes overlap, and the first such pairs.
+ * The exit status is 0; 1 where the library refuses, which is printed with its number and value; 2 where FILE can't be read.
+ *
+ * To build it by hand, at the top of the repository:
+ *   tools/build_library
+ *   cc -O2 -Itarget/library examples/c/visit_chain.c target/library/libmorelturret.a -o visit_chain
+ * `tools/run_examples` does that, and runs it beside bindings/rust/examples/visit_chain.rs, which prints the same. */
+#include "morelturret.h"
+#include <inttypes.h>
+#include <stdio.h>
+
+/* The reader takes up to 1,024 points, and its slices have room for all of them. */
+enum { POINTS = 1024, LINES = POINTS - 1 };
+
+/* 9 bytes of byte order, type and count, 16 for each point, and one more: so a byte after the last point is seen, and refused. */
+enum { BYTES = 9 + 16 * POINTS + 1 };
+
+/* What is enough for every build of so many lines (the header tells). The library allocates nothing: all memory is the caller's. */
+enum { OFFSETS = 1002002, ITEMS = 2048 * LINES, SCRATCH = 16384 };
+
+/* How many pairs one batch hands out, and how many are printed. */
+enum { BATCH = 256, SHOWN = 5 };
+
+static uint8_t bytes[BYTES];
+static double x[POINTS], y[POINTS];
+static uint32_t offsets[OFFSETS], items[ITEMS], globals[LINES], scratch[SCRATCH];
+static uint32_t first[BATCH], second[BATCH];
+
+/* Every function that can refuse returns 0, or the number of the refusal, and then its value stands in out[0]. */
+static int refused(uint32_t number, uint64_t value) {
+    printf("refused %" PRIu32 ", value %" PRIu64 "\n", number, value);
+    return 1;
+}
+
+/* The double of a bit pattern: floats come back as their bits. */
+static double of_bits(uint64_t bits) {
+    union {
+        uint64_t bits;
+        double value;
+    } word = {bits};
+    return word.value;
+}
+
+int main(int argc, char **argv) {
+    if (argc != 2) {
+        fprintf(stderr, "visit_chain: one FILE is needed, a LineString in well-known binary\n");
+        return 2;
+    }
+
+    /* 1. The bytes. */
+    FILE *file = fopen(argv[1], "rb");
+    size_t length = file ? fread(bytes, 1, BYTES, file) : 0;
+    if (!file || ferror(file)) {
+        fprintf(stderr, "visit_chain: %s can't be read\n", argv[1]);
+        return 2;
+    }
+    fclose(file);
+
+    /* 2. Bytes to points. A slice is passed as its address and its length; `out` takes what the function answers. */
+    uint64_t out[7];
+    uint32_t number = mt_read_line_string(bytes, length, x, POINTS, y, POINTS, out, 7);
+    if (number != MT_OK) return refused(number, out[0]);
+
+    /* 3. Points to lines: line i goes from point i to point i + 1, so the ends are the starts from the second on. Nothing is copied: slices that
+     * are only read may overlap. */
+    size_t lines = (size_t)out[0] - 1;
+    const double *start_x = x, *start_y = y, *end_x = x + 1, *end_y = y + 1;
+
+    /* 4. A grid, and the tables on it: the list of cell c is items[offsets[c]] up to items[offsets[c + 1]]. */
+    number = mt_build(start_x, lines, start_y, lines, end_x, lines, end_y, lines, offsets, OFFSETS, items, ITEMS, globals, LINES, scratch,
+                      SCRATCH, out, 7);
+    if (number != MT_OK) return refused(number, out[0]);
+    double min_x = of_bits(out[0]), min_y = of_bits(out[1]), cell_size = of_bits(out[2]);
+    uint32_t cols = (uint32_t)out[3], rows = (uint32_t)out[4];
+    uint64_t item_count = out[5], global_count = out[6];
+    printf("lines %zu\n", lines);
+    printf("grid %" PRIu32 " columns, %" PRIu32 " rows, cell size %.9f (bits %016" PRIx64 ")\n", cols, rows, cell_size, out[2]);
+    printf("items %" PRIu64 "\n", item_count);
+    printf("globals %" PRIu64 "\n", global_count);
+
+    /* 5. The visit. A batch makes tests from a bookmark on until its outputs are full of pairs, or the end comes. The bookmark that comes back, the
+     * number of tests made so far, is where the next batch starts. A batch that leaves room in its outputs came to the end. */
+    uint64_t bookmark = 0, overlaps = 0, pairs;
+    uint32_t shown[SHOWN][2];
+    do {
+        number = mt_batch(min_x, min_y, cell_size, cols, rows, start_x, lines, start_y, lines, end_x, lines, end_y, lines, offsets, OFFSETS, items,
+                          ITEMS, globals, LINES, global_count, bookmark, first, BATCH, second, BATCH, out, 7);
+        if (number != MT_OK) return refused(number, out[0]);
+        pairs = out[1];
+        bookmark = out[2];
+        /* This is where a program would work on its pairs. Here the first few are kept, to be printed. */
+        for (uint64_t k = 0; k < pairs; k++) {
+            if (overlaps + k < SHOWN) {
+                shown[overlaps + k][0] = first[k];
+                shown[overlaps + k][1] = second[k];
+            }
+        }
+        overlaps += pairs;
+    } while (pairs == BATCH);
+
+    printf("tests %" PRIu64 "\n", bookmark);
+    printf("overlaps %" PRIu64 "\n", overlaps);
+    for (uint64_t k = 0; k < overlaps && k < SHOWN; k++) printf("pair %" PRIu32 " %" PRIu32 "\n", shown[k][0], shown[k][1]);
+    return 0;
+}

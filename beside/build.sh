@@ -32,7 +32,7 @@ if grep -q '^capi:' crates.txt; then
     export MORELTURRET_PORT_LIB=$archive
     exported() { for f in "$@"; do nm "$archive" 2>/dev/null | grep -q " T mt_$f\$" || return 1; done; }
     ! exported least greatest magnitude floor clamped_floor ceiling round_half_away square_root || features+=,numbers
-    ! exported segment_cells || features+=,walk
+    ! exported segment_cells line_cells || features+=,walk
     ! exported build || features+=,build
     ! exported batch test_at || features+=,visit
     ! exported point_owned overlap_owned owner || features+=,own

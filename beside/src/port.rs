@@ -46,6 +46,7 @@ pub mod numbers {
     }
 }
 
+/// The entry for one segment. out: the number of cells.
 #[cfg(feature = "walk")]
 pub fn segment_cells(g: &Grid, line: &Line, scratch: &mut [u32], out: &mut [u64]) -> u32 {
     extern "C" {
@@ -59,6 +60,28 @@ pub fn segment_cells(g: &Grid, line: &Line, scratch: &mut [u32], out: &mut [u64]
     let [x0, y0, x1, y1] = *line;
     unsafe {
         mt_segment_cells(
+            g.min_x, g.min_y, g.cell_size, g.cols, g.rows,
+            x0, y0, x1, y1,
+            scratch.as_mut_ptr(), scratch.len(),
+            out.as_mut_ptr(), out.len(),
+        )
+    }
+}
+
+/// The walk that a build takes: it looks at no coordinate, and leaves the scratch beyond the cells as it comes. out: the number of cells.
+#[cfg(feature = "walk")]
+pub fn line_cells(g: &Grid, line: &Line, scratch: &mut [u32], out: &mut [u64]) -> u32 {
+    extern "C" {
+        fn mt_line_cells(
+            min_x: f64, min_y: f64, cell_size: f64, cols: u32, rows: u32,
+            x0: f64, y0: f64, x1: f64, y1: f64,
+            scratch: *mut u32, scratch_len: usize,
+            out: *mut u64, out_len: usize,
+        ) -> u32;
+    }
+    let [x0, y0, x1, y1] = *line;
+    unsafe {
+        mt_line_cells(
             g.min_x, g.min_y, g.cell_size, g.cols, g.rows,
             x0, y0, x1, y1,
             scratch.as_mut_ptr(), scratch.len(),

@@ -1,43 +1,12 @@
 //! The number functions, one call each.
 
 use super::clock::Clock;
+use beside::plain::numbers as rust;
 use beside::port::numbers as port;
 use beside::random::Random;
 use std::hint::black_box;
 
 const BAR: Option<f64> = Some(2.0);
-
-/// Rust's own, each a function that is called: in line they would be a few instructions.
-mod rust {
-    #[inline(never)]
-    pub fn magnitude(v: f64) -> f64 {
-        v.abs()
-    }
-    #[inline(never)]
-    pub fn least(a: f64, b: f64) -> f64 {
-        a.min(b)
-    }
-    #[inline(never)]
-    pub fn floor(v: f64) -> f64 {
-        v.floor()
-    }
-    #[inline(never)]
-    pub fn clamped_floor(v: f64, count: u32) -> u32 {
-        (v.floor() as isize).clamp(0, count as isize - 1) as u32
-    }
-    #[inline(never)]
-    pub fn ceiling(v: f64) -> u64 {
-        v.ceil() as u64
-    }
-    #[inline(never)]
-    pub fn round_half_away(v: f64) -> f64 {
-        v.round()
-    }
-    #[inline(never)]
-    pub fn square_root(v: f64) -> f64 {
-        v.sqrt()
-    }
-}
 
 /// Times a function of both sides on each of the values.
 macro_rules! each {
@@ -51,7 +20,7 @@ macro_rules! each {
 }
 
 pub fn times(clock: &Clock, r: &mut Random) {
-    clock.head("Numbers: one call, inlined on neither side. The Rust's floor, ceiling and round are the C library's, its root is one instruction.");
+    clock.head("Numbers: one call, inlined on neither side. The Rust's floor, ceiling and round call a library in turn, its root is one instruction.");
     let values: Vec<f64> = (0..65536).map(|_| r.between(-10.0, 1000.0)).collect();
     let sizes: Vec<f64> = (0..65536).map(|_| r.size(1e-6, 1e12)).collect();
     let pairs: Vec<(f64, f64)> = (0..65536).map(|_| (r.between(-10.0, 1000.0), r.between(-10.0, 1000.0))).collect();

@@ -1,7 +1,7 @@
 //! Ownership and snapping of points.
 
 use super::clock::Clock;
-use beside::oracle::{self, Owners};
+use beside::oracle::Owners;
 use beside::random::Random;
 use beside::{plain, port, Grid};
 use std::hint::black_box;
@@ -58,28 +58,19 @@ pub fn owners(clock: &Clock, r: &mut Random) {
     );
 }
 
-/// The Rust's, called with the same arguments and handed back in the same way. It checks nothing.
-#[inline(never)]
-fn snap(x: f64, y: f64, size: f64, strategy: u32, out: &mut [u64]) -> u32 {
-    let (x, y) = oracle::snap(x, y, size, strategy);
-    out[0] = x.to_bits();
-    out[1] = y.to_bits();
-    0
-}
-
 pub fn snaps(clock: &Clock, r: &mut Random) {
     clock.head("Snap: against SnapNoder::snap, both called, both with an out slice. The port also checks the point, the size and the strategy.");
     let points: Vec<(f64, f64)> = (0..POINTS).map(|_| (r.between(-1000.0, 1000.0), r.between(-1000.0, 1000.0))).collect();
     for (name, strategy) in [("Grid", 0), ("GeosCompat", 1)] {
         let (mut of_port, mut of_rust) = ([0u64; 2], [0u64; 2]);
         for &(x, y) in &points {
-            assert_eq!((port::snap(x, y, 0.01, strategy, &mut of_port), snap(x, y, 0.01, strategy, &mut of_rust)), (0, 0));
+            assert_eq!((port::snap(x, y, 0.01, strategy, &mut of_port), plain::snap(x, y, 0.01, strategy, &mut of_rust)), (0, 0));
             assert_eq!(of_port, of_rust, "{name} of {x}, {y}");
         }
         clock.both(
             name, "point", POINTS, BAR,
             &mut || points.iter().for_each(|&(x, y)| { black_box(port::snap(x, y, 0.01, strategy, &mut of_port)); black_box(&of_port); }),
-            &mut || points.iter().for_each(|&(x, y)| { black_box(snap(x, y, 0.01, strategy, &mut of_rust)); black_box(&of_rust); }),
+            &mut || points.iter().for_each(|&(x, y)| { black_box(plain::snap(x, y, 0.01, strategy, &mut of_rust)); black_box(&of_rust); }),
         );
     }
 }

@@ -25,9 +25,9 @@ impl Times {
         median(self.0[party].clone())
     }
 
-    /// The port's time by that of another party, taken round by round.
-    pub fn ratio(&self, party: usize) -> f64 {
-        median(self.0[0].iter().zip(&self.0[party]).map(|(port, other)| port / other).collect())
+    /// The time of one party by that of another, taken round by round.
+    pub fn ratio(&self, party: usize, other: usize) -> f64 {
+        median(self.0[party].iter().zip(&self.0[other]).map(|(a, b)| a / b).collect())
     }
 }
 
@@ -64,13 +64,18 @@ impl Clock {
         Times(times)
     }
 
-    /// Times the port and the Rust, and prints nanoseconds for each of `units`, and the ratio beside its bar.
-    pub fn both(&self, name: &str, unit: &str, units: usize, bar: Option<f64>, port: &mut dyn FnMut(), rust: &mut dyn FnMut()) -> Times {
-        let times = self.turns(&mut [port, rust]);
+    /// Times the port and the Rust, and prints them.
+    pub fn both(&self, name: &str, unit: &str, units: usize, bar: Option<f64>, port: &mut dyn FnMut(), rust: &mut dyn FnMut()) {
+        self.show(name, unit, units, bar, &self.turns(&mut [port, rust]), &[]);
+    }
+
+    /// Prints nanoseconds for each of `units` of the first two parties, and the ratio beside its bar; in brackets the port against each further party.
+    pub fn show(&self, name: &str, unit: &str, units: usize, bar: Option<f64>, times: &Times, others: &[&str]) {
         let ns = |party: usize| times.of(party) * 1e9 / units as f64;
-        let ratio = times.ratio(1);
-        println!("  {name:<44} port {:>9.2}  Rust {:>9.2} ns a {unit:<6} port/Rust {ratio:.3}{}", ns(0), ns(1), self.held(ratio, bar));
-        times
+        let ratio = times.ratio(0, 1);
+        let others: Vec<String> = others.iter().zip(2..).map(|(what, k)| format!("{what} {:.2} ns, {:.3}", ns(k), times.ratio(0, k))).collect();
+        let others = if others.is_empty() { String::new() } else { format!("  ({})", others.join("; ")) };
+        println!("  {name:<44} port {:>9.2}  Rust {:>9.2} ns a {unit:<6} port/Rust {ratio:.3}{}{others}", ns(0), ns(1), self.held(ratio, bar));
     }
 
     /// The bar of a ratio, and whether it is met. Each is counted.
@@ -82,10 +87,11 @@ impl Clock {
         format!("  bar {bar:.1} {}", if met { "ok" } else { "MISSED" })
     }
 
-    /// How the time grows from one number of lines to eight times as many. `what` is the work, and how often as much it is.
-    pub fn growth(&self, from: usize, to: usize, before: &Times, after: &Times, what: &str, work: f64) {
-        let of = |party: usize| after.of(party) / before.of(party);
-        println!("  {:<44} port {:>9.2}  Rust {:>9.2} times the time, for {work:.2} times the {what}", format!("growth from {from} to {to} lines"), of(0), of(1));
+    /// How the time grows from one size to the next. `work` says how often as much work that is.
+    pub fn growth(&self, name: &str, work: &str, port: [&mut dyn FnMut(); 2], rust: [&mut dyn FnMut(); 2]) {
+        let ([port, more_port], [rust, more_rust]) = (port, rust);
+        let times = self.turns(&mut [port, more_port, rust, more_rust]);
+        println!("  {name:<44} port {:>9.2}  Rust {:>9.2} times the time, for {work}", times.ratio(1, 0), times.ratio(3, 2));
     }
 
     pub fn end(&self) {

@@ -68,7 +68,7 @@ fn compared(clock: &Clock, r: &mut Random, walk: Walk, bar: Option<f64>) {
             ]);
             port += times.of(0);
             rust += times.of(1);
-            ratios.push((times.ratio(1), direction));
+            ratios.push((times.ratio(0, 1), direction));
         }
         let all = DIRECTIONS.len() * n;
         let ns = |seconds: f64| seconds * 1e9 / all as f64;

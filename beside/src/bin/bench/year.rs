@@ -1,6 +1,6 @@
 //! Builds and visits of data in the shape of a year's chain, and the bytes that they use.
 
-use super::clock::{Clock, Times};
+use super::clock::Clock;
 use super::heap;
 use beside::kinds::build::Columns;
 use beside::model::{Standing, SCRATCH};
@@ -24,6 +24,8 @@ pub struct Year {
     offsets: Vec<u32>,
     items: Vec<u32>,
     globals: Vec<u32>,
+    tests: u64,
+    overlaps: u64,
 }
 
 impl Year {
@@ -32,7 +34,10 @@ impl Year {
         let rust_lines = Lines::new(&lines);
         let built = oracle::build(&rust_lines);
         let (offsets, items, globals) = (built.offsets(), built.items().to_vec(), built.globals());
-        Year { n, columns: Columns::new(&lines), rust_lines, built, offsets, items, globals }
+        let mut y = Year { n, columns: Columns::new(&lines), rust_lines, built, offsets, items, globals, tests: 0, overlaps: 0 };
+        y.tests = y.standing().total();
+        y.overlaps = rust_counted(&y);
+        y
     }
 
     fn standing(&self) -> Standing<'_> {
@@ -47,27 +52,49 @@ impl Year {
     }
 }
 
+/// What the port is lent for a build.
+struct Lent {
+    offsets: Vec<u32>,
+    items: Vec<u32>,
+    globals: Vec<u32>,
+    scratch: Vec<u32>,
+}
+
+impl Lent {
+    fn new(y: &Year) -> Self {
+        let [offsets, items, globals, scratch] = [y.offsets.len(), y.items.len(), y.globals.len(), SCRATCH].map(|n| vec![0; n]);
+        Lent { offsets, items, globals, scratch }
+    }
+}
+
+fn port_build(y: &Year, lent: &mut Lent) {
+    let mut out = [0u64; 7];
+    let number = port::build(y.columns.coordinates(), &mut lent.offsets, &mut lent.items, &mut lent.globals, &mut lent.scratch, &mut out);
+    assert_eq!(number, 0);
+    black_box((&*lent, &out));
+}
+
+fn rust_build(y: &Year) {
+    black_box(oracle::build(&y.rust_lines));
+}
+
 pub fn builds(clock: &Clock, years: &[Year]) {
     clock.head("Build: the port clears what it is lent, the Rust allocates cleared tables. The port also checks every coordinate.");
-    let mut before: Option<(&Year, Times)> = None;
     for y in years {
         let g = y.built.grid();
         println!("  {} lines: {} by {} cells, {} items, {} globals", y.n, g.cols, g.rows, y.items.len(), y.globals.len());
-        let [mut offsets, mut items, mut globals, mut scratch] = [y.offsets.len(), y.items.len(), y.globals.len(), SCRATCH].map(|n| vec![0u32; n]);
-        let mut out = [0u64; 8];
-        let times = clock.both(
-            &format!("{} lines", y.n), "line", y.n, BAR,
-            &mut || {
-                let number = port::build(y.columns.coordinates(), &mut offsets, &mut items, &mut globals, &mut scratch, &mut out);
-                assert_eq!(black_box(number), 0);
-            },
-            &mut || { black_box(oracle::build(&y.rust_lines)); },
+        let mut lent = Lent::new(y);
+        clock.both(&format!("{} lines", y.n), "line", y.n, BAR, &mut || port_build(y, &mut lent), &mut || rust_build(y));
+        assert!(lent.offsets == y.offsets && lent.items == y.items && lent.globals == y.globals, "the tables of {} lines", y.n);
+    }
+    for pair in years.windows(2) {
+        let (few, many) = (&pair[0], &pair[1]);
+        let (mut a, mut b) = (Lent::new(few), Lent::new(many));
+        clock.growth(
+            &format!("growth from {} to {} lines", few.n, many.n), &format!("{:.2} times the lines", many.n as f64 / few.n as f64),
+            [&mut || port_build(few, &mut a), &mut || port_build(many, &mut b)],
+            [&mut || rust_build(few), &mut || rust_build(many)],
         );
-        assert!(offsets == y.offsets && items == y.items && globals == y.globals, "the tables of {} lines", y.n);
-        if let Some((fewer, before)) = before {
-            clock.growth(fewer.n, y.n, &before, &times, "lines", y.n as f64 / fewer.n as f64);
-        }
-        before = Some((y, times));
     }
 }
 
@@ -84,10 +111,11 @@ impl Pairs {
 }
 
 /// All batches of the port from the first bookmark to the end. Answers the overlaps.
-fn port_visit(s: &Standing, tests: u64, pairs: &mut Pairs) -> u64 {
+fn port_visit(y: &Year, pairs: &mut Pairs) -> u64 {
+    let standing = y.standing();
     let (mut at, mut overlaps, mut out) = (0, 0, [0u64; 3]);
-    while at < tests {
-        assert_eq!(port::batch(s, at, &mut pairs.first, &mut pairs.second, &mut out), 0);
+    while at < y.tests {
+        assert_eq!(port::batch(&standing, at, &mut pairs.first, &mut pairs.second, &mut out), 0);
         black_box(&*pairs);
         overlaps += out[1];
         at = out[2];
@@ -129,39 +157,32 @@ pub fn visits(clock: &Clock, years: &[Year]) {
          Outputs cleared on both sides: the Rust, too, stores the pairs and leaves zero beyond the last; the bar speaks of this. In brackets the same time of the port\n  \
          against a Rust that leaves what stood beyond its pairs (stored), and against one that only counts them (counted).",
     );
-    let mut before: Option<(usize, u64, Times)> = None;
     for y in years {
-        let standing = y.standing();
-        let (tests, overlaps) = (standing.total(), rust_counted(y));
-        println!("  {} lines: {tests} tests, {overlaps} overlaps", y.n);
-        let timed = |room: usize, name: &str, bar: Option<f64>| {
+        println!("  {} lines: {} tests, {} overlaps", y.n, y.tests, y.overlaps);
+        for room in ROOMS {
             let [mut of_port, mut cleared, mut stored] = [(); 3].map(|_| Pairs::new(room));
-            assert_eq!(port_visit(&standing, tests, &mut of_port), overlaps);
             let times = clock.turns(&mut [
-                &mut || { black_box(port_visit(&standing, tests, &mut of_port)); },
+                &mut || assert_eq!(port_visit(y, &mut of_port), y.overlaps),
                 &mut || rust_stored(y, &mut cleared, true),
                 &mut || rust_stored(y, &mut stored, false),
                 &mut || { black_box(rust_counted(y)); },
             ]);
-            if overlaps <= room as u64 {
+            if y.overlaps <= room as u64 {
                 assert!(of_port.first == cleared.first && of_port.second == cleared.second, "the pairs of {} lines", y.n);
             }
-            let ns = |party: usize| times.of(party) * 1e9 / tests as f64;
-            println!(
-                "  {:<44} port {:>9.2}  Rust {:>9.2} ns a test   port/Rust {:.3}{}  (stored {:.2} ns, {:.3}; counted {:.2} ns, {:.3})",
-                format!("{} lines, output of {name}", y.n), ns(0), ns(1), times.ratio(1), clock.held(times.ratio(1), bar), ns(2), times.ratio(2), ns(3), times.ratio(3),
-            );
-            times
-        };
-        for room in ROOMS {
-            timed(room, &room.to_string(), if room == ROOMS[2] && y.n >= 8192 { BAR } else { None });
+            let bar = if room == ROOMS[2] && y.n >= 8192 { BAR } else { None };
+            clock.show(&format!("{} lines, output of {room}", y.n), "test", y.tests as usize, bar, &times, &["stored", "counted"]);
         }
-        // nothing to clear, and one call: this is what grows with the tests
-        let times = timed(overlaps as usize, "just its pairs", None);
-        if let Some((n, fewer, before)) = before {
-            clock.growth(n, y.n, &before, &times, "tests", tests as f64 / fewer as f64);
-        }
-        before = Some((y.n, tests, times));
+    }
+    for pair in years.windows(2) {
+        let (few, many) = (&pair[0], &pair[1]);
+        // outputs that just hold the pairs: one call, and nothing to clear
+        let [mut a, mut b, mut c, mut d] = [few, many, few, many].map(|y| Pairs::new(y.overlaps as usize));
+        clock.growth(
+            &format!("growth from {} to {} lines, output just full", few.n, many.n), &format!("{:.2} times the tests", many.tests as f64 / few.tests as f64),
+            [&mut || { port_visit(few, &mut a); }, &mut || { port_visit(many, &mut b); }],
+            [&mut || rust_stored(few, &mut c, true), &mut || rust_stored(many, &mut d, true)],
+        );
     }
 }
 

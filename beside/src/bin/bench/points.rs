@@ -33,7 +33,7 @@ pub fn owners(clock: &Clock, r: &mut Random) {
             assert_eq!(port::owner(&grid, x, y, &mut out), 0);
             let found = (out[0] == 1).then_some((out[1] as u32, out[2] as u32));
             assert_eq!(found, plain::owner(&grid, x, y), "the owner of {x}, {y}");
-            assert!(found.is_none_or(|(row, col)| test.point(row, col, x, y)), "the Rust's ownership test of {x}, {y}");
+            assert!(found.map_or(true, |(row, col)| test.point(row, col, x, y)), "the Rust's ownership test of {x}, {y}");
         }
         clock.both(
             &format!("{cols} by {rows} cells, {POINTS} points"), "point", POINTS, BAR,

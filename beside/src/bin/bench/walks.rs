@@ -41,6 +41,8 @@ type Walk = fn(&Grid, &Line, &mut [u32], &mut [u64]) -> u32;
 /// One walk of the port against the Rust's, each length in each direction. The bar speaks of the slowest direction.
 fn compared(clock: &Clock, r: &mut Random, walk: Walk, bar: Option<f64>) {
     let mut scratch = vec![0u32; SCRATCH];
+    // neither side knows the grid beforehand
+    let grid = &black_box(GRID);
     for (name, least, most, n) in LENGTHS {
         let (mut cells, mut port, mut rust, mut ratios) = (0, 0.0, 0.0, Vec::new());
         for (direction, left, down) in DIRECTIONS {
@@ -48,21 +50,21 @@ fn compared(clock: &Clock, r: &mut Random, walk: Walk, bar: Option<f64>) {
             let rust_lines = Lines::new(&lines);
             let mut out = [0u64; 8];
             for (i, line) in lines.iter().enumerate() {
-                assert_eq!(walk(&GRID, line, &mut scratch, &mut out), 0);
+                assert_eq!(walk(grid, line, &mut scratch, &mut out), 0);
                 let walked = &scratch[..out[0] as usize];
-                assert!(rust_lines.cells(i, &GRID).iter().map(|&c| c as u32).eq(walked.iter().copied()), "the walk of {line:?}");
+                assert!(rust_lines.cells(i, grid).iter().map(|&c| c as u32).eq(walked.iter().copied()), "the walk of {line:?}");
                 cells += walked.len();
             }
             let times = clock.turns(&mut [
                 &mut || {
                     for line in &lines {
-                        black_box(walk(&GRID, line, &mut scratch, &mut out));
+                        black_box(walk(grid, line, &mut scratch, &mut out));
                         black_box(&scratch);
                     }
                 },
                 &mut || {
                     for i in 0..lines.len() {
-                        black_box(&*rust_lines.cells(i, &GRID));
+                        black_box(&*rust_lines.cells(i, grid));
                     }
                 },
             ]);

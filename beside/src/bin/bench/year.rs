@@ -91,7 +91,7 @@ pub fn builds(clock: &Clock, years: &[Year]) {
         let (few, many) = (&pair[0], &pair[1]);
         let (mut a, mut b) = (Lent::new(few), Lent::new(many));
         clock.growth(
-            &format!("growth from {} to {} lines", few.n, many.n), &format!("{:.2} times the lines", many.n as f64 / few.n as f64),
+            &format!("growth, {} to {} lines", few.n, many.n), &format!("{:.2} times the lines", many.n as f64 / few.n as f64),
             [&mut || port_build(few, &mut a), &mut || port_build(many, &mut b)],
             [&mut || rust_build(few), &mut || rust_build(many)],
         );
@@ -179,7 +179,7 @@ pub fn visits(clock: &Clock, years: &[Year]) {
         // outputs that just hold the pairs: one call, and nothing to clear
         let [mut a, mut b, mut c, mut d] = [few, many, few, many].map(|y| Pairs::new(y.overlaps as usize));
         clock.growth(
-            &format!("growth from {} to {} lines, output just full", few.n, many.n), &format!("{:.2} times the tests", many.tests as f64 / few.tests as f64),
+            &format!("growth, {} to {} lines, output full", few.n, many.n), &format!("{:.2} times the tests", many.tests as f64 / few.tests as f64),
             [&mut || { port_visit(few, &mut a); }, &mut || { port_visit(many, &mut b); }],
             [&mut || rust_stored(few, &mut c, true), &mut || rust_stored(many, &mut d, true)],
         );

@@ -31,7 +31,7 @@ if grep -q '^capi:' crates.txt; then
     names=$(nm "$archive" 2>/dev/null | sed -n 's/^.* T mt_//p')
     exported() { for f in "$@"; do [[ $'\n'$names$'\n' == *$'\n'$f$'\n'* ]] || return 1; done; }
     ! exported least greatest magnitude floor clamped_floor ceiling round_half_away square_root || features+=,numbers
-    ! exported segment_cells || features+=,walk
+    ! exported segment_cells line_cells || features+=,walk
     ! exported build || features+=,build
     ! exported batch test_at || features+=,visit
     ! exported point_owned overlap_owned owner || features+=,own

@@ -9,6 +9,7 @@ pub mod cases;
 pub mod kinds;
 pub mod model;
 pub mod oracle;
+pub mod plain;
 pub mod port;
 pub mod random;
 

@@ -1,6 +1,6 @@
 //! The port: the exported functions of its crate `capi`, and the only place in this package that names them.
 //! A slice goes in as its address and its length, a grid as its five numbers. The answer is document 01's number, 0 for success,
-//! with values in `out`. Each kind stands behind its own feature, which the scripts switch on where the library exports its functions.
+//! with values in `out`. A wrapper is inlined, so that what is timed is one call. Each kind stands behind its own feature, which the scripts switch on where the library exports its functions.
 
 #![allow(clippy::too_many_arguments)]
 #![allow(unused_imports)]
@@ -20,33 +20,43 @@ pub mod numbers {
         fn mt_round_half_away(v: f64) -> f64;
         fn mt_square_root(v: f64) -> f64;
     }
+    #[inline]
     pub fn least(a: f64, b: f64) -> f64 {
         unsafe { mt_least(a, b) }
     }
+    #[inline]
     pub fn greatest(a: f64, b: f64) -> f64 {
         unsafe { mt_greatest(a, b) }
     }
+    #[inline]
     pub fn magnitude(v: f64) -> f64 {
         unsafe { mt_magnitude(v) }
     }
+    #[inline]
     pub fn floor(v: f64) -> f64 {
         unsafe { mt_floor(v) }
     }
+    #[inline]
     pub fn clamped_floor(v: f64, count: u32) -> u32 {
         unsafe { mt_clamped_floor(v, count) }
     }
+    #[inline]
     pub fn ceiling(v: f64) -> u64 {
         unsafe { mt_ceiling(v) }
     }
+    #[inline]
     pub fn round_half_away(v: f64) -> f64 {
         unsafe { mt_round_half_away(v) }
     }
+    #[inline]
     pub fn square_root(v: f64) -> f64 {
         unsafe { mt_square_root(v) }
     }
 }
 
+/// The entry for one segment. out: the number of cells.
 #[cfg(feature = "walk")]
+#[inline]
 pub fn segment_cells(g: &Grid, line: &Line, scratch: &mut [u32], out: &mut [u64]) -> u32 {
     extern "C" {
         fn mt_segment_cells(
@@ -67,7 +77,31 @@ pub fn segment_cells(g: &Grid, line: &Line, scratch: &mut [u32], out: &mut [u64]
     }
 }
 
+/// The walk that a build takes: it looks at no coordinate, and leaves the scratch beyond the cells as it comes. out: the number of cells.
+#[cfg(feature = "walk")]
+#[inline]
+pub fn line_cells(g: &Grid, line: &Line, scratch: &mut [u32], out: &mut [u64]) -> u32 {
+    extern "C" {
+        fn mt_line_cells(
+            min_x: f64, min_y: f64, cell_size: f64, cols: u32, rows: u32,
+            x0: f64, y0: f64, x1: f64, y1: f64,
+            scratch: *mut u32, scratch_len: usize,
+            out: *mut u64, out_len: usize,
+        ) -> u32;
+    }
+    let [x0, y0, x1, y1] = *line;
+    unsafe {
+        mt_line_cells(
+            g.min_x, g.min_y, g.cell_size, g.cols, g.rows,
+            x0, y0, x1, y1,
+            scratch.as_mut_ptr(), scratch.len(),
+            out.as_mut_ptr(), out.len(),
+        )
+    }
+}
+
 #[cfg(feature = "build")]
+#[inline]
 pub fn build(l: Coordinates, offsets: &mut [u32], items: &mut [u32], globals: &mut [u32], scratch: &mut [u32], out: &mut [u64]) -> u32 {
     extern "C" {
         fn mt_build(
@@ -99,6 +133,7 @@ pub fn build(l: Coordinates, offsets: &mut [u32], items: &mut [u32], globals: &m
 
 /// out: tests, overlaps, the new bookmark.
 #[cfg(feature = "visit")]
+#[inline]
 pub fn batch(s: &Standing, bookmark: u64, first: &mut [u32], second: &mut [u32], out: &mut [u64]) -> u32 {
     extern "C" {
         fn mt_batch(
@@ -137,6 +172,7 @@ pub fn batch(s: &Standing, bookmark: u64, first: &mut [u32], second: &mut [u32],
 
 /// out: 0 for a cell, 1 for a global line, 2 for the end mark; row or position; column; first; second; overlap.
 #[cfg(feature = "visit")]
+#[inline]
 pub fn test_at(s: &Standing, bookmark: u64, out: &mut [u64]) -> u32 {
     extern "C" {
         fn mt_test_at(
@@ -171,6 +207,7 @@ pub fn test_at(s: &Standing, bookmark: u64, out: &mut [u64]) -> u32 {
 
 /// out: 1 where the cell owns the point, else 0.
 #[cfg(feature = "own")]
+#[inline]
 pub fn point_owned(g: &Grid, row: u32, col: u32, x: f64, y: f64, out: &mut [u64]) -> u32 {
     extern "C" {
         fn mt_point_owned(
@@ -184,6 +221,7 @@ pub fn point_owned(g: &Grid, row: u32, col: u32, x: f64, y: f64, out: &mut [u64]
 
 /// out: 1 where the cell owns the overlap, else 0.
 #[cfg(feature = "own")]
+#[inline]
 pub fn overlap_owned(g: &Grid, row: u32, col: u32, x: f64, y: f64, size: f64, strategy: u32, out: &mut [u64]) -> u32 {
     extern "C" {
         fn mt_overlap_owned(
@@ -199,6 +237,7 @@ pub fn overlap_owned(g: &Grid, row: u32, col: u32, x: f64, y: f64, size: f64, st
 
 /// out: 1, row, column; or 0, 0, 0 outside the grid.
 #[cfg(feature = "own")]
+#[inline]
 pub fn owner(g: &Grid, x: f64, y: f64, out: &mut [u64]) -> u32 {
     extern "C" {
         fn mt_owner(
@@ -212,6 +251,7 @@ pub fn owner(g: &Grid, x: f64, y: f64, out: &mut [u64]) -> u32 {
 
 /// out: the bits of x and y.
 #[cfg(feature = "snap")]
+#[inline]
 pub fn snap(x: f64, y: f64, size: f64, strategy: u32, out: &mut [u64]) -> u32 {
     extern "C" {
         fn mt_snap(x: f64, y: f64, size: f64, strategy: u32, out: *mut u64, out_len: usize) -> u32;
@@ -221,6 +261,7 @@ pub fn snap(x: f64, y: f64, size: f64, strategy: u32, out: &mut [u64]) -> u32 {
 
 /// out: the number of points.
 #[cfg(feature = "wkb")]
+#[inline]
 pub fn read_line_string(bytes: &[u8], x: &mut [f64], y: &mut [f64], out: &mut [u64]) -> u32 {
     extern "C" {
         fn mt_read_line_string(

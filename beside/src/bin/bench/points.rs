@@ -1,0 +1,77 @@
+//! Ownership and snapping of points.
+
+use super::clock::Clock;
+use beside::oracle::Owners;
+use beside::random::Random;
+use beside::{plain, port, Grid};
+use std::hint::black_box;
+
+const BAR: Option<f64> = Some(1.5);
+
+const POINTS: usize = 100_000;
+
+/// A coordinate on an axis of so many cells: one in sixteen on an edge, one in sixteen up to a tenth beyond the ends.
+fn coordinate(r: &mut Random, low: f64, size: f64, count: u32) -> f64 {
+    let n = count as f64;
+    low + size
+        * match r.below(16) {
+            0 => r.between(0.0, n).floor(),
+            1 => r.between(-0.1 * n, 1.1 * n),
+            _ => r.between(0.0, n),
+        }
+}
+
+pub fn owners(clock: &Clock, r: &mut Random) {
+    clock.head("Owner of a point: against a plain binary search in Rust with the same float steps. The port also checks the point and the grid, and both are called.");
+    for (cols, rows) in [(1001, 1001), (4004, 250)] {
+        let grid = Grid { min_x: 271.03, min_y: 29.7, cell_size: 0.0237, cols, rows };
+        let points: Vec<(f64, f64)> =
+            (0..POINTS).map(|_| (coordinate(r, grid.min_x, grid.cell_size, cols), coordinate(r, grid.min_y, grid.cell_size, rows))).collect();
+        let mut out = [0u64; 3];
+        let mut test = Owners::new(&grid);
+        for &(x, y) in &points {
+            assert_eq!(port::owner(&grid, x, y, &mut out), 0);
+            let found = (out[0] == 1).then_some((out[1] as u32, out[2] as u32));
+            assert_eq!(found, plain::owner(&grid, x, y), "the owner of {x}, {y}");
+            assert!(found.map_or(true, |(row, col)| test.point(row, col, x, y)), "the Rust's ownership test of {x}, {y}");
+        }
+        clock.both(
+            &format!("{cols} by {rows} cells, {POINTS} points"), "point", POINTS, BAR,
+            &mut || points.iter().for_each(|&(x, y)| { black_box(port::owner(&grid, x, y, &mut out)); black_box(&out); }),
+            &mut || points.iter().for_each(|&(x, y)| { black_box(plain::owner(&grid, x, y)); }),
+        );
+    }
+    clock.head("Ownership by one cell: against the Rust's process_cell_candidate, whose intersection is laid down.");
+    let grid = Grid { min_x: 271.03, min_y: 29.7, cell_size: 0.237, cols: 64, rows: 64 };
+    let points: Vec<(u32, u32, f64, f64)> = (0..4096)
+        .map(|_| {
+            let (x, y) = (r.between(0.0, 64.0), r.between(0.0, 64.0));
+            (y as u32, x as u32, grid.min_x + x * grid.cell_size, grid.min_y + y * grid.cell_size)
+        })
+        .collect();
+    let mut out = [0u64; 1];
+    let mut test = Owners::new(&grid);
+    clock.both(
+        "a point, 64 by 64 cells", "call", points.len(), None,
+        &mut || points.iter().for_each(|&(row, col, x, y)| { black_box(port::point_owned(&grid, row, col, x, y, &mut out)); }),
+        &mut || points.iter().for_each(|&(row, col, x, y)| { black_box(test.point(row, col, x, y)); }),
+    );
+}
+
+pub fn snaps(clock: &Clock, r: &mut Random) {
+    clock.head("Snap: against SnapNoder::snap, both called, both with an out slice. The port also checks the point, the size and the strategy.\n  In brackets: against a Rust that hands the point back in registers.");
+    let points: Vec<(f64, f64)> = (0..POINTS).map(|_| (r.between(-1000.0, 1000.0), r.between(-1000.0, 1000.0))).collect();
+    for (name, strategy) in [("Grid", 0), ("GeosCompat", 1)] {
+        let (mut of_port, mut of_rust) = ([0u64; 2], [0u64; 2]);
+        for &(x, y) in &points {
+            assert_eq!((port::snap(x, y, 0.01, strategy, &mut of_port), plain::snap(x, y, 0.01, strategy, &mut of_rust)), (0, 0));
+            assert_eq!(of_port, of_rust, "{name} of {x}, {y}");
+        }
+        let times = clock.turns(&mut [
+            &mut || points.iter().for_each(|&(x, y)| { black_box(port::snap(x, y, 0.01, strategy, &mut of_port)); black_box(&of_port); }),
+            &mut || points.iter().for_each(|&(x, y)| { black_box(plain::snap(x, y, 0.01, strategy, &mut of_rust)); black_box(&of_rust); }),
+            &mut || points.iter().for_each(|&(x, y)| { black_box(plain::snap_point(x, y, 0.01, strategy)); }),
+        ]);
+        clock.show(name, "point", POINTS, BAR, &times, &["point in registers"]);
+    }
+}

@@ -1,0 +1,89 @@
+//! Walks of about so many cells in each of the four directions.
+
+use super::clock::Clock;
+use beside::model::SCRATCH;
+use beside::oracle::Lines;
+use beside::random::Random;
+use beside::{port, Grid, Line};
+use std::hint::black_box;
+
+const BAR: Option<f64> = Some(1.0);
+
+/// A grid like a build's largest.
+const GRID: Grid = Grid { min_x: 271.03, min_y: 29.7, cell_size: 0.0237, cols: 1001, rows: 1001 };
+
+/// The directions, and whether x and y fall.
+const DIRECTIONS: [(&str, bool, bool); 4] = [("up right", false, false), ("down right", false, true), ("up left", true, false), ("down left", true, true)];
+
+/// The lengths: how many columns and rows a line spans, and how many lines are walked.
+const LENGTHS: [(&str, f64, f64, usize); 3] =
+    [("short, 1 to 8 cells", 0.0, 3.5, 4000), ("middling, 30 to 100 cells", 18.0, 48.0, 1000), ("long, about 2,000 cells", 990.0, 1000.0, 100)];
+
+/// Lines inside the grid that span `least` to `most` columns and rows.
+fn lines(r: &mut Random, least: f64, most: f64, n: usize, left: bool, down: bool) -> Vec<Line> {
+    let mut axis = |low: f64, falls: bool| {
+        let span = r.between(least, most);
+        let from = r.between(0.0, 1001.0 - span);
+        let (a, b) = if falls { (from + span, from) } else { (from, from + span) };
+        (low + a * GRID.cell_size, low + b * GRID.cell_size)
+    };
+    (0..n)
+        .map(|_| {
+            let (x0, x1) = axis(GRID.min_x, left);
+            let (y0, y1) = axis(GRID.min_y, down);
+            [x0, y0, x1, y1]
+        })
+        .collect()
+}
+
+type Walk = fn(&Grid, &Line, &mut [u32], &mut [u64]) -> u32;
+
+/// One walk of the port against the Rust's, each length in each direction. The bar speaks of the slowest direction.
+fn compared(clock: &Clock, r: &mut Random, walk: Walk, bar: Option<f64>) {
+    let mut scratch = vec![0u32; SCRATCH];
+    // neither side knows the grid beforehand
+    let grid = &black_box(GRID);
+    for (name, least, most, n) in LENGTHS {
+        let (mut cells, mut port, mut rust, mut ratios) = (0, 0.0, 0.0, Vec::new());
+        for (direction, left, down) in DIRECTIONS {
+            let lines = lines(r, least, most, n, left, down);
+            let rust_lines = Lines::new(&lines);
+            let mut out = [0u64; 8];
+            for (i, line) in lines.iter().enumerate() {
+                assert_eq!(walk(grid, line, &mut scratch, &mut out), 0);
+                let walked = &scratch[..out[0] as usize];
+                assert!(rust_lines.cells(i, grid).iter().map(|&c| c as u32).eq(walked.iter().copied()), "the walk of {line:?}");
+                cells += walked.len();
+            }
+            let times = clock.turns(&mut [
+                &mut || {
+                    for line in &lines {
+                        black_box(walk(grid, line, &mut scratch, &mut out));
+                        black_box(&scratch);
+                    }
+                },
+                &mut || {
+                    for i in 0..lines.len() {
+                        black_box(&*rust_lines.cells(i, grid));
+                    }
+                },
+            ]);
+            port += times.of(0);
+            rust += times.of(1);
+            ratios.push((times.ratio(0, 1), direction));
+        }
+        let all = DIRECTIONS.len() * n;
+        let ns = |seconds: f64| seconds * 1e9 / all as f64;
+        let each: Vec<String> = ratios.iter().map(|(ratio, direction)| format!("{direction} {ratio:.3}")).collect();
+        let worst = ratios.iter().max_by(|a, b| a.0.total_cmp(&b.0)).unwrap();
+        let name = format!("{name} ({:.1})", cells as f64 / all as f64);
+        println!("  {name:<44} port {:>9.2}  Rust {:>9.2} ns a line   port/Rust {}; worst {}{}", ns(port), ns(rust), each.join(", "), worst.1, clock.held(worst.0, bar));
+    }
+}
+
+pub fn times(clock: &Clock, r: &mut Random) {
+    clock.head("Walk, as a build takes it (mt_line_cells): neither side clears anything. In brackets the cells of a line on average.");
+    compared(clock, r, port::line_cells, BAR);
+    clock.head("Walk of one segment (mt_segment_cells): the port also checks the segment and the grid, and clears 16,384 entries of scratch.");
+    compared(clock, r, port::segment_cells, None);
+}

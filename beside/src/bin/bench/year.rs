@@ -1,0 +1,214 @@
+//! Builds and visits of data in the shape of a year's chain, and the bytes that they use.
+
+use super::clock::Clock;
+use super::heap;
+use beside::kinds::build::Columns;
+use beside::model::{Standing, SCRATCH};
+use beside::oracle::{self, Built, Lines};
+use beside::random::Random;
+use beside::{cases, port};
+use std::hint::black_box;
+
+const BAR: Option<f64> = Some(1.0);
+const MEMORY_BAR: Option<f64> = Some(0.5);
+
+/// Outputs of so many pairs. The bar of a visit speaks of the last, that of the memory of the first.
+const ROOMS: [usize; 3] = [4096, 65536, 1 << 20];
+
+/// The same lines for both sides, and the tables that stand after a build.
+pub struct Year {
+    n: usize,
+    rust_lines: Lines,
+    built: Built,
+    columns: Columns,
+    offsets: Vec<u32>,
+    items: Vec<u32>,
+    globals: Vec<u32>,
+    tests: u64,
+    overlaps: u64,
+}
+
+impl Year {
+    pub fn new(r: &mut Random, n: usize) -> Self {
+        let lines = cases::year(r, n);
+        let rust_lines = Lines::new(&lines);
+        let built = oracle::build(&rust_lines);
+        let (offsets, items, globals) = (built.offsets(), built.items().to_vec(), built.globals());
+        let mut y = Year { n, columns: Columns::new(&lines), rust_lines, built, offsets, items, globals, tests: 0, overlaps: 0 };
+        y.tests = y.standing().total();
+        y.overlaps = rust_counted(&y);
+        y
+    }
+
+    fn standing(&self) -> Standing<'_> {
+        Standing {
+            grid: self.built.grid(),
+            lines: self.columns.coordinates(),
+            offsets: &self.offsets,
+            items: &self.items,
+            globals: &self.globals,
+            global_count: self.globals.len() as u64,
+        }
+    }
+}
+
+/// What the port is lent for a build.
+struct Lent {
+    offsets: Vec<u32>,
+    items: Vec<u32>,
+    globals: Vec<u32>,
+    scratch: Vec<u32>,
+}
+
+impl Lent {
+    fn new(y: &Year) -> Self {
+        let [offsets, items, globals, scratch] = [y.offsets.len(), y.items.len(), y.globals.len(), SCRATCH].map(|n| vec![0; n]);
+        Lent { offsets, items, globals, scratch }
+    }
+}
+
+fn port_build(y: &Year, lent: &mut Lent) {
+    let mut out = [0u64; 7];
+    let number = port::build(y.columns.coordinates(), &mut lent.offsets, &mut lent.items, &mut lent.globals, &mut lent.scratch, &mut out);
+    assert_eq!(number, 0);
+    black_box((&*lent, &out));
+}
+
+fn rust_build(y: &Year) {
+    black_box(oracle::build(&y.rust_lines));
+}
+
+pub fn builds(clock: &Clock, years: &[Year]) {
+    clock.head("Build: the port clears what it is lent, the Rust allocates cleared tables. The port also checks every coordinate.");
+    for y in years {
+        let g = y.built.grid();
+        println!("  {} lines: {} by {} cells, {} items, {} globals", y.n, g.cols, g.rows, y.items.len(), y.globals.len());
+        let mut lent = Lent::new(y);
+        clock.both(&format!("{} lines", y.n), "line", y.n, BAR, &mut || port_build(y, &mut lent), &mut || rust_build(y));
+        assert!(lent.offsets == y.offsets && lent.items == y.items && lent.globals == y.globals, "the tables of {} lines", y.n);
+    }
+    for pair in years.windows(2) {
+        let (few, many) = (&pair[0], &pair[1]);
+        let (mut a, mut b) = (Lent::new(few), Lent::new(many));
+        clock.growth(
+            &format!("growth, {} to {} lines", few.n, many.n), &format!("{:.2} times the lines", many.n as f64 / few.n as f64),
+            [&mut || port_build(few, &mut a), &mut || port_build(many, &mut b)],
+            [&mut || rust_build(few), &mut || rust_build(many)],
+        );
+    }
+}
+
+/// A pair of output slices.
+struct Pairs {
+    first: Vec<u32>,
+    second: Vec<u32>,
+}
+
+impl Pairs {
+    fn new(room: usize) -> Self {
+        Pairs { first: vec![0; room], second: vec![0; room] }
+    }
+}
+
+/// All batches of the port from the first bookmark to the end. Answers the overlaps.
+fn port_visit(y: &Year, pairs: &mut Pairs) -> u64 {
+    let standing = y.standing();
+    let (mut at, mut overlaps, mut out) = (0, 0, [0u64; 3]);
+    while at < y.tests {
+        assert_eq!(port::batch(&standing, at, &mut pairs.first, &mut pairs.second, &mut out), 0);
+        black_box(&*pairs);
+        overlaps += out[1];
+        at = out[2];
+    }
+    overlaps
+}
+
+/// A visit of the Rust that only counts the pairs.
+fn rust_counted(y: &Year) -> u64 {
+    let mut count = 0;
+    y.built.visit_each(&y.rust_lines, |_, _| count += 1);
+    count
+}
+
+/// A visit of the Rust that stores the pairs, and begins again where the output is full. Cleared, the output holds zero beyond the last pairs,
+/// as the port's does.
+fn rust_stored(y: &Year, pairs: &mut Pairs, cleared: bool) {
+    let (first, second) = (&mut pairs.first[..], &mut pairs.second[..]);
+    let mut k = 0;
+    y.built.visit_each(&y.rust_lines, |i, j| {
+        if k == first.len() {
+            black_box((&*first, &*second));
+            k = 0;
+        }
+        first[k] = i as u32;
+        second[k] = j as u32;
+        k += 1;
+    });
+    if cleared {
+        first[k..].fill(0);
+        second[k..].fill(0);
+    }
+    black_box((&*first, &*second));
+}
+
+pub fn visits(clock: &Clock, years: &[Year]) {
+    clock.head(
+        "Visit: each call of the port checks lines, grid and tables, seeks its bookmark, and leaves zero beyond its pairs. The Rust makes its boxes once and checks nothing.\n  \
+         Outputs cleared on both sides: the Rust, too, stores the pairs and leaves zero beyond the last; the bar speaks of this. In brackets the same time of the port\n  \
+         against a Rust that leaves what stood beyond its pairs (stored), and against one that only counts them (counted).",
+    );
+    for y in years {
+        println!("  {} lines: {} tests, {} overlaps", y.n, y.tests, y.overlaps);
+        for room in ROOMS {
+            let [mut of_port, mut cleared, mut stored] = [(); 3].map(|_| Pairs::new(room));
+            let times = clock.turns(&mut [
+                &mut || assert_eq!(port_visit(y, &mut of_port), y.overlaps),
+                &mut || rust_stored(y, &mut cleared, true),
+                &mut || rust_stored(y, &mut stored, false),
+                &mut || { black_box(rust_counted(y)); },
+            ]);
+            if y.overlaps <= room as u64 {
+                assert!(of_port.first == cleared.first && of_port.second == cleared.second, "the pairs of {} lines", y.n);
+            }
+            let bar = if room == ROOMS[2] && y.n >= 8192 { BAR } else { None };
+            clock.show(&format!("{} lines, output of {room}", y.n), "test", y.tests as usize, bar, &times, &["stored", "counted"]);
+        }
+    }
+    for pair in years.windows(2) {
+        let (few, many) = (&pair[0], &pair[1]);
+        // outputs that just hold the pairs: one call, and nothing to clear
+        let [mut a, mut b, mut c, mut d] = [few, many, few, many].map(|y| Pairs::new(y.overlaps as usize));
+        clock.growth(
+            &format!("growth, {} to {} lines, output full", few.n, many.n), &format!("{:.2} times the tests", many.tests as f64 / few.tests as f64),
+            [&mut || { port_visit(few, &mut a); }, &mut || { port_visit(many, &mut b); }],
+            [&mut || rust_stored(few, &mut c, true), &mut || rust_stored(many, &mut d, true)],
+        );
+    }
+}
+
+/// Bytes that each side uses for a build and then a visit of all pairs. What the Rust allocates is counted while it runs.
+pub fn memory(clock: &Clock, y: &Year) {
+    clock.head(&format!("Memory at {} lines, bytes: a build, and then a visit of all pairs", y.n));
+    let word = std::mem::size_of::<u32>();
+    let coordinates = 4 * y.n * std::mem::size_of::<f64>();
+    let tables = word * (y.offsets.len() + y.items.len() + y.globals.len());
+    let port_build = coordinates + tables + word * SCRATCH;
+    println!("  port: coordinates {coordinates}, tables {tables}, scratch of the build {}; it allocates nothing", word * SCRATCH);
+    let lines = y.rust_lines.bytes();
+    let (building, built) = heap::peak(|| oracle::build(&y.rust_lines));
+    let kept = built.bytes();
+    let (boxes, _) = heap::peak(|| rust_counted(y));
+    println!("  Rust: lines {lines} ({} each, with z and an id), {building} more at the peak of the build, tables kept {kept}, boxes of the visit {boxes}", lines / y.n);
+    let rust_build = lines + building;
+    println!("  {:<44} port {port_build:>9}  Rust {rust_build:>9}            port/Rust {:.3}", "build", port_build as f64 / rust_build as f64);
+    for room in ROOMS {
+        // pairs are stored alike on both sides
+        let output = 2 * word * room;
+        let (port, rust) = (coordinates + tables + output, lines + kept + boxes + output);
+        println!("  {:<44} port {port:>9}  Rust {rust:>9}            port/Rust {:.3}", format!("visit, output of {room} on both sides"), port as f64 / rust as f64);
+        let (port, rust) = (port.max(port_build), rust.max(rust_build));
+        let ratio = port as f64 / rust as f64;
+        let bar = if room == ROOMS[0] { MEMORY_BAR } else { None };
+        println!("  {:<44} port {port:>9}  Rust {rust:>9}            port/Rust {ratio:.3}{}", "  peak over both stages", clock.held(ratio, bar));
+    }
+}

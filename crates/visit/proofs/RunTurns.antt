@@ -44,28 +44,40 @@ module _ (n m : ℕ) (globals : List ℕ) (p q k : ℕ) (r : GlobalAt) (f : Glob
 
 -- ---- a cell that was found: its list as a part of the items
 
+-- a row of a cell's list, where the list is the part of the items from one offset to the next
+pub record PartOf (offsets items : List ℕ) (a b d from to : ℕ) : Type 0 where
+  pub rises : from ≤ to
+  pub within : to ≤ length items
+  pub is : take (to - from) (drop from items) ≡ listIn offsets items a
+  pub long : length (listIn offsets items a) ≡ to - from
+  pub later : d < length (listIn offsets items a)
+  pub first : b < length (listIn offsets items a)
+
 module _ (m : ℕ) (offsets items : List ℕ) (t : CellsFit m offsets items) (cell i j a b d : ℕ) (f : CellIs m offsets items cell i j a b d)
     (from to : ℕ) (ef : from ≡ getD offsets a 0) (et : to ≡ getD offsets (a + 1) 0) where
   to-is : getD offsets (suc a) 0 ≡ to
   to-is = sym (et ∙ rw add-one)
 
-  pub part-from : from ≤ to
-  part-from = omega (arith, to-is, t .rises a (f .inside))
-
-  pub part-to : to ≤ length items
-  part-to = omega (arith, to-is, t .within (suc a) (f .inside))
-
-  pub part-is : take (to - from) (drop from items) ≡ listIn offsets items a
-  part-is = part-slice from to items ∙ rw (ef, to-is)
-
-  pub part-long : length (listIn offsets items a) ≡ to - from
+  part-long : length (listIn offsets items a) ≡ to - from
   part-long = length-list m offsets items t a (f .inside) ∙ rw (to-is, ← ef)
 
-  pub later-in : d < length (listIn offsets items a)
+  later-in : d < length (listIn offsets items a)
   later-in = omega (arith, part-long, to-is, f .one)
 
-  pub first-in : b < length (listIn offsets items a)
-  first-in = omega (arith, later-in, f .fits .later)
+  pub part-of : PartOf offsets items a b d from to
+  part-of =
+      record {
+        rises = omega (arith, to-is, t .rises a (f .inside));
+        within = omega (arith, to-is, t .within (suc a) (f .inside));
+        is = part-slice from to items ∙ rw (ef, to-is);
+        long = part-long;
+        later = later-in;
+        first = omega (arith, later-in, f .fits .later);
+      }
+
+-- the row of an entry of such a part
+pub row-is : (ls : Lines) (pl pl′ : Place) (xs ys : List ℕ) (b : ℕ) (row : Row) → row ≡ rowOf ls pl (getD xs b 0) → pl ≡ pl′ → xs ≡ ys → row ≡ rowOf ls pl′ (getD ys b 0)
+row-is ls pl pl′ xs ys b row e p q = e ∙ rw (p, q)
 
 -- ---- the run through the cells
 

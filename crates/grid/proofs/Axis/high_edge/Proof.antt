@@ -9,7 +9,7 @@ low-edge-requires c κs = search needs
 
 returns : tie.Need-returns
 unfolding highOn
-returns c = cc
+returns c = rw (c .before .low-edge .ensures)
 
 pub high-edge-spec : {M : Type 1} → statement M
 high-edge-spec = tie.close (tie.spec low-edge-requires returns)

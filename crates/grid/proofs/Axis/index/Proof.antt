@@ -12,7 +12,7 @@ clamped-floor-requires c κs = search needs
 
 returns : tie.Need-returns
 unfolding indexOn
-returns c = cc
+returns c = rw (← c .before .scaled .ensures) (c .clamped-floor .ensures)
 
 pub index-spec : {M : Type 1} → statement M
 index-spec = tie.close (tie.spec scaled-requires clamped-floor-requires returns)

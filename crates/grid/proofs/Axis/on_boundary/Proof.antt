@@ -12,7 +12,7 @@ near-whole-requires c κs = search needs
 
 returns : tie.Need-returns
 unfolding boundaryOn
-returns c = cc
+returns c = rw (← c .before .scaled .ensures) (c .near-whole .ensures)
 
 pub on-boundary-spec : {M : Type 1} → statement M
 on-boundary-spec = tie.close (tie.spec scaled-requires near-whole-requires returns)

@@ -13,7 +13,7 @@ magnitude-requires c κs = search needs
 
 returns : tie.Need-returns
 unfolding nearWhole ofBits round
-returns c = cc
+returns c = rw (c .magnitude .ensures, c .before .round-half-away .ensures)
 
 pub near-whole-spec : {M : Type 1} → statement M
 near-whole-spec = tie.close (tie.spec round-half-away-requires magnitude-requires returns)

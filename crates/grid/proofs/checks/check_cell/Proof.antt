@@ -12,7 +12,7 @@ refuse-unless-requires c κs = search needs
 
 returns : tie.Need-returns
 unfolding cellCheck
-returns c = cc
+returns c = rw (← c .before .is-cell .ensures) (c .refuse-unless .ensures)
 
 pub check-cell-spec : {M : Type 1} → statement M
 check-cell-spec = tie.close (tie.spec is-cell-requires refuse-unless-requires returns)

@@ -9,7 +9,7 @@ refuse-unless-requires c κs = search needs
 
 returns : tie.Need-returns
 unfolding countCheck
-returns c = cc
+returns c = c .refuse-unless .ensures
 
 pub check-count-spec : {M : Type 1} → statement M
 check-count-spec = tie.close (tie.spec refuse-unless-requires returns)

@@ -12,7 +12,7 @@ refuse-unless-requires c κs = search needs
 
 returns : tie.Need-returns
 unfolding gridCheck
-returns c = cc
+returns c = rw (← c .before .is-fit .ensures) (c .refuse-unless .ensures)
 
 pub check-grid-spec : {M : Type 1} → statement M
 check-grid-spec = tie.close (tie.spec is-fit-requires refuse-unless-requires returns)

@@ -12,7 +12,7 @@ refuse-unless-requires c κs = search needs
 
 returns : tie.Need-returns
 unfolding lengthsCheck
-returns c = cc
+returns c = rw (← c .before .all-are .ensures) (c .refuse-unless .ensures)
 
 pub check-lengths-spec : {M : Type 1} → statement M
 check-lengths-spec = tie.close (tie.spec all-are-requires refuse-unless-requires returns)

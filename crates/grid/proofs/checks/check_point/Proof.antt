@@ -12,7 +12,7 @@ refuse-unless-requires c κs = search needs
 
 returns : tie.Need-returns
 unfolding pointCheck
-returns c = cc
+returns c = rw (← c .before .is-point .ensures) (c .refuse-unless .ensures)
 
 pub check-point-spec : {M : Type 1} → statement M
 check-point-spec = tie.close (tie.spec is-point-requires refuse-unless-requires returns)

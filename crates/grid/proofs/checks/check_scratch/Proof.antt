@@ -9,7 +9,7 @@ refuse-unless-requires c κs = search needs
 
 returns : tie.Need-returns
 unfolding scratchCheck
-returns c = cc
+returns c = c .refuse-unless .ensures
 
 pub check-scratch-spec : {M : Type 1} → statement M
 check-scratch-spec = tie.close (tie.spec refuse-unless-requires returns)

@@ -12,7 +12,7 @@ refuse-unless-requires c κs = search needs
 
 returns : tie.Need-returns
 unfolding segmentCheck
-returns c = cc
+returns c = rw (← c .before .is-segment .ensures) (c .refuse-unless .ensures)
 
 pub check-segment-spec : {M : Type 1} → statement M
 check-segment-spec = tie.close (tie.spec is-segment-requires refuse-unless-requires returns)

@@ -12,7 +12,7 @@ refuse-unless-requires c κs = search needs
 
 returns : tie.Need-returns
 unfolding snapCheck
-returns c = cc
+returns c = rw (← c .before .is-snap .ensures) (c .refuse-unless .ensures)
 
 pub check-snap-spec : {M : Type 1} → statement M
 check-snap-spec = tie.close (tie.spec is-snap-requires refuse-unless-requires returns)

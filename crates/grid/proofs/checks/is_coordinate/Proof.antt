@@ -10,7 +10,7 @@ magnitude-requires c κs = search needs
 
 returns : tie.Need-returns
 unfolding coordinate ofBits round
-returns c = cc
+returns c = rw (c .magnitude .ensures)
 
 pub is-coordinate-spec : {M : Type 1} → statement M
 is-coordinate-spec = tie.close (tie.spec magnitude-requires returns)

@@ -15,7 +15,7 @@ is-shape-requires c κs = search needs
 
 returns : tie.Need-returns
 unfolding fit
-returns c = rw (← c .before .before .before .before .is-point .ensures, c .before .before .before .if1 .taken, ← c .before .before .is-cell-size .ensures, c .before .if2 .taken) (cc)
+returns c = rw (← c .before .before .before .before .is-point .ensures, c .before .before .before .if1 .taken, ← c .before .before .is-cell-size .ensures, c .before .if2 .taken) (c .is-shape .ensures)
 
 returns-2 : tie.Need-returns-2
 unfolding fit

@@ -12,7 +12,7 @@ is-coordinate-requires-2 c κs = search needs
 
 returns : tie.Need-returns
 unfolding point
-returns c = rw (← c .before .before .is-coordinate .ensures, c .before .if1 .taken) (cc)
+returns c = rw (← c .before .before .is-coordinate .ensures, c .before .if1 .taken) (c .is-coordinate2 .ensures)
 
 returns-2 : tie.Need-returns-2
 unfolding point

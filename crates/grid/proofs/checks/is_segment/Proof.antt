@@ -12,7 +12,7 @@ is-point-requires-2 c κs = search needs
 
 returns : tie.Need-returns
 unfolding segment
-returns c = rw (← c .before .before .is-point .ensures, c .before .if1 .taken) (cc)
+returns c = rw (← c .before .before .is-point .ensures, c .before .if1 .taken) (c .is-point2 .ensures)
 
 returns-2 : tie.Need-returns-2
 unfolding segment

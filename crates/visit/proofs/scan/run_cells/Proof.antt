@@ -1,14 +1,15 @@
 -- `visit::scan::run_cells` meets its contract. The invariant: what a batch of the cells' tests makes is what was made and what a batch of the rest makes. Assumes nothing.
-use mathlib.Core.Path.{_≡_, refl, sym, ap, _∙_}
+use mathlib.Core.Path.{_≡_, refl, ap}
 use mathlib.Core.List.{List}
 use Prim.Native.Nat.{ℕ, _-_, _<_}
 use native.Mathlib.Omega.{arith}
 use borrow.Author.Needs.{needs}
-use lib.ListN.{length, getD}
+use lib.ListN.{length, getD, take, drop}
 use Rattle.grid.specs.Domain.{lines}
+use Rattle.tables.specs.Tables.{listIn}
 use Rattle.visit.specs.Inside.{cellsRest, CellIs, rowOf}
 use Rattle.visit.specs.Tests.{placeOf}
-use Rattle.visit.proofs.RunTurns.{cell-at, cell-past, part-from, part-to, part-is, part-long, later-in, first-in, CellsRun, cells-run, cells-long, cells-long-2, cells-full, cells-over, row-asks, list-asks, cells-turn, cells-less, cells-small}
+use Rattle.visit.proofs.RunTurns.{cell-at, cell-past, PartOf, part-of, row-is, CellsRun, cells-run, cells-long, cells-long-2, cells-full, cells-over, row-asks, list-asks, cells-turn, cells-less, cells-small}
 use Rattle.visit.proofs.scan.run_cells.Statement.{statement}
 use Rattle.visit.proofs.scan.run_cells.Tie as tie
 use Rattle.visit.proofs.scan.run_cells.Reads as reads
@@ -38,6 +39,29 @@ found c =
     let l = c .before .before .before .before .loop in
     let f = c .c .given .0 in
     cell-at (a .cells) (a .offsets .now) (a .items .now) (l .cell) (l .i) (l .j) _ (c .before .before .settle-cell .ensures) (f .0) (f .1 .0) (f .1 .1 .0) (c .c .given .1)
+
+-- its list, as the part of the items
+part : (c : tie.After-wide2 Inv-loop μ-loop)
+    → let a = c .before .before .before .before .before .before .before .before .before .before .before .before .before .before .before .before .before .before .args in
+    let f = c .before .before .before .before .before .c .given .0 in
+    PartOf (a .offsets .now) (a .items .now) (f .0) (f .1 .0) (f .1 .1 .0) (c .before .before .wide .result) (c .wide2 .result)
+part c =
+    let a = c .before .before .before .before .before .before .before .before .before .before .before .before .before .before .before .before .before .before .args in
+    let l = c .before .before .before .before .before .before .before .before .before .loop in
+    let f = c .before .before .before .before .before .c .given .0 in
+    part-of (a .cells) (a .offsets .now) (a .items .now) (c .before .before .before .before .before .before .before .before .before .before .before .before .before .before .before .before .before .before .pre .table) (l .cell) (l .i) (l .j) (f .0) (f .1 .0) (f .1 .1 .0) (found (c .before .before .before .before .before)) (c .before .before .wide .result) (c .wide2 .result) (c .before .before .wide .ensures) (c .wide2 .ensures)
+
+-- its row
+row : (c : tie.After-row-of Inv-loop μ-loop)
+    → let a = c .before .before .before .before .before .before .before .before .before .before .before .before .before .before .before .before .before .before .before .before .before .before .args in
+    let f = c .before .before .before .before .before .before .before .before .before .c .given .0 in
+    c .row-of .result ≡ rowOf (lines (a .start-x .now) (a .start-y .now) (a .end-x .now) (a .end-y .now)) (placeOf (a .cols) (f .0)) (getD (listIn (a .offsets .now) (a .items .now) (f .0)) (f .1 .0) 0)
+row c =
+    let a = c .before .before .before .before .before .before .before .before .before .before .before .before .before .before .before .before .before .before .before .before .before .before .args in
+    let f = c .before .before .before .before .before .before .before .before .before .c .given .0 in
+    let from = c .before .before .before .before .before .before .wide .result in
+    let to = c .before .before .before .before .wide2 .result in
+    row-is (lines (a .start-x .now) (a .start-y .now) (a .end-x .now) (a .end-y .now)) (c .before .before .place-of .result) (placeOf (a .cols) (f .0)) (take (to - from) (drop from (a .items .now))) (listIn (a .offsets .now) (a .items .now) (f .0)) (f .1 .0) (c .row-of .result) (c .row-of .ensures) (c .before .before .place-of .ensures) (part (c .before .before .before .before) .is)
 
 loop-holds : tie.Need-loop-holds Inv-loop μ-loop
 loop-holds c =
@@ -75,40 +99,16 @@ wide-requires-2 : tie.Need-wide-requires-2 Inv-loop μ-loop
 wide-requires-2 c κs = tt
 
 mul-list : tie.Need-mul-list Inv-loop μ-loop
-mul-list c =
-    let a = c .before .before .before .before .before .before .before .before .before .before .before .before .before .before .before .before .before .before .args in
-    let l = c .before .before .before .before .before .before .before .before .before .loop in
-    let f = c .before .before .before .before .before .c .given .0 in
-    let p = c .before .before .before .before .before .before .before .before .before .before .before .before .before .before .before .before .before .before .pre in
-    let ls = lines (a .start-x .now) (a .start-y .now) (a .end-x .now) (a .end-y .now) in
-    omega (arith, part-from (a .cells) (a .offsets .now) (a .items .now) (p .table) (l .cell) (l .i) (l .j) (f .0) (f .1 .0) (f .1 .1 .0) (found (c .before .before .before .before .before)) (c .before .before .wide .result) (c .wide2 .result) (c .before .before .wide .ensures) (c .wide2 .ensures), part-to (a .cells) (a .offsets .now) (a .items .now) (p .table) (l .cell) (l .i) (l .j) (f .0) (f .1 .0) (f .1 .1 .0) (found (c .before .before .before .before .before)) (c .before .before .wide .result) (c .wide2 .result) (c .before .before .wide .ensures) (c .wide2 .ensures), c .before .before .before .before .before .before .before .before .before .before .before .before .before .before .before .before .before .before .good .1 .1 .1 .0)
+mul-list c = omega (arith, part c .rises, part c .within, c .before .before .before .before .before .before .before .before .before .before .before .before .before .before .before .before .before .before .good .1 .1 .1 .0)
 
 sub-list : tie.Need-sub-list Inv-loop μ-loop
-sub-list c =
-    let a = c .before .before .before .before .before .before .before .before .before .before .before .before .before .before .before .before .before .before .args in
-    let l = c .before .before .before .before .before .before .before .before .before .loop in
-    let f = c .before .before .before .before .before .c .given .0 in
-    let p = c .before .before .before .before .before .before .before .before .before .before .before .before .before .before .before .before .before .before .pre in
-    let ls = lines (a .start-x .now) (a .start-y .now) (a .end-x .now) (a .end-y .now) in
-    part-from (a .cells) (a .offsets .now) (a .items .now) (p .table) (l .cell) (l .i) (l .j) (f .0) (f .1 .0) (f .1 .1 .0) (found (c .before .before .before .before .before)) (c .before .before .wide .result) (c .wide2 .result) (c .before .before .wide .ensures) (c .wide2 .ensures)
+sub-list c = part c .rises
 
 part-list-start : tie.Need-part-list-start Inv-loop μ-loop
-part-list-start c =
-    let a = c .before .before .before .before .before .before .before .before .before .before .before .before .before .before .before .before .before .before .args in
-    let l = c .before .before .before .before .before .before .before .before .before .loop in
-    let f = c .before .before .before .before .before .c .given .0 in
-    let p = c .before .before .before .before .before .before .before .before .before .before .before .before .before .before .before .before .before .before .pre in
-    let ls = lines (a .start-x .now) (a .start-y .now) (a .end-x .now) (a .end-y .now) in
-    part-from (a .cells) (a .offsets .now) (a .items .now) (p .table) (l .cell) (l .i) (l .j) (f .0) (f .1 .0) (f .1 .1 .0) (found (c .before .before .before .before .before)) (c .before .before .wide .result) (c .wide2 .result) (c .before .before .wide .ensures) (c .wide2 .ensures)
+part-list-start c = part c .rises
 
 part-list-end : tie.Need-part-list-end Inv-loop μ-loop
-part-list-end c =
-    let a = c .before .before .before .before .before .before .before .before .before .before .before .before .before .before .before .before .before .before .args in
-    let l = c .before .before .before .before .before .before .before .before .before .loop in
-    let f = c .before .before .before .before .before .c .given .0 in
-    let p = c .before .before .before .before .before .before .before .before .before .before .before .before .before .before .before .before .before .before .pre in
-    let ls = lines (a .start-x .now) (a .start-y .now) (a .end-x .now) (a .end-y .now) in
-    part-to (a .cells) (a .offsets .now) (a .items .now) (p .table) (l .cell) (l .i) (l .j) (f .0) (f .1 .0) (f .1 .1 .0) (found (c .before .before .before .before .before)) (c .before .before .wide .result) (c .wide2 .result) (c .before .before .wide .ensures) (c .wide2 .ensures)
+part-list-end c = part c .within
 
 cast-place-of : tie.Need-cast-place-of Inv-loop μ-loop
 cast-place-of c = omega (arith, (found (c .before .before .before .before .before .before)) .inside, c .before .before .before .before .before .before .before .before .before .before .before .before .before .before .before .before .before .before .before .pre .few)
@@ -118,21 +118,11 @@ place-of-requires c κs = c .before .before .before .before .before .before .bef
 
 mul-row-of : tie.Need-mul-row-of Inv-loop μ-loop
 mul-row-of c =
-    let a = c .before .before .before .before .before .before .before .before .before .before .before .before .before .before .before .before .before .before .before .before .args in
-    let l = c .before .before .before .before .before .before .before .before .before .before .before .loop in
-    let f = c .before .before .before .before .before .before .before .c .given .0 in
-    let p = c .before .before .before .before .before .before .before .before .before .before .before .before .before .before .before .before .before .before .before .before .pre in
-    let ls = lines (a .start-x .now) (a .start-y .now) (a .end-x .now) (a .end-y .now) in
-    omega (arith, first-in (a .cells) (a .offsets .now) (a .items .now) (p .table) (l .cell) (l .i) (l .j) (f .0) (f .1 .0) (f .1 .1 .0) (found (c .before .before .before .before .before .before .before)) (c .before .before .before .before .wide .result) (c .before .before .wide2 .result) (c .before .before .before .before .wide .ensures) (c .before .before .wide2 .ensures), part-long (a .cells) (a .offsets .now) (a .items .now) (p .table) (l .cell) (l .i) (l .j) (f .0) (f .1 .0) (f .1 .1 .0) (found (c .before .before .before .before .before .before .before)) (c .before .before .before .before .wide .result) (c .before .before .wide2 .result) (c .before .before .before .before .wide .ensures) (c .before .before .wide2 .ensures), part-to (a .cells) (a .offsets .now) (a .items .now) (p .table) (l .cell) (l .i) (l .j) (f .0) (f .1 .0) (f .1 .1 .0) (found (c .before .before .before .before .before .before .before)) (c .before .before .before .before .wide .result) (c .before .before .wide2 .result) (c .before .before .before .before .wide .ensures) (c .before .before .wide2 .ensures), c .before .before .before .before .before .before .before .before .before .before .before .before .before .before .before .before .before .before .before .before .good .1 .1 .1 .0)
+    let h = part (c .before .before) in
+    omega (arith, h .first, h .long, h .within, c .before .before .before .before .before .before .before .before .before .before .before .before .before .before .before .before .before .before .before .before .good .1 .1 .1 .0)
 
 shared-slice-read-row-of : tie.Need-shared-slice-read-row-of Inv-loop μ-loop
-shared-slice-read-row-of c =
-    let a = c .before .before .before .before .before .before .before .before .before .before .before .before .before .before .before .before .before .before .before .before .before .args in
-    let l = c .before .before .before .before .before .before .before .before .before .before .before .before .loop in
-    let f = c .before .before .before .before .before .before .before .before .c .given .0 in
-    let p = c .before .before .before .before .before .before .before .before .before .before .before .before .before .before .before .before .before .before .before .before .before .pre in
-    let ls = lines (a .start-x .now) (a .start-y .now) (a .end-x .now) (a .end-y .now) in
-    rw (part-is (a .cells) (a .offsets .now) (a .items .now) (p .table) (l .cell) (l .i) (l .j) (f .0) (f .1 .0) (f .1 .1 .0) (found (c .before .before .before .before .before .before .before .before)) (c .before .before .before .before .before .wide .result) (c .before .before .before .wide2 .result) (c .before .before .before .before .before .wide .ensures) (c .before .before .before .wide2 .ensures)) (first-in (a .cells) (a .offsets .now) (a .items .now) (p .table) (l .cell) (l .i) (l .j) (f .0) (f .1 .0) (f .1 .1 .0) (found (c .before .before .before .before .before .before .before .before)) (c .before .before .before .before .before .wide .result) (c .before .before .before .wide2 .result) (c .before .before .before .before .before .wide .ensures) (c .before .before .before .wide2 .ensures))
+shared-slice-read-row-of c = rw (part (c .before .before .before) .is) (part (c .before .before .before) .first)
 
 row-of-requires : tie.Need-row-of-requires Inv-loop μ-loop
 row-of-requires c κs =
@@ -141,7 +131,8 @@ row-of-requires c κs =
     let f = c .before .before .before .before .before .before .before .before .c .given .0 in
     let p = c .before .before .before .before .before .before .before .before .before .before .before .before .before .before .before .before .before .before .before .before .before .pre in
     let ls = lines (a .start-x .now) (a .start-y .now) (a .end-x .now) (a .end-y .now) in
-    row-asks ls (a .cols) (a .cells) (a .offsets .now) (a .items .now) (a .cell) (a .i) (a .j) (a .first .now) (a .second .now) p (l .first) (l .second) (l .cell) (l .i) (l .j) (l .tests) (l .hits) (l .inv) (f .0) (f .1 .0) (f .1 .1 .0) (found (c .before .before .before .before .before .before .before .before)) _ (ap (λ (xs : List ℕ). getD xs (f .1 .0) 0) (part-is (a .cells) (a .offsets .now) (a .items .now) (p .table) (l .cell) (l .i) (l .j) (f .0) (f .1 .0) (f .1 .1 .0) (found (c .before .before .before .before .before .before .before .before)) (c .before .before .before .before .before .wide .result) (c .before .before .before .wide2 .result) (c .before .before .before .before .before .wide .ensures) (c .before .before .before .wide2 .ensures))) (first-in (a .cells) (a .offsets .now) (a .items .now) (p .table) (l .cell) (l .i) (l .j) (f .0) (f .1 .0) (f .1 .1 .0) (found (c .before .before .before .before .before .before .before .before)) (c .before .before .before .before .before .wide .result) (c .before .before .before .wide2 .result) (c .before .before .before .before .before .wide .ensures) (c .before .before .before .wide2 .ensures))
+    let h = part (c .before .before .before) in
+    row-asks ls (a .cols) (a .cells) (a .offsets .now) (a .items .now) (a .cell) (a .i) (a .j) (a .first .now) (a .second .now) p (l .first) (l .second) (l .cell) (l .i) (l .j) (l .tests) (l .hits) (l .inv) (f .0) (f .1 .0) (f .1 .1 .0) (found (c .before .before .before .before .before .before .before .before)) _ (ap (λ (xs : List ℕ). getD xs (f .1 .0) 0) (h .is)) (h .first)
 
 scan-list-requires : tie.Need-scan-list-requires Inv-loop μ-loop
 scan-list-requires c κs =
@@ -150,7 +141,8 @@ scan-list-requires c κs =
     let f = c .before .before .before .before .before .before .before .before .before .before .before .c .given .0 in
     let p = c .before .before .before .before .before .before .before .before .before .before .before .before .before .before .before .before .before .before .before .before .before .before .before .before .pre in
     let ls = lines (a .start-x .now) (a .start-y .now) (a .end-x .now) (a .end-y .now) in
-    list-asks ls (a .cols) (a .cells) (a .offsets .now) (a .items .now) (a .cell) (a .i) (a .j) (a .first .now) (a .second .now) p (l .first) (l .second) (l .cell) (l .i) (l .j) (l .tests) (l .hits) (l .inv) (f .0) (f .1 .0) (f .1 .1 .0) (found (c .before .before .before .before .before .before .before .before .before .before .before)) _ (c .before .before .row-of .ensures ∙ rw (c .before .before .before .before .place-of .ensures, part-is (a .cells) (a .offsets .now) (a .items .now) (p .table) (l .cell) (l .i) (l .j) (f .0) (f .1 .0) (f .1 .1 .0) (found (c .before .before .before .before .before .before .before .before .before .before .before)) (c .before .before .before .before .before .before .before .before .wide .result) (c .before .before .before .before .before .before .wide2 .result) (c .before .before .before .before .before .before .before .before .wide .ensures) (c .before .before .before .before .before .before .wide2 .ensures))) _ (part-is (a .cells) (a .offsets .now) (a .items .now) (p .table) (l .cell) (l .i) (l .j) (f .0) (f .1 .0) (f .1 .1 .0) (found (c .before .before .before .before .before .before .before .before .before .before .before)) (c .before .before .before .before .before .before .before .before .wide .result) (c .before .before .before .before .before .before .wide2 .result) (c .before .before .before .before .before .before .before .before .wide .ensures) (c .before .before .before .before .before .before .wide2 .ensures)) (omega (arith, later-in (a .cells) (a .offsets .now) (a .items .now) (p .table) (l .cell) (l .i) (l .j) (f .0) (f .1 .0) (f .1 .1 .0) (found (c .before .before .before .before .before .before .before .before .before .before .before)) (c .before .before .before .before .before .before .before .before .wide .result) (c .before .before .before .before .before .before .wide2 .result) (c .before .before .before .before .before .before .before .before .wide .ensures) (c .before .before .before .before .before .before .wide2 .ensures))) (c .before .before .before .before .before .before .before .before .before .before .before .before .before .before .loop-test .taken)
+    let h = part (c .before .before .before .before .before .before) in
+    list-asks ls (a .cols) (a .cells) (a .offsets .now) (a .items .now) (a .cell) (a .i) (a .j) (a .first .now) (a .second .now) p (l .first) (l .second) (l .cell) (l .i) (l .j) (l .tests) (l .hits) (l .inv) (f .0) (f .1 .0) (f .1 .1 .0) (found (c .before .before .before .before .before .before .before .before .before .before .before)) (c .before .before .row-of .result) (row (c .before .before)) (take (c .before .before .before .before .before .before .wide2 .result - c .before .before .before .before .before .before .before .before .wide .result) (drop (c .before .before .before .before .before .before .before .before .wide .result) (a .items .now))) (h .is) (omega (arith, h .later)) (c .before .before .before .before .before .before .before .before .before .before .before .before .before .before .loop-test .taken)
 
 sub-tests : tie.Need-sub-tests Inv-loop μ-loop
 sub-tests c = c .before .before .before .before .before .scan-list .ensures .from
@@ -162,7 +154,7 @@ add-tests c =
     let f = c .before .before .before .before .before .before .before .before .before .before .before .before .before .before .before .before .before .c .given .0 in
     let p = c .before .before .before .before .before .before .before .before .before .before .before .before .before .before .before .before .before .before .before .before .before .before .before .before .before .before .before .before .before .before .pre in
     let ls = lines (a .start-x .now) (a .start-y .now) (a .end-x .now) (a .end-y .now) in
-    record { fits = cells-small ls (a .cols) (a .cells) (a .offsets .now) (a .items .now) (a .cell) (a .i) (a .j) (a .first .now) (a .second .now) p (l .first) (l .second) (l .cell) (l .i) (l .j) (l .tests) (l .hits) (l .inv) (f .0) (f .1 .0) (f .1 .1 .0) (found (c .before .before .before .before .before .before .before .before .before .before .before .before .before .before .before .before .before)) _ (c .before .before .before .before .before .before .before .before .row-of .ensures ∙ rw (c .before .before .before .before .before .before .before .before .before .before .place-of .ensures, part-is (a .cells) (a .offsets .now) (a .items .now) (p .table) (l .cell) (l .i) (l .j) (f .0) (f .1 .0) (f .1 .1 .0) (found (c .before .before .before .before .before .before .before .before .before .before .before .before .before .before .before .before .before)) (c .before .before .before .before .before .before .before .before .before .before .before .before .before .before .wide .result) (c .before .before .before .before .before .before .before .before .before .before .before .before .wide2 .result) (c .before .before .before .before .before .before .before .before .before .before .before .before .before .before .wide .ensures) (c .before .before .before .before .before .before .before .before .before .before .before .before .wide2 .ensures))) _ (part-is (a .cells) (a .offsets .now) (a .items .now) (p .table) (l .cell) (l .i) (l .j) (f .0) (f .1 .0) (f .1 .1 .0) (found (c .before .before .before .before .before .before .before .before .before .before .before .before .before .before .before .before .before)) (c .before .before .before .before .before .before .before .before .before .before .before .before .before .before .wide .result) (c .before .before .before .before .before .before .before .before .before .before .before .before .wide2 .result) (c .before .before .before .before .before .before .before .before .before .before .before .before .before .before .wide .ensures) (c .before .before .before .before .before .before .before .before .before .before .before .before .wide2 .ensures)) _ _ (c .before .before .before .before .before .scan-list .result) (c .before .before .before .before .before .scan-list .ensures) }
+    record { fits = cells-small ls (a .cols) (a .cells) (a .offsets .now) (a .items .now) (a .cell) (a .i) (a .j) (a .first .now) (a .second .now) p (l .first) (l .second) (l .cell) (l .i) (l .j) (l .tests) (l .hits) (l .inv) (f .0) (f .1 .0) (f .1 .1 .0) (found (c .before .before .before .before .before .before .before .before .before .before .before .before .before .before .before .before .before)) (c .before .before .before .before .before .before .before .before .row-of .result) (row (c .before .before .before .before .before .before .before .before)) (take (c .before .before .before .before .before .before .before .before .before .before .before .before .wide2 .result - c .before .before .before .before .before .before .before .before .before .before .before .before .before .before .wide .result) (drop (c .before .before .before .before .before .before .before .before .before .before .before .before .before .before .wide .result) (a .items .now))) (part (c .before .before .before .before .before .before .before .before .before .before .before .before) .is) _ _ (c .before .before .before .before .before .scan-list .result) (c .before .before .before .before .before .scan-list .ensures) }
 
 loop-less : tie.Need-loop-less Inv-loop μ-loop
 loop-less c =
@@ -171,7 +163,7 @@ loop-less c =
     let f = c .before .before .before .before .before .before .before .before .before .before .before .before .before .before .before .before .before .c .given .0 in
     let p = c .before .before .before .before .before .before .before .before .before .before .before .before .before .before .before .before .before .before .before .before .before .before .before .before .before .before .before .before .before .before .pre in
     let ls = lines (a .start-x .now) (a .start-y .now) (a .end-x .now) (a .end-y .now) in
-    cells-less ls (a .cols) (a .cells) (a .offsets .now) (a .items .now) (a .cell) (a .i) (a .j) (a .first .now) (a .second .now) p (l .first) (l .second) (l .cell) (l .i) (l .j) (l .tests) (l .hits) (l .inv) (f .0) (f .1 .0) (f .1 .1 .0) (found (c .before .before .before .before .before .before .before .before .before .before .before .before .before .before .before .before .before)) _ (c .before .before .before .before .before .before .before .before .row-of .ensures ∙ rw (c .before .before .before .before .before .before .before .before .before .before .place-of .ensures, part-is (a .cells) (a .offsets .now) (a .items .now) (p .table) (l .cell) (l .i) (l .j) (f .0) (f .1 .0) (f .1 .1 .0) (found (c .before .before .before .before .before .before .before .before .before .before .before .before .before .before .before .before .before)) (c .before .before .before .before .before .before .before .before .before .before .before .before .before .before .wide .result) (c .before .before .before .before .before .before .before .before .before .before .before .before .wide2 .result) (c .before .before .before .before .before .before .before .before .before .before .before .before .before .before .wide .ensures) (c .before .before .before .before .before .before .before .before .before .before .before .before .wide2 .ensures))) _ (part-is (a .cells) (a .offsets .now) (a .items .now) (p .table) (l .cell) (l .i) (l .j) (f .0) (f .1 .0) (f .1 .1 .0) (found (c .before .before .before .before .before .before .before .before .before .before .before .before .before .before .before .before .before)) (c .before .before .before .before .before .before .before .before .before .before .before .before .before .before .wide .result) (c .before .before .before .before .before .before .before .before .before .before .before .before .wide2 .result) (c .before .before .before .before .before .before .before .before .before .before .before .before .before .before .wide .ensures) (c .before .before .before .before .before .before .before .before .before .before .before .before .wide2 .ensures)) _ _ (c .before .before .before .before .before .scan-list .result) (c .before .before .before .before .before .scan-list .ensures) (later-in (a .cells) (a .offsets .now) (a .items .now) (p .table) (l .cell) (l .i) (l .j) (f .0) (f .1 .0) (f .1 .1 .0) (found (c .before .before .before .before .before .before .before .before .before .before .before .before .before .before .before .before .before)) (c .before .before .before .before .before .before .before .before .before .before .before .before .before .before .wide .result) (c .before .before .before .before .before .before .before .before .before .before .before .before .wide2 .result) (c .before .before .before .before .before .before .before .before .before .before .before .before .before .before .wide .ensures) (c .before .before .before .before .before .before .before .before .before .before .before .before .wide2 .ensures)) (c .before .before .before .before .before .before .before .before .before .before .before .before .before .before .before .before .before .before .before .before .loop-test .taken)
+    cells-less ls (a .cols) (a .cells) (a .offsets .now) (a .items .now) (a .cell) (a .i) (a .j) (a .first .now) (a .second .now) p (l .first) (l .second) (l .cell) (l .i) (l .j) (l .tests) (l .hits) (l .inv) (f .0) (f .1 .0) (f .1 .1 .0) (found (c .before .before .before .before .before .before .before .before .before .before .before .before .before .before .before .before .before)) (c .before .before .before .before .before .before .before .before .row-of .result) (row (c .before .before .before .before .before .before .before .before)) (take (c .before .before .before .before .before .before .before .before .before .before .before .before .wide2 .result - c .before .before .before .before .before .before .before .before .before .before .before .before .before .before .wide .result) (drop (c .before .before .before .before .before .before .before .before .before .before .before .before .before .before .wide .result) (a .items .now))) (part (c .before .before .before .before .before .before .before .before .before .before .before .before) .is) _ _ (c .before .before .before .before .before .scan-list .result) (c .before .before .before .before .before .scan-list .ensures) (part (c .before .before .before .before .before .before .before .before .before .before .before .before) .later) (c .before .before .before .before .before .before .before .before .before .before .before .before .before .before .before .before .before .before .before .before .loop-test .taken)
 
 loop-again : tie.Need-loop-again Inv-loop μ-loop
 loop-again c =
@@ -180,7 +172,7 @@ loop-again c =
     let f = c .before .before .before .before .before .before .before .before .before .before .before .before .before .before .before .before .before .c .given .0 in
     let p = c .before .before .before .before .before .before .before .before .before .before .before .before .before .before .before .before .before .before .before .before .before .before .before .before .before .before .before .before .before .before .pre in
     let ls = lines (a .start-x .now) (a .start-y .now) (a .end-x .now) (a .end-y .now) in
-    cells-turn ls (a .cols) (a .cells) (a .offsets .now) (a .items .now) (a .cell) (a .i) (a .j) (a .first .now) (a .second .now) p (l .first) (l .second) (l .cell) (l .i) (l .j) (l .tests) (l .hits) (l .inv) (f .0) (f .1 .0) (f .1 .1 .0) (found (c .before .before .before .before .before .before .before .before .before .before .before .before .before .before .before .before .before)) _ (c .before .before .before .before .before .before .before .before .row-of .ensures ∙ rw (c .before .before .before .before .before .before .before .before .before .before .place-of .ensures, part-is (a .cells) (a .offsets .now) (a .items .now) (p .table) (l .cell) (l .i) (l .j) (f .0) (f .1 .0) (f .1 .1 .0) (found (c .before .before .before .before .before .before .before .before .before .before .before .before .before .before .before .before .before)) (c .before .before .before .before .before .before .before .before .before .before .before .before .before .before .wide .result) (c .before .before .before .before .before .before .before .before .before .before .before .before .wide2 .result) (c .before .before .before .before .before .before .before .before .before .before .before .before .before .before .wide .ensures) (c .before .before .before .before .before .before .before .before .before .before .before .before .wide2 .ensures))) _ (part-is (a .cells) (a .offsets .now) (a .items .now) (p .table) (l .cell) (l .i) (l .j) (f .0) (f .1 .0) (f .1 .1 .0) (found (c .before .before .before .before .before .before .before .before .before .before .before .before .before .before .before .before .before)) (c .before .before .before .before .before .before .before .before .before .before .before .before .before .before .wide .result) (c .before .before .before .before .before .before .before .before .before .before .before .before .wide2 .result) (c .before .before .before .before .before .before .before .before .before .before .before .before .before .before .wide .ensures) (c .before .before .before .before .before .before .before .before .before .before .before .before .wide2 .ensures)) _ _ (c .before .before .before .before .before .scan-list .result) (c .before .before .before .before .before .scan-list .ensures)
+    cells-turn ls (a .cols) (a .cells) (a .offsets .now) (a .items .now) (a .cell) (a .i) (a .j) (a .first .now) (a .second .now) p (l .first) (l .second) (l .cell) (l .i) (l .j) (l .tests) (l .hits) (l .inv) (f .0) (f .1 .0) (f .1 .1 .0) (found (c .before .before .before .before .before .before .before .before .before .before .before .before .before .before .before .before .before)) (c .before .before .before .before .before .before .before .before .row-of .result) (row (c .before .before .before .before .before .before .before .before)) (take (c .before .before .before .before .before .before .before .before .before .before .before .before .wide2 .result - c .before .before .before .before .before .before .before .before .before .before .before .before .before .before .wide .result) (drop (c .before .before .before .before .before .before .before .before .before .before .before .before .before .before .wide .result) (a .items .now))) (part (c .before .before .before .before .before .before .before .before .before .before .before .before) .is) _ _ (c .before .before .before .before .before .scan-list .result) (c .before .before .before .before .before .scan-list .ensures)
 
 same-length : tie.Need-same-length Inv-loop μ-loop
 same-length c =

@@ -1,12 +1,14 @@
 -- `visit::scan::test_from` meets its contract. Assumes nothing.
-use mathlib.Core.Path.{_≡_, refl, sym, ap, _∙_}
+use mathlib.Core.Path.{_≡_, refl, ap, _∙_}
 use mathlib.Core.List.{List, []}
 use Prim.Native.Nat.{ℕ, _-_, _*_}
 use native.Mathlib.Omega.{arith}
-use lib.ListN.{length, getD}
+use lib.ListN.{length, getD, take, drop}
 use Rattle.grid.specs.Domain.{lines}
-use Rattle.visit.specs.Inside.{cellsRest, CellIs, GlobalIs}
-use Rattle.visit.proofs.RunTurns.{cell-at, cell-past, global-at, global-past, part-from, part-to, part-is, part-long, later-in, first-in}
+use Rattle.tables.specs.Tables.{listIn}
+use Rattle.visit.specs.Tests.{placeOf}
+use Rattle.visit.specs.Inside.{cellsRest, rowOf, CellAsks, CellIs, GlobalIs}
+use Rattle.visit.proofs.RunTurns.{cell-at, cell-past, global-at, global-past, PartOf, part-of, row-is}
 use Rattle.visit.proofs.RunWhole.{rows-cols, lines-few, m-few, m-wide, settle-asks, glide-asks, one-row, one-in, one-cell, one-none, one-in-globals, one-global-row, one-before, one-global}
 use borrow.Author.Needs.{needs}
 use Rattle.visit.proofs.scan.test_from.Statement.{statement}
@@ -48,6 +50,38 @@ line c =
     let f = c .line .given .0 in
     global-at (length (a .start-x .now)) (a .global-count) (a .globals .now) (a .cursor .p) (a .cursor .q) (a .cursor .k) _ (c .before .before .settle-global .ensures) (f .0) (f .1 .0) (f .1 .1 .0) (f .1 .1 .1 .0) (c .line .given .1)
 
+-- the cells as the code counts them
+area : (c : tie.After-wide2) → c .before .wide .result * c .wide2 .result ≡ c .before .before .before .before .before .before .before .before .before .args .grid .rows * c .before .before .before .before .before .before .before .before .before .args .grid .cols
+area c = rw (c .before .wide .ensures, c .wide2 .ensures)
+
+settles : (c : tie.After-wide2) → let a = c .before .before .before .before .before .before .before .before .before .args in CellAsks (c .before .wide .result * c .wide2 .result) (a .offsets .now) (a .items .now) (a .cursor .cell) (a .cursor .i) (a .cursor .j)
+settles c =
+    let a = c .before .before .before .before .before .before .before .before .before .args in
+    let ls = lines (a .start-x .now) (a .start-y .now) (a .end-x .now) (a .end-y .now) in
+    settle-asks ls (a .grid) (a .offsets .now) (a .items .now) (a .globals .now) (a .global-count) (a .cursor) (c .before .before .before .before .before .before .before .before .before .pre) (c .before .wide .result * c .wide2 .result) (area (c))
+
+-- the list of the cell that was found, as the part of the items
+part : (c : tie.After-wide4)
+    → let a = c .before .before .before .before .before .before .before .before .before .before .before .before .before .before .before .before .before .args in
+    let f = c .before .before .before .before .before .found .given .0 in
+    PartOf (a .offsets .now) (a .items .now) (f .0) (f .1 .0) (f .1 .1 .0) (c .before .before .wide3 .result) (c .wide4 .result)
+part c =
+    let a = c .before .before .before .before .before .before .before .before .before .before .before .before .before .before .before .before .before .args in
+    let f = c .before .before .before .before .before .found .given .0 in
+    part-of (c .before .before .before .before .before .before .before .before .before .wide .result * c .before .before .before .before .before .before .before .before .wide2 .result) (a .offsets .now) (a .items .now) (settles (c .before .before .before .before .before .before .before .before) .table) (a .cursor .cell) (a .cursor .i) (a .cursor .j) (f .0) (f .1 .0) (f .1 .1 .0) (found (c .before .before .before .before .before)) (c .before .before .wide3 .result) (c .wide4 .result) (c .before .before .wide3 .ensures) (c .wide4 .ensures)
+
+-- its row
+row : (c : tie.After-row-of)
+    → let a = c .before .before .before .before .before .before .before .before .before .before .before .before .before .before .before .before .before .before .before .before .before .args in
+    let f = c .before .before .before .before .before .before .before .before .before .found .given .0 in
+    c .row-of .result ≡ rowOf (lines (a .start-x .now) (a .start-y .now) (a .end-x .now) (a .end-y .now)) (placeOf (a .grid .cols) (f .0)) (getD (listIn (a .offsets .now) (a .items .now) (f .0)) (f .1 .0) 0)
+row c =
+    let a = c .before .before .before .before .before .before .before .before .before .before .before .before .before .before .before .before .before .before .before .before .before .args in
+    let f = c .before .before .before .before .before .before .before .before .before .found .given .0 in
+    let from = c .before .before .before .before .before .before .wide3 .result in
+    let to = c .before .before .before .before .wide4 .result in
+    row-is (lines (a .start-x .now) (a .start-y .now) (a .end-x .now) (a .end-y .now)) (c .before .before .place-of .result) (placeOf (a .grid .cols) (f .0)) (take (to - from) (drop from (a .items .now))) (listIn (a .offsets .now) (a .items .now) (f .0)) (f .1 .0) (c .row-of .result) (c .row-of .ensures) (c .before .before .place-of .ensures) (part (c .before .before .before .before) .is)
+
 wide-requires : tie.Need-wide-requires
 wide-requires c κs = search needs
 
@@ -61,131 +95,85 @@ mul-cells c =
     record { fits = rows-cols ls (a .grid) (a .offsets .now) (a .items .now) (a .globals .now) (a .global-count) (c .before .before .before .before .before .before .before .before .before .pre .fine) (c .before .wide .result) (c .wide2 .result) (c .before .wide .ensures) (c .wide2 .ensures) }
 
 settle-cell-requires : tie.Need-settle-cell-requires
-settle-cell-requires c κs =
-    let a = c .before .before .before .before .before .before .before .before .before .args in
-    let ls = lines (a .start-x .now) (a .start-y .now) (a .end-x .now) (a .end-y .now) in
-    settle-asks ls (a .grid) (a .offsets .now) (a .items .now) (a .globals .now) (a .global-count) (a .cursor) (c .before .before .before .before .before .before .before .before .before .pre) (c .before .wide .result * c .wide2 .result) (rw (c .before .wide .ensures, c .wide2 .ensures))
+settle-cell-requires c κs = settles c
 
 enum-known-found : tie.Need-enum-known-found
 enum-known-found c = search needs
 
 mul-wide : tie.Need-mul-wide
-mul-wide c =
-    let a = c .before .before .before .before .before .before .before .before .before .before .before .before .before .args in
-    let f = c .before .found .given .0 in
-    let ls = lines (a .start-x .now) (a .start-y .now) (a .end-x .now) (a .end-y .now) in
-    omega (arith, (found (c .before)) .inside, (settle-asks ls (a .grid) (a .offsets .now) (a .items .now) (a .globals .now) (a .global-count) (a .cursor) (c .before .before .before .before .before .before .before .before .before .before .before .before .before .pre) (c .before .before .before .before .before .wide .result * c .before .before .before .before .wide2 .result) (rw (c .before .before .before .before .before .wide .ensures, c .before .before .before .before .wide2 .ensures))) .table .long, c .before .before .before .before .before .before .before .before .before .before .before .before .before .good .1 .1 .1 .1 .1 .1 .0)
+mul-wide c = omega (arith, found (c .before) .inside, settles (c .before .before .before .before) .table .long, c .before .before .before .before .before .before .before .before .before .before .before .before .before .good .1 .1 .1 .1 .1 .1 .0)
 
 shared-slice-read-wide : tie.Need-shared-slice-read-wide
-shared-slice-read-wide c =
-    let a = c .before .before .before .before .before .before .before .before .before .before .before .before .before .before .args in
-    let f = c .before .before .found .given .0 in
-    let ls = lines (a .start-x .now) (a .start-y .now) (a .end-x .now) (a .end-y .now) in
-    omega (arith, (found (c .before .before)) .inside, (settle-asks ls (a .grid) (a .offsets .now) (a .items .now) (a .globals .now) (a .global-count) (a .cursor) (c .before .before .before .before .before .before .before .before .before .before .before .before .before .before .pre) (c .before .before .before .before .before .before .wide .result * c .before .before .before .before .before .wide2 .result) (rw (c .before .before .before .before .before .before .wide .ensures, c .before .before .before .before .before .wide2 .ensures))) .table .long, c .before .before .before .before .before .before .before .before .before .before .before .before .before .before .good .1 .1 .1 .1 .1 .1 .0)
+shared-slice-read-wide c = omega (arith, found (c .before .before) .inside, settles (c .before .before .before .before .before) .table .long, c .before .before .before .before .before .before .before .before .before .before .before .before .before .before .good .1 .1 .1 .1 .1 .1 .0)
 
 wide-requires-3 : tie.Need-wide-requires-3
 wide-requires-3 c κs = search needs
 
 add-wide : tie.Need-add-wide
-add-wide c =
-    let a = c .before .before .before .before .before .before .before .before .before .before .before .before .before .before .before .args in
-    let f = c .before .before .before .found .given .0 in
-    let ls = lines (a .start-x .now) (a .start-y .now) (a .end-x .now) (a .end-y .now) in
-    omega (arith, (found (c .before .before .before)) .inside, (settle-asks ls (a .grid) (a .offsets .now) (a .items .now) (a .globals .now) (a .global-count) (a .cursor) (c .before .before .before .before .before .before .before .before .before .before .before .before .before .before .before .pre) (c .before .before .before .before .before .before .before .wide .result * c .before .before .before .before .before .before .wide2 .result) (rw (c .before .before .before .before .before .before .before .wide .ensures, c .before .before .before .before .before .before .wide2 .ensures))) .table .long, c .before .before .before .before .before .before .before .before .before .before .before .before .before .before .before .good .1 .1 .1 .1 .1 .1 .0)
+add-wide c = omega (arith, found (c .before .before .before) .inside, settles (c .before .before .before .before .before .before) .table .long, c .before .before .before .before .before .before .before .before .before .before .before .before .before .before .before .good .1 .1 .1 .1 .1 .1 .0)
 
 mul-wide-2 : tie.Need-mul-wide-2
-mul-wide-2 c =
-    let a = c .before .before .before .before .before .before .before .before .before .before .before .before .before .before .before .args in
-    let f = c .before .before .before .found .given .0 in
-    let ls = lines (a .start-x .now) (a .start-y .now) (a .end-x .now) (a .end-y .now) in
-    omega (arith, (found (c .before .before .before)) .inside, (settle-asks ls (a .grid) (a .offsets .now) (a .items .now) (a .globals .now) (a .global-count) (a .cursor) (c .before .before .before .before .before .before .before .before .before .before .before .before .before .before .before .pre) (c .before .before .before .before .before .before .before .wide .result * c .before .before .before .before .before .before .wide2 .result) (rw (c .before .before .before .before .before .before .before .wide .ensures, c .before .before .before .before .before .before .wide2 .ensures))) .table .long, c .before .before .before .before .before .before .before .before .before .before .before .before .before .before .before .good .1 .1 .1 .1 .1 .1 .0)
+mul-wide-2 c = omega (arith, found (c .before .before .before) .inside, settles (c .before .before .before .before .before .before) .table .long, c .before .before .before .before .before .before .before .before .before .before .before .before .before .before .before .good .1 .1 .1 .1 .1 .1 .0)
 
 shared-slice-read-wide-2 : tie.Need-shared-slice-read-wide-2
-shared-slice-read-wide-2 c =
-    let a = c .before .before .before .before .before .before .before .before .before .before .before .before .before .before .before .before .args in
-    let f = c .before .before .before .before .found .given .0 in
-    let ls = lines (a .start-x .now) (a .start-y .now) (a .end-x .now) (a .end-y .now) in
-    omega (arith, (found (c .before .before .before .before)) .inside, (settle-asks ls (a .grid) (a .offsets .now) (a .items .now) (a .globals .now) (a .global-count) (a .cursor) (c .before .before .before .before .before .before .before .before .before .before .before .before .before .before .before .before .pre) (c .before .before .before .before .before .before .before .before .wide .result * c .before .before .before .before .before .before .before .wide2 .result) (rw (c .before .before .before .before .before .before .before .before .wide .ensures, c .before .before .before .before .before .before .before .wide2 .ensures))) .table .long, c .before .before .before .before .before .before .before .before .before .before .before .before .before .before .before .before .good .1 .1 .1 .1 .1 .1 .0)
+shared-slice-read-wide-2 c = omega (arith, found (c .before .before .before .before) .inside, settles (c .before .before .before .before .before .before .before) .table .long, c .before .before .before .before .before .before .before .before .before .before .before .before .before .before .before .before .good .1 .1 .1 .1 .1 .1 .0)
 
 wide-requires-4 : tie.Need-wide-requires-4
 wide-requires-4 c κs = search needs
 
 mul-list : tie.Need-mul-list
-mul-list c =
-    let a = c .before .before .before .before .before .before .before .before .before .before .before .before .before .before .before .before .before .args in
-    let f = c .before .before .before .before .before .found .given .0 in
-    let ls = lines (a .start-x .now) (a .start-y .now) (a .end-x .now) (a .end-y .now) in
-    omega (arith, part-from (c .before .before .before .before .before .before .before .before .before .wide .result * c .before .before .before .before .before .before .before .before .wide2 .result) (a .offsets .now) (a .items .now) ((settle-asks ls (a .grid) (a .offsets .now) (a .items .now) (a .globals .now) (a .global-count) (a .cursor) (c .before .before .before .before .before .before .before .before .before .before .before .before .before .before .before .before .before .pre) (c .before .before .before .before .before .before .before .before .before .wide .result * c .before .before .before .before .before .before .before .before .wide2 .result) (rw (c .before .before .before .before .before .before .before .before .before .wide .ensures, c .before .before .before .before .before .before .before .before .wide2 .ensures))) .table) (a .cursor .cell) (a .cursor .i) (a .cursor .j) (f .0) (f .1 .0) (f .1 .1 .0) (found (c .before .before .before .before .before)) (c .before .before .wide3 .result) (c .wide4 .result) (c .before .before .wide3 .ensures) (c .wide4 .ensures), part-to (c .before .before .before .before .before .before .before .before .before .wide .result * c .before .before .before .before .before .before .before .before .wide2 .result) (a .offsets .now) (a .items .now) ((settle-asks ls (a .grid) (a .offsets .now) (a .items .now) (a .globals .now) (a .global-count) (a .cursor) (c .before .before .before .before .before .before .before .before .before .before .before .before .before .before .before .before .before .pre) (c .before .before .before .before .before .before .before .before .before .wide .result * c .before .before .before .before .before .before .before .before .wide2 .result) (rw (c .before .before .before .before .before .before .before .before .before .wide .ensures, c .before .before .before .before .before .before .before .before .wide2 .ensures))) .table) (a .cursor .cell) (a .cursor .i) (a .cursor .j) (f .0) (f .1 .0) (f .1 .1 .0) (found (c .before .before .before .before .before)) (c .before .before .wide3 .result) (c .wide4 .result) (c .before .before .wide3 .ensures) (c .wide4 .ensures), c .before .before .before .before .before .before .before .before .before .before .before .before .before .before .before .before .before .good .1 .1 .1 .1 .1 .1 .1 .0)
+mul-list c = omega (arith, part c .rises, part c .within, c .before .before .before .before .before .before .before .before .before .before .before .before .before .before .before .before .before .good .1 .1 .1 .1 .1 .1 .1 .0)
 
 sub-list : tie.Need-sub-list
-sub-list c =
-    let a = c .before .before .before .before .before .before .before .before .before .before .before .before .before .before .before .before .before .args in
-    let f = c .before .before .before .before .before .found .given .0 in
-    let ls = lines (a .start-x .now) (a .start-y .now) (a .end-x .now) (a .end-y .now) in
-    part-from (c .before .before .before .before .before .before .before .before .before .wide .result * c .before .before .before .before .before .before .before .before .wide2 .result) (a .offsets .now) (a .items .now) ((settle-asks ls (a .grid) (a .offsets .now) (a .items .now) (a .globals .now) (a .global-count) (a .cursor) (c .before .before .before .before .before .before .before .before .before .before .before .before .before .before .before .before .before .pre) (c .before .before .before .before .before .before .before .before .before .wide .result * c .before .before .before .before .before .before .before .before .wide2 .result) (rw (c .before .before .before .before .before .before .before .before .before .wide .ensures, c .before .before .before .before .before .before .before .before .wide2 .ensures))) .table) (a .cursor .cell) (a .cursor .i) (a .cursor .j) (f .0) (f .1 .0) (f .1 .1 .0) (found (c .before .before .before .before .before)) (c .before .before .wide3 .result) (c .wide4 .result) (c .before .before .wide3 .ensures) (c .wide4 .ensures)
+sub-list c = part c .rises
 
 part-list-start : tie.Need-part-list-start
-part-list-start c =
-    let a = c .before .before .before .before .before .before .before .before .before .before .before .before .before .before .before .before .before .args in
-    let f = c .before .before .before .before .before .found .given .0 in
-    let ls = lines (a .start-x .now) (a .start-y .now) (a .end-x .now) (a .end-y .now) in
-    part-from (c .before .before .before .before .before .before .before .before .before .wide .result * c .before .before .before .before .before .before .before .before .wide2 .result) (a .offsets .now) (a .items .now) ((settle-asks ls (a .grid) (a .offsets .now) (a .items .now) (a .globals .now) (a .global-count) (a .cursor) (c .before .before .before .before .before .before .before .before .before .before .before .before .before .before .before .before .before .pre) (c .before .before .before .before .before .before .before .before .before .wide .result * c .before .before .before .before .before .before .before .before .wide2 .result) (rw (c .before .before .before .before .before .before .before .before .before .wide .ensures, c .before .before .before .before .before .before .before .before .wide2 .ensures))) .table) (a .cursor .cell) (a .cursor .i) (a .cursor .j) (f .0) (f .1 .0) (f .1 .1 .0) (found (c .before .before .before .before .before)) (c .before .before .wide3 .result) (c .wide4 .result) (c .before .before .wide3 .ensures) (c .wide4 .ensures)
+part-list-start c = part c .rises
 
 part-list-end : tie.Need-part-list-end
-part-list-end c =
-    let a = c .before .before .before .before .before .before .before .before .before .before .before .before .before .before .before .before .before .args in
-    let f = c .before .before .before .before .before .found .given .0 in
-    let ls = lines (a .start-x .now) (a .start-y .now) (a .end-x .now) (a .end-y .now) in
-    part-to (c .before .before .before .before .before .before .before .before .before .wide .result * c .before .before .before .before .before .before .before .before .wide2 .result) (a .offsets .now) (a .items .now) ((settle-asks ls (a .grid) (a .offsets .now) (a .items .now) (a .globals .now) (a .global-count) (a .cursor) (c .before .before .before .before .before .before .before .before .before .before .before .before .before .before .before .before .before .pre) (c .before .before .before .before .before .before .before .before .before .wide .result * c .before .before .before .before .before .before .before .before .wide2 .result) (rw (c .before .before .before .before .before .before .before .before .before .wide .ensures, c .before .before .before .before .before .before .before .before .wide2 .ensures))) .table) (a .cursor .cell) (a .cursor .i) (a .cursor .j) (f .0) (f .1 .0) (f .1 .1 .0) (found (c .before .before .before .before .before)) (c .before .before .wide3 .result) (c .wide4 .result) (c .before .before .wide3 .ensures) (c .wide4 .ensures)
+part-list-end c = part c .within
 
 cast-place-of : tie.Need-cast-place-of
 cast-place-of c =
     let a = c .before .before .before .before .before .before .before .before .before .before .before .before .before .before .before .before .before .before .args in
-    let f = c .before .before .before .before .before .before .found .given .0 in
     let ls = lines (a .start-x .now) (a .start-y .now) (a .end-x .now) (a .end-y .now) in
-    omega (arith, (found (c .before .before .before .before .before .before)) .inside, m-few ls (a .grid) (a .offsets .now) (a .items .now) (a .globals .now) (a .global-count) (c .before .before .before .before .before .before .before .before .before .before .before .before .before .before .before .before .before .before .pre .fine) (c .before .before .before .before .before .before .before .before .before .before .wide .result * c .before .before .before .before .before .before .before .before .before .wide2 .result) (rw (c .before .before .before .before .before .before .before .before .before .before .wide .ensures, c .before .before .before .before .before .before .before .before .before .wide2 .ensures)))
+    omega (arith, found (c .before .before .before .before .before .before) .inside, m-few ls (a .grid) (a .offsets .now) (a .items .now) (a .globals .now) (a .global-count) (c .before .before .before .before .before .before .before .before .before .before .before .before .before .before .before .before .before .before .pre .fine) (c .before .before .before .before .before .before .before .before .before .before .wide .result * c .before .before .before .before .before .before .before .before .before .wide2 .result) (area (c .before .before .before .before .before .before .before .before .before)))
 
 place-of-requires : tie.Need-place-of-requires
 place-of-requires c κs =
     let a = c .before .before .before .before .before .before .before .before .before .before .before .before .before .before .before .before .before .before .args in
-    let f = c .before .before .before .before .before .before .found .given .0 in
     let ls = lines (a .start-x .now) (a .start-y .now) (a .end-x .now) (a .end-y .now) in
-    m-wide ls (a .grid) (a .offsets .now) (a .items .now) (a .globals .now) (a .global-count) (c .before .before .before .before .before .before .before .before .before .before .before .before .before .before .before .before .before .before .pre .fine) (c .before .before .before .before .before .before .before .before .before .before .wide .result * c .before .before .before .before .before .before .before .before .before .wide2 .result) (rw (c .before .before .before .before .before .before .before .before .before .before .wide .ensures, c .before .before .before .before .before .before .before .before .before .wide2 .ensures)) (omega (arith, (found (c .before .before .before .before .before .before)) .inside))
+    m-wide ls (a .grid) (a .offsets .now) (a .items .now) (a .globals .now) (a .global-count) (c .before .before .before .before .before .before .before .before .before .before .before .before .before .before .before .before .before .before .pre .fine) (c .before .before .before .before .before .before .before .before .before .before .wide .result * c .before .before .before .before .before .before .before .before .before .wide2 .result) (area (c .before .before .before .before .before .before .before .before .before)) (omega (arith, found (c .before .before .before .before .before .before) .inside))
 
 mul-row-of : tie.Need-mul-row-of
 mul-row-of c =
-    let a = c .before .before .before .before .before .before .before .before .before .before .before .before .before .before .before .before .before .before .before .args in
-    let f = c .before .before .before .before .before .before .before .found .given .0 in
-    let ls = lines (a .start-x .now) (a .start-y .now) (a .end-x .now) (a .end-y .now) in
-    omega (arith, first-in (c .before .before .before .before .before .before .before .before .before .before .before .wide .result * c .before .before .before .before .before .before .before .before .before .before .wide2 .result) (a .offsets .now) (a .items .now) ((settle-asks ls (a .grid) (a .offsets .now) (a .items .now) (a .globals .now) (a .global-count) (a .cursor) (c .before .before .before .before .before .before .before .before .before .before .before .before .before .before .before .before .before .before .before .pre) (c .before .before .before .before .before .before .before .before .before .before .before .wide .result * c .before .before .before .before .before .before .before .before .before .before .wide2 .result) (rw (c .before .before .before .before .before .before .before .before .before .before .before .wide .ensures, c .before .before .before .before .before .before .before .before .before .before .wide2 .ensures))) .table) (a .cursor .cell) (a .cursor .i) (a .cursor .j) (f .0) (f .1 .0) (f .1 .1 .0) (found (c .before .before .before .before .before .before .before)) (c .before .before .before .before .wide3 .result) (c .before .before .wide4 .result) (c .before .before .before .before .wide3 .ensures) (c .before .before .wide4 .ensures), part-long (c .before .before .before .before .before .before .before .before .before .before .before .wide .result * c .before .before .before .before .before .before .before .before .before .before .wide2 .result) (a .offsets .now) (a .items .now) ((settle-asks ls (a .grid) (a .offsets .now) (a .items .now) (a .globals .now) (a .global-count) (a .cursor) (c .before .before .before .before .before .before .before .before .before .before .before .before .before .before .before .before .before .before .before .pre) (c .before .before .before .before .before .before .before .before .before .before .before .wide .result * c .before .before .before .before .before .before .before .before .before .before .wide2 .result) (rw (c .before .before .before .before .before .before .before .before .before .before .before .wide .ensures, c .before .before .before .before .before .before .before .before .before .before .wide2 .ensures))) .table) (a .cursor .cell) (a .cursor .i) (a .cursor .j) (f .0) (f .1 .0) (f .1 .1 .0) (found (c .before .before .before .before .before .before .before)) (c .before .before .before .before .wide3 .result) (c .before .before .wide4 .result) (c .before .before .before .before .wide3 .ensures) (c .before .before .wide4 .ensures), part-to (c .before .before .before .before .before .before .before .before .before .before .before .wide .result * c .before .before .before .before .before .before .before .before .before .before .wide2 .result) (a .offsets .now) (a .items .now) ((settle-asks ls (a .grid) (a .offsets .now) (a .items .now) (a .globals .now) (a .global-count) (a .cursor) (c .before .before .before .before .before .before .before .before .before .before .before .before .before .before .before .before .before .before .before .pre) (c .before .before .before .before .before .before .before .before .before .before .before .wide .result * c .before .before .before .before .before .before .before .before .before .before .wide2 .result) (rw (c .before .before .before .before .before .before .before .before .before .before .before .wide .ensures, c .before .before .before .before .before .before .before .before .before .before .wide2 .ensures))) .table) (a .cursor .cell) (a .cursor .i) (a .cursor .j) (f .0) (f .1 .0) (f .1 .1 .0) (found (c .before .before .before .before .before .before .before)) (c .before .before .before .before .wide3 .result) (c .before .before .wide4 .result) (c .before .before .before .before .wide3 .ensures) (c .before .before .wide4 .ensures), c .before .before .before .before .before .before .before .before .before .before .before .before .before .before .before .before .before .before .before .good .1 .1 .1 .1 .1 .1 .1 .0)
+    let h = part (c .before .before) in
+    omega (arith, h .first, h .long, h .within, c .before .before .before .before .before .before .before .before .before .before .before .before .before .before .before .before .before .before .before .good .1 .1 .1 .1 .1 .1 .1 .0)
 
 shared-slice-read-row-of : tie.Need-shared-slice-read-row-of
-shared-slice-read-row-of c =
-    let a = c .before .before .before .before .before .before .before .before .before .before .before .before .before .before .before .before .before .before .before .before .args in
-    let f = c .before .before .before .before .before .before .before .before .found .given .0 in
-    let ls = lines (a .start-x .now) (a .start-y .now) (a .end-x .now) (a .end-y .now) in
-    rw (part-is (c .before .before .before .before .before .before .before .before .before .before .before .before .wide .result * c .before .before .before .before .before .before .before .before .before .before .before .wide2 .result) (a .offsets .now) (a .items .now) ((settle-asks ls (a .grid) (a .offsets .now) (a .items .now) (a .globals .now) (a .global-count) (a .cursor) (c .before .before .before .before .before .before .before .before .before .before .before .before .before .before .before .before .before .before .before .before .pre) (c .before .before .before .before .before .before .before .before .before .before .before .before .wide .result * c .before .before .before .before .before .before .before .before .before .before .before .wide2 .result) (rw (c .before .before .before .before .before .before .before .before .before .before .before .before .wide .ensures, c .before .before .before .before .before .before .before .before .before .before .before .wide2 .ensures))) .table) (a .cursor .cell) (a .cursor .i) (a .cursor .j) (f .0) (f .1 .0) (f .1 .1 .0) (found (c .before .before .before .before .before .before .before .before)) (c .before .before .before .before .before .wide3 .result) (c .before .before .before .wide4 .result) (c .before .before .before .before .before .wide3 .ensures) (c .before .before .before .wide4 .ensures)) (first-in (c .before .before .before .before .before .before .before .before .before .before .before .before .wide .result * c .before .before .before .before .before .before .before .before .before .before .before .wide2 .result) (a .offsets .now) (a .items .now) ((settle-asks ls (a .grid) (a .offsets .now) (a .items .now) (a .globals .now) (a .global-count) (a .cursor) (c .before .before .before .before .before .before .before .before .before .before .before .before .before .before .before .before .before .before .before .before .pre) (c .before .before .before .before .before .before .before .before .before .before .before .before .wide .result * c .before .before .before .before .before .before .before .before .before .before .before .wide2 .result) (rw (c .before .before .before .before .before .before .before .before .before .before .before .before .wide .ensures, c .before .before .before .before .before .before .before .before .before .before .before .wide2 .ensures))) .table) (a .cursor .cell) (a .cursor .i) (a .cursor .j) (f .0) (f .1 .0) (f .1 .1 .0) (found (c .before .before .before .before .before .before .before .before)) (c .before .before .before .before .before .wide3 .result) (c .before .before .before .wide4 .result) (c .before .before .before .before .before .wide3 .ensures) (c .before .before .before .wide4 .ensures))
+shared-slice-read-row-of c = rw (part (c .before .before .before) .is) (part (c .before .before .before) .first)
 
 row-of-requires : tie.Need-row-of-requires
 row-of-requires c κs =
     let a = c .before .before .before .before .before .before .before .before .before .before .before .before .before .before .before .before .before .before .before .before .args in
     let f = c .before .before .before .before .before .before .before .before .found .given .0 in
     let ls = lines (a .start-x .now) (a .start-y .now) (a .end-x .now) (a .end-y .now) in
-    one-row ls (a .grid) (a .offsets .now) (a .items .now) (a .globals .now) (a .global-count) (a .cursor) (c .before .before .before .before .before .before .before .before .before .before .before .before .before .before .before .before .before .before .before .before .pre) (c .before .before .before .before .before .before .before .before .before .before .before .before .wide .result * c .before .before .before .before .before .before .before .before .before .before .before .wide2 .result) (rw (c .before .before .before .before .before .before .before .before .before .before .before .before .wide .ensures, c .before .before .before .before .before .before .before .before .before .before .before .wide2 .ensures)) (f .0) (f .1 .0) (f .1 .1 .0) (found (c .before .before .before .before .before .before .before .before)) _ (ap (λ (xs : List ℕ). getD xs (f .1 .0) 0) (part-is (c .before .before .before .before .before .before .before .before .before .before .before .before .wide .result * c .before .before .before .before .before .before .before .before .before .before .before .wide2 .result) (a .offsets .now) (a .items .now) ((settle-asks ls (a .grid) (a .offsets .now) (a .items .now) (a .globals .now) (a .global-count) (a .cursor) (c .before .before .before .before .before .before .before .before .before .before .before .before .before .before .before .before .before .before .before .before .pre) (c .before .before .before .before .before .before .before .before .before .before .before .before .wide .result * c .before .before .before .before .before .before .before .before .before .before .before .wide2 .result) (rw (c .before .before .before .before .before .before .before .before .before .before .before .before .wide .ensures, c .before .before .before .before .before .before .before .before .before .before .before .wide2 .ensures))) .table) (a .cursor .cell) (a .cursor .i) (a .cursor .j) (f .0) (f .1 .0) (f .1 .1 .0) (found (c .before .before .before .before .before .before .before .before)) (c .before .before .before .before .before .wide3 .result) (c .before .before .before .wide4 .result) (c .before .before .before .before .before .wide3 .ensures) (c .before .before .before .wide4 .ensures))) (first-in (c .before .before .before .before .before .before .before .before .before .before .before .before .wide .result * c .before .before .before .before .before .before .before .before .before .before .before .wide2 .result) (a .offsets .now) (a .items .now) ((settle-asks ls (a .grid) (a .offsets .now) (a .items .now) (a .globals .now) (a .global-count) (a .cursor) (c .before .before .before .before .before .before .before .before .before .before .before .before .before .before .before .before .before .before .before .before .pre) (c .before .before .before .before .before .before .before .before .before .before .before .before .wide .result * c .before .before .before .before .before .before .before .before .before .before .before .wide2 .result) (rw (c .before .before .before .before .before .before .before .before .before .before .before .before .wide .ensures, c .before .before .before .before .before .before .before .before .before .before .before .wide2 .ensures))) .table) (a .cursor .cell) (a .cursor .i) (a .cursor .j) (f .0) (f .1 .0) (f .1 .1 .0) (found (c .before .before .before .before .before .before .before .before)) (c .before .before .before .before .before .wide3 .result) (c .before .before .before .wide4 .result) (c .before .before .before .before .before .wide3 .ensures) (c .before .before .before .wide4 .ensures))
+    let h = part (c .before .before .before) in
+    one-row ls (a .grid) (a .offsets .now) (a .items .now) (a .globals .now) (a .global-count) (a .cursor) (c .before .before .before .before .before .before .before .before .before .before .before .before .before .before .before .before .before .before .before .before .pre) (c .before .before .before .before .before .before .before .before .before .before .before .before .wide .result * c .before .before .before .before .before .before .before .before .before .before .before .wide2 .result) (area (c .before .before .before .before .before .before .before .before .before .before .before)) (f .0) (f .1 .0) (f .1 .1 .0) (found (c .before .before .before .before .before .before .before .before)) _ (ap (λ (xs : List ℕ). getD xs (f .1 .0) 0) (h .is)) (h .first)
 
 test-in-requires : tie.Need-test-in-requires
 test-in-requires c κs =
     let a = c .before .before .before .before .before .before .before .before .before .before .before .before .before .before .before .before .before .before .before .before .before .args in
     let f = c .before .before .before .before .before .before .before .before .before .found .given .0 in
     let ls = lines (a .start-x .now) (a .start-y .now) (a .end-x .now) (a .end-y .now) in
-    one-in ls (a .grid) (a .offsets .now) (a .items .now) (a .globals .now) (a .global-count) (a .cursor) (c .before .before .before .before .before .before .before .before .before .before .before .before .before .before .before .before .before .before .before .before .before .pre) (c .before .before .before .before .before .before .before .before .before .before .before .before .before .wide .result * c .before .before .before .before .before .before .before .before .before .before .before .before .wide2 .result) (rw (c .before .before .before .before .before .before .before .before .before .before .before .before .before .wide .ensures, c .before .before .before .before .before .before .before .before .before .before .before .before .wide2 .ensures)) (f .0) (f .1 .0) (f .1 .1 .0) (found (c .before .before .before .before .before .before .before .before .before)) _ (c .row-of .ensures ∙ rw (c .before .before .place-of .ensures, part-is (c .before .before .before .before .before .before .before .before .before .before .before .before .before .wide .result * c .before .before .before .before .before .before .before .before .before .before .before .before .wide2 .result) (a .offsets .now) (a .items .now) ((settle-asks ls (a .grid) (a .offsets .now) (a .items .now) (a .globals .now) (a .global-count) (a .cursor) (c .before .before .before .before .before .before .before .before .before .before .before .before .before .before .before .before .before .before .before .before .before .pre) (c .before .before .before .before .before .before .before .before .before .before .before .before .before .wide .result * c .before .before .before .before .before .before .before .before .before .before .before .before .wide2 .result) (rw (c .before .before .before .before .before .before .before .before .before .before .before .before .before .wide .ensures, c .before .before .before .before .before .before .before .before .before .before .before .before .wide2 .ensures))) .table) (a .cursor .cell) (a .cursor .i) (a .cursor .j) (f .0) (f .1 .0) (f .1 .1 .0) (found (c .before .before .before .before .before .before .before .before .before)) (c .before .before .before .before .before .before .wide3 .result) (c .before .before .before .before .wide4 .result) (c .before .before .before .before .before .before .wide3 .ensures) (c .before .before .before .before .wide4 .ensures))) _ (part-is (c .before .before .before .before .before .before .before .before .before .before .before .before .before .wide .result * c .before .before .before .before .before .before .before .before .before .before .before .before .wide2 .result) (a .offsets .now) (a .items .now) ((settle-asks ls (a .grid) (a .offsets .now) (a .items .now) (a .globals .now) (a .global-count) (a .cursor) (c .before .before .before .before .before .before .before .before .before .before .before .before .before .before .before .before .before .before .before .before .before .pre) (c .before .before .before .before .before .before .before .before .before .before .before .before .before .wide .result * c .before .before .before .before .before .before .before .before .before .before .before .before .wide2 .result) (rw (c .before .before .before .before .before .before .before .before .before .before .before .before .before .wide .ensures, c .before .before .before .before .before .before .before .before .before .before .before .before .wide2 .ensures))) .table) (a .cursor .cell) (a .cursor .i) (a .cursor .j) (f .0) (f .1 .0) (f .1 .1 .0) (found (c .before .before .before .before .before .before .before .before .before)) (c .before .before .before .before .before .before .wide3 .result) (c .before .before .before .before .wide4 .result) (c .before .before .before .before .before .before .wide3 .ensures) (c .before .before .before .before .wide4 .ensures))
+    one-in ls (a .grid) (a .offsets .now) (a .items .now) (a .globals .now) (a .global-count) (a .cursor) (c .before .before .before .before .before .before .before .before .before .before .before .before .before .before .before .before .before .before .before .before .before .pre) (c .before .before .before .before .before .before .before .before .before .before .before .before .before .wide .result * c .before .before .before .before .before .before .before .before .before .before .before .before .wide2 .result) (area (c .before .before .before .before .before .before .before .before .before .before .before .before)) (f .0) (f .1 .0) (f .1 .1 .0) (found (c .before .before .before .before .before .before .before .before .before)) (c .row-of .result) (row c) (take (c .before .before .before .before .wide4 .result - c .before .before .before .before .before .before .wide3 .result) (drop (c .before .before .before .before .before .before .wide3 .result) (a .items .now))) (part (c .before .before .before .before) .is)
 
 returns : tie.Need-returns
 returns c =
     let a = c .before .before .before .before .before .before .before .before .before .before .before .before .before .before .before .before .before .before .before .before .before .before .args in
     let f = c .before .before .before .before .before .before .before .before .before .before .found .given .0 in
     let ls = lines (a .start-x .now) (a .start-y .now) (a .end-x .now) (a .end-y .now) in
-    c .test-in .ensures ∙ one-cell ls (a .grid) (a .offsets .now) (a .items .now) (a .globals .now) (a .global-count) (a .cursor) (c .before .before .before .before .before .before .before .before .before .before .before .before .before .before .before .before .before .before .before .before .before .before .pre) (c .before .before .before .before .before .before .before .before .before .before .before .before .before .before .wide .result * c .before .before .before .before .before .before .before .before .before .before .before .before .before .wide2 .result) (rw (c .before .before .before .before .before .before .before .before .before .before .before .before .before .before .wide .ensures, c .before .before .before .before .before .before .before .before .before .before .before .before .before .wide2 .ensures)) (f .0) (f .1 .0) (f .1 .1 .0) (found (c .before .before .before .before .before .before .before .before .before .before)) _ (c .before .row-of .ensures ∙ rw (c .before .before .before .place-of .ensures, part-is (c .before .before .before .before .before .before .before .before .before .before .before .before .before .before .wide .result * c .before .before .before .before .before .before .before .before .before .before .before .before .before .wide2 .result) (a .offsets .now) (a .items .now) ((settle-asks ls (a .grid) (a .offsets .now) (a .items .now) (a .globals .now) (a .global-count) (a .cursor) (c .before .before .before .before .before .before .before .before .before .before .before .before .before .before .before .before .before .before .before .before .before .before .pre) (c .before .before .before .before .before .before .before .before .before .before .before .before .before .before .wide .result * c .before .before .before .before .before .before .before .before .before .before .before .before .before .wide2 .result) (rw (c .before .before .before .before .before .before .before .before .before .before .before .before .before .before .wide .ensures, c .before .before .before .before .before .before .before .before .before .before .before .before .before .wide2 .ensures))) .table) (a .cursor .cell) (a .cursor .i) (a .cursor .j) (f .0) (f .1 .0) (f .1 .1 .0) (found (c .before .before .before .before .before .before .before .before .before .before)) (c .before .before .before .before .before .before .before .wide3 .result) (c .before .before .before .before .before .wide4 .result) (c .before .before .before .before .before .before .before .wide3 .ensures) (c .before .before .before .before .before .wide4 .ensures))) _ (part-is (c .before .before .before .before .before .before .before .before .before .before .before .before .before .before .wide .result * c .before .before .before .before .before .before .before .before .before .before .before .before .before .wide2 .result) (a .offsets .now) (a .items .now) ((settle-asks ls (a .grid) (a .offsets .now) (a .items .now) (a .globals .now) (a .global-count) (a .cursor) (c .before .before .before .before .before .before .before .before .before .before .before .before .before .before .before .before .before .before .before .before .before .before .pre) (c .before .before .before .before .before .before .before .before .before .before .before .before .before .before .wide .result * c .before .before .before .before .before .before .before .before .before .before .before .before .before .wide2 .result) (rw (c .before .before .before .before .before .before .before .before .before .before .before .before .before .before .wide .ensures, c .before .before .before .before .before .before .before .before .before .before .before .before .before .wide2 .ensures))) .table) (a .cursor .cell) (a .cursor .i) (a .cursor .j) (f .0) (f .1 .0) (f .1 .1 .0) (found (c .before .before .before .before .before .before .before .before .before .before)) (c .before .before .before .before .before .before .before .wide3 .result) (c .before .before .before .before .before .wide4 .result) (c .before .before .before .before .before .before .before .wide3 .ensures) (c .before .before .before .before .before .wide4 .ensures)) (later-in (c .before .before .before .before .before .before .before .before .before .before .before .before .before .before .wide .result * c .before .before .before .before .before .before .before .before .before .before .before .before .before .wide2 .result) (a .offsets .now) (a .items .now) ((settle-asks ls (a .grid) (a .offsets .now) (a .items .now) (a .globals .now) (a .global-count) (a .cursor) (c .before .before .before .before .before .before .before .before .before .before .before .before .before .before .before .before .before .before .before .before .before .before .pre) (c .before .before .before .before .before .before .before .before .before .before .before .before .before .before .wide .result * c .before .before .before .before .before .before .before .before .before .before .before .before .before .wide2 .result) (rw (c .before .before .before .before .before .before .before .before .before .before .before .before .before .before .wide .ensures, c .before .before .before .before .before .before .before .before .before .before .before .before .before .wide2 .ensures))) .table) (a .cursor .cell) (a .cursor .i) (a .cursor .j) (f .0) (f .1 .0) (f .1 .1 .0) (found (c .before .before .before .before .before .before .before .before .before .before)) (c .before .before .before .before .before .before .before .wide3 .result) (c .before .before .before .before .before .wide4 .result) (c .before .before .before .before .before .before .before .wide3 .ensures) (c .before .before .before .before .before .wide4 .ensures))
+    c .test-in .ensures ∙ one-cell ls (a .grid) (a .offsets .now) (a .items .now) (a .globals .now) (a .global-count) (a .cursor) (c .before .before .before .before .before .before .before .before .before .before .before .before .before .before .before .before .before .before .before .before .before .before .pre) (c .before .before .before .before .before .before .before .before .before .before .before .before .before .before .wide .result * c .before .before .before .before .before .before .before .before .before .before .before .before .before .wide2 .result) (area (c .before .before .before .before .before .before .before .before .before .before .before .before .before)) (f .0) (f .1 .0) (f .1 .1 .0) (found (c .before .before .before .before .before .before .before .before .before .before)) (c .before .row-of .result) (row (c .before)) (take (c .before .before .before .before .before .wide4 .result - c .before .before .before .before .before .before .before .wide3 .result) (drop (c .before .before .before .before .before .before .before .wide3 .result) (a .items .now))) (part (c .before .before .before .before .before) .is) (part (c .before .before .before .before .before) .later)
 
 enum-told : tie.Need-enum-told
 enum-told c = search needs
@@ -200,7 +188,7 @@ settle-global-requires : tie.Need-settle-global-requires
 settle-global-requires c κs =
     let a = c .before .before .before .before .before .before .before .before .before .before .before .before .args in
     let ls = lines (a .start-x .now) (a .start-y .now) (a .end-x .now) (a .end-y .now) in
-    glide-asks ls (a .grid) (a .offsets .now) (a .items .now) (a .globals .now) (a .global-count) (a .cursor) (c .before .before .before .before .before .before .before .before .before .before .before .before .pre) (c .before .before .before .before .wide .result * c .before .before .before .wide2 .result) (rw (c .before .before .before .before .wide .ensures, c .before .before .before .wide2 .ensures))
+    glide-asks ls (a .grid) (a .offsets .now) (a .items .now) (a .globals .now) (a .global-count) (a .cursor) (c .before .before .before .before .before .before .before .before .before .before .before .before .pre) (c .before .before .before .before .wide .result * c .before .before .before .wide2 .result) (area (c .before .before .before))
 
 enum-known-line : tie.Need-enum-known-line
 enum-known-line c = search needs
@@ -210,35 +198,35 @@ mul-row-of-2 c =
     let a = c .before .before .before .before .before .before .before .before .before .before .before .before .before .before .before .before .args in
     let f = c .before .line .given .0 in
     let ls = lines (a .start-x .now) (a .start-y .now) (a .end-x .now) (a .end-y .now) in
-    omega (arith, one-in-globals ls (a .grid) (a .offsets .now) (a .items .now) (a .globals .now) (a .global-count) (a .cursor) (c .before .before .before .before .before .before .before .before .before .before .before .before .before .before .before .before .pre) (c .before .before .before .before .before .before .before .before .wide .result * c .before .before .before .before .before .before .before .wide2 .result) (rw (c .before .before .before .before .before .before .before .before .wide .ensures, c .before .before .before .before .before .before .before .wide2 .ensures)) (past (c .before .before .before .before)) (f .0) (f .1 .0) (f .1 .1 .0) (f .1 .1 .1 .0) (line (c .before)), c .before .before .before .before .before .before .before .before .before .before .before .before .before .before .before .before .good .1 .1 .1 .1 .1 .1 .1 .1 .0)
+    omega (arith, one-in-globals ls (a .grid) (a .offsets .now) (a .items .now) (a .globals .now) (a .global-count) (a .cursor) (c .before .before .before .before .before .before .before .before .before .before .before .before .before .before .before .before .pre) (c .before .before .before .before .before .before .before .before .wide .result * c .before .before .before .before .before .before .before .wide2 .result) (area (c .before .before .before .before .before .before .before)) (past (c .before .before .before .before)) (f .0) (f .1 .0) (f .1 .1 .0) (f .1 .1 .1 .0) (line (c .before)), c .before .before .before .before .before .before .before .before .before .before .before .before .before .before .before .before .good .1 .1 .1 .1 .1 .1 .1 .1 .0)
 
 shared-slice-read-row-of-2 : tie.Need-shared-slice-read-row-of-2
 shared-slice-read-row-of-2 c =
     let a = c .before .before .before .before .before .before .before .before .before .before .before .before .before .before .before .before .before .args in
     let f = c .before .before .line .given .0 in
     let ls = lines (a .start-x .now) (a .start-y .now) (a .end-x .now) (a .end-y .now) in
-    one-in-globals ls (a .grid) (a .offsets .now) (a .items .now) (a .globals .now) (a .global-count) (a .cursor) (c .before .before .before .before .before .before .before .before .before .before .before .before .before .before .before .before .before .pre) (c .before .before .before .before .before .before .before .before .before .wide .result * c .before .before .before .before .before .before .before .before .wide2 .result) (rw (c .before .before .before .before .before .before .before .before .before .wide .ensures, c .before .before .before .before .before .before .before .before .wide2 .ensures)) (past (c .before .before .before .before .before)) (f .0) (f .1 .0) (f .1 .1 .0) (f .1 .1 .1 .0) (line (c .before .before))
+    one-in-globals ls (a .grid) (a .offsets .now) (a .items .now) (a .globals .now) (a .global-count) (a .cursor) (c .before .before .before .before .before .before .before .before .before .before .before .before .before .before .before .before .before .pre) (c .before .before .before .before .before .before .before .before .before .wide .result * c .before .before .before .before .before .before .before .before .wide2 .result) (area (c .before .before .before .before .before .before .before .before)) (past (c .before .before .before .before .before)) (f .0) (f .1 .0) (f .1 .1 .0) (f .1 .1 .1 .0) (line (c .before .before))
 
 row-of-requires-2 : tie.Need-row-of-requires-2
 row-of-requires-2 c κs =
     let a = c .before .before .before .before .before .before .before .before .before .before .before .before .before .before .before .before .before .args in
     let f = c .before .before .line .given .0 in
     let ls = lines (a .start-x .now) (a .start-y .now) (a .end-x .now) (a .end-y .now) in
-    one-global-row ls (a .grid) (a .offsets .now) (a .items .now) (a .globals .now) (a .global-count) (a .cursor) (c .before .before .before .before .before .before .before .before .before .before .before .before .before .before .before .before .before .pre) (c .before .before .before .before .before .before .before .before .before .wide .result * c .before .before .before .before .before .before .before .before .wide2 .result) (rw (c .before .before .before .before .before .before .before .before .before .wide .ensures, c .before .before .before .before .before .before .before .before .wide2 .ensures)) (past (c .before .before .before .before .before)) (f .0) (f .1 .0) (f .1 .1 .0) (f .1 .1 .1 .0) (line (c .before .before))
+    one-global-row ls (a .grid) (a .offsets .now) (a .items .now) (a .globals .now) (a .global-count) (a .cursor) (c .before .before .before .before .before .before .before .before .before .before .before .before .before .before .before .before .before .pre) (c .before .before .before .before .before .before .before .before .before .wide .result * c .before .before .before .before .before .before .before .before .wide2 .result) (area (c .before .before .before .before .before .before .before .before)) (past (c .before .before .before .before .before)) (f .0) (f .1 .0) (f .1 .1 .0) (f .1 .1 .1 .0) (line (c .before .before))
 
 test-before-requires : tie.Need-test-before-requires
 test-before-requires c κs =
     let a = c .before .before .before .before .before .before .before .before .before .before .before .before .before .before .before .before .before .before .args in
     let f = c .before .before .before .line .given .0 in
     let ls = lines (a .start-x .now) (a .start-y .now) (a .end-x .now) (a .end-y .now) in
-    one-before ls (a .grid) (a .offsets .now) (a .items .now) (a .globals .now) (a .global-count) (a .cursor) (c .before .before .before .before .before .before .before .before .before .before .before .before .before .before .before .before .before .before .pre) (c .before .before .before .before .before .before .before .before .before .before .wide .result * c .before .before .before .before .before .before .before .before .before .wide2 .result) (rw (c .before .before .before .before .before .before .before .before .before .before .wide .ensures, c .before .before .before .before .before .before .before .before .before .wide2 .ensures)) (past (c .before .before .before .before .before .before)) (f .0) (f .1 .0) (f .1 .1 .0) (f .1 .1 .1 .0) (line (c .before .before .before)) _ (c .row-of2 .ensures)
+    one-before ls (a .grid) (a .offsets .now) (a .items .now) (a .globals .now) (a .global-count) (a .cursor) (c .before .before .before .before .before .before .before .before .before .before .before .before .before .before .before .before .before .before .pre) (c .before .before .before .before .before .before .before .before .before .before .wide .result * c .before .before .before .before .before .before .before .before .before .wide2 .result) (area (c .before .before .before .before .before .before .before .before .before)) (past (c .before .before .before .before .before .before)) (f .0) (f .1 .0) (f .1 .1 .0) (f .1 .1 .1 .0) (line (c .before .before .before)) _ (c .row-of2 .ensures)
 
 returns-2 : tie.Need-returns-2
 returns-2 c =
     let a = c .before .before .before .before .before .before .before .before .before .before .before .before .before .before .before .before .before .before .before .args in
     let f = c .before .before .before .before .line .given .0 in
     let ls = lines (a .start-x .now) (a .start-y .now) (a .end-x .now) (a .end-y .now) in
-    c .test-before .ensures ∙ one-global ls (a .grid) (a .offsets .now) (a .items .now) (a .globals .now) (a .global-count) (a .cursor) (c .before .before .before .before .before .before .before .before .before .before .before .before .before .before .before .before .before .before .before .pre) (c .before .before .before .before .before .before .before .before .before .before .before .wide .result * c .before .before .before .before .before .before .before .before .before .before .wide2 .result) (rw (c .before .before .before .before .before .before .before .before .before .before .before .wide .ensures, c .before .before .before .before .before .before .before .before .before .before .wide2 .ensures)) (past (c .before .before .before .before .before .before .before)) (f .0) (f .1 .0) (f .1 .1 .0) (f .1 .1 .1 .0) (line (c .before .before .before .before)) _ (c .before .row-of2 .ensures)
+    c .test-before .ensures ∙ one-global ls (a .grid) (a .offsets .now) (a .items .now) (a .globals .now) (a .global-count) (a .cursor) (c .before .before .before .before .before .before .before .before .before .before .before .before .before .before .before .before .before .before .before .pre) (c .before .before .before .before .before .before .before .before .before .before .before .wide .result * c .before .before .before .before .before .before .before .before .before .before .wide2 .result) (area (c .before .before .before .before .before .before .before .before .before .before)) (past (c .before .before .before .before .before .before .before)) (f .0) (f .1 .0) (f .1 .1 .0) (f .1 .1 .1 .0) (line (c .before .before .before .before)) _ (c .before .row-of2 .ensures)
 
 enum-told-2 : tie.Need-enum-told-2
 enum-told-2 c = search needs
@@ -247,7 +235,7 @@ returns-3 : tie.Need-returns-3
 returns-3 c =
     let a = c .before .before .before .before .before .before .before .before .before .before .before .before .before .before .before .args in
     let ls = lines (a .start-x .now) (a .start-y .now) (a .end-x .now) (a .end-y .now) in
-    one-none ls (a .grid) (a .offsets .now) (a .items .now) (a .globals .now) (a .global-count) (a .cursor) (c .before .before .before .before .before .before .before .before .before .before .before .before .before .before .before .pre) (c .before .before .before .before .before .before .before .wide .result * c .before .before .before .before .before .before .wide2 .result) (rw (c .before .before .before .before .before .before .before .wide .ensures, c .before .before .before .before .before .before .wide2 .ensures)) (past (c .before .before .before)) (global-past (length (a .start-x .now)) (a .global-count) (a .globals .now) (a .cursor .p) (a .cursor .q) (a .cursor .k) _ (c .before .before .settle-global .ensures) (c .enum-told2 .given .1))
+    one-none ls (a .grid) (a .offsets .now) (a .items .now) (a .globals .now) (a .global-count) (a .cursor) (c .before .before .before .before .before .before .before .before .before .before .before .before .before .before .before .pre) (c .before .before .before .before .before .before .before .wide .result * c .before .before .before .before .before .before .wide2 .result) (area (c .before .before .before .before .before .before)) (past (c .before .before .before)) (global-past (length (a .start-x .now)) (a .global-count) (a .globals .now) (a .cursor .p) (a .cursor .q) (a .cursor .k) _ (c .before .before .settle-global .ensures) (c .enum-told2 .given .1))
 
 pub test-from-spec : {M : Type 1} → statement M
 test-from-spec =

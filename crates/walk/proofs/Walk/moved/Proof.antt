@@ -19,14 +19,14 @@ moved-requires-3 c κs = search needs
 
 returns-2 : tie.Need-returns-2
 unfolding movedOf advanced
-returns-2 c = rw (c .before .before .if1 .taken, c .before .if2 .left) (cc)
+returns-2 c = rw (c .before .before .if1 .taken, c .before .if2 .left, c .moved3 .ensures)
 
 moved-requires-4 : tie.Need-moved-requires-4
 moved-requires-4 c κs = search needs
 
 returns-3 : tie.Need-returns-3
 unfolding movedOf advanced
-returns-3 c = rw (c .before .before .if1 .left, c .before .if3 .taken) (cc)
+returns-3 c = rw (c .before .before .if1 .left, c .before .if3 .taken, c .moved4 .ensures)
 
 returns-4 : tie.Need-returns-4
 unfolding movedOf advanced

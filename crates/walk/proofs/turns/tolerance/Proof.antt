@@ -19,7 +19,7 @@ greatest-requires-2 c κs = search needs
 
 returns : tie.Need-returns
 unfolding toleranceOf ofBits round
-returns c = cc
+returns c = rw (c .greatest2 .ensures, c .before .magnitude2 .ensures, c .before .before .greatest .ensures, c .before .before .before .magnitude .ensures)
 
 pub tolerance-spec : {M : Type 1} → statement M
 tolerance-spec =

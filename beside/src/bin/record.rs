@@ -2,17 +2,18 @@
 
 use beside::kinds::build::Columns;
 use beside::kinds::{numbers, own};
-use beside::model::{self, Standing, SCRATCH};
+use beside::model::{self, Standing, Test, SCRATCH};
 use beside::oracle;
 use beside::random::{nudged, Random};
 use beside::{cases, Grid, Line};
 
+// What the program `replay` has room for.
 const OFFSETS: usize = 4096;
-const ITEMS: usize = 4096;
+const ITEMS: usize = 8192;
 const GLOBALS: usize = 64;
 const OUTPUT: usize = 4096;
-const LINES: usize = 1024;
-const MOST_WORDS: usize = 16384;
+const LINES: usize = 2048;
+const BYTES: usize = 1 << 20;
 
 /// The fields of one record.
 struct Fields(Vec<u32>);
@@ -31,8 +32,7 @@ impl Fields {
     fn float(&mut self, v: f64) -> &mut Self {
         self.wide(if v.is_nan() { f64::NAN.to_bits() } else { v.to_bits() })
     }
-    fn list(&mut self, entries: &[u32]) -> &mut Self {
-        self.0.push(entries.len() as u32);
+    fn words(&mut self, entries: &[u32]) -> &mut Self {
         self.0.extend(entries);
         self
     }
@@ -45,10 +45,22 @@ impl Fields {
         }
         self
     }
-    /// Whether it is success.
-    fn answer(&mut self, number: u32, value: u64) -> bool {
-        self.word(number).wide(if number == 0 { 0 } else { value });
-        number == 0
+    /// Start x of all lines, start y, end x, end y.
+    fn columns(&mut self, lines: &[Line]) -> &mut Self {
+        for k in 0..4 {
+            for line in lines {
+                self.float(line[k]);
+            }
+        }
+        self
+    }
+    /// Document 01's number, and the values: of a refusal its one value and zeros.
+    fn answer(&mut self, number: u32, value: u64, values: &[u64]) -> &mut Self {
+        self.word(number);
+        for (i, &v) in values.iter().enumerate() {
+            self.wide(if number == 0 { v } else if i == 0 { value } else { 0 });
+        }
+        self
     }
 }
 
@@ -60,7 +72,6 @@ struct File {
 
 impl File {
     fn put(&mut self, kind: u32, fields: Fields) {
-        assert!(fields.0.len() <= MOST_WORDS, "a record of kind {kind} has {} words", fields.0.len());
         self.words.push(kind);
         self.words.push(fields.0.len() as u32);
         self.words.extend(&fields.0);
@@ -70,7 +81,7 @@ impl File {
     }
 
     fn numbers(&mut self, r: &mut Random) {
-        for i in 0..90 {
+        for i in 0..400 {
             for function in 1..=8 {
                 let v = numbers::pattern(r, i % 9);
                 let other = match r.below(3) {
@@ -101,10 +112,9 @@ impl File {
     fn walk(&mut self, grid: &Grid, line: &Line, scratch: usize) {
         let mut out = [0; 8];
         let number = model::segment_cells(grid, line, &mut vec![0; scratch], &mut out);
+        let cells = if number == 0 { oracle::segment_cells(grid, line) } else { Vec::new() };
         let mut f = Fields::new();
-        if f.grid(grid).line(line).word(scratch as u32).answer(number, out[0]) {
-            f.list(&oracle::segment_cells(grid, line));
-        }
+        f.grid(grid).line(line).word(scratch as u32).answer(number, out[0], &[cells.len() as u64]).words(&cells);
         self.put(2, f);
     }
 
@@ -142,89 +152,94 @@ impl File {
         }
     }
 
-    /// A build into `room` entries, and visits of its tables.
+    /// A build into `room` entries, and visits of its tables: none, the whole one, or that and more.
     fn build(&mut self, r: &mut Random, lines: &[Line], room: [usize; 3], visits: usize) {
         let columns = Columns::new(lines);
         let [mut offsets, mut items, mut globals, mut scratch] = [room[0], room[1], room[2], SCRATCH].map(|n| vec![0; n]);
         let mut out = [0; 8];
         let number = model::build(columns.coordinates(), &mut offsets, &mut items, &mut globals, &mut scratch, &mut out);
+        let lent = [room[0] as u32, room[1] as u32, room[2] as u32, SCRATCH as u32];
         let mut f = Fields::new();
         f.word(lines.len() as u32);
-        for line in lines {
-            f.line(line);
-        }
-        f.word(room[0] as u32).word(room[1] as u32).word(room[2] as u32).word(SCRATCH as u32);
-        if !f.answer(number, out[0]) {
+        if number != 0 {
+            f.words(&[0; 3]).words(&lent).answer(number, out[0], &[0; 7]).columns(lines);
             return self.put(3, f);
         }
         let rust_lines = oracle::Lines::new(lines);
         let built = oracle::build(&rust_lines);
-        let (offsets, globals) = (built.offsets(), built.globals());
-        f.grid(&built.grid()).list(&offsets).list(built.items()).list(&globals);
+        let (grid, offsets, items, globals) = (built.grid(), built.offsets(), built.items(), built.globals());
+        // the sign of a zero minimum is open in the Rust: document 01's stands for it
+        let minimum = |v: f64, open: u64| if v == 0.0 && f64::from_bits(open) == 0.0 { open } else { v.to_bits() };
+        let values = [
+            minimum(grid.min_x, out[0]),
+            minimum(grid.min_y, out[1]),
+            grid.cell_size.to_bits(),
+            grid.cols as u64,
+            grid.rows as u64,
+            items.len() as u64,
+            globals.len() as u64,
+        ];
+        f.words(&[offsets.len() as u32, items.len() as u32, globals.len() as u32]).words(&lent).answer(0, 0, &values);
+        f.columns(lines).words(&offsets).words(items).words(&globals);
         self.put(3, f);
 
         let (tests, pairs) = built.visit(&rust_lines);
-        let s = Standing {
-            grid: built.grid(),
-            lines: columns.coordinates(),
-            offsets: &offsets,
-            items: built.items(),
-            globals: &globals,
-            global_count: globals.len() as u64,
-        };
+        let s = Standing { grid, lines: columns.coordinates(), offsets: &offsets, items, globals: &globals, global_count: globals.len() as u64 };
         let all = s.tests();
         assert_eq!(all.len() as u64, tests);
         assert!(all.iter().filter(|t| t.overlap).map(|t| (t.first, t.second)).eq(pairs.iter().copied()), "the model's tests are the Rust's");
-        let mut batch = |file: &mut File, bookmark: u64, room: usize| {
-            let (mut first, mut second) = (vec![0; room], vec![0; room]);
-            let number = model::batch(&s, &all, bookmark, &mut first, &mut second, &mut out);
-            let mut f = Fields::new();
-            if f.wide(bookmark).word(room as u32).answer(number, out[0]) {
-                let n = out[1] as usize;
-                f.wide(out[0]).wide(out[1]).wide(out[2]).list(&first[..n]).list(&second[..n]);
-            }
-            file.put(4, f);
-            out[2]
-        };
-        if pairs.len() <= 1500 {
-            batch(self, 0, pairs.len() + 1);
+        if visits == 0 {
+            return;
+        }
+        self.batch(lines, &s, &all, 0, pairs.len() + 1);
+        if visits == 1 {
+            return;
         }
         let mut at = 0;
-        for _ in 0..visits {
-            at = batch(self, at, r.below(40) as usize);
-            batch(self, r.below(tests + 1), r.below(8) as usize);
+        for _ in 1..visits {
+            at = self.batch(lines, &s, &all, at, r.below(40) as usize);
+            self.batch(lines, &s, &all, r.below(tests + 1), r.below(8) as usize);
         }
-        if visits > 0 {
-            batch(self, tests, 3);
-            batch(self, tests + 1, 3);
-        }
-        for k in 0..3 * visits {
-            let bookmark = [0, tests, tests + 1, u64::MAX].get(k).copied().unwrap_or_else(|| r.below(tests + 1));
+        self.batch(lines, &s, &all, tests, 3);
+        self.batch(lines, &s, &all, tests + 1, 3);
+        for k in 0..2 + visits {
+            let bookmark = [tests, tests + 1, 0].get(k).copied().unwrap_or_else(|| r.below(tests + 1));
             let mut out = [0; 8];
             let number = model::test_at(&s, &all, bookmark, &mut out);
-            let mut f = Fields::new();
-            if f.wide(bookmark).answer(number, out[0]) {
-                for v in &out[..6] {
-                    f.word(*v as u32);
-                }
-            }
+            let mut f = tables(lines, &s);
+            f.wide(bookmark).answer(number, out[0], &out[..6]);
+            lists(&mut f, lines, &s);
             self.put(5, f);
         }
+    }
+
+    /// A batch, and the bookmark after it.
+    fn batch(&mut self, lines: &[Line], s: &Standing, all: &[Test], bookmark: u64, room: usize) -> u64 {
+        assert!(room <= OUTPUT);
+        let (mut first, mut second, mut out) = (vec![0; room], vec![0; room], [0; 8]);
+        let number = model::batch(s, all, bookmark, &mut first, &mut second, &mut out);
+        let pairs = if number == 0 { out[1] as usize } else { 0 };
+        let mut f = tables(lines, s);
+        f.wide(bookmark).word(room as u32).answer(number, out[0], &out[..3]).word(pairs as u32);
+        lists(&mut f, lines, s);
+        f.words(&first[..pairs]).words(&second[..pairs]);
+        self.put(4, f);
+        out[2]
     }
 
     fn builds(&mut self, r: &mut Random) {
         let ample = [OFFSETS, ITEMS, GLOBALS];
         let square = [[0.0, 0.0, 2.0, 0.0], [2.0, 0.0, 2.0, 2.0], [2.0, 2.0, 0.0, 2.0], [0.0, 2.0, 0.0, 0.0]];
         self.build(r, &square, ample, 6);
-        self.build(r, &[[0.0, 0.0, 2.0, 2.0]], ample, 1);
-        self.build(r, &[[0.0; 4]], ample, 1);
-        self.build(r, &[], ample, 1);
+        self.build(r, &[[0.0, 0.0, 2.0, 2.0]], ample, 2);
+        self.build(r, &[[0.0; 4]], ample, 2);
+        self.build(r, &[], ample, 2);
         self.build(r, &[], [0, 0, 0], 0);
         let mut made = 0;
-        while made < 44 {
-            let (_, lines) = cases::lines(r, 60);
+        while made < 48 {
+            let (_, lines) = cases::lines(r, 40);
             let Ok(t) = model::tables(Columns::new(&lines).coordinates(), usize::MAX) else { continue };
-            if lines.len() > 70 || t.most_offsets > 600 || t.items.len() > 700 {
+            if lines.len() > 40 || t.most_offsets > 300 || t.items.len() > 300 {
                 continue;
             }
             made += 1;
@@ -239,15 +254,40 @@ impl File {
                     lines[k][r.below(4) as usize] = cases::bad(r);
                     self.build(r, &lines, ample, 0);
                 }
-                _ => self.build(r, &lines, ample, 3),
+                _ => self.build(r, &lines, ample, 2),
             }
         }
         // two halvings, two global lines, and lines of 2,048 and 2,049 cells on the last grid of 4,001 columns
         let mut lines = vec![[0.0, 0.0, 4000.0, 0.0], [3000.0, 0.0, 0.0, 0.0], [0.5, 0.0, 2047.5, 0.0], [2048.5, 0.0, 0.5, 0.0]];
         lines.extend((0..505).map(|i| [i as f64 / 512.0, 0.0, (i as f64 + 0.5) / 512.0, 0.0]));
-        self.build(r, &lines, ample, 3);
-        self.build(r, &lines, [OFFSETS, ITEMS, 2], 0);
-        assert!(lines.len() <= LINES && OUTPUT > 1501);
+        self.build(r, &lines, ample, 1);
+        self.build(r, &lines, [OFFSETS, ITEMS, 1], 0);
+    }
+
+    /// Lines that meet and that the Rust never tests (docs/FINDINGS.md).
+    fn findings(&mut self, r: &mut Random) {
+        let ample = [OFFSETS, ITEMS, GLOBALS];
+        for points in [
+            [0x4090028f5c28f5c3, 0x40900028f5c28f5c, 0x409000b851eb851f, 0x409001147ae147ae, 0x4090000000000000, 0x4090000000000000, 0x409000f5c28f5c29, 0x409000f5c28f5c29],
+            [0x4071e2f844108dde, 0x40425a0001321cba, 0x4071a16ba0110cea, 0x40434a9db5a3d80e, 0x4071900000000000, 0x4042000000000000, 0x4071b1cec910ed27, 0x40430e7648876939],
+            [0x41c000000000000b, 0x41c0000000000140, 0x41c00000000000dc, 0x41c000000000004a, 0x41c0000000000000, 0x41c0000000000000, 0x41c0000000000099, 0x41c0000000000099],
+        ] {
+            let lines: Vec<Line> = points.windows(4).step_by(2).map(|w| [w[0], w[1], w[2], w[3]].map(f64::from_bits)).collect();
+            self.build(r, &lines, ample, 2);
+        }
+        let point = |x: f64, y: f64| [x, y, x, y];
+        let mut lines = vec![
+            [0x3fe1980000000000, 0x3ff7c00000000000, 0x408f3aa800000000, 0x3febfd2560d2889e].map(f64::from_bits),
+            [0x4088cc0000000000, 0x3fd0000000000000, 0x4088cfffffffffff, 0x3fefffffffffffff].map(f64::from_bits),
+            point(0.0, 0.0),
+        ];
+        lines.extend((1..1597).map(|k| point(1000.0 * k as f64 / 1597.0, 1.25)));
+        lines.push(point(1000.0, 1.5));
+        assert!(lines.len() == 1600 && lines.len() <= LINES);
+        self.build(r, &lines, ample, 1);
+        // a walk that the Rust never ends
+        let grid = Grid { min_x: -70.00000000000001, min_y: 1.0553831621433073e-7, cell_size: 1.0, cols: 15, rows: 2 };
+        self.walk(&grid, &[0.0, 0.6036785153383751, 5e-324, 1.639504059742847], SCRATCH);
     }
 
     fn owners(&mut self, r: &mut Random) {
@@ -257,26 +297,21 @@ impl File {
             let mut owners = oracle::Owners::new(&c.grid);
             let mut out = [0; 8];
             let number = model::point_owned(&c.grid, c.row, c.col, c.x, c.y, &mut out);
+            let owned = if number == 0 { owners.point(c.row, c.col, c.x, c.y) } else { false };
             let mut f = Fields::new();
-            if f.grid(&c.grid).word(c.row).word(c.col).float(c.x).float(c.y).answer(number, out[0]) {
-                f.word(owners.point(c.row, c.col, c.x, c.y) as u32);
-            }
+            f.grid(&c.grid).word(c.row).word(c.col).float(c.x).float(c.y).answer(number, out[0], &[owned as u64]);
             self.put(6, f);
 
             let number = model::overlap_owned(&c.grid, c.row, c.col, c.x, c.y, c.size, c.strategy, &mut out);
+            let owned = if number == 0 { owners.overlap(c.row, c.col, c.x, c.y, c.size, c.strategy) } else { false };
             let mut f = Fields::new();
-            f.grid(&c.grid).word(c.row).word(c.col).float(c.x).float(c.y).float(c.size).word(c.strategy);
-            if f.answer(number, out[0]) {
-                f.word(owners.overlap(c.row, c.col, c.x, c.y, c.size, c.strategy) as u32);
-            }
+            f.grid(&c.grid).word(c.row).word(c.col).float(c.x).float(c.y).float(c.size).word(c.strategy).answer(number, out[0], &[owned as u64]);
             self.put(7, f);
 
             let number = model::owner(&c.grid, c.x, c.y, &mut out);
+            let owner = if number == 0 { own::scan(&c.grid, c.x, c.y) } else { [0; 3] };
             let mut f = Fields::new();
-            if f.grid(&c.grid).float(c.x).float(c.y).answer(number, out[0]) {
-                let [found, row, col] = own::scan(&c.grid, c.x, c.y);
-                f.word(found as u32).word(row as u32).word(col as u32);
-            }
+            f.grid(&c.grid).float(c.x).float(c.y).answer(number, out[0], &owner);
             self.put(8, f);
         }
     }
@@ -288,14 +323,23 @@ impl File {
         for (x, y, size, strategy) in fixed.into_iter().chain(drawn) {
             let mut out = [0; 8];
             let number = model::snap(x, y, size, strategy, &mut out);
+            let (a, b) = if number == 0 { oracle::snap(x, y, size, strategy) } else { (0.0, 0.0) };
             let mut f = Fields::new();
-            if f.float(x).float(y).float(size).word(strategy).answer(number, out[0]) {
-                let (x, y) = oracle::snap(x, y, size, strategy);
-                f.float(x).float(y);
-            }
+            f.float(x).float(y).float(size).word(strategy).answer(number, out[0], &[a.to_bits(), b.to_bits()]);
             self.put(9, f);
         }
     }
+}
+
+/// The head of a visit's record, as far as the count of globals.
+fn tables(lines: &[Line], s: &Standing) -> Fields {
+    let mut f = Fields::new();
+    f.words(&[lines.len() as u32, s.offsets.len() as u32, s.items.len() as u32, s.globals.len() as u32]).grid(&s.grid).wide(s.global_count);
+    f
+}
+
+fn lists(f: &mut Fields, lines: &[Line], s: &Standing) {
+    f.columns(lines).words(s.offsets).words(s.items).words(s.globals);
 }
 
 fn main() {
@@ -314,12 +358,10 @@ fn main() {
     file.numbers(r);
     file.walks(r);
     file.builds(r);
+    file.findings(r);
     file.owners(r);
     file.snaps(r);
     let records = file.records;
-    let mut last = Fields::new();
-    last.word(records);
-    file.put(0, last);
     let bytes: Vec<u8> = file.words.iter().flat_map(|w| w.to_le_bytes()).collect();
     std::fs::write(&path, &bytes).unwrap_or_else(|e| panic!("{path}: {e}"));
     println!("{records} records, {} bytes, seed {seed}", bytes.len());
@@ -327,4 +369,5 @@ fn main() {
     for (name, (count, bytes)) in names.iter().zip(file.kinds).skip(1) {
         println!("  {name}: {count}, {bytes} bytes");
     }
+    assert!(bytes.len() < BYTES, "too long for the program");
 }

@@ -1,0 +1,6 @@
+-- What the proofs of several functions use. `Reading`: laws of what stands in words. `Asking`, `Building`, `Visiting`: from what was read of a
+-- record, and what an exported function promises, to a record that holds.
+mod Reading
+mod Asking
+mod Building
+mod Visiting

@@ -1,0 +1,12 @@
+-- `replay::room_for_bytes` meets its contract. Assumes nothing.
+use mathlib.Core.Path.{sym}
+use Prim.Native.Nat.{ℕ}
+use lib.ListN.{length-replicate}
+use Rattle.replay.proofs.room_for_bytes.Statement.{statement}
+use Rattle.replay.proofs.room_for_bytes.Tie as tie
+
+returns : tie.Need-returns
+returns c = sym (length-replicate {A = ℕ} 1048576 0)
+
+pub room-for-bytes-spec : {M : Type 1} → statement M
+room-for-bytes-spec = tie.close (tie.spec returns)

@@ -76,7 +76,11 @@ impl Kind for Snap {
             });
             answers(who, (wanted.0, &wanted.1), (got.0, &got.1))?;
         }
-        Ok(word(wanted.unwrap().0))
+        Ok(match (wanted.unwrap().0, c.strategy) {
+            (0, 0) => "answered by Grid",
+            (0, _) => "answered by GeosCompat",
+            (number, _) => word(number),
+        })
     }
 
     fn smaller(case: &Case) -> Vec<Case> {

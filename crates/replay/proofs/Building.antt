@@ -10,20 +10,23 @@ use Rattle.build.specs.Build.{endOf}
 use Rattle.capi.specs.Replies.{gridBy}
 use Rattle.capi.specs.Lent.{WalkReplies, BuildReplies}
 use Rattle.replay.specs.Words.{wordAt, floatAt, gridAt, wides, padded, part}
-use Rattle.replay.specs.Inside.{BuildAnswers, TablesStand}
+use Rattle.replay.specs.Inside.{WalkAnswers, BuildAnswers, TablesStand}
 use Rattle.replay.specs.Records.{linesOf, WalkAgrees, WalkHolds, BuildAgrees, BuildHolds}
 use Rattle.replay.proofs.Reading.{to-end, padded-as, zeros-as}
 
 -- ---- a walk
 
-pub walk-agrees : {x₀ y₀ s a b c d : Float} {r : ℕ} {scratch′ out : List ℕ} (scratch w : List ℕ) → x₀ ≡ floatAt 0 w → y₀ ≡ floatAt 2 w →
-    s ≡ floatAt 4 w → a ≡ floatAt 8 w → b ≡ floatAt 10 w → c ≡ floatAt 12 w → d ≡ floatAt 14 w →
+pub walk-answers : {x₀ y₀ s a b c d : Float} {r : ℕ} {scratch′ out : List ℕ} (w scratch : List ℕ) → x₀ ≡ floatAt 0 w → y₀ ≡ floatAt 2 w →
+    s ≡ floatAt 4 w → a ≡ floatAt 8 w → b ≡ floatAt 10 w → c ≡ floatAt 12 w → d ≡ floatAt 14 w → r ≡ wordAt 17 w → out ≡ wides (part 18 20 w) →
     WalkReplies (entryOf (length scratch) (gridBy x₀ y₀ s (wordAt 6 w) (wordAt 7 w)) a b c d) scratch (replicate 1 0) r scratch′ out →
-    r ≡ wordAt 17 w → out ≡ wides (part 18 20 w) → length scratch′ ≡ length scratch →
+    WalkAnswers w scratch scratch′
+unfolding WalkAnswers gridAt
+walk-answers w scratch e₀ e₁ e₂ ea eb ec ed er eo h = rw (← e₀, ← e₁, ← e₂, ← ea, ← eb, ← ec, ← ed, ← er, ← eo) h
+
+pub walk-agrees : {scratch′ : List ℕ} (scratch w : List ℕ) → WalkAnswers w scratch scratch′ → length scratch′ ≡ length scratch →
     scratch′ ≡ padded (length scratch′) (part 20 (length w) w) → WalkAgrees scratch w
-unfolding WalkAgrees gridAt
-walk-agrees scratch w e₀ e₁ e₂ ea eb ec ed h er eo l p =
-    rw (← e₀, ← e₁, ← e₂, ← ea, ← eb, ← ec, ← ed, ← er, ← eo, ← to-end 20 w, ← padded-as scratch _ l p) h
+unfolding WalkAnswers WalkAgrees
+walk-agrees scratch w h l p = rw (← to-end 20 w, ← padded-as scratch _ l p) h
 
 pub walk-holds : {scratch : List ℕ} (w : List ℕ) → scratch ≡ replicate (wordAt 16 w) 0 → WalkAgrees scratch w → WalkHolds w
 unfolding WalkHolds

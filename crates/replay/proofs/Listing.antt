@@ -1,5 +1,5 @@
 -- Laws of the lines and tables that are listed in a record. Assumes nothing.
-use mathlib.Core.Path.{_≡_, refl, sym, ap, _∙_}
+use mathlib.Core.Path.{_≡_, refl}
 use mathlib.Core.List.{List}
 use Prim.Native.Nat.{ℕ, _+_, _*_, _-_, _≤_}
 use native.Mathlib.Nat.{mul-le-mul-right}
@@ -8,7 +8,7 @@ use lib.Ieee.{Float}
 use lib.ListN.{length, take, drop}
 use lib.Seq.{drop-drop}
 use Rattle.grid.specs.Domain.{lines}
-use Rattle.replay.specs.Words.{wordAt, floats, linesIn, part}
+use Rattle.replay.specs.Words.{wordAt, linesIn, part}
 use Rattle.replay.specs.Inside.{Whole, columnOf}
 use Rattle.replay.specs.Records.{offsetsFrom, itemsFrom, globalsFrom, globalsTo, linesOf}
 use Rattle.replay.proofs.Reading.{part-part}

@@ -1,14 +1,13 @@
 -- Laws of what stands in words: entries of the wide numbers and of the floats, and when a part holds what is listed. Assumes nothing.
 use mathlib.Core.Path.{_≡_, refl, sym, ap, _∙_}
 use mathlib.Core.Bool.{true, false, true≢false}
-use mathlib.Core.List.{List, [], _∷_, _++_, map}
-use Prim.Native.Nat.{ℕ, zero, suc, _+_, _*_, _-_, _^_, _≤_, _<_}
+use mathlib.Core.List.{List, [], _∷_, _++_}
+use Prim.Native.Nat.{ℕ, zero, suc, _+_, _*_, _-_, _≤_, _<_}
 use native.Mathlib.Nat.{sub-zero}
 use native.Mathlib.Omega.{arith}
-use native.Mathlib.Numerals.{add-one}
 use native.Mathlib.Decide.{decLe}
 use lib.Ieee.{Float, binary64, ofBits}
-use lib.ListN.{length, take, drop, replicate, length-drop, getD, set, length-append, length-replicate, length-map, List·getD-map, List·getD-eq-default}
+use lib.ListN.{length, take, drop, replicate, length-drop, getD, length-append, length-replicate, length-map, List·getD-map}
 use lib.Seq.{ext-getD, take-all, take-take, getD-take, getD-drop}
 use Rattle.replay.specs.Inside.{fourAt}
 use Rattle.replay.specs.Files.{after}

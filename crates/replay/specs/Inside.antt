@@ -1,23 +1,27 @@
 -- What the parts of the comparison promise each other. Definitions only.
 use Prim.Native.Nat.{ℕ, suc, _+_, _*_, _≤_}
 use mathlib.Core.Path.{_≡_}
-use mathlib.Core.Bool.{Bool, cond}
-use mathlib.Core.List.{List, [], _∷_}
-use lib.Dec.{eqb}
+use mathlib.Core.List.{List}
 use lib.ListN.{length, replicate, getD}
 use lib.Ieee.{Float}
+use Rattle.walk.specs.Segment.{entryOf}
 use Rattle.build.specs.Build.{endOf}
 use Rattle.visit.specs.Entries.{beside, testAt}
 use Rattle.capi.specs.Replies.{Replies}
 use Rattle.capi.specs.Answers.{ofTest}
-use Rattle.capi.specs.Lent.{BuildReplies, BatchReplies}
+use Rattle.capi.specs.Lent.{WalkReplies, BuildReplies, BatchReplies}
 use Rattle.grid.specs.Domain.{Lines}
-use Rattle.replay.specs.Words.{wordAt, wideAt, gridAt, wides, floats, padded, part}
+use Rattle.replay.specs.Words.{wordAt, wideAt, floatAt, gridAt, wides, floats, padded, part}
 use Rattle.replay.specs.Records.{globalsTo, offsetsOf, itemsOf, globalsOf}
 
 -- the word in the four bytes from a place on
 unfoldable pub fourAt : ℕ → List ℕ → ℕ
 fourAt at bs = getD bs at 0 + 256 * (getD bs (suc at) 0 + 256 * (getD bs (suc (suc at)) 0 + 256 * getD bs (suc (suc (suc at))) 0))
+
+-- the answer of a walk, listed in the record w
+unfoldable pub WalkAnswers : List ℕ → List ℕ → List ℕ → Type 0
+WalkAnswers w s s′ =
+    WalkReplies (entryOf (length s) (gridAt 0 w) (floatAt 8 w) (floatAt 10 w) (floatAt 12 w) (floatAt 14 w)) s (replicate 1 0) (wordAt 17 w) s′ (wides (part 18 20 w))
 
 -- all that is listed after a head of h words stands in the record, and its lines are at most 2,048
 pub record Whole (h : ℕ) (w : List ℕ) : Type 0 where
@@ -28,7 +32,7 @@ pub record Whole (h : ℕ) (w : List ℕ) : Type 0 where
 unfoldable pub columnOf : ℕ → ℕ → List ℕ → List Float
 columnOf h k w = floats (part (h + 2 * (k * wordAt 0 w)) (h + 2 * (k * wordAt 0 w) + 2 * wordAt 0 w) w)
 
--- the answer of a build, listed in the record w
+-- the answer of a build of lines, likewise
 unfoldable pub BuildAnswers : List ℕ → Lines → List ℕ → List ℕ → List ℕ → List ℕ → List ℕ → List ℕ → List ℕ → List ℕ → Type 0
 BuildAnswers w ls offsets items globals scratch offsets′ items′ globals′ scratch′ =
     BuildReplies ls offsets items globals scratch (replicate 7 0) (wordAt 8 w) offsets′ items′ globals′ scratch′ (wides (part 9 23 w))
@@ -41,7 +45,7 @@ pub record TablesStand (w offsets items globals scratch : List ℕ) : Type 0 whe
   pub globals-are : globals ≡ padded (length globals) (globalsOf 23 w)
   pub clear : scratch ≡ replicate (length scratch) 0
 
--- the answer of a test on lines and tables
+-- the answer of a test on lines and tables, likewise
 unfoldable pub TestAnswers : List ℕ → Lines → List ℕ → List ℕ → List ℕ → Type 0
 TestAnswers w ls offsets items globals =
     Replies 6 (ofTest (testAt ls (gridAt 4 w) (beside ls (gridAt 4 w) offsets items globals (wideAt 12 w)) (wideAt 14 w)))

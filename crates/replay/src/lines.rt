@@ -6,7 +6,7 @@ ghost use Prim.Native.Nat.{_≤_};
 ghost use lib.ListN.{length, replicate};
 ghost use Rattle.grid.specs.Domain.{lines};
 ghost use Rattle.replay.specs.Words.{Tells};
-ghost use Rattle.replay.specs.Inside.{Whole, BuildAnswers, TablesStand};
+ghost use Rattle.replay.specs.Inside.{Whole, WalkAnswers, BuildAnswers, TablesStand};
 ghost use Rattle.replay.specs.Records.{linesOf, WalkAgrees, WalkHolds, BuildAgrees, BuildHolds};
 
 // Scratch for a walk.
@@ -16,13 +16,11 @@ fn scratch() -> [u32; 16384]
     [0; 16384]
 }
 
-// A walk in lent scratch.
-fn walked(w: &[u32], scratch: &mut [u32]) -> bool
-    ensures { λ r. ⌜ Tells r (WalkAgrees (now (scratch .entry)) (now (w .entry))) ⌝ }
+// Whether a walk answers as the record says.
+fn walk_answered(w: &[u32], scratch: &mut [u32]) -> bool
+    requires { ⌜ 20 ≤ length (now w) ⌝ }
+    ensures { λ r. ⌜ Tells r (WalkAnswers (now (w .entry)) (now (scratch .entry)) (now (scratch .exit))) ⌝ }
 {
-    if w.len() < 20 {
-        return false;
-    }
     let mut out = [0u64; 1];
     let number = capi::walking::mt_segment_cells(
         words::float(w, 0),
@@ -37,7 +35,17 @@ fn walked(w: &[u32], scratch: &mut [u32]) -> bool
         scratch,
         &mut out,
     );
-    if !words::told(w, 17, 20, number, &out) {
+    words::told(w, 17, 20, number, &out)
+}
+
+// A walk in lent scratch.
+fn walked(w: &[u32], scratch: &mut [u32]) -> bool
+    ensures { λ r. ⌜ Tells r (WalkAgrees (now (scratch .entry)) (now (w .entry))) ⌝ }
+{
+    if w.len() < 20 {
+        return false;
+    }
+    if !walk_answered(w, scratch) {
         return false;
     }
     words::stands(scratch, &w[20..])

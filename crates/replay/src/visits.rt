@@ -1,13 +1,12 @@
 // Kinds 4 and 5: a batch of tests, and one test by its bookmark, on tables that stand in the record.
 use crate::lists;
 use crate::words;
-ghost use mathlib.Core.Path.{_≡_};
 ghost use Prim.Native.Nat.{_+_, _*_, _≤_};
 ghost use lib.ListN.{length};
 ghost use Rattle.grid.specs.Domain.{lines};
-ghost use Rattle.replay.specs.Words.{Tells, wordAt};
+ghost use Rattle.replay.specs.Words.{Tells};
 ghost use Rattle.replay.specs.Inside.{Whole, TestAnswers, BatchAnswers, PairsStand};
-ghost use Rattle.replay.specs.Records.{globalsTo, linesOf, offsetsOf, itemsOf, globalsOf, BatchAgrees, BatchHolds, TestHolds};
+ghost use Rattle.replay.specs.Records.{linesOf, offsetsOf, itemsOf, globalsOf, BatchAgrees, BatchHolds, TestHolds};
 
 // Whether a test on lines and tables answers as the record says.
 fn test_answered(

@@ -22,9 +22,8 @@ slice-aggregate-built-4 c = sym (length-take-le _ _ (omega arith))
 
 returns-5 : tie.Need-returns-5
 returns-5 c p =
-    build-holds _ (lent-zeros 4096 (c .before .before .before .before .before .before .before .before .before .before .before .before .offsets .ensures) (omega arith) (c .before .before .before .before .before .before .before .before .before .before .before .before .before .before .before .before .before .before .before .before .word .ensures)) (lent-zeros 8192 (c .before .before .before .before .before .before .before .before .before .before .before .items .ensures) (omega arith) (c .before .before .before .before .before .before .before .before .before .before .before .before .before .before .before .before .before .before .word2 .ensures))
-    (lent-zeros 64 (c .before .before .before .before .before .before .before .before .before .before .globals .ensures) (omega arith) (c .before .before .before .before .before .before .before .before .before .before .before .before .before .before .before .before .word3 .ensures)) (lent-zeros 16384 (c .before .before .before .before .before .before .before .before .before .scratch .ensures) (omega arith) (c .before .before .before .before .before .before .before .before .before .before .before .before .before .before .word4 .ensures))
-    (c .before .before .before .before .built .ensures p)
+    build-holds _ (lent-zeros 4096 (c .before .before .before .before .before .before .before .before .before .before .before .before .offsets .ensures) (c .before .before .before .before .before .before .before .before .before .before .before .before .before .before .before .before .before .before .before .if1 .left) (c .before .before .before .before .before .before .before .before .before .before .before .before .before .before .before .before .before .before .before .before .word .ensures)) (lent-zeros 8192 (c .before .before .before .before .before .before .before .before .before .before .before .items .ensures) (c .before .before .before .before .before .before .before .before .before .before .before .before .before .before .before .before .before .if2 .left) (c .before .before .before .before .before .before .before .before .before .before .before .before .before .before .before .before .before .before .word2 .ensures))
+    (lent-zeros 64 (c .before .before .before .before .before .before .before .before .before .before .globals .ensures) (c .before .before .before .before .before .before .before .before .before .before .before .before .before .before .before .if3 .left) (c .before .before .before .before .before .before .before .before .before .before .before .before .before .before .before .before .word3 .ensures)) (lent-zeros 16384 (c .before .before .before .before .before .before .before .before .before .scratch .ensures) (c .before .before .before .before .before .before .before .before .before .before .before .before .before .if4 .left) (c .before .before .before .before .before .before .before .before .before .before .before .before .before .before .word4 .ensures)) (c .before .before .before .before .built .ensures p)
 
 pub build-spec : {M : Type 1} → statement M
 build-spec =

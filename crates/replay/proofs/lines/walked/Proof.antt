@@ -8,27 +8,14 @@ use Rattle.replay.proofs.lines.walked.Tie as tie
 
 returns-3 : tie.Need-returns-3
 returns-3 c p =
-    let m = c .before .before .before .before .before .before .before .before .before .mt-segment-cells in
-    let t = c .before .before .before .before .told .ensures (not-false _ (c .before .before .before .if2 .left)) in
-    walk-agrees _ (c .before .before .before .before .before .before .before .before .before .before .before .before .before .before .before .before .before .before .before .before .before .before .before .before .args .w .now) (c .before .before .before .before .before .before .before .before .before .before .before .before .before .before .before .before .before .before .before .before .float .ensures) (c .before .before .before .before .before .before .before .before .before .before .before .before .before .before .before .before .before .before .before .float2 .ensures) (c .before .before .before .before .before .before .before .before .before .before .before .before .before .before .before .before .before .before .float3 .ensures) (c .before .before .before .before .before .before .before .before .before .before .before .before .before .before .before .float4 .ensures) (c .before .before .before .before .before .before .before .before .before .before .before .before .before .before .float5 .ensures) (c .before .before .before .before .before .before .before .before .before .before .before .before .before .float6 .ensures) (c .before .before .before .before .before .before .before .before .before .before .before .before .float7 .ensures) (m .ensures) (t .0) (t .1) (m .kept .1 .1 .1 .1 .1 .1 .1 .1 .1 .0) (c .stands .ensures p)
+    let a = c .before .before .before .before .before .before .walk-answered in
+    walk-agrees _ (c .before .before .before .before .before .before .before .before .before .before .before .args .w .now) (a .ensures (not-false _ (c .before .before .before .if2 .left))) (a .kept .1 .0) (c .stands .ensures p)
 
 pub walked-spec : {M : Type 1} → statement M
 walked-spec =
     tie.close
     (tie.spec
     (λ c. silent)
-    (λ c κs. search needs)
-    (λ c κs. search needs)
-    (λ c κs. search needs)
-    (λ c. search needs)
-    (λ c. search needs)
-    (λ c κs. search needs)
-    (λ c κs. search needs)
-    (λ c κs. search needs)
-    (λ c κs. search needs)
-    (λ c. search needs)
-    (λ c κs. search needs)
-    (λ c. search needs)
     (λ c κs. search needs)
     (λ c. search needs)
     (λ c. silent)

@@ -1,5 +1,4 @@
 -- `replay::lists::items_of` meets its contract. Assumes nothing.
-use native.Mathlib.Omega.{arith}
 use borrow.Author.Needs.{needs}
 use Rattle.replay.specs.Records.{offsetsFrom, itemsFrom, globalsFrom, globalsTo, itemsOf}
 use Rattle.replay.proofs.Listing.{part-as}

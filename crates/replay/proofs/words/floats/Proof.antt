@@ -4,7 +4,7 @@ use mathlib.Core.List.{List}
 use Prim.Native.Nat.{ℕ, _+_, _*_, _-_, _≤_, _<_}
 use native.Mathlib.Omega.{arith}
 use lib.Ieee.{Float, binary64, ofBits}
-use lib.ListN.{length, take, drop, getD, set, length-set, length-replicate, length-take, length-drop}
+use lib.ListN.{length, take, getD, set, length-set, length-replicate, length-take, length-drop}
 use lib.Seq.{getD-set-same, getD-set-other, getD-take, length-take-le}
 use Rattle.replay.specs.Words.{floatAt, floats, part}
 use Rattle.replay.proofs.Reading.{and-then, floats-are, float-part}

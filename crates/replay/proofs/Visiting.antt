@@ -2,6 +2,7 @@
 use mathlib.Core.Path.{_≡_}
 use mathlib.Core.List.{List}
 use Prim.Native.Nat.{ℕ, _+_, _*_, _≤_}
+use native.Mathlib.Omega.{arith}
 use lib.Ieee.{Float}
 use lib.ListN.{length, take, replicate}
 use Rattle.grid.specs.Domain.{Lines}
@@ -45,8 +46,10 @@ pub batch-asked : {ls : Lines} {offsets items globals : List ℕ} (first second 
 batch-asked first second first′ second′ w e f g h a = rw (← e, ← f, ← g, ← h) a
 
 pub pairs-stand : {at n : ℕ} (w first second : List ℕ) → at ≡ globalsTo 25 w → n ≡ wordAt 24 w →
-    first ≡ padded (length first) (part at (at + n) w) → second ≡ padded (length second) (part (at + n) (at + 2 * n) w) → PairsStand w first second
-pairs-stand w first second e f p q = record { first-are = rw (← e, ← f) p; second-are = rw (← e, ← f) q }
+    first ≡ padded (length first) (part at (at + n) w) → second ≡ padded (length second) (part (at + n) (at + n + n) w) → PairsStand w first second
+pairs-stand {at} {n} w first second e f p q =
+    let g : at + n + n ≡ at + 2 * n = omega arith in
+    record { first-are = rw (← e, ← f) p; second-are = rw (← e, ← f, ← g) q }
 
 pub batch-agrees : (first second w : List ℕ) {first′ second′ : List ℕ} →
     BatchAnswers w (linesOf 25 w) (offsetsOf 25 w) (itemsOf 25 w) (globalsOf 25 w) first second first′ second′ →

@@ -141,15 +141,17 @@ fn asked(w: &[u32], first: &mut [u32], second: &mut [u32]) -> bool
 fn pairs_stand(w: &[u32], first: &[u32], second: &[u32]) -> bool
     ensures { λ r. ⌜ Tells r (PairsStand (now (w .entry)) (now (first .entry)) (now (second .entry))) ⌝ }
 {
-    let from = lists::globals_to(25, w);
+    let first_from = lists::globals_to(25, w);
     let pairs = words::word(w, 24) as usize;
-    if w.len() < from + 2 * pairs {
+    let second_from = first_from + pairs;
+    let to = second_from + pairs;
+    if w.len() < to {
         return false;
     }
-    if !words::stands(first, &w[from..from + pairs]) {
+    if !words::stands(first, &w[first_from..second_from]) {
         return false;
     }
-    words::stands(second, &w[from + pairs..from + 2 * pairs])
+    words::stands(second, &w[second_from..to])
 }
 
 // A batch in lent outputs.

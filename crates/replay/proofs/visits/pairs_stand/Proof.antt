@@ -8,9 +8,7 @@ use Rattle.replay.proofs.visits.pairs_stand.Tie as tie
 
 returns-3 : tie.Need-returns-3
 returns-3 c p =
-    let a = c .before .before .before .before .before .before .before .globals-to .ensures .0 in
-    let e = c .before .before .before .before .before .before .word .ensures in
-    pairs-stand _ _ _ a e (c .before .before .before .stands .ensures (not-false _ (c .before .before .if2 .left))) (c .stands2 .ensures p)
+    pairs-stand _ _ _ (c .before .before .before .before .before .before .before .globals-to .ensures .0) (c .before .before .before .before .before .before .word .ensures) (c .before .before .before .stands .ensures (not-false _ (c .before .before .if2 .left))) (c .stands2 .ensures p)
 
 pub pairs-stand-spec : {M : Type 1} → statement M
 pairs-stand-spec =
@@ -26,12 +24,8 @@ pairs-stand-spec =
     (λ c. search needs)
     (λ c. search needs)
     (λ c. search needs)
-    (λ c. search needs)
     (λ c κs. search needs)
     (λ c. silent)
-    (λ c. search needs)
-    (λ c. search needs)
-    (λ c. search needs)
     (λ c. search needs)
     (λ c. search needs)
     (λ c. search needs)

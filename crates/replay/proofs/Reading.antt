@@ -1,19 +1,17 @@
 -- Laws of what stands in words: entries of the wide numbers and of the floats, and when a part holds what is listed. Assumes nothing.
 use mathlib.Core.Path.{_≡_, refl, sym, ap, _∙_}
 use mathlib.Core.Bool.{true, false, true≢false}
-use mathlib.Core.List.{List, [], _∷_, _++_, map}
-use Prim.Native.Nat.{ℕ, zero, suc, _+_, _*_, _-_, _^_, _≤_, _<_}
+use mathlib.Core.List.{List, [], _∷_, _++_}
+use Prim.Native.Nat.{ℕ, zero, suc, _+_, _*_, _-_, _≤_, _<_}
 use native.Mathlib.Nat.{sub-zero}
 use native.Mathlib.Omega.{arith}
-use native.Mathlib.Numerals.{add-one}
 use native.Mathlib.Decide.{decLe}
 use lib.Ieee.{Float, binary64, ofBits}
-use lib.ListN.{length, take, drop, replicate, length-drop, getD, set, length-append, length-replicate, length-map, List·getD-map, List·getD-eq-default}
-use lib.Seq.{ext-getD, take-all}
-use Rattle.grid.specs.Domain.{lines}
+use lib.ListN.{length, take, drop, replicate, length-drop, getD, length-append, length-replicate, length-map, List·getD-map}
+use lib.Seq.{ext-getD, take-all, take-take, getD-take, getD-drop}
 use Rattle.replay.specs.Inside.{fourAt}
 use Rattle.replay.specs.Files.{after}
-use Rattle.replay.specs.Words.{wordsOf, Tells, wideAt, floatAt, wides, floats, linesIn, padded, part}
+use Rattle.replay.specs.Words.{wordsOf, Tells, wideAt, floatAt, wides, floats, padded, part}
 
 -- ---- what holds up to an index, and at it
 
@@ -87,11 +85,22 @@ pub floats-are : (out : List Float) (w : List ℕ) → length w ≡ 2 * length o
 floats-are out w e h =
     ext-getD (ofBits binary64 0) out (floats w) (sym (length-floats w (length out) e)) (λ k b. h k b ∙ sym (floats-at w k (omega (arith, e, b))))
 
--- the four columns make the lines
-pub columns-are : {x₀ y₀ x₁ y₁ : List Float} (n : ℕ) (w : List ℕ) → x₀ ≡ floats (part 0 (2 * n) w) → y₀ ≡ floats (part (2 * n) (4 * n) w) →
-    x₁ ≡ floats (part (4 * n) (6 * n) w) → y₁ ≡ floats (part (6 * n) (8 * n) w) → lines x₀ y₀ x₁ y₁ ≡ linesIn n w
-unfolding linesIn
-columns-are n w e f g h = rw (← e, ← f, ← g, ← h) refl
+-- what stands in a part stands in the whole
+wide-part : (from n at : ℕ) (w : List ℕ) → suc at < n → wideAt at (take n (drop from w)) ≡ wideAt (from + at) w
+unfolding wideAt
+wide-part from n at w h =
+    let e : from + suc at ≡ suc (from + at) = omega arith in
+    rw (getD-take n (drop from w) at 0 (omega arith), getD-take n (drop from w) (suc at) 0 h, getD-drop from w at 0, getD-drop from w (suc at) 0, e)
+
+pub float-part : (from n at : ℕ) (w : List ℕ) → suc at < n → floatAt at (take n (drop from w)) ≡ floatAt (from + at) w
+unfolding floatAt
+float-part from n at w h = rw (wide-part from n at w h)
+
+pub part-part : (from k n : ℕ) (w : List ℕ) → from + k ≤ n → take k (drop from (take n w)) ≡ take k (drop from w)
+part-part zero k n w h = take-take k n w (omega arith)
+part-part (suc from) k zero w h = absurd (omega arith)
+part-part (suc from) k (suc n) [] h = refl
+part-part (suc from) k (suc n) (x ∷ w) h = part-part from k n w (omega arith)
 
 -- the part from a place to the end
 pub to-end : (k : ℕ) (w : List ℕ) → part k (length w) w ≡ drop k w
@@ -119,9 +128,16 @@ padded-is s listed h e =
     ext-getD 0 s (listed ++ replicate n 0) (rw (length-append listed (replicate n 0), length-replicate {A = ℕ} n 0) (omega (arith, h)))
     (λ k b. e k b ∙ sym (listed-at listed n k))
 
+-- what is listed, by another name
+pub listed-as : {l l′ : List ℕ} (s : List ℕ) → l ≡ l′ → s ≡ padded (length s) l → s ≡ padded (length s) l′
+listed-as s e p = p ∙ ap (padded (length s)) e
+
 -- a slice that keeps its length
 pub padded-as : {s′ : List ℕ} (s l : List ℕ) → length s′ ≡ length s → s′ ≡ padded (length s′) l → s′ ≡ padded (length s) l
 padded-as s l e p = p ∙ ap (λ (k : ℕ). padded k l) e
+
+pub zeros-as : {s′ : List ℕ} (s : List ℕ) → length s′ ≡ length s → s′ ≡ replicate (length s′) 0 → s′ ≡ replicate (length s) 0
+zeros-as s e p = p ∙ ap (λ (k : ℕ). replicate k 0) e
 
 -- where nothing is listed, all is zero
 pub padded-none : (n : ℕ) (w : List ℕ) → padded n (part 0 0 w) ≡ replicate n 0

@@ -1,52 +1,63 @@
 -- What the parts of the comparison promise each other. Definitions only.
 use Prim.Native.Nat.{ℕ, suc, _+_, _*_, _≤_}
 use mathlib.Core.Path.{_≡_}
-use mathlib.Core.Bool.{Bool, cond}
-use mathlib.Core.List.{List, [], _∷_}
-use lib.Dec.{eqb}
+use mathlib.Core.List.{List}
 use lib.ListN.{length, replicate, getD}
 use lib.Ieee.{Float}
+use Rattle.walk.specs.Segment.{entryOf}
 use Rattle.build.specs.Build.{endOf}
 use Rattle.visit.specs.Entries.{beside, testAt}
 use Rattle.capi.specs.Replies.{Replies}
 use Rattle.capi.specs.Answers.{ofTest}
-use Rattle.capi.specs.Lent.{BuildReplies, BatchReplies}
-use Rattle.replay.specs.Words.{wordAt, wideAt, gridAt, wides, linesIn, part}
+use Rattle.capi.specs.Lent.{WalkReplies, BuildReplies, BatchReplies}
+use Rattle.grid.specs.Domain.{Lines}
+use Rattle.replay.specs.Words.{wordAt, wideAt, floatAt, gridAt, wides, floats, padded, part}
+use Rattle.replay.specs.Records.{globalsTo, offsetsOf, itemsOf, globalsOf}
 
 -- the word in the four bytes from a place on
 unfoldable pub fourAt : ℕ → List ℕ → ℕ
 fourAt at bs = getD bs at 0 + 256 * (getD bs (suc at) 0 + 256 * (getD bs (suc (suc at)) 0 + 256 * getD bs (suc (suc (suc at))) 0))
 
--- n lines, few enough, in words
-pub record Few (n : ℕ) (w : List ℕ) : Type 0 where
-  pub whole : length w ≡ 8 * n
-  pub few : n ≤ 2048
+-- the answer of a walk, listed in the record w
+unfoldable pub WalkAnswers : List ℕ → List ℕ → List ℕ → Type 0
+WalkAnswers w s s′ =
+    WalkReplies (entryOf (length s) (gridAt 0 w) (floatAt 8 w) (floatAt 10 w) (floatAt 12 w) (floatAt 14 w)) s (replicate 1 0) (wordAt 17 w) s′ (wides (part 18 20 w))
 
--- room for as many of each coordinate
-pub record Same (x₀ y₀ x₁ y₁ : List Float) : Type 0 where
-  pub «start-y» : length y₀ ≡ length x₀
-  pub «end-x» : length x₁ ≡ length x₀
-  pub «end-y» : length y₁ ≡ length x₀
+-- all that is listed after a head of h words stands in the record, and its lines are at most 2,048
+pub record Whole (h : ℕ) (w : List ℕ) : Type 0 where
+  pub few : wordAt 0 w ≤ 2048
+  pub all : globalsTo h w ≤ length w
 
--- room for the lines that stand in words, eight words for each
-pub record Columns (w : List ℕ) (x₀ y₀ x₁ y₁ : List Float) : Type 0 where
-  pub whole : length w ≡ 8 * length x₀
-  pub same : Same x₀ y₀ x₁ y₁
+-- a coordinate of the lines that are listed after the head
+unfoldable pub columnOf : ℕ → ℕ → List ℕ → List Float
+columnOf h k w = floats (part (h + 2 * (k * wordAt 0 w)) (h + 2 * (k * wordAt 0 w) + 2 * wordAt 0 w) w)
 
--- the answer of a build of n lines, listed in the record w
-unfoldable pub BuildAnswers : List ℕ → ℕ → List ℕ → List ℕ → List ℕ → List ℕ → List ℕ → List ℕ → List ℕ → List ℕ → List ℕ → Type 0
-BuildAnswers w n ls offsets items globals scratch offsets′ items′ globals′ scratch′ =
-    BuildReplies (linesIn n ls) offsets items globals scratch (replicate 7 0) (wordAt 8 w) offsets′ items′ globals′ scratch′ (wides (part 9 23 w))
-    (endOf (linesIn n ls) (length offsets) (length items) (length globals) (length scratch))
+-- the answer of a build of lines, likewise
+unfoldable pub BuildAnswers : List ℕ → Lines → List ℕ → List ℕ → List ℕ → List ℕ → List ℕ → List ℕ → List ℕ → List ℕ → Type 0
+BuildAnswers w ls offsets items globals scratch offsets′ items′ globals′ scratch′ =
+    BuildReplies ls offsets items globals scratch (replicate 7 0) (wordAt 8 w) offsets′ items′ globals′ scratch′ (wides (part 9 23 w))
+    (endOf ls (length offsets) (length items) (length globals) (length scratch))
 
--- the answer of a test on n lines and tables, listed in the head of its record
-unfoldable pub TestAnswers : List ℕ → ℕ → List ℕ → List ℕ → List ℕ → List ℕ → Type 0
-TestAnswers head n w offsets items globals =
-    Replies 6 (ofTest (testAt (linesIn n w) (gridAt 4 head) (beside (linesIn n w) (gridAt 4 head) offsets items globals (wideAt 12 head)) (wideAt 14 head)))
-    (replicate 6 0) (wordAt 16 head) (wides (part 17 29 head))
+-- its tables, and scratch of zeros
+pub record TablesStand (w offsets items globals scratch : List ℕ) : Type 0 where
+  pub offsets-are : offsets ≡ padded (length offsets) (offsetsOf 23 w)
+  pub items-are : items ≡ padded (length items) (itemsOf 23 w)
+  pub globals-are : globals ≡ padded (length globals) (globalsOf 23 w)
+  pub clear : scratch ≡ replicate (length scratch) 0
+
+-- the answer of a test on lines and tables, likewise
+unfoldable pub TestAnswers : List ℕ → Lines → List ℕ → List ℕ → List ℕ → Type 0
+TestAnswers w ls offsets items globals =
+    Replies 6 (ofTest (testAt ls (gridAt 4 w) (beside ls (gridAt 4 w) offsets items globals (wideAt 12 w)) (wideAt 14 w)))
+    (replicate 6 0) (wordAt 16 w) (wides (part 17 29 w))
 
 -- the answer of a batch, likewise
-unfoldable pub BatchAnswers : List ℕ → ℕ → List ℕ → List ℕ → List ℕ → List ℕ → List ℕ → List ℕ → List ℕ → List ℕ → Type 0
-BatchAnswers head n w offsets items globals first second first′ second′ =
-    BatchReplies (linesIn n w) (gridAt 4 head) (beside (linesIn n w) (gridAt 4 head) offsets items globals (wideAt 12 head)) (wideAt 14 head) first second
-    (replicate 3 0) (wordAt 17 head) first′ second′ (wides (part 18 24 head))
+unfoldable pub BatchAnswers : List ℕ → Lines → List ℕ → List ℕ → List ℕ → List ℕ → List ℕ → List ℕ → List ℕ → Type 0
+BatchAnswers w ls offsets items globals first second first′ second′ =
+    BatchReplies ls (gridAt 4 w) (beside ls (gridAt 4 w) offsets items globals (wideAt 12 w)) (wideAt 14 w) first second
+    (replicate 3 0) (wordAt 17 w) first′ second′ (wides (part 18 24 w))
+
+-- its pairs
+pub record PairsStand (w first second : List ℕ) : Type 0 where
+  pub first-are : first ≡ padded (length first) (part (globalsTo 25 w) (globalsTo 25 w + wordAt 24 w) w)
+  pub second-are : second ≡ padded (length second) (part (globalsTo 25 w + wordAt 24 w) (globalsTo 25 w + 2 * wordAt 24 w) w)

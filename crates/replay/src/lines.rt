@@ -1,11 +1,13 @@
 // Kinds 2 and 3: the walk of a segment, and a build.
+use crate::lists;
 use crate::words;
 ghost use mathlib.Core.Path.{_≡_};
 ghost use Prim.Native.Nat.{_≤_};
 ghost use lib.ListN.{length, replicate};
-ghost use Rattle.replay.specs.Words.{Tells, wordAt};
-ghost use Rattle.replay.specs.Inside.{Same, Columns, BuildAnswers};
-ghost use Rattle.replay.specs.Records.{WalkAgrees, WalkHolds, BuildAgrees, BuildHolds};
+ghost use Rattle.grid.specs.Domain.{lines};
+ghost use Rattle.replay.specs.Words.{Tells};
+ghost use Rattle.replay.specs.Inside.{Whole, WalkAnswers, BuildAnswers, TablesStand};
+ghost use Rattle.replay.specs.Records.{linesOf, WalkAgrees, WalkHolds, BuildAgrees, BuildHolds};
 
 // Scratch for a walk.
 fn scratch() -> [u32; 16384]
@@ -14,13 +16,11 @@ fn scratch() -> [u32; 16384]
     [0; 16384]
 }
 
-// A walk in lent scratch.
-fn walked(w: &[u32], scratch: &mut [u32]) -> bool
-    ensures { λ r. ⌜ Tells r (WalkAgrees (now (scratch .entry)) (now (w .entry))) ⌝ }
+// Whether a walk answers as the record says.
+fn walk_answered(w: &[u32], scratch: &mut [u32]) -> bool
+    requires { ⌜ 20 ≤ length (now w) ⌝ }
+    ensures { λ r. ⌜ Tells r (WalkAnswers (now (w .entry)) (now (scratch .entry)) (now (scratch .exit))) ⌝ }
 {
-    if w.len() < 20 {
-        return false;
-    }
     let mut out = [0u64; 1];
     let number = capi::walking::mt_segment_cells(
         words::float(w, 0),
@@ -35,10 +35,17 @@ fn walked(w: &[u32], scratch: &mut [u32]) -> bool
         scratch,
         &mut out,
     );
-    if number != w[17] {
+    words::told(w, 17, 20, number, &out)
+}
+
+// A walk in lent scratch.
+fn walked(w: &[u32], scratch: &mut [u32]) -> bool
+    ensures { λ r. ⌜ Tells r (WalkAgrees (now (scratch .entry)) (now (w .entry))) ⌝ }
+{
+    if w.len() < 20 {
         return false;
     }
-    if !words::same(&out, &w[18..20]) {
+    if !walk_answered(w, scratch) {
         return false;
     }
     words::stands(scratch, &w[20..])
@@ -55,23 +62,21 @@ pub(crate) fn walk(w: &[u32]) -> bool
     walked(w, &mut scratch[..lent])
 }
 
-// Whether a build answers as the record says, of the lines that stand in a part of it. The coordinates are lent room.
+// Whether a build of lines answers as the record says.
 fn answered(
     w: &[u32],
-    lines: &[u32],
-    start_x: &mut [f64],
-    start_y: &mut [f64],
-    end_x: &mut [f64],
-    end_y: &mut [f64],
+    start_x: &[f64],
+    start_y: &[f64],
+    end_x: &[f64],
+    end_y: &[f64],
     offsets: &mut [u32],
     items: &mut [u32],
     globals: &mut [u32],
     scratch: &mut [u32],
 ) -> bool
-    requires { ⌜ Columns (now lines) (now «start_x») (now «start_y») (now «end_x») (now «end_y») ⌝ ∗ ⌜ 23 ≤ length (now w) ⌝ }
-    ensures { λ r. ⌜ Tells r (BuildAnswers (now (w .entry)) (length (now («start_x» .entry))) (now (lines .entry)) (now (offsets .entry)) (now (items .entry)) (now (globals .entry)) (now (scratch .entry)) (now (offsets .exit)) (now (items .exit)) (now (globals .exit)) (now (scratch .exit))) ⌝ }
+    requires { ⌜ 23 ≤ length (now w) ⌝ }
+    ensures { λ r. ⌜ Tells r (BuildAnswers (now (w .entry)) (lines (now («start_x» .entry)) (now («start_y» .entry)) (now («end_x» .entry)) (now («end_y» .entry))) (now (offsets .entry)) (now (items .entry)) (now (globals .entry)) (now (scratch .entry)) (now (offsets .exit)) (now (items .exit)) (now (globals .exit)) (now (scratch .exit))) ⌝ }
 {
-    words::columns(lines, start_x.len(), start_x, start_y, end_x, end_y);
     let mut out = [0u64; 7];
     let number = capi::building::mt_build(
         start_x,
@@ -84,61 +89,72 @@ fn answered(
         scratch,
         &mut out,
     );
-    if number != w[8] {
-        return false;
-    }
-    words::same(&out, &w[9..23])
+    words::told(w, 8, 23, number, &out)
 }
 
-// A build in lent slices.
-fn built(
+// The same of the lines that stand in the record.
+fn asked(
     w: &[u32],
-    start_x: &mut [f64],
-    start_y: &mut [f64],
-    end_x: &mut [f64],
-    end_y: &mut [f64],
     offsets: &mut [u32],
     items: &mut [u32],
     globals: &mut [u32],
     scratch: &mut [u32],
 ) -> bool
-    requires { ⌜ Same (now «start_x») (now «start_y») (now «end_x») (now «end_y») ⌝ ∗ ⌜ length (now «start_x») ≡ wordAt 0 (now w) ⌝ }
-    ensures { λ r. ⌜ Tells r (BuildAgrees (now (offsets .entry)) (now (items .entry)) (now (globals .entry)) (now (scratch .entry)) (now (w .entry))) ⌝ }
+    requires { ⌜ Whole 23 (now w) ⌝ }
+    ensures { λ r. ⌜ Tells r (BuildAnswers (now (w .entry)) (linesOf 23 (now (w .entry))) (now (offsets .entry)) (now (items .entry)) (now (globals .entry)) (now (scratch .entry)) (now (offsets .exit)) (now (items .exit)) (now (globals .exit)) (now (scratch .exit))) ⌝ }
 {
-    if w.len() < 23 {
-        return false;
-    }
-    let offsets_from = 23 + 8 * start_x.len();
-    let items_from = offsets_from + w[1] as usize;
-    let globals_from = items_from + w[2] as usize;
-    let globals_to = globals_from + w[3] as usize;
-    if w.len() < globals_to {
-        return false;
-    }
-    if !answered(
+    let n = words::word(w, 0) as usize;
+    let start_x = lists::column(23, w, 0);
+    let start_y = lists::column(23, w, 1);
+    let end_x = lists::column(23, w, 2);
+    let end_y = lists::column(23, w, 3);
+    answered(
         w,
-        &w[23..offsets_from],
-        start_x,
-        start_y,
-        end_x,
-        end_y,
+        &start_x[..n],
+        &start_y[..n],
+        &end_x[..n],
+        &end_y[..n],
         offsets,
         items,
         globals,
         scratch,
-    ) {
+    )
+}
+
+// Whether the tables are those listed, and the scratch is zero.
+fn tables_stand(w: &[u32], offsets: &[u32], items: &[u32], globals: &[u32], scratch: &[u32]) -> bool
+    requires { ⌜ Whole 23 (now w) ⌝ }
+    ensures { λ r. ⌜ Tells r (TablesStand (now (w .entry)) (now (offsets .entry)) (now (items .entry)) (now (globals .entry)) (now (scratch .entry))) ⌝ }
+{
+    if !words::stands(offsets, lists::offsets_of(23, w)) {
         return false;
     }
-    if !words::stands(offsets, &w[offsets_from..items_from]) {
+    if !words::stands(items, lists::items_of(23, w)) {
         return false;
     }
-    if !words::stands(items, &w[items_from..globals_from]) {
-        return false;
-    }
-    if !words::stands(globals, &w[globals_from..globals_to]) {
+    if !words::stands(globals, lists::globals_of(23, w)) {
         return false;
     }
     words::stands(scratch, &w[0..0])
+}
+
+// A build in lent slices.
+fn built(
+    w: &[u32],
+    offsets: &mut [u32],
+    items: &mut [u32],
+    globals: &mut [u32],
+    scratch: &mut [u32],
+) -> bool
+    ensures { λ r. ⌜ Tells r (BuildAgrees (now (offsets .entry)) (now (items .entry)) (now (globals .entry)) (now (scratch .entry)) (now (w .entry))) ⌝ }
+{
+    if !lists::whole(23, w) {
+        return false;
+    }
+    if !asked(w, offsets, items, globals, scratch) {
+        return false;
+    }
+    tables_stand(w, offsets, items, globals, scratch)
 }
 
 fn offsets() -> [u32; 4096]
@@ -157,37 +173,6 @@ fn globals() -> [u32; 64]
     ensures { λ r. ⌜ r ≡ replicate 64 0 ⌝ }
 {
     [0; 64]
-}
-
-// Room for the lines.
-fn with_columns(
-    w: &[u32],
-    offsets: &mut [u32],
-    items: &mut [u32],
-    globals: &mut [u32],
-    scratch: &mut [u32],
-) -> bool
-    ensures { λ r. ⌜ Tells r (BuildAgrees (now (offsets .entry)) (now (items .entry)) (now (globals .entry)) (now (scratch .entry)) (now (w .entry))) ⌝ }
-{
-    let n = words::word(w, 0) as usize;
-    if n > 2048 {
-        return false;
-    }
-    let mut start_x = words::room();
-    let mut start_y = words::room();
-    let mut end_x = words::room();
-    let mut end_y = words::room();
-    built(
-        w,
-        &mut start_x[..n],
-        &mut start_y[..n],
-        &mut end_x[..n],
-        &mut end_y[..n],
-        offsets,
-        items,
-        globals,
-        scratch,
-    )
 }
 
 pub(crate) fn build(w: &[u32]) -> bool
@@ -213,7 +198,7 @@ pub(crate) fn build(w: &[u32]) -> bool
     let mut items = items();
     let mut globals = globals();
     let mut scratch = scratch();
-    with_columns(
+    built(
         w,
         &mut offsets[..lent_offsets],
         &mut items[..lent_items],

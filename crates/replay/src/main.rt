@@ -7,6 +7,7 @@ use libc::STDIN_FILENO;
 use libc::STDOUT_FILENO;
 
 mod lines;
+mod lists;
 mod number;
 mod points;
 mod records;

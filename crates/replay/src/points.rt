@@ -22,10 +22,7 @@ pub(crate) fn point_owned(w: &[u32]) -> bool
         words::float(w, 12),
         &mut out,
     );
-    if number != w[14] {
-        return false;
-    }
-    words::same(&out, &w[15..])
+    words::told(w, 14, w.len(), number, &out)
 }
 
 pub(crate) fn overlap_owned(w: &[u32]) -> bool
@@ -49,10 +46,7 @@ pub(crate) fn overlap_owned(w: &[u32]) -> bool
         w[16],
         &mut out,
     );
-    if number != w[17] {
-        return false;
-    }
-    words::same(&out, &w[18..])
+    words::told(w, 17, w.len(), number, &out)
 }
 
 pub(crate) fn owner(w: &[u32]) -> bool
@@ -72,10 +66,7 @@ pub(crate) fn owner(w: &[u32]) -> bool
         words::float(w, 10),
         &mut out,
     );
-    if number != w[12] {
-        return false;
-    }
-    words::same(&out, &w[13..])
+    words::told(w, 12, w.len(), number, &out)
 }
 
 pub(crate) fn snap(w: &[u32]) -> bool
@@ -92,8 +83,5 @@ pub(crate) fn snap(w: &[u32]) -> bool
         w[6],
         &mut out,
     );
-    if number != w[7] {
-        return false;
-    }
-    words::same(&out, &w[8..])
+    words::told(w, 7, w.len(), number, &out)
 }

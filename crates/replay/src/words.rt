@@ -1,12 +1,11 @@
 // What stands in the words of a record, and the comparison of slices with it.
 ghost use mathlib.Core.Path.{_≡_};
-ghost use Prim.Native.Nat.{_+_, _*_, _^_, _<_};
+ghost use Prim.Native.Nat.{_+_, _*_, _^_, _<_, _≤_};
 ghost use lib.Ieee.{binary64, ofBits, toBits};
-ghost use lib.ListN.{length};
-ghost use Rattle.replay.specs.Words.{wordsOf, Tells, wordAt, wideAt, floatAt, wides, padded, linesIn};
+ghost use lib.ListN.{length, take};
+ghost use Rattle.replay.specs.Words.{wordsOf, Tells, wordAt, wideAt, floatAt, wides, padded, part};
 ghost use Rattle.replay.specs.Words.{floats as Words·floats};
 ghost use Rattle.replay.specs.Inside.{fourAt};
-ghost use Rattle.grid.specs.Domain.{lines};
 
 // The word in the four bytes from a place on.
 fn word_of(bytes: &[u8], at: usize) -> u32
@@ -83,41 +82,18 @@ pub(crate) fn float(w: &[u32], at: usize) -> f64
     of_bits(wide(w, at))
 }
 
-// All floats that stand in words, two words for each.
-fn floats(w: &[u32], out: &mut [f64])
-    requires { ⌜ length (now w) ≡ 2 * length (now out) ⌝ }
-    ensures { λ _. ⌜ now (out .exit) ≡ Words·floats (now (w .entry)) ⌝ }
+// The floats that stand in words from a place on, two words for each, at the start of room for 2,048.
+pub(crate) fn floats(w: &[u32], from: usize, n: usize) -> [f64; 2048]
+    requires { ⌜ (n ≤ 2048) × (from + 2 * n ≤ length (now w)) ⌝ }
+    ensures { λ r. ⌜ (2048 ≡ length r) × (take n r ≡ Words·floats (part from (from + 2 * n) (now (w .entry)))) ⌝ }
 {
+    let mut out = [0.0; 2048];
     let mut i = 0;
-    while i < out.len() {
-        out[i] = float(w, 2 * i);
+    while i < n {
+        out[i] = float(w, from + 2 * i);
         i += 1;
     }
-}
-
-// Room for one coordinate of 2,048 lines.
-pub(crate) fn room() -> [f64; 2048]
-    ensures { λ r. ⌜ 2048 ≡ length r ⌝ }
-{
-    [0.0; 2048]
-}
-
-// The lines that stand in words, eight words for each.
-pub(crate) fn columns(
-    w: &[u32],
-    n: usize,
-    start_x: &mut [f64],
-    start_y: &mut [f64],
-    end_x: &mut [f64],
-    end_y: &mut [f64],
-)
-    requires { ⌜ (length (now w) ≡ 8 * n) × (length (now «start_x») ≡ n) × (length (now «start_y») ≡ n) × (length (now «end_x») ≡ n) × (length (now «end_y») ≡ n) ⌝ }
-    ensures { λ _. ⌜ lines (now («start_x» .exit)) (now («start_y» .exit)) (now («end_x» .exit)) (now («end_y» .exit)) ≡ linesIn n (now (w .entry)) ⌝ }
-{
-    floats(&w[0..2 * n], start_x);
-    floats(&w[2 * n..4 * n], start_y);
-    floats(&w[4 * n..6 * n], end_x);
-    floats(&w[6 * n..8 * n], end_y);
+    out
 }
 
 // Whether a slice holds the listed words, and zero beyond them.
@@ -152,4 +128,15 @@ pub(crate) fn same(out: &[u64], w: &[u32]) -> bool
         i += 1;
     }
     true
+}
+
+// Whether an answer is the one that stands in words from a place to another: its number, and then its values.
+pub(crate) fn told(w: &[u32], at: usize, to: usize, number: u32, out: &[u64]) -> bool
+    requires { ⌜ (at < to) × (to ≤ length (now w)) ⌝ }
+    ensures { λ r. ⌜ Tells r ((number ≡ wordAt at (now (w .entry))) × (now (out .entry) ≡ wides (part (at + 1) to (now (w .entry))))) ⌝ }
+{
+    if number != w[at] {
+        return false;
+    }
+    same(out, &w[at + 1..to])
 }

@@ -1,16 +1,15 @@
 -- `replay::lines::walked` meets its contract. Assumes nothing.
+use borrow.Author.Needs.{needs}
+use borrow.Author.Tests.{not-false}
 use Rattle.replay.proofs.Reading.{silent}
 use Rattle.replay.proofs.Building.{walk-agrees}
-use borrow.Author.Tests.{not-false}
-use borrow.Author.Needs.{needs}
 use Rattle.replay.proofs.lines.walked.Statement.{statement}
 use Rattle.replay.proofs.lines.walked.Tie as tie
 
-returns-4 : tie.Need-returns-4
-returns-4 c p =
-    let m = c .before .before .before .before .before .before .before .before .before .before .before .before in
-    walk-agrees _ (c .before .before .before .before .before .before .before .before .before .before .before .before .before .before .before .before .before .before .before .before .before .before .before .before .before .before .before .args .w .now) (c .before .before .before .before .before .before .before .before .before .before .before .before .before .before .before .before .before .before .before .before .before .before .before .float .ensures) (c .before .before .before .before .before .before .before .before .before .before .before .before .before .before .before .before .before .before .before .before .before .before .float2 .ensures) (c .before .before .before .before .before .before .before .before .before .before .before .before .before .before .before .before .before .before .before .before .before .float3 .ensures) (c .before .before .before .before .before .before .before .before .before .before .before .before .before .before .before .before .before .before .float4 .ensures) (c .before .before .before .before .before .before .before .before .before .before .before .before .before .before .before .before .before .float5 .ensures) (c .before .before .before .before .before .before .before .before .before .before .before .before .before .before .before .before .float6 .ensures) (c .before .before .before .before .before .before .before .before .before .before .before .before .before .before .before .float7 .ensures)
-    (m .mt-segment-cells .ensures) (c .before .before .before .before .before .before .before .if2 .left) (c .before .before .before .before .same .ensures (not-false _ (c .before .before .before .if3 .left))) (m .mt-segment-cells .kept .1 .1 .1 .1 .1 .1 .1 .1 .1 .0) (c .stands .ensures p)
+returns-3 : tie.Need-returns-3
+returns-3 c p =
+    let a = c .before .before .before .before .before .before .walk-answered in
+    walk-agrees _ (c .before .before .before .before .before .before .before .before .before .before .before .args .w .now) (a .ensures (not-false _ (c .before .before .before .if2 .left))) (a .kept .1 .0) (c .stands .ensures p)
 
 pub walked-spec : {M : Type 1} → statement M
 walked-spec =
@@ -18,24 +17,6 @@ walked-spec =
     (tie.spec
     (λ c. silent)
     (λ c κs. search needs)
-    (λ c κs. search needs)
-    (λ c κs. search needs)
-    (λ c. search needs)
-    (λ c. search needs)
-    (λ c κs. search needs)
-    (λ c κs. search needs)
-    (λ c κs. search needs)
-    (λ c κs. search needs)
-    (λ c. search needs)
-    (λ c κs. search needs)
-    (λ c. search needs)
-    (λ c. search needs)
-    (λ c. silent)
-    (λ c. search needs)
-    (λ c. search needs)
-    (λ c. search needs)
-    (λ c. search needs)
-    (λ c κs. search needs)
     (λ c. search needs)
     (λ c. silent)
     (λ c. search needs)
@@ -43,4 +24,4 @@ walked-spec =
     (λ c. search needs)
     (λ c κs. search needs)
     (λ c. search needs)
-    returns-4)
+    returns-3)

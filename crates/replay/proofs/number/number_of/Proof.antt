@@ -6,7 +6,7 @@ use native.Mathlib.Nat.{le-antisymm}
 use native.Mathlib.Omega.{arith}
 use lib.Ieee.{binary64, toBits}
 use Rattle.numbers.specs.Order.{leastOf, greatestOf}
-use Rattle.replay.specs.Records.{NumberIs, least, greatest, magnitude, floor, clamped, ceiling, away, square}
+use Rattle.replay.specs.Records.{least, greatest, magnitude, floor, clamped, ceiling, away, square}
 use borrow.Author.Needs.{needs}
 use Rattle.replay.proofs.number.number_of.Statement.{statement}
 use Rattle.replay.proofs.number.number_of.Tie as tie

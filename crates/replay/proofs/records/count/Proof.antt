@@ -2,12 +2,12 @@
 use mathlib.Core.Path.{_≡_}
 use mathlib.Core.Bool.{cond}
 use mathlib.Core.List.{List}
-use Prim.Native.Nat.{ℕ, _+_, _-_, _≤_, _<_}
+use Prim.Native.Nat.{ℕ, _+_, _-_, _≤_}
 use native.Mathlib.Omega.{arith}
 use lib.Dec.{eqb}
 use lib.ListN.{length}
 use Rattle.replay.specs.Words.{wordAt}
-use Rattle.replay.specs.Files.{after, Counted, none, next, CountedAll}
+use Rattle.replay.specs.Files.{after, Counted, none, next}
 use Rattle.replay.proofs.Reading.{further}
 use Rattle.replay.proofs.records.count.Statement.{statement}
 use Rattle.replay.proofs.records.count.Tie as tie

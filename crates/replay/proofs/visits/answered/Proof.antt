@@ -1,29 +1,29 @@
--- `replay::visits::answered` meets its contract: each column lends its first n entries. Assumes nothing.
-use mathlib.Core.Path.{sym}
-use native.Mathlib.Omega.{arith}
-use lib.Seq.{length-take-le}
+-- `replay::visits::answered` meets its contract: the listed answer is what the exported function promises. Assumes nothing.
 use borrow.Author.Needs.{needs}
+use Rattle.replay.proofs.Visiting.{batch-answers}
 use Rattle.replay.proofs.visits.answered.Statement.{statement}
 use Rattle.replay.proofs.visits.answered.Tie as tie
 
-answered-in-requires : tie.Need-answered-in-requires
-answered-in-requires c κs =
-    let p = c .before .before .before .before .before .before .before .before .before .before .before .before .before .pre in
-    (p .0, p .1 .whole, length-take-le _ _ (omega arith), length-take-le _ _ (omega arith), length-take-le _ _ (omega arith), length-take-le _ _ (omega arith))
+returns : tie.Need-returns
+returns c p =
+    let t = c .told .ensures p in
+    batch-answers _ _ _ _ _ (c .before .before .before .before .before .before .before .before .before .before .before .before .before .before .before .before .before .float .ensures) (c .before .before .before .before .before .before .before .before .before .before .before .before .before .before .before .before .float2 .ensures) (c .before .before .before .before .before .before .before .before .before .before .before .before .before .before .before .float3 .ensures) (c .before .before .before .before .before .before .before .before .before .before .before .before .wide .ensures) (c .before .before .before .before .before .before .before .before .before .before .before .wide2 .ensures) _ _ (t .0) (t .1) (c .before .before .before .before .before .before .before .mt-batch .ensures)
 
 pub answered-spec : {M : Type 1} → statement M
 answered-spec =
     tie.close
     (tie.spec
-    (λ c. search needs)
-    (λ c. sym (length-take-le _ _ (omega arith)))
-    (λ c. search needs)
-    (λ c. sym (length-take-le _ _ (omega arith)))
-    (λ c. search needs)
-    (λ c. sym (length-take-le _ _ (omega arith)))
-    (λ c. search needs)
-    (λ c. sym (length-take-le _ _ (omega arith)))
-    answered-in-requires
+    (λ c κs. search needs)
+    (λ c κs. search needs)
+    (λ c κs. search needs)
     (λ c. search needs)
     (λ c. search needs)
-    (λ c. search needs))
+    (λ c κs. search needs)
+    (λ c κs. search needs)
+    (λ c. search needs)
+    (λ c κs. search needs)
+    (λ c. search needs)
+    (λ c κs. search needs)
+    (λ c. search needs)
+    (λ c. search needs)
+    returns)

@@ -18,19 +18,19 @@ use Rattle.replay.specs.Records.{globalsTo, offsetsOf, itemsOf, globalsO
 unfoldable pub fourAt : ℕ → List ℕ → ℕ
 fourAt at bs = getD bs at 0 + 256 * (getD bs (suc at) 0 + 256 * (getD bs (suc (suc at)) 0 + 256 * getD bs (suc (suc (suc at))) 0))
 
--- the answer of a walk, listed in the record w
-unfoldable pub WalkAnswers : List ℕ → List ℕ → List ℕ → Type 0
-WalkAnswers w s s′ =
-    WalkReplies (entryOf (length s) (gridAt 0 w) (floatAt 8 w) (floatAt 10 w) (floatAt 12 w) (floatAt 14 w)) s (replicate 1 0) (wordAt 17 w) s′ (wides (part 18 20 w))
-
 -- all that is listed after a head of h words stands in the record, and its lines are at most 2,048
 pub record Whole (h : ℕ) (w : List ℕ) : Type 0 where
   pub few : wordAt 0 w ≤ 2048
   pub all : globalsTo h w ≤ length w
 
--- a coordinate of the lines that are listed after the head
+-- a coordinate of the lines that are listed after the head: 0 is start x, 1 start y, 2 end x, 3 end y
 unfoldable pub columnOf : ℕ → ℕ → List ℕ → List Float
 columnOf h k w = floats (part (h + 2 * (k * wordAt 0 w)) (h + 2 * (k * wordAt 0 w) + 2 * wordAt 0 w) w)
+
+-- the answer of a walk, listed in the record w
+unfoldable pub WalkAnswers : List ℕ → List ℕ → List ℕ → Type 0
+WalkAnswers w s s′ =
+    WalkReplies (entryOf (length s) (gridAt 0 w) (floatAt 8 w) (floatAt 10 w) (floatAt 12 w) (floatAt 14 w)) s (replicate 1 0) (wordAt 17 w) s′ (wides (part 18 20 w))
 
 -- the answer of a build of lines, likewise
 unfoldable pub BuildAnswers : List ℕ → Lines → List ℕ → List ℕ → List ℕ → List ℕ → List ℕ → List ℕ → List ℕ → List ℕ → Type 0

@@ -26,5 +26,5 @@ walk-answered-spec =
     (λ c κs. search needs)
     (λ c. search needs)
     (λ c κs. search needs)
-    (λ c. search needs)
+    (λ c. c .before .before .before .before .before .mt-segment-cells .kept .1 .1 .1 .1 .1 .1 .1 .1 .1 .0)
     returns)

@@ -36,6 +36,6 @@ asked-spec =
     (λ c κs. search needs)
     (λ c κs. search needs)
     (λ c κs. head-within 25 (c .before .before .before .before .before .before .before .before .before .before .before .before .before .before .before .before .before .args .w .now) (c .before .before .before .before .before .before .before .before .before .before .before .before .before .before .before .before .before .pre))
-    (λ c. search needs)
-    (λ c. search needs)
+    (λ c. c .before .before .before .before .answered .kept .1 .1 .1 .1 .1 .1 .1 .1 .0)
+    (λ c. c .before .before .before .before .answered .kept .1 .1 .1 .1 .1 .1 .1 .1 .1 .0)
     returns)

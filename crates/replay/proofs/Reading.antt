@@ -9,6 +9,7 @@ use native.Mathlib.Decide.{decLe}
 use lib.Ieee.{Float, binary64, ofBits}
 use lib.ListN.{length, take, drop, replicate, length-drop, getD, length-append, length-replicate, length-map, List·getD-map}
 use lib.Seq.{ext-getD, take-all, take-take, getD-take, getD-drop}
+use Rattle.build.proofs.Choices.{zeros-at}
 use Rattle.replay.specs.Inside.{fourAt}
 use Rattle.replay.specs.Files.{after}
 use Rattle.replay.specs.Words.{wordsOf, Tells, wideAt, floatAt, wides, floats, padded, part}
@@ -111,13 +112,8 @@ same-to-end k w e = e ∙ ap wides (to-end k w)
 
 -- ---- what is listed, and zero beyond
 
-zero-at : (n k : ℕ) → getD (replicate {A = ℕ} n 0) k 0 ≡ 0
-zero-at zero k = refl
-zero-at (suc n) zero = refl
-zero-at (suc n) (suc k) = zero-at n k
-
 listed-at : (l : List ℕ) (n k : ℕ) → getD (l ++ replicate n 0) k 0 ≡ getD l k 0
-listed-at [] n k = zero-at n k
+listed-at [] n k = zeros-at n k
 listed-at (a ∷ l) n zero = refl
 listed-at (a ∷ l) n (suc k) = listed-at l n k
 

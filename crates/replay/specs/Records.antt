@@ -1,10 +1,10 @@
 -- When the answer that a record holds is the one that its question asks for, by kind. Each says that the words of the answer are what the exported
 -- function promises, where the slices that it is lent hold zero. Definitions only.
-use Prim.Native.Nat.{ℕ, suc, _+_, _*_, _%_, _^_, _≤_}
+use Prim.Native.Nat.{ℕ, _+_, _*_, _%_, _^_}
 use mathlib.Core.Path.{_≡_}
-use mathlib.Core.List.{List, []}
+use mathlib.Core.List.{List}
 use lib.Ieee.{Float, binary64, ofBits, toBits}
-use lib.ListN.{length, take, drop, replicate}
+use lib.ListN.{length, drop, replicate}
 use Rattle.numbers.specs.Order.{leastOf, greatestOf, magnitudeOf}
 use Rattle.numbers.specs.Floor.{floorOf, clampedFloor}
 use Rattle.numbers.specs.Ceiling.{ceilingOf}

@@ -2,7 +2,7 @@
 use mathlib.Core.Path.{_≡_}
 use mathlib.Core.Bool.{cond}
 use mathlib.Core.List.{List}
-use Prim.Native.Nat.{ℕ, _+_, _-_, _≤_}
+use Prim.Native.Nat.{ℕ, _+_, _-_, _≤_, _<_}
 use native.Mathlib.Omega.{arith}
 use lib.Dec.{eqb}
 use lib.ListN.{length}
@@ -13,8 +13,8 @@ use Rattle.replay.proofs.records.count.Statement.{statement}
 use Rattle.replay.proofs.records.count.Tie as tie
 
 -- one more record
-more : {w : List ℕ} {k at n to one : ℕ} → Counted w k at n → to ≡ after w at → one ≡ cond (eqb (wordAt at w) k) 1 0 → Counted w k to (n + one)
-more h e f = rw (e, f) (next h)
+more : {w : List ℕ} {k at n to one : ℕ} → Counted w k at n → at < length w → to ≡ after w at → one ≡ cond (eqb (wordAt at w) k) 1 0 → Counted w k to (n + one)
+more h l e f = rw (e, f) (next h l)
 
 abbrev Inv-loop : tie.InvT-loop
 Inv-loop w kind counted₀ at₀ counted at = (counted ≤ at) × Counted w kind at counted
@@ -32,7 +32,7 @@ loop-again : tie.Need-loop-again Inv-loop μ-loop
 loop-again c =
     let l = c .before .before .before .before .loop in
     let o = c .before .one-if .ensures in
-    (omega (arith, further _ _ (c .end-of .ensures), o .1), more (l .inv .1) (c .end-of .ensures) (o .0))
+    (omega (arith, further _ _ (c .end-of .ensures), o .1), more (l .inv .1) (omega arith) (c .end-of .ensures) (o .0))
 
 pub count-spec : {M : Type 1} → statement M
 count-spec =

@@ -2,7 +2,8 @@
  *
  * FILE holds one LineString in well-known binary. Consecutive points make lines, numbered from 0. Printed are the grid that the library picks for
  * them, how long its tables are, how many tests a whole visit makes, how many of them found two lines whose boxes overlap, and the first such pairs.
- * The exit status is 0; 1 where the library refuses, which is printed with its number and value; 2 where FILE can't be read.
+ * The exit status is 0; 1 where the library refuses, which is printed with its number and value; 2 where FILE can't be read or standard
+ * output can't be written.
  *
  * To build it by hand, at the top of the repository:
  *   tools/build_library
@@ -29,10 +30,18 @@ static double x[POINTS], y[POINTS];
 static uint32_t offsets[OFFSETS], items[ITEMS], globals[LINES], scratch[SCRATCH];
 static uint32_t first[BATCH], second[BATCH];
 
+/* The status to end with. A stream keeps a mark of each write that failed, and what it still holds back is written now: so one look at the end
+ * tells whether all of it was written, on a full disk too. */
+static int ended(int status) {
+    if (fflush(stdout) == 0 && !ferror(stdout)) return status;
+    fprintf(stderr, "visit_chain: standard output can't be written\n");
+    return 2;
+}
+
 /* Every function that can refuse returns 0, or the number of the refusal, and then its value stands in out[0]. */
 static int refused(uint32_t number, uint64_t value) {
     printf("refused %" PRIu32 ", value %" PRIu64 "\n", number, value);
-    return 1;
+    return ended(1);
 }
 
 /* The double of a bit pattern: floats come back as their bits. */
@@ -104,5 +113,5 @@ int main(int argc, char **argv) {
     printf("tests %" PRIu64 "\n", bookmark);
     printf("overlaps %" PRIu64 "\n", overlaps);
     for (uint64_t k = 0; k < overlaps && k < SHOWN; k++) printf("pair %" PRIu32 " %" PRIu32 "\n", shown[k][0], shown[k][1]);
-    return 0;
+    return ended(0);
 }

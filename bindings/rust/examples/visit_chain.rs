@@ -2,12 +2,14 @@
 //!
 //! FILE holds one LineString in well-known binary. Consecutive points make lines, numbered from 0. Printed are the grid that is picked for them, how
 //! long its tables are, how many tests a whole visit makes, how many of them found two lines whose boxes overlap, and the first such pairs.
-//! The exit status is 0; 1 where the library refuses, which is printed with its number and value; 2 where FILE can't be read.
+//! The exit status is 0; 1 where the library refuses, which is printed with its number and value; 2 where FILE can't be read or standard
+//! output can't be written.
 //!
 //! `cargo run --offline --example visit_chain FILE` runs it, in bindings/rust, once `tools/build_library` has built the library. `tools/run_examples`
 //! does both, and runs it beside examples/c/visit_chain.c, which prints the same.
 
 use morelturret::{read_points, Lines, Refusal, Tables};
+use std::io::{self, Write};
 use std::process::ExitCode;
 
 /// How many pairs one batch hands out, and how many are printed.
@@ -24,16 +26,21 @@ fn main() -> ExitCode {
         eprintln!("visit_chain: {} can't be read", path.to_string_lossy());
         return ExitCode::from(2);
     };
-    match visit(&bytes) {
-        Ok(()) => ExitCode::SUCCESS,
-        Err(Refusal { number, value }) => {
-            println!("refused {number}, value {value}");
-            ExitCode::from(1)
-        }
+    let (text, status) = match visit(&bytes) {
+        Ok(text) => (text, 0),
+        Err(Refusal { number, value }) => (format!("refused {number}, value {value}\n"), 1),
+    };
+    // `print!` panics where a write fails, as on a full disk. (Only a closed standard output goes unnoticed: Rust's library takes it for /dev/null.)
+    let mut out = io::stdout();
+    if out.write_all(text.as_bytes()).and_then(|()| out.flush()).is_err() {
+        eprintln!("visit_chain: standard output can't be written");
+        return ExitCode::from(2);
     }
+    ExitCode::from(status)
 }
 
-fn visit(bytes: &[u8]) -> Result<(), Refusal> {
+/// What is printed.
+fn visit(bytes: &[u8]) -> Result<String, Refusal> {
     // Bytes to points, and points to lines: line i goes from point i to point i + 1. Nothing is copied.
     let (x, y) = read_points(bytes)?;
     let lines = Lines::chain(&x, &y);
@@ -41,19 +48,19 @@ fn visit(bytes: &[u8]) -> Result<(), Refusal> {
     // A grid, and the tables on it. `Tables::of` makes its buffers as large as these lines need.
     let tables = Tables::of(lines)?;
     let grid = tables.grid();
-    println!("lines {}", tables.line_count());
-    println!("grid {} columns, {} rows, cell size {:.9} (bits {:016x})", grid.cols, grid.rows, grid.cell_size, grid.cell_size.to_bits());
-    println!("items {}", tables.items().len());
-    println!("globals {}", tables.globals().len());
+    let mut text = format!("lines {}\n", tables.line_count());
+    text += &format!("grid {} columns, {} rows, cell size {:.9} (bits {:016x})\n", grid.cols, grid.rows, grid.cell_size, grid.cell_size.to_bits());
+    text += &format!("items {}\n", tables.items().len());
+    text += &format!("globals {}\n", tables.globals().len());
 
     // The visit. The pairs come from batches behind the iterator. A program would work on its pairs here; the first few are kept, to be printed.
     let mut pairs = tables.pairs(lines, BATCH)?;
     let shown: Vec<(u32, u32)> = pairs.by_ref().take(SHOWN).collect();
     let overlaps = shown.len() + pairs.by_ref().count();
-    println!("tests {}", pairs.bookmark());
-    println!("overlaps {overlaps}");
+    text += &format!("tests {}\n", pairs.bookmark());
+    text += &format!("overlaps {overlaps}\n");
     for (first, second) in shown {
-        println!("pair {first} {second}");
+        text += &format!("pair {first} {second}\n");
     }
-    Ok(())
+    Ok(text)
 }

@@ -14,12 +14,13 @@
  * Answers. A function that can refuse returns MT_OK or the number of the refusal, and writes 64-bit words to the start of `out`:
  *   on success     the words that its comment names ("out");
  *   on a refusal   one word, the refusal's value;
- * the rest of `out` stays as it was. Where `out` has fewer words than the success would write (and fewer than one), the function returns
- * MT_OUT_SHORT and changes nothing at all.
+ * the rest of `out` stays as it was. `out` has at least the words that stand in brackets at each function. Where it has fewer, the function
+ * returns MT_OUT_SHORT and changes nothing at all: this comes before every refusal, also where one word would be enough for that.
  * A float in `out` is the bit pattern of the double; a NaN is 0x7ff8000000000000.
  *
- * Refusals come in the order in which each comment lists them: the first that applies is answered. Refusals 4 to 7 leave zero throughout the
- * slices that the call is lent to write (but not `out`); every other refusal changes nothing but the first word of `out`. */
+ * Refusals come in the order in which each comment lists them: the first that applies is answered. Where a comment says nothing else, refusals
+ * 4 to 7 leave zero throughout the slices that the call is lent to write (but not `out`). Every other refusal changes nothing but the first
+ * word of `out`. */
 #ifndef MORELTURRET_H
 #define MORELTURRET_H
 
@@ -51,7 +52,9 @@ enum {
 /* Snap strategies. */
 enum { MT_GRID = 0, MT_GEOS_COMPAT = 1 };
 
-/* ---- numbers: total on every double, nothing is refused ---- */
+/* ---- numbers: total on every double, nothing is refused ----
+ *
+ * Where a NaN is answered, its sign and payload are not promised. */
 
 /* The lesser of two. A NaN gives way to the other; of two that are equal it is a. */
 double mt_least(double a, double b);
@@ -59,7 +62,7 @@ double mt_least(double a, double b);
 /* The greater of two. A NaN gives way to the other; of two that are equal it is a. */
 double mt_greatest(double a, double b);
 
-/* v with its sign clear. */
+/* v with its sign clear. A NaN is handed back as it came: its sign is not cleared. */
 double mt_magnitude(double v);
 
 /* The largest whole number that is at most v. A zero keeps its sign, infinities and NaN stay. */
@@ -125,7 +128,10 @@ uint32_t mt_line_cells(double min_x, double min_y, double cell_size, uint32_t co
  * items[offsets[c]] up to items[offsets[c + 1]]: the lines, increasing, that visit it. A line that visits more than 2,048 cells is in no list
  * but in globals. Beyond what is written offsets, items and globals are zeroed, and so is all of the scratch, which has at least 16,384
  * entries. Offsets for 1,002,002 entries, items for 2,048 times the lines and globals for the lines are always enough.
- * out (7 words): the bits of min_x, min_y and cell_size, cols, rows, the number of items, the number of globals. The grid is fit.
+ * More than 65,536 lines: cut them in parts of at most 32,768, and build each two parts together, every two once. Parts built alone lose the
+ * pairs between them.
+ * out (7 words): the bits of min_x, min_y and cell_size, cols, rows, the number of items, the number of globals. The grid is fit. A minimum that
+ * is zero has the sign of the first zero coordinate on its axis, lines in order, start before end.
  * Refuses by 3, 2, 1; at each grid tried by 4, 7; then by 5, 6. */
 uint32_t mt_build(const double *start_x, size_t start_x_len, const double *start_y, size_t start_y_len, const double *end_x, size_t end_x_len,
                   const double *end_y, size_t end_y_len, uint32_t *offsets, size_t offsets_len, uint32_t *items, size_t items_len,

@@ -25,7 +25,7 @@ pub fn greatest(a: f64, b: f64) -> f64 {
     sys::greatest(a, b)
 }
 
-/// v with its sign clear.
+/// v with its sign clear. A NaN is handed back as it came: its sign is not cleared.
 ///
 /// ```
 /// assert_eq!(morelturret::numbers::magnitude(-2.5), 2.5);

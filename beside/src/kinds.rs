@@ -5,6 +5,7 @@ use crate::random::Random;
 use std::collections::BTreeMap;
 
 pub mod build;
+pub mod lists;
 pub mod numbers;
 pub mod own;
 pub mod snap;

@@ -494,14 +494,25 @@ pub struct Test {
     pub overlap: bool,
 }
 
-impl Standing<'_> {
+/// Standing tables beside a number of lines.
+#[derive(Clone, Copy)]
+pub struct Lists<'a> {
+    pub grid: Grid,
+    pub lines: usize,
+    pub offsets: &'a [u32],
+    pub items: &'a [u32],
+    pub globals: &'a [u32],
+    pub global_count: u64,
+}
+
+impl Lists<'_> {
     fn cells(&self) -> usize {
         self.grid.cols as usize * self.grid.rows as usize
     }
 
     /// Document 01's "tables fit".
     pub fn fits(&self) -> bool {
-        let (cells, n) = (self.cells(), self.lines.len());
+        let (cells, n) = (self.cells(), self.lines);
         if self.offsets.len() < cells + 1 || self.global_count > self.globals.len() as u64 {
             return false;
         }
@@ -512,6 +523,70 @@ impl Standing<'_> {
             && offsets[cells] as usize <= self.items.len()
             && offsets.windows(2).all(|w| list_fits(&self.items[w[0] as usize..w[1] as usize]))
             && list_fits(&self.globals[..self.global_count as usize])
+    }
+
+    /// Refusals 2, 8 and 10.
+    fn refusal(&self) -> Option<(u32, u64)> {
+        if self.lines > MOST_LINES {
+            return Some((2, self.lines as u64));
+        }
+        if !grid_fits(&self.grid) {
+            return Some((8, 0));
+        }
+        (!self.fits()).then_some((10, 0))
+    }
+}
+
+/// What a function answers whose `out` has too few words.
+pub const SHORT: u32 = 100;
+
+/// The values at the start of `out`, or the refusal's one. `out` has room for the values, whichever it is.
+fn listed(out: &mut [u64], answer: Result<[u64; 2], (u32, u64)>) -> u32 {
+    if out.len() < 2 {
+        return SHORT;
+    }
+    match answer {
+        Ok(values) => {
+            out[..2].copy_from_slice(&values);
+            0
+        }
+        Err((number, value)) => {
+            out[0] = value;
+            number
+        }
+    }
+}
+
+/// out: where the cell's list starts in the items, and its length.
+pub fn cell_list(l: &Lists, row: u32, col: u32, out: &mut [u64]) -> u32 {
+    let refusal = l.refusal().or((row >= l.grid.rows || col >= l.grid.cols).then_some((9, row as u64)));
+    listed(out, refusal.map_or_else(
+        || {
+            let cell = row as usize * l.grid.cols as usize + col as usize;
+            Ok([l.offsets[cell] as u64, (l.offsets[cell + 1] - l.offsets[cell]) as u64])
+        },
+        Err,
+    ))
+}
+
+/// out: where the list of a global line starts in the globals, and its length.
+pub fn global_list(l: &Lists, position: u64, out: &mut [u64]) -> u32 {
+    let refusal = l.refusal().or((position >= l.global_count).then_some((9, position)));
+    listed(out, refusal.map_or_else(|| Ok([position, l.global_count - position]), Err))
+}
+
+impl Standing<'_> {
+    pub fn lists(&self) -> Lists<'_> {
+        let Standing { grid, lines, offsets, items, globals, global_count } = *self;
+        Lists { grid, lines: lines.len(), offsets, items, globals, global_count }
+    }
+
+    fn cells(&self) -> usize {
+        self.lists().cells()
+    }
+
+    pub fn fits(&self) -> bool {
+        self.lists().fits()
     }
 
     fn overlap(&self, i: u32, j: u32) -> bool {

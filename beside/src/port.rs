@@ -5,7 +5,7 @@
 #![allow(clippy::too_many_arguments)]
 #![allow(unused_imports)]
 
-use crate::model::{Coordinates, Standing};
+use crate::model::{Coordinates, Lists, Standing};
 use crate::{Grid, Line};
 
 #[cfg(feature = "numbers")]
@@ -126,6 +126,64 @@ pub fn build(l: Coordinates, offsets: &mut [u32], items: &mut [u32], globals: &m
             items.as_mut_ptr(), items.len(),
             globals.as_mut_ptr(), globals.len(),
             scratch.as_mut_ptr(), scratch.len(),
+            out.as_mut_ptr(), out.len(),
+        )
+    }
+}
+
+/// out: where the cell's list starts in the items, and its length.
+#[cfg(feature = "lists")]
+#[inline]
+pub fn cell_list(t: &Lists, row: u32, col: u32, out: &mut [u64]) -> u32 {
+    extern "C" {
+        fn mt_cell_list(
+            min_x: f64, min_y: f64, cell_size: f64, cols: u32, rows: u32,
+            lines: usize,
+            offsets: *const u32, offsets_len: usize,
+            items: *const u32, items_len: usize,
+            globals: *const u32, globals_len: usize,
+            global_count: u64, row: u32, col: u32,
+            out: *mut u64, out_len: usize,
+        ) -> u32;
+    }
+    let g = &t.grid;
+    unsafe {
+        mt_cell_list(
+            g.min_x, g.min_y, g.cell_size, g.cols, g.rows,
+            t.lines,
+            t.offsets.as_ptr(), t.offsets.len(),
+            t.items.as_ptr(), t.items.len(),
+            t.globals.as_ptr(), t.globals.len(),
+            t.global_count, row, col,
+            out.as_mut_ptr(), out.len(),
+        )
+    }
+}
+
+/// out: where the list of a global line starts in the globals, and its length.
+#[cfg(feature = "lists")]
+#[inline]
+pub fn global_list(t: &Lists, position: u64, out: &mut [u64]) -> u32 {
+    extern "C" {
+        fn mt_global_list(
+            min_x: f64, min_y: f64, cell_size: f64, cols: u32, rows: u32,
+            lines: usize,
+            offsets: *const u32, offsets_len: usize,
+            items: *const u32, items_len: usize,
+            globals: *const u32, globals_len: usize,
+            global_count: u64, position: u64,
+            out: *mut u64, out_len: usize,
+        ) -> u32;
+    }
+    let g = &t.grid;
+    unsafe {
+        mt_global_list(
+            g.min_x, g.min_y, g.cell_size, g.cols, g.rows,
+            t.lines,
+            t.offsets.as_ptr(), t.offsets.len(),
+            t.items.as_ptr(), t.items.len(),
+            t.globals.as_ptr(), t.globals.len(),
+            t.global_count, position,
             out.as_mut_ptr(), out.len(),
         )
     }

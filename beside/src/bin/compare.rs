@@ -2,15 +2,16 @@
 //! of each, or P hundredths of one. --port asks that the port takes part in every kind.
 //! Ends with status 1 at the first difference.
 
-use beside::kinds::{self, build, numbers, own, snap, visit, walk, wkb};
+use beside::kinds::{self, build, lists, numbers, own, snap, visit, walk, wkb};
 
 /// The kinds, with the cases of a full run.
-const KINDS: [(&str, u64); 8] = [
+const KINDS: [(&str, u64); 9] = [
     ("sample", 1),
     ("numbers", 10_000_000),
     ("walk", 1_000_000),
     ("build", 2_000),
     ("visit", 2_000),
+    ("lists", 10_000),
     ("own", 1_000_000),
     ("snap", 2_200_000),
     ("wkb", 100_000),
@@ -27,6 +28,8 @@ const PORTED: &[&str] = &[
     "build",
     #[cfg(feature = "visit")]
     "visit",
+    #[cfg(feature = "lists")]
+    "lists",
     #[cfg(feature = "own")]
     "own",
     #[cfg(feature = "snap")]
@@ -63,6 +66,7 @@ fn main() {
             "walk" => kinds::run::<walk::Walk>(seed, n, walk::fixed()),
             "build" => kinds::run::<build::Build>(seed, n, build::fixed(seed)),
             "visit" => kinds::run::<visit::Visit>(seed, n, vec![]),
+            "lists" => kinds::run::<lists::Lists>(seed, n, vec![]),
             "own" => kinds::run::<own::Own>(seed, n, vec![]),
             "snap" => kinds::run::<snap::Snap>(seed, n, vec![]),
             _ => kinds::run::<wkb::Wkb>(seed, n, vec![]),

@@ -164,36 +164,54 @@ impl Kind for Visit {
     }
 }
 
-/// One thing wrong with tables that were right. Most are refused with 10; the model says which are not.
-fn damaged(s: &Standing, r: &mut Random) -> Result<&'static str, String> {
-    let mut offsets = s.offsets.to_vec();
-    let mut items = s.items.to_vec();
-    let mut globals = s.globals.to_vec();
-    let mut grid = s.grid;
-    let mut global_count = s.global_count;
-    let n = s.lines.len() as u32;
-    match r.below(9) {
-        0 => offsets.truncate(r.below(offsets.len() as u64) as usize),
-        1 => offsets[0] = 1,
-        2 => {
-            let k = r.below(offsets.len() as u64) as usize;
-            offsets[k] = r.pick(&[0, u32::MAX, items.len() as u32, items.len() as u32 + 1]);
-        }
-        3 => items.truncate(r.below(items.len().max(1) as u64) as usize),
-        4..=5 if !items.is_empty() => {
-            let k = r.below(items.len() as u64) as usize;
-            items[k] = r.pick(&[0, n, n - 1, u32::MAX, items[k / 2]]);
-        }
-        6 => {
-            globals.push(r.pick(&[n, 0, u32::MAX, n - 1]));
-            globals.push(r.pick(&[0, n - 1]));
-            global_count = globals.len() as u64;
-        }
-        7 => global_count = globals.len() as u64 + 1 + r.pick(&[0, 1, u64::MAX / 2]),
-        _ => grid = r.pick(&[Grid { cols: grid.cols + 1, ..grid }, Grid { rows: 4005, ..grid }, Grid { cell_size: 0.0, ..grid }, Grid { cols: 0, rows: 0, ..grid }]),
+/// Tables that can be changed.
+pub struct Owned {
+    pub grid: Grid,
+    pub offsets: Vec<u32>,
+    pub items: Vec<u32>,
+    pub globals: Vec<u32>,
+    pub global_count: u64,
+}
+
+impl Owned {
+    pub fn of(s: &Standing) -> Self {
+        Owned { grid: s.grid, offsets: s.offsets.to_vec(), items: s.items.to_vec(), globals: s.globals.to_vec(), global_count: s.global_count }
     }
-    let d = Standing { grid, lines: s.lines, offsets: &offsets, items: &items, globals: &globals, global_count };
-    let fits = model::grid_fits(&grid) && d.fits();
+
+    /// One thing wrong with tables of n lines that were right. Most are refused with 10; the model says which are not.
+    pub fn damage(&mut self, n: u32, r: &mut Random) {
+        let Owned { grid, offsets, items, globals, global_count } = self;
+        match r.below(9) {
+            0 => offsets.truncate(r.below(offsets.len() as u64) as usize),
+            1 => offsets[0] = 1,
+            2 => {
+                let k = r.below(offsets.len() as u64) as usize;
+                offsets[k] = r.pick(&[0, u32::MAX, items.len() as u32, items.len() as u32 + 1]);
+            }
+            3 => items.truncate(r.below(items.len().max(1) as u64) as usize),
+            4..=5 if !items.is_empty() => {
+                let k = r.below(items.len() as u64) as usize;
+                items[k] = r.pick(&[0, n, n - 1, u32::MAX, items[k / 2]]);
+            }
+            6 => {
+                globals.push(r.pick(&[n, 0, u32::MAX, n - 1]));
+                globals.push(r.pick(&[0, n - 1]));
+                *global_count = globals.len() as u64;
+            }
+            7 => *global_count = globals.len() as u64 + 1 + r.pick(&[0, 1, u64::MAX / 2]),
+            _ => {
+                let g = *grid;
+                *grid = r.pick(&[Grid { cols: g.cols + 1, ..g }, Grid { rows: 4005, ..g }, Grid { cell_size: 0.0, ..g }, Grid { cols: 0, rows: 0, ..g }]);
+            }
+        }
+    }
+}
+
+fn damaged(s: &Standing, r: &mut Random) -> Result<&'static str, String> {
+    let mut t = Owned::of(s);
+    t.damage(s.lines.len() as u32, r);
+    let d = Standing { grid: t.grid, lines: s.lines, offsets: &t.offsets, items: &t.items, globals: &t.globals, global_count: t.global_count };
+    let fits = model::grid_fits(&t.grid) && d.fits();
     let tests = if fits { d.tests() } else { Vec::new() };
     let bookmark = r.pick(&[0, 0, 1, u64::MAX]);
     let (number, ..) = batch(&d, &tests, bookmark, (5, 5))?;

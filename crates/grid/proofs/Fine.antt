@@ -22,7 +22,16 @@ unfolding unless
 unless-fine true n v h = refl
 unless-fine false n v h = let z : _≡_ {A = ℕ} 0 1 = cc in absurd (omega arith)
 
--- two checks that find nothing, and back
+-- two checks in a row: the first refuses, or has passed
+pub then-refused : (a b : Check) (r : Refusal) → a ≡ Refused r → andThen a b ≡ Refused r
+unfolding andThen
+then-refused a b r e = rw e
+
+pub then-fine : (a b : Check) → a ≡ Fine → andThen a b ≡ b
+unfolding andThen
+then-fine a b e = rw e
+
+-- what two checks that find nothing say
 pub then-left : (a b : Check) → andThen a b ≡ Fine → a ≡ Fine
 unfolding andThen
 then-left Fine b h = refl
@@ -129,3 +138,8 @@ lines-fine ls h =
       few = leb-true _ _ (unless-fine _ _ _ (then-left _ _ (then-right _ _ h)));
       each = λ i l. each-says (lineFits ls) 1 (count ls) 0 i (then-right _ _ (then-right _ _ h)) (omega arith) (omega arith);
     }
+
+-- the number of lines that passed them passes 2 again
+pub lines-counted : (ls : Lines) → linesCheck ls ≡ Fine → countCheck (count ls) ≡ Fine
+unfolding linesCheck
+lines-counted ls h = then-left _ _ (then-right _ _ h)

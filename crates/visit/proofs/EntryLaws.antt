@@ -14,8 +14,9 @@ use Rattle.grid.specs.declared.Check.{Check}
 use Rattle.grid.specs.declared.Check.the-variants.{Fine, Refused}
 use Rattle.grid.specs.Refusals.{refusal, unless, andThen}
 use Rattle.grid.specs.Domain.{Lines, count, linesCheck, gridCheck}
+use Rattle.grid.proofs.Fine.{then-refused, then-fine, lines-counted}
 use Rattle.tables.specs.Tables.{Tables}
-use Rattle.tables.specs.Fit.{tablesCheck}
+use Rattle.tables.specs.Fit.{tablesCheck, standingCheck}
 use Rattle.visit.specs.declared.Test.{Test}
 use Rattle.visit.specs.declared.Answer.the-variants as answer
 use Rattle.visit.specs.declared.BatchAnswer.the-variants as batch
@@ -32,16 +33,6 @@ use Rattle.visit.specs.Inside.{nextStep, restOf, Ready, CursorIs, SeekIs
 use Rattle.visit.proofs.Lengths.{total-fits}
 use Rattle.visit.proofs.RunWhole.{here}
 
--- ---- two checks in a row
-
-pub then-refused : (a b : Check) (r : Refusal) → a ≡ Refused r → andThen a b ≡ Refused r
-unfolding andThen
-then-refused a b r e = rw e
-
-pub then-fine : (a b : Check) → a ≡ Fine → andThen a b ≡ b
-unfolding andThen
-then-fine a b e = rw e
-
 -- ---- the checks of a visit
 
 module _ (ls : Lines) (g : Grid) (t : Tables) where
@@ -49,14 +40,10 @@ module _ (ls : Lines) (g : Grid) (t : Tables) where
   unfolding visitCheck
   visit-lines r e = sym (then-refused (linesCheck ls) (andThen (gridCheck g) (tablesCheck t)) r e)
 
-  module _ (f : linesCheck ls ≡ Fine) where
-    pub visit-grid : (r : Refusal) → gridCheck g ≡ Refused r → Refused r ≡ visitCheck ls g t
-    unfolding visitCheck
-    visit-grid r e = sym (then-fine (linesCheck ls) (andThen (gridCheck g) (tablesCheck t)) f ∙ then-refused (gridCheck g) (tablesCheck t) r e)
-
-    pub visit-tables : gridCheck g ≡ Fine → tablesCheck t ≡ visitCheck ls g t
-    unfolding visitCheck
-    visit-tables e = sym (then-fine (linesCheck ls) (andThen (gridCheck g) (tablesCheck t)) f ∙ then-fine (gridCheck g) (tablesCheck t) e)
+  -- the lines have passed, 2 with them: what is left of the tables' check is 8 and 10
+  pub visit-tables : linesCheck ls ≡ Fine → t .lines ≡ count ls → standingCheck g t ≡ visitCheck ls g t
+  unfolding visitCheck standingCheck
+  visit-tables f e = then-fine _ _ (rw e (lines-counted ls f)) ∙ sym (then-fine _ _ f)
 
 -- ---- a seek, taken apart by what it is
 

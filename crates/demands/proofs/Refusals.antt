@@ -2,9 +2,11 @@
 -- the total. Assumes nothing.
 use mathlib.Core.Path.{_≡_, refl, _∙_}
 use mathlib.Core.List.{List}
-use Prim.Native.Nat.{ℕ, _≤_}
+use Prim.Native.Nat.{ℕ, _≤_, _<_}
+use native.Mathlib.Omega.{arith}
 use borrow.Author.Tests.{le-leb, eq-eqb}
-use lib.ListN.{length, drop}
+use lib.ListN.{length, getD, drop, drop-of-length-le}
+use lib.Seq.{drop-cons}
 use Rattle.grid.specs.declared.Check.{Check}
 use Rattle.grid.specs.declared.Check.the-variants.{Fine, Refused}
 use Rattle.grid.specs.Refusals.{unless, andThen}
@@ -13,10 +15,11 @@ use Rattle.grid.proofs.Fine.{lines-fine}
 use Rattle.tables.specs.Fit.{tablesCheck, standingCheck}
 use Rattle.build.proofs.Theorems.{grid-fit, no-misfit}
 use Rattle.visit.specs.declared.Place.{Place}
+use Rattle.visit.specs.declared.Answer.the-variants as answer
 use Rattle.visit.specs.declared.BatchAnswer.{BatchAnswer}
 use Rattle.visit.specs.declared.BatchAnswer.the-variants as batch
-use Rattle.visit.specs.Tests.{testsOf}
-use Rattle.visit.specs.Entries.{beside, visitCheck, bookmarkCheck, outputsCheck, nextTest, answerOf, testAt, batchCheck, batchOf, tallyOf, BatchIs}
+use Rattle.visit.specs.Tests.{Pair, testsOf}
+use Rattle.visit.specs.Entries.{beside, visitCheck, bookmarkCheck, outputsCheck, testOf, nextTest, answerOf, testAt, batchCheck, batchOf, tallyOf, BatchIs}
 use Rattle.visit.specs.Places.{placeCheck, listCheck}
 use Rattle.demands.specs.Words.{Success, gridLeft, tablesLeft}
 use Rattle.demands.proofs.After.{lines-passed}
@@ -56,6 +59,18 @@ module _ {ls : Lines} (s : Success ls) where
       → testAt ls (gridLeft s) (tablesLeft s) b ≡ nextTest ls (drop b (testsOf (tablesLeft s)))
   unfolding testAt answerOf
   test-given b l = rw (within-fine b l)
+
+  -- BELOW THE TOTAL that is the test of this number
+  pub answered : (b : ℕ) (p : Pair) → b < length (testsOf (tablesLeft s)) → testAt ls (gridLeft s) (tablesLeft s) b ≡ answer.Made (testOf ls (getD (testsOf (tablesLeft s)) b p))
+  unfolding nextTest
+  answered b p l = test-given b (omega arith) ∙ rw (drop-cons (testsOf (tablesLeft s)) b p l)
+
+  -- AT THE TOTAL it is the end mark
+  pub ended : testAt ls (gridLeft s) (tablesLeft s) (length (testsOf (tablesLeft s))) ≡ answer.End
+  unfolding nextTest
+  ended =
+      let n : ℕ = length (testsOf (tablesLeft s)) in
+      test-given n (omega arith) ∙ rw (drop-of-length-le (testsOf (tablesLeft s)) {i = n} (omega arith))
 
   -- a batch into two outputs of one length, from a bookmark within the total, is made
   pub batch-made : {b : ℕ} {first second first′ second′ : List ℕ} {r : BatchAnswer} → BatchIs ls (gridLeft s) (tablesLeft s) b first second first′ second′ r

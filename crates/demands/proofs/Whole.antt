@@ -12,6 +12,8 @@ use Rattle.visit.specs.Entries.{beside}
 use Rattle.demands.specs.Words.{Success, gridLeft, tablesLeft}
 use Rattle.demands.specs.Demand.{Demand3}
 use Rattle.demands.proofs.After.{lists, listed, globals-are}
+use Rattle.demands.proofs.Refusals as refusals
+use Rattle.demands.proofs.Calls as calls
 use Rattle.demands.proofs.Often as often
 use Rattle.demands.proofs.Handed as handed
 
@@ -24,6 +26,10 @@ module _ {ls : Lines} (s : Success ls) where
         lists = listed s;
         globals-increasing = lists s .globals-increasing;
         globals = globals-are s;
+        answered = refusals.answered s;
+        ended = refusals.ended s;
+        firsts-are = calls.visit-firsts ls (gridLeft s) (tablesLeft s);
+        seconds-are = calls.visit-seconds ls (gridLeft s) (tablesLeft s);
         tested = often.tested s;
         only = often.only s;
         handed = handed.handed-out s;

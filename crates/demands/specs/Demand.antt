@@ -4,15 +4,18 @@ use mathlib.Core.Bool.{false, not, cond, _&&_}
 use mathlib.Core.List.{List}
 use Prim.Native.Nat.{ℕ, _+_, _-_, _*_, _≤_, _<_}
 use lib.Dec.{ltb}
-use lib.ListN.{length}
+use lib.ListN.{length, getD}
 use Rattle.slices.specs.Lists.{elem, Rising}
 use Rattle.grid.specs.declared.Grid.{Grid}
 use Rattle.grid.specs.Domain.{Lines, count}
 use Rattle.walk.specs.Pushes.{found}
 use Rattle.tables.specs.Tables.{Tables, cells, listOf, globalsOf}
 use Rattle.build.specs.OnGrid.{walkOn, cellsOn}
-use Rattle.visit.specs.Tests.{testsOf}
+use Rattle.visit.specs.declared.Answer.the-variants as answer
+use Rattle.visit.specs.Tests.{Pair, testsOf}
 use Rattle.visit.specs.Overlap.{overlap}
+use Rattle.visit.specs.Batches.{overlapping, firsts, seconds}
+use Rattle.visit.specs.Entries.{testOf, testAt}
 use Rattle.visit_laws.specs.Words.{half, sumBelow, times, Different}
 use Rattle.demands.specs.Words.{isGlobal, visits, due}
 use Rattle.demands.specs.Calls.{Call, FullVisit, firstsOf, secondsOf, testsIn, handedOut}
@@ -26,6 +29,13 @@ pub record Demand3 (ls : Lines) (g : Grid) (t : Tables) : Type 0 where
   -- "the global list holds exactly the others."
   pub globals-increasing : Rising 0 (globalsOf t)
   pub globals : (k : ℕ) → elem k (globalsOf t) ≡ (ltb k (count ls) && isGlobal g ls k)
+  -- a full visit is what the entries answer: asked by bookmark, `visit::visits::test_at` answers each of the tests, in their order, with its
+  -- place, its two lines and whether they overlap, and at the total the end mark
+  pub answered : (b : ℕ) (p : Pair) → b < length (testsOf t) → testAt ls g t b ≡ answer.Made (testOf ls (getD (testsOf t) b p))
+  pub ended : testAt ls g t (length (testsOf t)) ≡ answer.End
+  -- and over calls of `visit::visits::batch` laid end to end the pairs handed out are, in order, those of the tests that overlap, and no others
+  pub firsts-are : (cs : List Call) → FullVisit ls g t cs → firstsOf cs ≡ firsts (overlapping ls (testsOf t))
+  pub seconds-are : (cs : List Call) → FullVisit ls g t cs → secondsOf cs ≡ seconds (overlapping ls (testsOf t))
   -- "A full visit tests each two different lines once per shared cell if neither is global, else once,"
   pub tested : (a b : ℕ) → (a ≡ b → ⊥) → a < count ls → b < count ls → times a b (testsOf t) ≡ due g ls a b
   -- it tests no line with itself, and none that there is not

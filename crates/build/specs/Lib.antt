@@ -1,4 +1,4 @@
--- The definitions that the contracts of `build` cite: `Lines` the lists on a grid, `Choice` which grid, `Build` the entry, `Passes` what the
+-- The definitions that the contracts of `build` cite: `OnGrid` the lists on a grid, `Choice` which grid, `Build` the entry, `Passes` what the
 -- private functions promise.
 pub mod OnGrid
 pub mod Choice

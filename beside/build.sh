@@ -34,7 +34,7 @@ if grep -q '^capi:' crates.txt; then
     ! exported segment_cells line_cells || features+=,walk
     ! exported build || features+=,build
     ! exported batch test_at || features+=,visit
-    ! exported cell_list global_list || features+=,lists
+    ! exported check_tables cell_list global_list || features+=,lists
     ! exported point_owned overlap_owned owner || features+=,own
     ! exported snap || features+=,snap
     ! exported read_line_string || features+=,wkb

@@ -557,6 +557,17 @@ fn listed(out: &mut [u64], answer: Result<[u64; 2], (u32, u64)>) -> u32 {
     }
 }
 
+/// out: nothing where the tables fit. It has room for a refusal's value all the same.
+pub fn check_tables(l: &Lists, out: &mut [u64]) -> u32 {
+    if out.is_empty() {
+        return SHORT;
+    }
+    l.refusal().map_or(0, |(number, value)| {
+        out[0] = value;
+        number
+    })
+}
+
 /// out: where the cell's list starts in the items, and its length.
 pub fn cell_list(l: &Lists, row: u32, col: u32, out: &mut [u64]) -> u32 {
     let refusal = l.refusal().or((row >= l.grid.rows || col >= l.grid.cols).then_some((9, row as u64)));

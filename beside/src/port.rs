@@ -131,6 +131,35 @@ pub fn build(l: Coordinates, offsets: &mut [u32], items: &mut [u32], globals: &m
     }
 }
 
+/// out: nothing where the tables fit.
+#[cfg(feature = "lists")]
+#[inline]
+pub fn check_tables(t: &Lists, out: &mut [u64]) -> u32 {
+    extern "C" {
+        fn mt_check_tables(
+            min_x: f64, min_y: f64, cell_size: f64, cols: u32, rows: u32,
+            lines: usize,
+            offsets: *const u32, offsets_len: usize,
+            items: *const u32, items_len: usize,
+            globals: *const u32, globals_len: usize,
+            global_count: u64,
+            out: *mut u64, out_len: usize,
+        ) -> u32;
+    }
+    let g = &t.grid;
+    unsafe {
+        mt_check_tables(
+            g.min_x, g.min_y, g.cell_size, g.cols, g.rows,
+            t.lines,
+            t.offsets.as_ptr(), t.offsets.len(),
+            t.items.as_ptr(), t.items.len(),
+            t.globals.as_ptr(), t.globals.len(),
+            t.global_count,
+            out.as_mut_ptr(), out.len(),
+        )
+    }
+}
+
 /// out: where the cell's list starts in the items, and its length.
 #[cfg(feature = "lists")]
 #[inline]

@@ -1,4 +1,4 @@
-//! Lists by place: on the tables that the Rust builds, with more lent than is used, and on damaged ones. On built tables a cell's list is exactly
+//! Lists by place and the check of tables: on the tables that the Rust builds, with more lent than is used, and on damaged ones. On built tables a cell's list is exactly
 //! the lines whose walk by the Rust visits the cell. Every word that is lent as `out`, and of the array that it is a part of, is compared.
 
 use super::build::Columns;
@@ -10,22 +10,24 @@ use crate::oracle;
 use crate::random::Random;
 use crate::Grid;
 
+type CheckTables = fn(&Tables, &mut [u64]) -> u32;
 type CellList = fn(&Tables, u32, u32, &mut [u64]) -> u32;
 type GlobalList = fn(&Tables, u64, &mut [u64]) -> u32;
 
 struct Entries {
     who: &'static str,
+    check_tables: CheckTables,
     cell_list: CellList,
     global_list: GlobalList,
 }
 
 fn entries() -> Vec<Entries> {
     #[allow(unused_mut)]
-    let mut all = vec![Entries { who: "model", cell_list: model::cell_list, global_list: model::global_list }];
+    let mut all = vec![Entries { who: "model", check_tables: model::check_tables, cell_list: model::cell_list, global_list: model::global_list }];
     #[cfg(feature = "lists")]
     {
         use crate::port;
-        all.push(Entries { who: "port", cell_list: port::cell_list, global_list: port::global_list });
+        all.push(Entries { who: "port", check_tables: port::check_tables, cell_list: port::cell_list, global_list: port::global_list });
     }
     all
 }
@@ -129,7 +131,10 @@ impl Kind for Lists {
                 slices(&format!("list of the global at {position}"), &globals[position as usize..], got)?;
             }
         }
-        let (number, _) = cell_list(&t, (0, 0), WORDS)?;
+        for lent in 0..4 {
+            ask("check of the tables", lent, |e, out| (e.check_tables)(&t, out))?;
+        }
+        let (number, _) = ask("check of the tables", WORDS, |e, out| (e.check_tables)(&t, out))?;
         Ok(match number {
             0 if globals.is_empty() => "listed",
             0 => "listed with globals",

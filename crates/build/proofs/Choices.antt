@@ -13,7 +13,7 @@ use Rattle.grid.specs.declared.Refusal.{Refusal}
 use Rattle.grid.specs.declared.Check.{Check}
 use Rattle.grid.specs.declared.Check.the-variants.{Fine, Refused}
 use Rattle.grid.specs.Refusals.{refusal, unless, andThen}
-use Rattle.grid.specs.Domain.{Lines, count, Alike, shape}
+use Rattle.grid.specs.Domain.{Lines, count, Alike, lineFits, fit}
 use Rattle.grid.proofs.Bools.{and-right}
 use Rattle.grid.proofs.Fine.{then-right}
 use Rattle.sizing.specs.declared.Extent.{Extent}
@@ -29,7 +29,7 @@ use Rattle.build.specs.declared.Attempt.the-variants as attempt
 use Rattle.build.specs.OnGrid.{cells, listOn}
 use Rattle.build.specs.Choice.{roomCheck, turnsCheck, triedCheck, skewed, crowded, Choice, settled, refusedBy, unlessRefused, if, chosenFirst}
 use Rattle.build.specs.Choice as choice
-use Rattle.build.specs.Passes.{Walkable, localOn, CountedTo, GridTried, ChosenIs, AttemptIs, Shapes, Choosable}
+use Rattle.build.specs.Passes.{Walkable, localOn, CountedTo, GridTried, ChosenIs, AttemptIs, AllFit, Choosable}
 
 -- ---- a grid tried: 4, then what the count finds
 
@@ -74,9 +74,9 @@ module _ (e : Extent) (size : Float) (ls : Lines) (room : ℕ) {g : Grid} (is : 
   refused-at zero r h = let k : triedCheck (gridOf e size) ls room ≡ Refused r = rw is at h in record { is = rw k }
   refused-at (suc n) r h = let k : triedCheck (gridOf e size) ls room ≡ Refused r = rw is at h in record { is = rw k }
 
-  module _ (counts : shape (g .cols) (g .rows) ≡ true) (k : ℕ) (h : GridTried g ls room (tried.Globals k) o) where
+  module _ (fits : fit g ≡ true) (k : ℕ) (h : GridTried g ls room (tried.Globals k) o) where
     on-grid : ChosenIs (settled (gridOf e size)) ls (chosen.On g k) o
-    on-grid = record { is = rw (← is) (refl, counts, tried-turns g ls room (h .0), h .1, h .2) }
+    on-grid = record { is = rw (← is) (refl, fits, tried-turns g ls room (h .0), h .1, h .2) }
 
     tried-fine : triedCheck (gridOf e size) ls room ≡ Fine
     tried-fine = rw is at (h .0)
@@ -107,24 +107,25 @@ module _ (e : Extent) (size : Float) (ls : Lines) (room : ℕ) {g : Grid} (is : 
 
 -- ---- the sizes tried, one after another
 
-shapes-head : (e : Extent) (left : ℕ) (size : Float) → Shapes e left size → shape (gridOf e size .cols) (gridOf e size .rows) ≡ true
-shapes-head e zero size h = h
-shapes-head e (suc n) size h = h .0
+fit-head : (e : Extent) (left : ℕ) (size : Float) → AllFit e left size → fit (gridOf e size) ≡ true
+fit-head e zero size h = h
+fit-head e (suc n) size h = h .0
 
-shapes-tail : (e : Extent) (left : ℕ) (size : Float) → 0 < left → Shapes e left size → ltb (cells (gridOf e size) * 4) 1000000 ≡ true → Shapes e (left - 1) (halfOf size)
-shapes-tail e left size l h q = go left l h
+fit-tail : (e : Extent) (left : ℕ) (size : Float) → 0 < left → AllFit e left size → ltb (cells (gridOf e size) * 4) 1000000 ≡ true → AllFit e (left - 1) (halfOf size)
+fit-tail e left size l h q = go left l h
   where
-    go : (n : ℕ) → 0 < n → Shapes e n size → Shapes e (n - 1) (halfOf size)
+    go : (n : ℕ) → 0 < n → AllFit e n size → AllFit e (n - 1) (halfOf size)
     go zero l h = absurd (omega arith)
     go (suc n) l h = let z : suc n - 1 ≡ n = omega arith in rw z (h .1 q)
 
 pub record Choosing (ls : Lines) (o₀ s₀ : List ℕ) (e : Extent) (o s : List ℕ) (size : Float) (left : ℕ) : Type 0 where
   pub same : Alike ls
   pub few : count ls ≤ 65536
+  pub each : (i : ℕ) → i < count ls → lineFits ls i ≡ true
   pub space : 16384 ≤ length s
   pub len : length o ≡ length o₀
   pub len-scratch : length s ≡ length s₀
-  pub shapes : Shapes e left size
+  pub fits : AllFit e left size
   pub is : chosenFirst ls (length o₀) ≡ choice.chosen left e size ls (length o₀)
 
 pub choosing-first : {ls : Lines} {o s : List ℕ} {e : Extent} {size : Float} → Choosable ls s → e ≡ extentOf ls → size ≡ firstSize e (count ls) → Choosing ls o s e o s size 2
@@ -133,26 +134,28 @@ choosing-first {ls} {o} {s} {e} {size} h d z =
     record {
       same = h .same;
       few = h .few;
+      each = h .each;
       space = h .space;
       len = refl;
       len-scratch = refl;
-      shapes = rw (z, d) (h .shapes);
+      fits = rw (z, d) (h .fits);
       is = rw (z, d);
     }
 
 module _ {ls : Lines} {o₀ s₀ : List ℕ} {e : Extent} {o s : List ℕ} {size : Float} {left : ℕ} (k : Choosing ls o₀ s₀ e o s size left) where
   pub choosing-walkable : Walkable (gridOf e size) ls s
-  choosing-walkable = record { same = k .same; few = k .few; counts = shapes-head e left size (k .shapes); space = k .space }
+  choosing-walkable = record { same = k .same; few = k .few; each = k .each; fits = fit-head e left size (k .fits); space = k .space }
 
   pub choosing-next : {o′ s′ : List ℕ} {half : Float} → AttemptIs left e size ls (length o) attempt.Halve o′ → half ≡ halfOf size → length o′ ≡ length o → length s′ ≡ length s → Choosing ls o₀ s₀ e o′ s′ half (left - 1)
   choosing-next h z a b =
       record {
         same = k .same;
         few = k .few;
+        each = k .each;
         space = omega (arith, k .space);
         len = a ∙ k .len;
         len-scratch = b ∙ k .len-scratch;
-        shapes = rw z (shapes-tail e left size (h .0) (k .shapes) (h .2));
+        fits = rw z (fit-tail e left size (h .0) (k .fits) (h .2));
         is = k .is ∙ rw z (rw (k .len) at (h .1));
       }
 

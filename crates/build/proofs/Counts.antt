@@ -48,7 +48,7 @@ counting-all {g} {ls} w h =
     record { walkable = w; at = omega arith; len = refl; len-scratch = refl; turns = rw e; found = refl; most = omega arith; counted = h }
 
 pub walkable-again : {g : Grid} {ls : Lines} {s s′ : List ℕ} → Walkable g ls s → length s′ ≡ length s → Walkable g ls s′
-walkable-again w e = record { same = w .same; few = w .few; counts = w .counts; space = omega (arith, w .space) }
+walkable-again w e = record { same = w .same; few = w .few; each = w .each; fits = w .fits; space = omega (arith, w .space) }
 
 module _ {g : Grid} {ls : Lines} {o₀ s₀ o s : List ℕ} {globals i : ℕ} (k : CountingAll g ls o₀ s₀ o s globals i) where
   pub counting-next : {o′ s′ : List ℕ} {more : ℕ} → i < count ls → ends (walkOn g ls i) ≡ true → more ≡ oneIf (long (cellsOn g ls i)) → CountedTo g ls (i + 1) o′ → length o′ ≡ length o → length s′ ≡ length s → CountingAll g ls o₀ s₀ o′ s′ (globals + more) (i + 1)

@@ -12,14 +12,13 @@ use Rattle.grid.specs.declared.Refusal.{Refusal}
 use Rattle.grid.specs.declared.Check.{Check}
 use Rattle.grid.specs.declared.Check.the-variants.{Fine, Refused}
 use Rattle.grid.specs.Refusals.{unless, andThen}
-use Rattle.grid.specs.Domain.{Lines, count, shape, scratchCheck, linesCheck}
+use Rattle.grid.specs.Domain.{Lines, count, fit, scratchCheck, linesCheck}
 use Rattle.grid.proofs.Fine.{unless-fine, then-left, then-right, LinesFit, lines-fine}
-use Rattle.grid.proofs.Shapes.{fit-shape}
 use Rattle.sizing.specs.declared.Extent.{Extent}
 use Rattle.sizing.specs.Bounds.{extentOf}
 use Rattle.sizing.specs.Size.{firstSize, halfOf}
 use Rattle.sizing.specs.Counts.{gridOf, emptyGrid}
-use Rattle.sizing.proofs.FitLaws.{Within, Tried, lines-within, first-tried, again-tried}
+use Rattle.sizing.proofs.FitLaws.{Within, Tried, lines-within, first-tried, again-tried, empty-fits}
 use Rattle.csr.specs.Tables.{itemsOf, offsetsOf}
 use Rattle.build.specs.declared.Built.{Built}
 use Rattle.build.specs.declared.Built.the-variants as built
@@ -29,7 +28,7 @@ use Rattle.build.specs.declared.Chosen.the-variants as chosen
 use Rattle.build.specs.OnGrid.{cells, listOn, globalsOn}
 use Rattle.build.specs.Choice.{turnsCheck, triedCheck, Choice, settled, refusedBy, unlessRefused, if, chosenFirst, chosenNone, choice}
 use Rattle.build.specs.Build.{spaceCheck, End, untouched, cleared, made, endOn, endBy, endAfter, endOf, answerOf, leftOf, BuildIs}
-use Rattle.build.specs.Passes.{Walkable, CountedTo, GridTried, Shapes, Choosable, ChosenAs, ChosenIs, Stopped, FillAsks, Checked}
+use Rattle.build.specs.Passes.{Walkable, CountedTo, GridTried, AllFit, Choosable, ChosenAs, ChosenIs, Stopped, FillAsks, Checked}
 use Rattle.build.proofs.Choices.{tried-turns}
 
 -- ---- two checks in a row
@@ -44,17 +43,17 @@ first-passes a b h = rw h
 
 -- ---- the choice: every grid that can be tried is fit
 
-shapes-of : (ls : Lines) → LinesFit ls → 1 ≤ count ls → Shapes (extentOf ls) 2 (firstSize (extentOf ls) (count ls))
-shapes-of ls h l =
+all-fit : (ls : Lines) → LinesFit ls → 1 ≤ count ls → AllFit (extentOf ls) 2 (firstSize (extentOf ls) (count ls))
+all-fit ls h l =
     let e = extentOf ls in
     let s = firstSize e (count ls) in
     let w : Within e = lines-within ls h l in
     let t : Tried e 0 s = first-tried e (count ls) w l (h .few) in (
-      fit-shape (gridOf e s) (t .fits),
+      t .fits,
       λ q.
           let u : Tried e 1 (halfOf s) = again-tried e 0 s w t (omega arith) (ltb-true _ _ q) in (
-            fit-shape (gridOf e (halfOf s)) (u .fits),
-            λ p. fit-shape (gridOf e (halfOf (halfOf s))) (again-tried e 1 (halfOf s) w u (omega arith) (ltb-true _ _ p) .fits),
+            u .fits,
+            λ p. again-tried e 1 (halfOf s) w u (omega arith) (ltb-true _ _ p) .fits,
           ),
     )
 
@@ -64,14 +63,10 @@ module _ {ls : Lines} {s : List ℕ} (h : Checked ls s) where
 
   pub choosable-of : (count ls ≡ 0 → ⊥) → Choosable ls s
   choosable-of n =
-      record { same = fits .same; few = fits .few; space = h .space; shapes = shapes-of ls fits (omega arith) }
+      record { same = fits .same; few = fits .few; each = fits .each; space = h .space; fits = all-fit ls fits (omega arith) }
 
-  pub walkable-on : {s′ : List ℕ} (g : Grid) → shape (g .cols) (g .rows) ≡ true → length s′ ≡ length s → Walkable g ls s′
-  walkable-on g k e = record { same = fits .same; few = fits .few; counts = k; space = omega (arith, h .space) }
-
-pub empty-shape : shape (emptyGrid .cols) (emptyGrid .rows) ≡ true
-unfolding shape emptyGrid
-empty-shape = refl
+  pub walkable-on : {s′ : List ℕ} (g : Grid) → fit g ≡ true → length s′ ≡ length s → Walkable g ls s′
+  walkable-on g k e = record { same = fits .same; few = fits .few; each = fits .each; fits = k; space = omega (arith, h .space) }
 
 choice-some : (ls : Lines) (room : ℕ) → (count ls ≡ 0 → ⊥) → choice ls room ≡ chosenFirst ls room
 unfolding choice if
@@ -96,7 +91,7 @@ module _ (ls : Lines) (room : ℕ) (g : Grid) (is : g ≡ emptyGrid) (o : List �
   unfolding chosenNone unlessRefused
   none-on k h =
       let f : triedCheck emptyGrid ls room ≡ Fine = rw is at (h .0) in
-      record { is = rw (f, ← is) (refl, rw is empty-shape, tried-turns g ls room (h .0), h .1, h .2) }
+      record { is = rw (f, ← is) (refl, rw is empty-fits, tried-turns g ls room (h .0), h .1, h .2) }
 
 -- ---- what was chosen
 
@@ -109,7 +104,7 @@ chosen-refused {ch} {ls} {q} {o} h = go ch (h .is)
 
 pub record OnGrid (ch : Choice) (ls : Lines) (g : Grid) (k : ℕ) (o : List ℕ) : Type 0 where
   pub is : ch ≡ settled g
-  pub counts : shape (g .cols) (g .rows) ≡ true
+  pub fits : fit g ≡ true
   pub turns : turnsCheck g ls ≡ Fine
   pub found : k ≡ length (globalsOn g ls)
   pub counted : CountedTo g ls (count ls) o
@@ -121,7 +116,7 @@ chosen-on {ch} {ls} {g} {k} {o} h = go ch (h .is)
     go (refusedBy p) h = absurd h
     go (settled f) h =
         let e = h .0 in
-        record { is = rw e; counts = rw e (h .1); turns = rw e (h .2); found = rw e (h .3); counted = rw e (h .4) }
+        record { is = rw e; fits = rw e (h .1); turns = rw e (h .2); found = rw e (h .3); counted = rw e (h .4) }
 
 -- ---- the ends
 

@@ -11,6 +11,7 @@ use Rattle.grid.specs.declared.Check.{Check}
 use Rattle.grid.specs.declared.Check.the-variants.{Fine, Refused}
 use Rattle.grid.specs.Refusals.{refusal, unless, andThen}
 use Rattle.grid.specs.Domain.{Lines, count, shape}
+use Rattle.grid.proofs.Shapes.{fit-shape}
 use Rattle.csr.specs.Tables.{linesAt, sum, start, itemsOf, offsetsOf}
 use Rattle.csr.specs.States.{Placed, Table}
 use Rattle.csr.proofs.Laws.{counts-sum, placed-none, table-of}
@@ -60,7 +61,7 @@ module _ {g : Grid} {ls : Lines} {found : ℕ} {o t gs s : List ℕ} (a : FillAs
     sums-to = rw e (counts-sum (a .counted .counts) (cells g))
 
     pub fill-sums : (n < length o) × (sum (λ k. getD o k 0) n < 2 ^ 32)
-    fill-sums = (omega (arith, a .counted .room), rw sums-to (total-small g ls (a .walkable .few) (a .walkable .counts)))
+    fill-sums = (omega (arith, a .counted .room), rw sums-to (total-small g ls (a .walkable .few) (fit-shape g (a .walkable .fits))))
 
     module _ {o₁ : List ℕ} {all : ℕ} (k : Summed o o₁ n all) where
       pub fill-total : all ≡ total g ls
@@ -76,7 +77,7 @@ module _ {g : Grid} {ls : Lines} {found : ℕ} {o t gs s : List ℕ} (a : FillAs
               room = omega (arith, a .counted .room);
               space = omega (arith, fill-total);
               placed =
-                  placed-none (all-walks g ls (a .walkable .counts)) (a .counted .counts) (rw e at (k .sums)) (rw e at (k .beyond))
+                  placed-none (all-walks g ls (fit-shape g (a .walkable .fits))) (a .counted .counts) (rw e at (k .sums)) (rw e at (k .beyond))
                   (λ p. rw (a .items-clear) (zeros-at (length t) p));
             };
             clear = a .globals-clear;
@@ -88,7 +89,7 @@ module _ {g : Grid} {ls : Lines} {found : ℕ} {o t gs s : List ℕ} (a : FillAs
           → BuildIs ls o t gs s (built.Tables (record { grid = g; items = all; globals = found })) o₃ t₂ gs₂ s₃ (endOn g (spaceCheck g ls (length t) (length gs)))
       unfolding endOn answerOf leftOf listOn total
       fill-made {o₂} {o₃} {t₂} p q z b d f l m =
-          let w = all-walks g ls (a .walkable .counts) in
+          let w = all-walks g ls (fit-shape g (a .walkable .fits)) in
           let tab : Table (linesAt (localOn g ls) (count ls)) (cells g) o₃ t₂ =
           table-of w (omega (arith, a .counted .room)) (p .last .space) (p .last .placed) (q .first) (rw e at (q .moved)) (rw e at (q .beyond)) in
           rw (space-fine g ls (length t) (length gs) all found fill-total (a .count-is) l m)

@@ -8,6 +8,7 @@ use native.Mathlib.Omega.{arith}
 use lib.ListN.{length, getD, take}
 use Rattle.grid.specs.declared.Grid.{Grid}
 use Rattle.grid.specs.Domain.{Lines, count, shape}
+use Rattle.grid.proofs.Shapes.{fit-shape}
 use Rattle.csr.specs.Tables.{long, local, linesAt, start, globalLines}
 use Rattle.csr.specs.States.{Counted, Placed, CanCount, CanPlace}
 use Rattle.csr.proofs.Laws.{total-few}
@@ -68,7 +69,7 @@ module _ {g : Grid} {ls : Lines} {i : ℕ} where
         line = line-at w l k b;
         room = h .room;
         space = h .space;
-        small = total-small g ls (w .few) (w .counts);
+        small = total-small g ls (w .few) (fit-shape g (w .fits));
         placed = h .placed;
       }
 

@@ -1,4 +1,4 @@
--- The walks of a build's lines on a grid whose counts are fit. Assumes nothing.
+-- The walks of a build's lines on a fit grid. Assumes nothing.
 use mathlib.Core.Path.{_≡_, refl, sym, ap, _∙_}
 use mathlib.Core.Bool.{Bool, true, false}
 use mathlib.Core.List.{List, []}
@@ -11,14 +11,14 @@ use lib.ListN.{length, getD, take}
 use Rattle.slices.specs.Lists.{Rising, Below}
 use Rattle.grid.specs.declared.Grid.{Grid}
 use Rattle.grid.specs.declared.Refusal.{Refusal}
-use Rattle.grid.specs.Domain.{Lines, count, shape}
-use Rattle.grid.proofs.Shapes.{shape-says}
+use Rattle.grid.specs.Domain.{Lines, count, lineFits, shape}
+use Rattle.grid.proofs.Shapes.{fit-says, fit-shape}
 use Rattle.walk.specs.declared.Cells.{Cells}
 use Rattle.walk.specs.declared.Cells.the-variants as cells-are
 use Rattle.walk.specs.Pushes.{Outcome, refused, found}
 use Rattle.walk.specs.Segment as walk
 use Rattle.walk.proofs.Visits.{segment-visits}
-use Rattle.walk.proofs.Answer.{inner-is}
+use Rattle.walk.proofs.Answer.{entry-is}
 use Rattle.csr.specs.Tables.{long, local}
 use Rattle.csr.specs.States.{Walks, Line}
 use Rattle.csr.proofs.Lists.{local-walks, local-short}
@@ -52,14 +52,15 @@ module _ (g : Grid) (ls : Lines) (i : ℕ) where
       go (refused why) e = (tt, tt, omega arith)
       go (found xs) e = let v = segment-visits g _ _ _ _ xs h e in (v .rising, v .inside, v .few)
 
-  module _ {s : List ℕ} (w : Walkable g ls s) (r : Cells) {s′ : List ℕ} (h : walk.Walked (walk.innerOf (length s) g (getD (ls .«start_x») i nan) (getD (ls .«start_y») i nan) (getD (ls .«end_x») i nan) (getD (ls .«end_y») i nan)) s r s′) where
+  -- the scratch, the line and the grid pass, so the walk can be refused by 7 alone
+  module _ {s : List ℕ} (w : Walkable g ls s) (l : i < count ls) (r : Cells) {s′ : List ℕ} (h : walk.Walked (walk.entryOf (length s) g (getD (ls .«start_x») i nan) (getD (ls .«start_y») i nan) (getD (ls .«end_x») i nan) (getD (ls .«end_y») i nan)) s r s′) where
     inner : walk.Walked (walkOn g ls i) s r s′
-    unfolding walkOn
-    inner = rw (inner-is g _ _ _ _ (length s) (w .space) (w .counts)) at h
+    unfolding walkOn lineFits
+    inner = rw (entry-is g _ _ _ _ (length s) (w .space) (w .each i l) (w .fits)) at h
 
     pub walk-found : (n : ℕ) → r ≡ cells-are.Found n → WalkedTo (walkOn g ls i) (walked.Cells n) s′
     unfolding cellsOn
-    walk-found n e = walked-found (walkOn g ls i) s n s′ (rw e at inner) (inner .size) (omega (arith, visits (w .counts) .2, w .space))
+    walk-found n e = walked-found (walkOn g ls i) s n s′ (rw e at inner) (inner .size) (omega (arith, visits (fit-shape g (w .fits)) .2, w .space))
 
     pub walk-over : (q : Refusal) → r ≡ cells-are.Refused q → WalkedTo (walkOn g ls i) walked.Over s′
     walk-over q e = walked-refused (walkOn g ls i) s q s′ (rw e at inner)
@@ -107,10 +108,10 @@ pub line-at : {g : Grid} {ls : Lines} {s₀ s : List ℕ} {i n : ℕ} → Walkab
 line-at {g} {ls} {i = i} w l k b =
     let e : localOn g ls i ≡ cellsOn g ls i = local-short (cellsOn g ls) i (is-short g ls i k b) in
     record {
-      walks = all-walks g ls (w .counts);
+      walks = all-walks g ls (fit-shape g (w .fits));
       in-lines = l;
       lines-small = omega (arith, w .few);
-      cells-small = omega (arith, shape-says (g .cols) (g .rows) (w .counts) .cells);
+      cells-small = omega (arith, fit-says g (w .fits) .counts .cells);
       few = omega arith;
       fits = k .within;
       size = rw e (k .size);

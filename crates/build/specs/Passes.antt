@@ -9,7 +9,7 @@ use lib.ListN.{length, take, getD, set, replicate}
 use Rattle.grid.specs.declared.Grid.{Grid}
 use Rattle.grid.specs.declared.Check.the-variants.{Fine, Refused}
 use Rattle.grid.specs.Refusals.{refusal}
-use Rattle.grid.specs.Domain.{Lines, count, Alike, shape, linesCheck}
+use Rattle.grid.specs.Domain.{Lines, count, Alike, lineFits, fit, linesCheck}
 use Rattle.sizing.specs.declared.Extent.{Extent}
 use Rattle.sizing.specs.Bounds.{extentOf}
 use Rattle.sizing.specs.Size.{firstSize, halfOf}
@@ -43,11 +43,12 @@ WalkedTo (refused why) walked.Over s = Unit {0}
 WalkedTo (found xs) (walked.Cells r) s = (r ≡ length xs) × (r ≤ length s) × (take r s ≡ xs)
 WalkedTo (found xs) walked.Over s = ⊥
 
--- lines, a grid and a scratch that a walk can work on
+-- lines, a grid and a scratch that no walk refuses by 3, 1 or 8
 pub record Walkable (g : Grid) (ls : Lines) (s : List ℕ) : Type 0 where
   pub same : Alike ls
   pub few : count ls ≤ 65536
-  pub counts : shape (g .cols) (g .rows) ≡ true
+  pub each : (i : ℕ) → i < count ls → lineFits ls i ≡ true
+  pub fits : fit g ≡ true
   pub space : 16384 ≤ length s
 
 -- the cells that the lines are counted in
@@ -81,7 +82,7 @@ GridTried g ls room (tried.Refused r) o = triedCheck g ls room ≡ Refused r
 
 -- the grid that was chosen, its lines counted; or the refusal
 abbrev pub ChosenAs : Choice → Lines → Chosen → List ℕ → Type 0
-ChosenAs (settled g) ls (chosen.On h k) o = (h ≡ g) × (shape (g .cols) (g .rows) ≡ true) × (turnsCheck g ls ≡ Fine) × (k ≡ length (globalsOn g ls)) × CountedTo g ls (count ls) o
+ChosenAs (settled g) ls (chosen.On h k) o = (h ≡ g) × (fit g ≡ true) × (turnsCheck g ls ≡ Fine) × (k ≡ length (globalsOn g ls)) × CountedTo g ls (count ls) o
 ChosenAs (settled g) ls (chosen.Refused r) o = ⊥
 ChosenAs (refusedBy q) ls (chosen.On h k) o = ⊥
 ChosenAs (refusedBy q) ls (chosen.Refused r) o = r ≡ q
@@ -95,17 +96,18 @@ AttemptIs left e size ls room (attempt.Settled r) o = ChosenIs (choice.chosen le
 AttemptIs left e size ls room attempt.Halve o =
     (0 < left) × (choice.chosen left e size ls room ≡ choice.chosen (left - 1) e (halfOf size) ls room) × (ltb (cells (gridOf e size) * 4) 1000000 ≡ true)
 
--- every grid that can be tried from a cell size on has fit counts
-abbrev pub Shapes : Extent → ℕ → Float → Type 0
-Shapes e zero size = shape (gridOf e size .cols) (gridOf e size .rows) ≡ true
-Shapes e (suc h) size = (shape (gridOf e size .cols) (gridOf e size .rows) ≡ true) × (ltb (cells (gridOf e size) * 4) 1000000 ≡ true → Shapes e h (halfOf size))
+-- every grid that can be tried from a cell size on is fit
+abbrev pub AllFit : Extent → ℕ → Float → Type 0
+AllFit e zero size = fit (gridOf e size) ≡ true
+AllFit e (suc h) size = (fit (gridOf e size) ≡ true) × (ltb (cells (gridOf e size) * 4) 1000000 ≡ true → AllFit e h (halfOf size))
 
 -- lines of which every grid that can be tried is fit
 pub record Choosable (ls : Lines) (s : List ℕ) : Type 0 where
   pub same : Alike ls
   pub few : count ls ≤ 65536
+  pub each : (i : ℕ) → i < count ls → lineFits ls i ≡ true
   pub space : 16384 ≤ length s
-  pub shapes : Shapes (extentOf ls) 2 (firstSize (extentOf ls) (count ls))
+  pub fits : AllFit (extentOf ls) 2 (firstSize (extentOf ls) (count ls))
 
 -- the second pass has placed the lines below i, and listed the globals among them
 pub record PlacedTo (g : Grid) (ls : Lines) (i : ℕ) (o t : List ℕ) : Type 0 where

@@ -29,7 +29,7 @@ fill-requires : tie.Need-fill-requires
 fill-requires c κs =
     let h = chosen-on (rw (c .before .before .before .before .before .chosen2 .given .1) at (c .before .before .before .before .before .before .before .before .before .before .before .choose-any .ensures)) in
     record {
-      walkable = walkable-on (c .before .before .before .before .before .before .before .before .before .before .before .before .before .before .before .before .before .before .before .before .before .before .before .before .before .before .before .before .before .before .pre) _ (h .counts) (c .before .before .before .before .before .before .before .before .before .before .before .choose-any .kept .1 .1 .1 .1 .1 .0);
+      walkable = walkable-on (c .before .before .before .before .before .before .before .before .before .before .before .before .before .before .before .before .before .before .before .before .before .before .before .before .before .before .before .before .before .before .pre) _ (h .fits) (c .before .before .before .before .before .before .before .before .before .before .before .choose-any .kept .1 .1 .1 .1 .1 .0);
       turns = h .turns;
       count-is = h .found;
       counted = h .counted;

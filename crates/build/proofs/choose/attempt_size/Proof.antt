@@ -2,6 +2,7 @@
 use mathlib.Core.Path.{sym, _∙_}
 use Rattle.build.proofs.Choices.{refused-at, last-at, settled-at, halve-at}
 use borrow.Author.Needs.{needs}
+use Rattle.grid.proofs.Shapes.{fit-shape}
 use Rattle.build.proofs.choose.attempt_size.Statement.{statement}
 use Rattle.build.proofs.choose.attempt_size.Tie as tie
 
@@ -27,13 +28,13 @@ returns : tie.Need-returns
 returns c =
     let g = c .before .before .before .before .before .before .before .before .before .before .before .grid-of in
     let h = rw (c .before .before .tried2 .given .1) at (c .before .before .before .before .before .before .before .before .try-grid .ensures) in
-    last-at _ _ _ _ (g .ensures) _ (rw (g .ensures) (c .before .before .before .before .before .before .before .before .before .before .before .before .before .before .before .before .before .before .pre .counts)) _ h _ (c .if1 .taken)
+    last-at _ _ _ _ (g .ensures) _ (rw (g .ensures) (c .before .before .before .before .before .before .before .before .before .before .before .before .before .before .before .before .before .before .pre .fits)) _ h _ (c .if1 .taken)
 
 is-crowded-requires : tie.Need-is-crowded-requires
 is-crowded-requires c κs =
     let g = c .before .before .before .before .before .before .before .before .before .before .before .before .grid-of in
     let h = rw (c .before .before .before .tried2 .given .1) at (c .before .before .before .before .before .before .before .before .before .try-grid .ensures) in
-    (rw (g .ensures) (c .before .before .before .before .before .before .before .before .before .before .before .before .before .before .before .before .before .before .before .pre .counts), h .2 .room)
+    (rw (g .ensures) (fit-shape _ (c .before .before .before .before .before .before .before .before .before .before .before .before .before .before .before .before .before .before .before .pre .fits)), h .2 .room)
 
 same-length-3 : tie.Need-same-length-3
 same-length-3 c = search needs
@@ -45,7 +46,7 @@ returns-2 : tie.Need-returns-2
 returns-2 c =
     let g = c .before .before .before .before .before .before .before .before .before .before .before .before .before .before .grid-of in
     let h = rw (c .before .before .before .before .before .tried2 .given .1) at (c .before .before .before .before .before .before .before .before .before .before .before .try-grid .ensures) in
-    halve-at _ _ _ _ (g .ensures) _ (rw (g .ensures) (c .before .before .before .before .before .before .before .before .before .before .before .before .before .before .before .before .before .before .before .before .before .pre .counts)) _ h _ (c .before .before .before .if1 .left) (sym (c .before .is-crowded .ensures) ∙ c .if2 .taken)
+    halve-at _ _ _ _ (g .ensures) _ (rw (g .ensures) (c .before .before .before .before .before .before .before .before .before .before .before .before .before .before .before .before .before .before .before .before .before .pre .fits)) _ h _ (c .before .before .before .if1 .left) (sym (c .before .is-crowded .ensures) ∙ c .if2 .taken)
 
 same-length-5 : tie.Need-same-length-5
 same-length-5 c = search needs
@@ -69,7 +70,7 @@ returns-4 : tie.Need-returns-4
 returns-4 c =
     let g = c .before .before .before .before .before .before .before .before .before .before .before .before .before .before .grid-of in
     let h = rw (c .before .before .before .before .before .tried2 .given .1) at (c .before .before .before .before .before .before .before .before .before .before .before .try-grid .ensures) in
-    settled-at _ _ _ _ (g .ensures) _ (rw (g .ensures) (c .before .before .before .before .before .before .before .before .before .before .before .before .before .before .before .before .before .before .before .before .before .pre .counts)) _ h _ (c .before .before .before .if1 .left) (sym (c .before .is-crowded .ensures) ∙ c .if2 .left)
+    settled-at _ _ _ _ (g .ensures) _ (rw (g .ensures) (c .before .before .before .before .before .before .before .before .before .before .before .before .before .before .before .before .before .before .before .before .before .pre .fits)) _ h _ (c .before .before .before .if1 .left) (sym (c .before .is-crowded .ensures) ∙ c .if2 .left)
 
 pub attempt-size-spec : {M : Type 1} → statement M
 attempt-size-spec =

@@ -1,13 +1,14 @@
 -- `build::choose::choose_any` meets its contract. Assumes nothing.
 use mathlib.Core.Path.{refl}
 use Rattle.sizing.specs.Counts.{emptyGrid}
-use Rattle.build.proofs.Entries.{choosable-of, walkable-on, empty-shape, any-some, any-none}
+use Rattle.sizing.proofs.FitLaws.{empty-fits}
+use Rattle.build.proofs.Entries.{choosable-of, walkable-on, any-some, any-none}
 use borrow.Author.Needs.{needs}
 use Rattle.build.proofs.choose.choose_any.Statement.{statement}
 use Rattle.build.proofs.choose.choose_any.Tie as tie
 
 choose-none-requires : tie.Need-choose-none-requires
-choose-none-requires c κs = walkable-on (c .before .before .before .before .before .before .before .before .before .pre) emptyGrid empty-shape refl
+choose-none-requires c κs = walkable-on (c .before .before .before .before .before .before .before .before .before .pre) emptyGrid empty-fits refl
 
 same-length : tie.Need-same-length
 same-length c = search needs

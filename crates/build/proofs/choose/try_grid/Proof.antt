@@ -1,12 +1,13 @@
 -- `build::choose::try_grid` meets its contract. Assumes nothing.
 use mathlib.Core.Path.{_∙_}
+use Rattle.grid.proofs.Shapes.{fit-shape}
 use Rattle.build.proofs.Choices.{try-short, try-on, counted-clear}
 use borrow.Author.Needs.{needs}
 use Rattle.build.proofs.choose.try_grid.Statement.{statement}
 use Rattle.build.proofs.choose.try_grid.Tie as tie
 
 cell-count-requires : tie.Need-cell-count-requires
-cell-count-requires c κs = search needs
+cell-count-requires c κs = fit-shape _ (c .before .before .before .before .before .before .pre .fits)
 
 add-room : tie.Need-add-room
 add-room c = search needs

@@ -1,12 +1,13 @@
 -- `build::fill::fill` meets its contract. Assumes nothing.
 use mathlib.Core.Path.{_∙_}
+use Rattle.grid.proofs.Shapes.{fit-shape}
 use Rattle.build.proofs.Fills.{space-short, space-globals, fill-stopped, fill-sums, fill-total, fill-place, fill-made}
 use borrow.Author.Needs.{needs}
 use Rattle.build.proofs.fill.fill.Statement.{statement}
 use Rattle.build.proofs.fill.fill.Tie as tie
 
 cell-count-requires : tie.Need-cell-count-requires
-cell-count-requires c κs = search needs
+cell-count-requires c κs = fit-shape _ (c .before .before .before .before .before .before .before .before .pre .walkable .fits)
 
 running-sums-requires : tie.Need-running-sums-requires
 running-sums-requires c κs = fill-sums (c .before .before .before .before .before .before .before .before .before .before .pre) _ (c .before .cell-count .ensures .0)

@@ -41,13 +41,13 @@ same-length : tie.Need-same-length
 same-length c = search needs
 
 returns : tie.Need-returns
-returns c = walk-found _ _ _ (c .before .before .before .before .before .before .before .before .before .before .before .before .before .before .before .before .pre .1) (c .before .before .before .before .before .segment-cells .result) (c .before .before .before .before .before .segment-cells .ensures) _ (c .before .cells .given .1)
+returns c = walk-found _ _ _ (c .before .before .before .before .before .before .before .before .before .before .before .before .before .before .before .before .pre .1) (c .before .before .before .before .before .before .before .before .before .before .before .before .before .before .before .before .pre .0) (c .before .before .before .before .before .segment-cells .result) (c .before .before .before .before .before .segment-cells .ensures) _ (c .before .cells .given .1)
 
 same-length-2 : tie.Need-same-length-2
 same-length-2 c = search needs
 
 returns-2 : tie.Need-returns-2
-returns-2 c = walk-over _ _ _ (c .before .before .before .before .before .before .before .before .before .before .before .before .before .before .before .pre .1) (c .before .before .before .before .segment-cells .result) (c .before .before .before .before .segment-cells .ensures) _ (c .enum-told .given .1)
+returns-2 c = walk-over _ _ _ (c .before .before .before .before .before .before .before .before .before .before .before .before .before .before .before .pre .1) (c .before .before .before .before .before .before .before .before .before .before .before .before .before .before .before .pre .0) (c .before .before .before .before .segment-cells .result) (c .before .before .before .before .segment-cells .ensures) _ (c .enum-told .given .1)
 
 pub walk-line-spec : {M : Type 1} → statement M
 walk-line-spec =

@@ -1,3 +1,7 @@
--- Laws of `tables`. For the crates above: `Facts`.
+-- Laws of `tables`. For the crates above: `Facts` the test and the facts of fit tables, `Laws` how the lists of any walk are laid out, `Lists`
+-- what they hold, `Standing` tables that hold them.
 pub mod Facts
 pub mod Turns
+pub mod Laws
+pub mod Lists
+pub mod Standing

@@ -13,7 +13,7 @@ use Rattle.grid.specs.declared.Check.the-variants.{Fine, Refused}
 use Rattle.grid.specs.Refusals.{refusal, eachFrom}
 use Rattle.grid.specs.Domain.{Lines, count}
 use Rattle.grid.proofs.Fine.{each-good, each-bad, each-over, each-says}
-use Rattle.csr.specs.Tables.{long, only, globalLines}
+use Rattle.tables.specs.Lists.{long, only, globalLines}
 use Rattle.build.specs.OnGrid.{walkOn, ends, cellsOn, globalsOn}
 use Rattle.build.specs.Choice.{turnsCheck}
 use Rattle.build.specs.Passes.{Walkable, CountedTo, oneIf}

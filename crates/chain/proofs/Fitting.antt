@@ -15,7 +15,7 @@ use Rattle.grid.specs.declared.Check.the-variants.{Fine, Refused}
 use Rattle.grid.specs.Domain.{Lines, count, scratchCheck, linesCheck}
 use Rattle.grid.specs.Refusals.{unless, andThen}
 use Rattle.grid.proofs.Fine.{unless-fine, then-left, then-right}
-use Rattle.csr.specs.Tables.{concat, sum, start, itemsOf, offsetsOf}
+use Rattle.tables.specs.Lists.{concat, sum, start, itemsOf, offsetsOf}
 use Rattle.sizing.specs.declared.Extent.{Extent}
 use Rattle.sizing.specs.Bounds.{extentOf}
 use Rattle.sizing.specs.Size.{firstSize, halfOf}

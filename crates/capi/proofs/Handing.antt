@@ -1,6 +1,6 @@
 -- From an answer that is handed over, and from an `out` that is short, to the promise of an exported function. Assumes nothing.
-use Prim.Native.Nat.{ℕ, _≤_, _<_}
-use mathlib.Core.Path.{_≡_, refl, sym, subst, _∙_}
+use Prim.Native.Nat.{ℕ, _+_, _-_, _≤_, _<_}
+use mathlib.Core.Path.{_≡_, refl, sym, ap, subst, _∙_}
 use mathlib.Core.Bool.{true}
 use mathlib.Core.List.{List, [], _∷_, _++_}
 use native.Mathlib.Omega.{arith}
@@ -9,7 +9,13 @@ use lib.ListN.{length, drop, set}
 use lib.Ieee.{Float, binary64, toBits, ne}
 use lib.Ieee.Compare.{differs-from-itself}
 use borrow.Author.Tests.{le-leb, lt-leb}
-use Rattle.capi.specs.Replies.{Reply, Handed, unlessShort, Replies}
+use Rattle.grid.specs.declared.Check.{Check}
+use Rattle.grid.specs.declared.Check.the-variants.{Fine, Refused}
+use Rattle.grid.specs.declared.Refusal.{Refusal}
+use Rattle.visit.specs.Places.{partOf}
+use Rattle.visit.proofs.PlaceLaws.{part-some, part-whole}
+use Rattle.capi.specs.Replies.{Reply, success, refusal, Handed, unlessShort, Replies}
+use Rattle.capi.specs.Answers.{ofPart}
 
 -- ---- the pattern of a NaN, which alone differs from itself
 
@@ -81,3 +87,31 @@ handed-replies n {a} {b} {out} {r} {out′} h e d =
 -- the same answer by another name
 pub answered : {a b : Reply} {out : List ℕ} {r : ℕ} {out′ : List ℕ} → b ≡ a → Handed b out r out′ → Handed a out r out′
 answered {a} {b} {out} {r} {out′} e d = subst (λ (a : Reply). Handed a out r out′) e d
+
+-- ---- a list by its place: `list` is what was returned for it, and xs the list at the place
+
+module _ (check : Check) (from : ℕ) (xs list : List ℕ) (e : list ≡ partOf check xs) where
+  -- one that has lines was not refused
+  pub list-some : 0 < length list → success (from ∷ length list ∷ []) ≡ ofPart check from (from + length xs)
+  unfolding ofPart
+  list-some h =
+      let f : check ≡ Fine = part-some check xs list e h in
+      let l : length list ≡ from + length xs - from = ap length (part-whole check xs list e f) ∙ omega arith in
+      rw (f, l)
+
+  -- an empty one that was not refused is empty
+  pub list-none : check ≡ Fine → length list ≤ 0 → success (from ∷ 0 ∷ []) ≡ ofPart check from (from + length xs)
+  unfolding ofPart
+  list-none f h =
+      let l : 0 ≡ from + length xs - from = omega (arith, ap length (part-whole check xs list e f)) in
+      rw f (ap (λ (n : ℕ). success (from ∷ n ∷ [])) l)
+
+  pub list-refused : (r : Refusal) → check ≡ Refused r → refusal (r .number) (r .value) ≡ ofPart check from (from + length xs)
+  unfolding ofPart
+  list-refused r f = rw f
+
+-- where a list ends counts only where it is given
+pub part-ends : (check : Check) (from to to₁ : ℕ) → (check ≡ Fine → to ≡ to₁) → ofPart check from to ≡ ofPart check from to₁
+unfolding ofPart
+part-ends Fine from to to₁ h = rw (h refl)
+part-ends (Refused r) from to to₁ h = refl

@@ -1,2 +1,3 @@
--- What the proofs of several functions use.
+-- `Handing`: what the proofs of several functions use. `Outcomes`: each promise settles its number, `out` and the lent slices.
 pub mod Handing
+pub mod Outcomes

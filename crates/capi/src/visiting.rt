@@ -12,7 +12,7 @@ ghost use Prim.Native.Nat.{suc, _+_, _*_, _-_, _≤_};
 ghost use lib.ListN.{length, getD};
 ghost use Rattle.grid.specs.Domain.{lines};
 ghost use Rattle.tables.specs.Tables.{tables};
-ghost use Rattle.visit.specs.Places.{listCheck};
+ghost use Rattle.visit.specs.Places.{listCheck, listAt};
 ghost use Rattle.visit.specs.Entries.{beside, testAt};
 ghost use Rattle.capi.specs.Replies.{Handed, Replies, gridBy};
 ghost use Rattle.capi.specs.Answers.{ofPart, ofTest, ofPlace, ofBatch};
@@ -37,34 +37,36 @@ fn entry(s: &[u32], at: usize) -> u64
     0
 }
 
-// The offset that ends a cell's list.
-fn entry_after(s: &[u32], at: usize) -> u64
-    ensures { λ r. ⌜ r ≡ getD (now (s .entry)) (suc at) 0 ⌝ }
-{
-    if at < s.len() {
-        return entry(s, at + 1);
-    }
-    0
-}
-
-fn part(answer: Check, from: u64, to: u64, out: &mut [u64]) -> u32
+// A list that has lines is told by where it starts and by its length. An empty one is refused or not: a second call says which.
+fn listed<'a>(
+    lines: usize,
+    grid: Grid,
+    offsets: &[u32],
+    items: &'a [u32],
+    globals: &'a [u32],
+    global_count: usize,
+    place: Place,
+    from: u64,
+    out: &mut [u64],
+) -> u32
     requires { ⌜ 2 ≤ length (now out) ⌝ }
-    ensures { λ r. ⌜ Handed (ofPart answer from to) (now (out .entry)) r (now (out .exit)) ⌝ }
+    ensures { λ r. ⌜ Handed (ofPart (listCheck grid (tables grid lines (now (offsets .entry)) (now (items .entry)) (now (globals .entry)) «global_count») place) from (from + length (listAt (tables grid lines (now (offsets .entry)) (now (items .entry)) (now (globals .entry)) «global_count») place))) (now (out .entry)) r (now (out .exit)) ⌝ }
 {
-    match answer {
-        Check::Fine => {
-            if from <= to {
-                return reply::two(from, to - from, out);
-            }
-            reply::two(from, 0, out)
-        },
+    let list = visit::lists::list_at(lines, grid, offsets, items, globals, global_count, place);
+    let len = list.len() as u64;
+    if 0 < len {
+        return reply::two(from, len, out);
+    }
+    let check = visit::lists::list_check(lines, grid, offsets, items, globals, global_count, place);
+    match check {
+        Check::Fine => reply::two(from, 0, out),
         Check::Refused(r) => reply::refused(r.number, r.value, out),
     }
 }
 
 // The list of a cell is a part of the items. Out: where it starts, and its length.
 #[no_mangle]
-pub extern "C" fn mt_cell_list(
+pub extern "C" fn mt_cell_list<'a>(
     min_x: f64,
     min_y: f64,
     cell_size: f64,
@@ -72,8 +74,8 @@ pub extern "C" fn mt_cell_list(
     rows: u32,
     lines: usize,
     offsets: &[u32],
-    items: &[u32],
-    globals: &[u32],
+    items: &'a [u32],
+    globals: &'a [u32],
     global_count: u64,
     row: u32,
     col: u32,
@@ -91,7 +93,8 @@ pub extern "C" fn mt_cell_list(
         cols,
         rows,
     };
-    let check = visit::lists::list_check(
+    let from = entry(offsets, cell_number(row, cols, col));
+    listed(
         lines,
         grid,
         offsets,
@@ -99,14 +102,14 @@ pub extern "C" fn mt_cell_list(
         globals,
         global_count as usize,
         Place::Cell { row, col },
-    );
-    let cell = cell_number(row, cols, col);
-    part(check, entry(offsets, cell), entry_after(offsets, cell), out)
+        from,
+        out,
+    )
 }
 
 // The list of a global line, by its position, is a part of the globals. Out: where it starts, and its length.
 #[no_mangle]
-pub extern "C" fn mt_global_list(
+pub extern "C" fn mt_global_list<'a>(
     min_x: f64,
     min_y: f64,
     cell_size: f64,
@@ -114,8 +117,8 @@ pub extern "C" fn mt_global_list(
     rows: u32,
     lines: usize,
     offsets: &[u32],
-    items: &[u32],
-    globals: &[u32],
+    items: &'a [u32],
+    globals: &'a [u32],
     global_count: u64,
     position: u64,
     out: &mut [u64],
@@ -132,7 +135,7 @@ pub extern "C" fn mt_global_list(
         cols,
         rows,
     };
-    let check = visit::lists::list_check(
+    listed(
         lines,
         grid,
         offsets,
@@ -140,8 +143,9 @@ pub extern "C" fn mt_global_list(
         globals,
         global_count as usize,
         Place::Global(position as usize),
-    );
-    part(check, position, global_count, out)
+        position,
+        out,
+    )
 }
 
 // ---- one test by its bookmark

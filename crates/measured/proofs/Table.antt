@@ -1,27 +1,23 @@
--- Document 01, "Measured points": P1 to P10 as one list of rows, what is asked of the definitions and what was measured, and one claim, that
--- every row is answered as it was measured. The rows stand beside the definitions that they ask, and are computed there. Assumes nothing.
-use mathlib.Core.List.{List, [], _∷_, _++_}
-use Rattle.walk.specs.Pushes.{Outcome, found}
-use Rattle.walk.specs.Segment.{segmentOf}
-use Rattle.walk.proofs.Points.{Point, All, points, measured}
-use Rattle.snap.proofs.Measured.{Row, Hold, joined}
-use Rattle.own.proofs.Measured.{p7·10, p7·10-hold}
+-- The measured points, computed straight from the definitions. Assumes nothing.
+use mathlib.Core.Path.{refl}
+use lib.Ieee.{round, add, sub, mul, div, neg, lt, le, eq, ne, isNan, size, span, climb, units, odd, sum, ofInt, ofBits, ofFields}
+use lib.Count.{trailingZeros}
+use Rattle.numbers.specs.Order.{leastOf, greatestOf, magnitudeOf}
+use Rattle.numbers.specs.Floor.{clampedFloor, floorOf}
+use Rattle.numbers.specs.Away.{roundAway}
+use Rattle.slices.specs.Slices.{sorted, insert, insertIf, distinctOf, after as runAfter, unless as unlessHere}
+use Rattle.grid.specs.Refusals.{unless, andThen}
+use Rattle.grid.specs.Domain.{coordinate, point, segment, sizeFits, shape, fit, scratchCheck, pointCheck, segmentCheck, gridCheck, cellCheck, snapSize, snapCheck}
+use Rattle.grid.specs.Axes.{scaledOn, indexOn, lowOn, highOn, nearWhole, boundaryOn}
+use Rattle.walk.specs.Turns.{finiteOf, stepOf, deltaOf, nextOn, firstOn, courseOn, positionOn, wayOf, startOf, toleranceOf, nearOf, furtherOf, arrivedOf, turnOf, steppedOf, advanced, movedOf, goesOf}
+use Rattle.walk.specs.Pushes.{kept, pushOf, sidesOf, pushedBy, before, after, nextOf, goingOf, turns, walkedOf}
+use Rattle.walk.specs.Segment.{lowColOf, lowRowOf, cornerOf, besideOf, addedOf, alongOn, cellOf, endOf, pushesOf, answered, unlessNone, segmentOf, checked, entryOf}
+use Rattle.snap.specs.Answer.{unlessRefused}
+use Rattle.snap.specs.Snap.{gridSnap, signOf, geosSnap, snapOf, snapAnswer}
+use Rattle.own.specs.Own.{ownsOn, ownsPoint, placeCheck, pointAnswer}
+use Rattle.measured.specs.Table.{table, Claim}
 
--- the row of a segment: its walk is asked, and its cells were measured
-abbrev pub walkRow : Point → Row
-walkRow p = record { Answer = Outcome; asked = segmentOf (p .grid) (p .x₀) (p .y₀) (p .x₁) (p .y₁); measured = found (p .cells) }
-
-abbrev pub walkRows : List Point → List Row
-walkRows [] = []
-walkRows (p ∷ ps) = walkRow p ∷ walkRows ps
-
--- P1 to P6 (the walk), P7 and P8 (ownership), P9 and P10 (snapping)
-abbrev pub table : List Row
-table = walkRows points ++ p7·10
-
-rows-hold : (ps : List Point) → All ps → Hold (walkRows ps)
-rows-hold [] h = tt
-rows-hold (p ∷ ps) h = (h .0, rows-hold ps (h .1))
-
-pub claim : Hold table
-claim = joined (walkRows points) p7·10 (rows-hold points measured) p7·10-hold
+-- P1 TO P10
+pub claim : Claim table
+unfolding round add sub mul div neg lt le eq ne isNan size span climb units odd sum ofInt ofBits ofFields trailingZeros leastOf greatestOf magnitudeOf clampedFloor floorOf roundAway sorted insert insertIf distinctOf runAfter unlessHere unless andThen coordinate point segment sizeFits shape fit scratchCheck pointCheck segmentCheck gridCheck cellCheck snapSize snapCheck scaledOn indexOn lowOn highOn nearWhole boundaryOn finiteOf stepOf deltaOf nextOn firstOn courseOn positionOn wayOf startOf toleranceOf nearOf furtherOf arrivedOf turnOf steppedOf advanced movedOf goesOf kept pushOf sidesOf pushedBy before after nextOf goingOf turns walkedOf lowColOf lowRowOf cornerOf besideOf addedOf alongOn cellOf endOf pushesOf answered unlessNone segmentOf checked entryOf unlessRefused gridSnap signOf geosSnap snapOf snapAnswer ownsOn ownsPoint placeCheck pointAnswer
+claim = ((refl, tt), ((refl, tt), ((refl, tt), ((refl, tt), ((refl, tt), ((refl, tt), ((refl, (refl, tt)), ((refl, tt), ((refl, (refl, tt)), ((refl, (refl, tt)), tt))))))))))

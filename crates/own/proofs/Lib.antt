@@ -4,4 +4,3 @@ pub mod Edges
 pub mod Firsts
 pub mod Owners
 pub mod Halving
-pub mod Measured

@@ -1,5 +1,5 @@
--- Laws of `visit`. `Clauses` has each clause of a definition as an equation; the others are laws of its parts, for its own proofs and for
--- the crates above.
+-- Laws of `visit`. `Clauses` has each clause of a definition as an equation; `Outcomes` says that the promise of a batch settles its answer and
+-- both outputs; the others are laws of its parts, for its own proofs and for the crates above.
 pub mod Clauses
 pub mod BoxLaws
 pub mod CellTurns
@@ -15,3 +15,4 @@ pub mod RunWhole
 pub mod Founds
 pub mod EntryLaws
 pub mod PlaceLaws
+pub mod Outcomes

@@ -7,7 +7,7 @@ use native.Mathlib.Nat.{mul-le-mul-right, suc-mul}
 use native.Mathlib.Numerals.{add-one}
 use native.Mathlib.Omega.{arith}
 use lib.ListN.{length, getD, take, drop}
-use lib.Seq.{slice}
+use lib.Seq.{slice, length-slice}
 use lib.Dec.{ltb}
 use borrow.Author.Tests.{ltb-true}
 use Rattle.grid.specs.declared.Grid.{Grid}
@@ -139,3 +139,32 @@ module _ (g : Grid) (t : Tables) (pl : Place) (h : listCheck g t pl ≡ Fine) (p
   pub part-global : take (t .«global_count» - p) (drop p (t .globals)) ≡ partOf (listCheck g t pl) (listAt t pl)
   unfolding listAt
   part-global = part-slice p (t .«global_count») (t .globals) ∙ rw e (part-fine (listCheck g t (Global p)) (slice p (t .«global_count») (t .globals)) at-global)
+
+-- ---- a part that is given: it has lines, or the check found nothing
+
+pub part-some : (check : Check) (xs ys : List ℕ) → ys ≡ partOf check xs → 0 < length ys → check ≡ Fine
+unfolding partOf
+part-some Fine xs ys e h = refl
+part-some (Refused r) xs ys e h = absurd (omega (arith, ap length e))
+
+pub part-whole : (check : Check) (xs ys : List ℕ) → ys ≡ partOf check xs → check ≡ Fine → ys ≡ xs
+part-whole check xs ys e h = e ∙ sym (part-fine check xs h)
+
+-- ---- where it ends: it starts at its offset, or at its position
+
+pub cell-ends : (g : Grid) (t : Tables) → t .rows ≡ g .rows → t .cols ≡ g .cols → (row col : ℕ) → listCheck g t (Cell row col) ≡ Fine
+    → getD (t .offsets) (row * t .cols + col) 0 + length (listAt t (Cell row col)) ≡ getD (t .offsets) (suc (row * t .cols + col)) 0
+unfolding listAt
+cell-ends g t rows cols row col h =
+    let p = cell-place g t row col h in
+    let k : row * t .cols + col < cells t = rw (rows, cols) (cell-inside (g .rows) (g .cols) row col (p .rows) (p .cols)) in
+    let c = cells-fit t (p .table) in
+    let low = c .rises (row * t .cols + col) k in
+    let high = c .within (suc (row * t .cols + col)) k in
+    omega (arith, length-slice (getD (t .offsets) (row * t .cols + col) 0) (getD (t .offsets) (suc (row * t .cols + col)) 0) (t .items) high)
+
+pub global-ends : (g : Grid) (t : Tables) (p : ℕ) → listCheck g t (Global p) ≡ Fine → p + length (listAt t (Global p)) ≡ t .«global_count»
+unfolding listAt
+global-ends g t p h =
+    let f = global-place g t p h in
+    omega (arith, f .inside, length-slice p (t .«global_count») (t .globals) (f .table .counted))

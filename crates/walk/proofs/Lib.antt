@@ -1,4 +1,4 @@
--- For the crates above: `Visits`, and `entry-is` of `Answer`. `Faithful` and `Points` hold the definitions to document 01.
+-- For the crates above: `Visits`, `Outcomes`, and `entry-is` of `Answer`. `Faithful` holds the definitions to document 01.
 -- `Floats`, `Grows`, `Loop`, `Added`, `Spread`, `Answer` and `Entry` are the steps of the functions' proofs.
 pub mod Floats
 pub mod Grows
@@ -9,4 +9,4 @@ pub mod Faithful
 pub mod Answer
 pub mod Visits
 pub mod Entry
-pub mod Points
+pub mod Outcomes

@@ -1,0 +1,2 @@
+-- The table of measured points, and what it claims.
+pub mod Table

@@ -1,0 +1,95 @@
+-- Document 01, "Measured points": P1 to P10 as one table. A row has its label, what is asked, and what was measured; the claim is that every
+-- question of every row is answered as it was measured. Definitions only.
+use mathlib.Core.Path.{_≡_}
+use mathlib.Core.Bool.{true, false}
+use mathlib.Core.List.{List, [], _∷_}
+use Prim.Native.Nat.{ℕ, _+_, _-_, _^_}
+use lib.Ieee.{Float, binary64, round}
+use Rattle.grid.specs.declared.Grid.{Grid}
+use Rattle.walk.specs.Pushes.{found}
+use Rattle.walk.specs.Segment.{entryOf}
+use Rattle.own.specs.declared.Owned.{Owned}
+use Rattle.own.specs.declared.Owned.the-variants.{Yes, No}
+use Rattle.own.specs.Own.{pointAnswer}
+use Rattle.snap.specs.declared.Snapped.the-variants.{Point}
+use Rattle.snap.specs.Snap.{snapAnswer}
+
+-- the float a / b, and -a / b
+abbrev pub part : ℕ → ℕ → Float
+part a b = round binary64 false a b
+
+abbrev pub minus : ℕ → ℕ → Float
+minus a b = round binary64 true a b
+
+-- "Grid at 0, 0, cell_size 1, 4 by 4"
+abbrev pub four : Grid
+four = record { «min_x» = part 0 1; «min_y» = part 0 1; «cell_size» = part 1 1; cols = 4; rows = 4 }
+
+-- ---- a row
+
+pub data Label : Type 0 where
+  P1 : Label
+  P2 : Label
+  P3 : Label
+  P4 : Label
+  P5 : Label
+  P6 : Label
+  P7 : Label
+  P8 : Label
+  P9 : Label
+  P10 : Label
+
+-- what is asked, and what was measured
+pub data Question : Type 0 where
+  -- the segment from (x₀, y₀) to (x₁, y₁): its cells
+  segment : (x₀ y₀ x₁ y₁ : Float) (cells : List ℕ) → Question
+  -- the cell (row, col) and the point (x, y): whether it owns it
+  owner : (row col : ℕ) (x y : Float) (owns : Owned) → Question
+  -- v, size 1, strategy 0 (Grid) or 1 (GeosCompat): v snapped
+  snap : (v : Float) (strategy : ℕ) (to : Float) → Question
+
+-- the point (x, y) as a segment
+abbrev pub point : Float → Float → List ℕ → Question
+point x y cells = segment x y x y cells
+
+pub record Row : Type 0 where
+  pub label : Label
+  pub questions : List Question
+
+abbrev pub row : Label → List Question → Row
+row label questions = record { label = label; questions = questions }
+
+-- ---- the table
+
+abbrev pub table : List Row
+table =
+    row P1 (segment (part 1 2) (part 1 2) (part 5 2) (part 1 2) (0 ∷ 1 ∷ 2 ∷ []) ∷ [])
+    ∷ row P2 (segment (part 1 1) (part 1 2) (part 1 1) (part 5 2) (0 ∷ 1 ∷ 4 ∷ 5 ∷ 8 ∷ 9 ∷ []) ∷ [])
+    ∷ row P3 (point (part 1 1) (part 1 1) (0 ∷ 1 ∷ 4 ∷ 5 ∷ []) ∷ [])
+    ∷ row P4 (point (part (2 ^ 41 + 1) (2 ^ 41)) (part 1 2) (0 ∷ 1 ∷ []) ∷ [])
+    ∷ row P5 (point (part (2 ^ 39 + 1) (2 ^ 39)) (part 1 2) (1 ∷ []) ∷ [])
+    ∷ row P6 (point (part (2 ^ 41 - 1) (2 ^ 41)) (part 1 2) (0 ∷ []) ∷ [])
+    ∷ row P7 (owner 0 1 (part 1 1) (part 1 2) Yes ∷ owner 0 0 (part 1 1) (part 1 2) No ∷ [])
+    ∷ row P8 (owner 3 3 (part 4 1) (part 4 1) Yes ∷ [])
+    ∷ row P9
+    (snap (part 49999999999999994 (10 ^ 17)) 0 (part 0 1) ∷ snap (part 49999999999999994 (10 ^ 17)) 1 (part 1 1) ∷ [])
+    ∷ row P10 (snap (minus 5 2) 0 (minus 3 1) ∷ snap (minus 5 2) 1 (minus 3 1) ∷ [])
+    ∷ []
+
+-- ---- the claim
+
+-- a question is answered as it was measured: by what `walk::cells_of_segment` answers with 16,384 entries of scratch, `own::point_owned`, and
+-- `snap::snap_point` of a point with both coordinates v
+abbrev pub Answered : Question → Type 0
+Answered (segment x₀ y₀ x₁ y₁ cells) = entryOf 16384 four x₀ y₀ x₁ y₁ ≡ found cells
+Answered (owner row col x y owns) = pointAnswer four row col x y ≡ owns
+Answered (snap v strategy to) = snapAnswer v v (part 1 1) strategy ≡ Point to to
+
+abbrev pub AllAnswered : List Question → Type 0
+AllAnswered [] = Unit {0}
+AllAnswered (q ∷ qs) = Answered q × AllAnswered qs
+
+-- every row of a table
+abbrev pub Claim : List Row → Type 0
+Claim [] = Unit {0}
+Claim (r ∷ rs) = AllAnswered (r .questions) × Claim rs

@@ -12,8 +12,8 @@ use Rattle.numbers.specs.Away.{roundAway}
 use Rattle.slices.specs.Slices.{sorted, insert, insertIf, distinctOf, after as runAfter, unless}
 use Rattle.grid.specs.declared.Grid.{Grid}
 use Rattle.grid.specs.Axes.{scaledOn, indexOn, lowOn, nearWhole, boundaryOn}
-use Rattle.walk.specs.Turns.{finiteOf, stepOf, deltaOf, nextOn, firstOn, courseOn, positionOn, wayOf, startOf, toleranceOf, nearOf, furtherOf, arrivedOf, turnOf, steppedOf, advanced, movedOf, goesOf}
-use Rattle.walk.specs.Pushes.{kept, pushOf, sidesOf, pushedBy, found, before, after, nextOf, goingOf, turns, walkedOf}
+use Rattle.walk.specs.Turns.{finiteOf, signOf, deltaOf, nextOn, firstOn, strideOn, progressOn, rayOf, startOf, toleranceOf, nearOf, furtherOf, same, arrivedOf, turnOf, advanced, movedOf, goesOf}
+use Rattle.walk.specs.Pushes.{kept, pushOf, sidesOf, pushedOf, found, before, after, nextOf, goingOf, turns, walkedOf}
 use Rattle.walk.specs.Segment.{lowColOf, lowRowOf, cornerOf, besideOf, addedOf, alongOn, cellOf, endOf, pushesOf, answered, unlessNone, segmentOf}
 
 -- a segment on a grid, and its cells
@@ -54,5 +54,5 @@ points =
     ∷ []
 
 pub measured : All points
-unfolding round add sub mul div neg lt le eq ne isNan size span climb units odd sum ofInt ofBits ofFields trailingZeros leastOf greatestOf magnitudeOf clampedFloor roundAway sorted insert insertIf distinctOf runAfter unless scaledOn indexOn lowOn nearWhole boundaryOn finiteOf stepOf deltaOf nextOn firstOn courseOn positionOn wayOf startOf toleranceOf nearOf furtherOf arrivedOf turnOf steppedOf advanced movedOf goesOf kept pushOf sidesOf pushedBy before after nextOf goingOf turns walkedOf lowColOf lowRowOf cornerOf besideOf addedOf alongOn cellOf endOf pushesOf answered unlessNone segmentOf
+unfolding round add sub mul div neg lt le eq ne isNan size span climb units odd sum ofInt ofBits ofFields trailingZeros leastOf greatestOf magnitudeOf clampedFloor roundAway sorted insert insertIf distinctOf runAfter unless scaledOn indexOn lowOn nearWhole boundaryOn finiteOf signOf deltaOf nextOn firstOn strideOn progressOn rayOf startOf toleranceOf nearOf furtherOf same arrivedOf turnOf advanced movedOf goesOf kept pushOf sidesOf pushedOf before after nextOf goingOf turns walkedOf lowColOf lowRowOf cornerOf besideOf addedOf alongOn cellOf endOf pushesOf answered unlessNone segmentOf
 measured = (refl, (refl, (refl, (refl, (refl, (refl, tt))))))

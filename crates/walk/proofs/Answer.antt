@@ -1,13 +1,13 @@
 -- The whole answer from its parts. Assumes nothing.
 use mathlib.Core.Path.{_≡_, refl, sym, ap, _∙_, subst}
 use mathlib.Core.Logic.{inl, inr}
-use Prim.Native.Nat.{ℕ, zero, suc, _+_, _-_, _*_, _%_, _^_, _≤_, _<_}
+use Prim.Native.Nat.{ℕ, zero, suc, _+_, _-_, _*_, _%_, _≤_, _<_}
 use native.Mathlib.Omega.{arith}
-use mathlib.Core.Bool.{Bool, true, false, _&&_}
-use mathlib.Core.List.{List, [], _∷_, _++_}
+use mathlib.Core.Bool.{Bool, true, false}
+use mathlib.Core.List.{List, [], _++_}
 use lib.ListN.{length, take, drop}
 use lib.Seq.{take-at}
-use lib.Dec.{leb, eqb}
+use lib.Dec.{eqb}
 use lib.Ieee.{Float, inf, binary64, sub, eq}
 use borrow.Author.Tests.{le-leb, lt-leb}
 use Rattle.slices.specs.Slices.{sorted, distinctOf, OneOfEach, clearedFrom}
@@ -18,18 +18,19 @@ use Rattle.grid.specs.Axes.{xAxis, yAxis, indexOn, boundaryOn}
 use Rattle.grid.specs.Refusals.{refusal, unless}
 use Rattle.grid.specs.Domain.{segment, fit, scratchCheck, segmentCheck, gridCheck}
 use Rattle.grid.proofs.Bools.{and-left}
-use Rattle.grid.proofs.Shapes.{Shape}
+use Rattle.grid.proofs.Shapes.{Shape, fit-says}
 use Rattle.walk.specs.declared.Walk.{Walk}
 use Rattle.walk.specs.declared.Way.{Way}
 use Rattle.walk.specs.declared.Ran.{Ran}
 use Rattle.walk.specs.declared.Ran.the-variants.{Done, Over}
-use Rattle.walk.specs.declared.Cells.{Cells}
 use Rattle.walk.specs.declared.Cells.the-variants.{Found, Refused}
-use Rattle.walk.specs.Turns.{nought, deltaOf, firstOn, courseOn, positionOn, wayOf, startOf, steppedOf, advanced}
+use Rattle.walk.specs.Turns.{nought, deltaOf, firstOn, rayOf, startOf}
 use Rattle.walk.specs.Pushes.{Outcome, refused, found, walkedOf}
+use Rattle.walk.specs.Modular.{courseBy, positionBy, wayBy, startBy, steppedBy, advancedBy, walkedBy}
 use Rattle.walk.specs.Segment.{addedOf, alongOn, endOf, pushesOf, answered, unlessNone, segmentOf, checked, entryOf, cellsOf, leftBy, Walked}
-use Rattle.walk.specs.Inside.{Grown, Covers, Complete, RanWithin, Far, Straight, Still, WalkedTo, Walks, share, shareOf}
+use Rattle.walk.specs.Inside.{Grown, Covers, Complete, Far, Straight, Still, WalkedTo, Walks, share, shareOf}
 use Rattle.walk.proofs.Floats.{sum-far, step-none, index-le}
+use Rattle.walk.proofs.Whole.{walked-is}
 use Rattle.walk.proofs.Grows.{and-then}
 use Rattle.walk.proofs.Loop.{within-done}
 use Rattle.walk.proofs.Added.{share-room, end-le}
@@ -48,12 +49,12 @@ module _ (a : Axis) (start end : Float) (p : eq (sub binary64 end start) nought 
   unfolding deltaOf
   delta-far = rw p
 
-  far : Far (courseOn a start end) (positionOn a start end)
-  unfolding courseOn positionOn
+  far : Far (courseBy a start end) (positionBy a start end)
+  unfolding courseBy positionBy
   far = record { max = first-far; delta = delta-far }
 
-  stands : a .count ≤ 4004 → advanced true (courseOn a start end) (positionOn a start end) ≡ positionOn a start end
-  unfolding advanced courseOn positionOn steppedOf
+  stands : a .count ≤ 4004 → advancedBy true (courseBy a start end) (positionBy a start end) ≡ positionBy a start end
+  unfolding advancedBy courseBy positionBy steppedBy
   stands l =
       let e : (indexOn a start + 0) % 4294967296 ≡ indexOn a start = omega (arith, index-le a start) in
       rw (step-none (sub binary64 end start) p, e, sum-far (firstOn a start (sub binary64 end start)) (deltaOf (a .size) (sub binary64 end start)) first-far delta-far, first-far)
@@ -65,22 +66,22 @@ along-zero a start end p = and-left (eq (sub binary64 end start) nought) (bounda
 -- ---- the room in the scratch
 
 module _ (g : Grid) (x₀ y₀ x₁ y₁ : Float) where
-  pub straight-x : alongOn (xAxis g) x₀ x₁ ≡ true → Straight (wayOf g x₀ y₀ x₁ y₁) (startOf g x₀ y₀ x₁ y₁)
-  unfolding wayOf startOf
+  pub straight-x : alongOn (xAxis g) x₀ x₁ ≡ true → Straight (wayBy g x₀ y₀ x₁ y₁) (startBy g x₀ y₀ x₁ y₁)
+  unfolding wayBy startBy
   straight-x p = inl (far (xAxis g) x₀ x₁ (along-zero (xAxis g) x₀ x₁ p))
 
-  pub straight-y : alongOn (yAxis g) y₀ y₁ ≡ true → Straight (wayOf g x₀ y₀ x₁ y₁) (startOf g x₀ y₀ x₁ y₁)
-  unfolding wayOf startOf
+  pub straight-y : alongOn (yAxis g) y₀ y₁ ≡ true → Straight (wayBy g x₀ y₀ x₁ y₁) (startBy g x₀ y₀ x₁ y₁)
+  unfolding wayBy startBy
   straight-y p = inr (far (yAxis g) y₀ y₁ (along-zero (yAxis g) y₀ y₁ p))
 
-  pub still : Shape (g .cols) (g .rows) → alongOn (xAxis g) x₀ x₁ ≡ true → alongOn (yAxis g) y₀ y₁ ≡ true → Still (wayOf g x₀ y₀ x₁ y₁) (startOf g x₀ y₀ x₁ y₁)
-  unfolding wayOf startOf
+  pub still : Shape (g .cols) (g .rows) → alongOn (xAxis g) x₀ x₁ ≡ true → alongOn (yAxis g) y₀ y₁ ≡ true → Still (wayBy g x₀ y₀ x₁ y₁) (startBy g x₀ y₀ x₁ y₁)
+  unfolding wayBy startBy
   still s p q = record {
     x = stands (xAxis g) x₀ x₁ (along-zero (xAxis g) x₀ x₁ p) (s .wide);
     y = stands (yAxis g) y₀ y₁ (along-zero (yAxis g) y₀ y₁ q) (s .high);
   }
 
-  pub room : Shape (g .cols) (g .rows) → (way : Way) (w : Walk) (o : Outcome) (R : Ran) (s : List ℕ) (m : ℕ) → way ≡ wayOf g x₀ y₀ x₁ y₁ → w ≡ startOf g x₀ y₀ x₁ y₁
+  pub room : Shape (g .cols) (g .rows) → (way : Way) (w : Walk) (o : Outcome) (R : Ran) (s : List ℕ) (m : ℕ) → way ≡ wayBy g x₀ y₀ x₁ y₁ → w ≡ startBy g x₀ y₀ x₁ y₁
       → R ≡ Done m → Walks way w o R s → m + m * shareOf g x₀ y₀ x₁ y₁ + 6 ≤ 15008
   unfolding shareOf
   room h way w o R s m e f d r =
@@ -130,10 +131,14 @@ module _ (g : Grid) (x₀ y₀ x₁ y₁ : Float) where
   some zero o h = absurd (h refl)
   some (suc n) o h = refl
 
-  pub segment-is : (way : Way) (w : Walk) → way ≡ wayOf g x₀ y₀ x₁ y₁ → w ≡ startOf g x₀ y₀ x₁ y₁ → (g .cols ≡ 0 → ⊥)
-      → segmentOf g x₀ y₀ x₁ y₁ ≡ answered g x₀ y₀ x₁ y₁ (walkedOf (g .cols) (g .rows) way w)
+  pub segment-is : (g .cols ≡ 0 → ⊥) → segmentOf g x₀ y₀ x₁ y₁ ≡ answered g x₀ y₀ x₁ y₁ (walkedOf (g .cols) (g .rows) (rayOf g x₀ y₀ x₁ y₁) (startOf g x₀ y₀ x₁ y₁))
   unfolding segmentOf
-  segment-is way w e f h = some (g .cols) _ h ∙ rw (← e, ← f)
+  segment-is h = some (g .cols) _ h
+
+  -- by the code's walk
+  segment-by : (way : Way) (w : Walk) → way ≡ wayBy g x₀ y₀ x₁ y₁ → w ≡ startBy g x₀ y₀ x₁ y₁ → Shape (g .cols) (g .rows) → (g .cols ≡ 0 → ⊥)
+      → segmentOf g x₀ y₀ x₁ y₁ ≡ answered g x₀ y₀ x₁ y₁ (walkedBy (g .cols) (g .rows) way w)
+  segment-by way w e f s h = segment-is h ∙ ap (answered g x₀ y₀ x₁ y₁) (walked-is g x₀ y₀ x₁ y₁ s) ∙ rw (← e, ← f)
 
 -- ---- the answers
 
@@ -164,10 +169,10 @@ module _ (g : Grid) (x₀ y₀ x₁ y₁ : Float) (was : List ℕ) where
         pub none-answer : g .cols ≡ 0 → Walked (entryOf (length was) g x₀ y₀ x₁ y₁) was (Found 0) was
         none-answer e = found-walked _ [] was was 0 (entry-is g x₀ y₀ x₁ y₁ (length was) long inside fits ∙ none-is g x₀ y₀ x₁ y₁ e) refl refl refl
 
-        module _ (way : Way) (w : Walk) (R : Ran) (s : List ℕ) (e : way ≡ wayOf g x₀ y₀ x₁ y₁) (f : w ≡ startOf g x₀ y₀ x₁ y₁) (some : g .cols ≡ 0 → ⊥)
-            (run : Walks way w (walkedOf (g .cols) (g .rows) way w) R s) where
-          entry : entryOf (length was) g x₀ y₀ x₁ y₁ ≡ answered g x₀ y₀ x₁ y₁ (walkedOf (g .cols) (g .rows) way w)
-          entry = entry-is g x₀ y₀ x₁ y₁ (length was) long inside fits ∙ segment-is g x₀ y₀ x₁ y₁ way w e f some
+        module _ (way : Way) (w : Walk) (R : Ran) (s : List ℕ) (e : way ≡ wayBy g x₀ y₀ x₁ y₁) (f : w ≡ startBy g x₀ y₀ x₁ y₁) (some : g .cols ≡ 0 → ⊥)
+            (run : Walks way w (walkedBy (g .cols) (g .rows) way w) R s) where
+          entry : entryOf (length was) g x₀ y₀ x₁ y₁ ≡ answered g x₀ y₀ x₁ y₁ (walkedBy (g .cols) (g .rows) way w)
+          entry = entry-is g x₀ y₀ x₁ y₁ (length was) long inside fits ∙ segment-by g x₀ y₀ x₁ y₁ way w e f (fit-says g fits .counts) some
 
           ordered : (o : Outcome) (n : ℕ) (l : List ℕ) → WalkedTo o (Done n) s → ((f : ℕ → Bool) → any f l ≡ any f (pushesOf g x₀ y₀ x₁ y₁ (take n s))) → answered g x₀ y₀ x₁ y₁ o ≡ found (distinctOf (sorted l))
           unfolding answered
@@ -179,7 +184,7 @@ module _ (g : Grid) (x₀ y₀ x₁ y₁ : Float) (was : List ℕ) where
               → Walked (entryOf (length was) g x₀ y₀ x₁ y₁) was (Found r) u
           found-answer n m r t u d q l k =
               found-walked _ (distinctOf (sorted (take m t))) was u r
-              (entry ∙ ordered (walkedOf (g .cols) (g .rows) way w) n (take m t) (subst (λ (z : Ran). WalkedTo (walkedOf (g .cols) (g .rows) way w) z s) d (run .ran)) (q .same))
+              (entry ∙ ordered (walkedBy (g .cols) (g .rows) way w) n (take m t) (subst (λ (z : Ran). WalkedTo (walkedBy (g .cols) (g .rows) way w) z s) d (run .ran)) (q .same))
               l (k .count) (rw (k .left) (take-at (distinctOf (sorted (take m t))) (drop r (sorted (take m t) ++ drop m t)) (length (distinctOf (sorted (take m t)))) refl))
 
           budget : (o : Outcome) → WalkedTo o Over s → answered g x₀ y₀ x₁ y₁ o ≡ refused (refusal 7 0)
@@ -193,5 +198,5 @@ module _ (g : Grid) (x₀ y₀ x₁ y₁ : Float) (was : List ℕ) where
           over-answer t d l k c =
               let z : length s - 0 ≡ length was = omega arith in
               refused-walked _ (refusal 7 0) was t
-              (entry ∙ budget (walkedOf (g .cols) (g .rows) way w) (subst (λ (z : Ran). WalkedTo (walkedOf (g .cols) (g .rows) way w) z s) d (run .ran)))
+              (entry ∙ budget (walkedBy (g .cols) (g .rows) way w) (subst (λ (z : Ran). WalkedTo (walkedBy (g .cols) (g .rows) way w) z s) d (run .ran)))
               (k ∙ l) (c ∙ rw z)

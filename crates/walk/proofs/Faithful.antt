@@ -2,8 +2,8 @@
 -- changes nothing in it. Assumes nothing.
 use mathlib.Core.Path.{_≡_, refl, sym, ap, _∙_}
 use Prim.Native.Nat.{ℕ}
-use mathlib.Core.Bool.{Bool, true, false, _||_}
-use mathlib.Core.List.{List, [], _∷_, _++_, append-assoc}
+use mathlib.Core.Bool.{Bool, _||_}
+use mathlib.Core.List.{List, [], _∷_}
 use lib.Dec.{eqb}
 use lib.Ieee.{Float}
 use Rattle.slices.specs.Slices.{sorted, distinctOf}
@@ -12,7 +12,7 @@ use Rattle.slices.proofs.Members.{any-append, any-distinct}
 use Rattle.slices.proofs.Distinct.{same-members, thinned-same}
 use Rattle.grid.specs.declared.Grid.{Grid}
 use Rattle.grid.specs.Axes.{xAxis, yAxis}
-use Rattle.walk.specs.Segment.{besideOf, addedOf, alongOn, endOf, pushesOf}
+use Rattle.walk.specs.Segment.{besideOf, addedOf, alongOn, pushesOf}
 
 any-added : (v h : Bool) (cols : ℕ) (f : ℕ → Bool) (l : List ℕ) → any f (addedOf v h cols l) ≡ any (λ c. any f (besideOf v h cols c)) l
 unfolding addedOf

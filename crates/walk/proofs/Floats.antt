@@ -1,17 +1,17 @@
 -- The laws of floats and of an axis that the functions need. Assumes nothing.
-use mathlib.Core.Path.{_≡_, refl, sym, ap, _∙_, subst}
-use Prim.Native.Nat.{ℕ, zero, suc, _+_, _-_, _*_, _/_, _≤_, _<_, min}
+use mathlib.Core.Path.{_≡_, refl, sym}
+use Prim.Native.Nat.{ℕ, _+_, _-_, _*_, _/_, _≤_, min}
 use native.Mathlib.Omega.{arith}
 use mathlib.Core.Bool.{Bool, true, false, _&&_, true≢false}
-use lib.IntN.{pos}
-use lib.Dec.{ltb, eqb}
+use lib.Dec.{eqb}
 use lib.Ieee.{Float, nan, inf, fin, up, down, binary64, add, neg, lt, eq}
 use borrow.Author.Tests.{le-ltb, eqb-true}
 use Rattle.grid.proofs.Bools.{and-left}
 use Rattle.numbers.specs.Floor.{clampedFloor}
 use Rattle.grid.specs.declared.Axis.{Axis}
 use Rattle.grid.specs.Axes.{scaledOn, indexOn}
-use Rattle.walk.specs.Turns.{nought, finiteOf, stepOf}
+use Rattle.walk.specs.Turns.{nought, finiteOf}
+use Rattle.walk.specs.Modular.{stepBy}
 
 -- ---- the tests of `near`, the difference first
 
@@ -91,8 +91,8 @@ not-below (fin true m e) p =
     small : (x d : ℕ) → x ≡ 0 → x * 1 + 0 * d ≤ 0
     small x d h = omega arith
 
-pub step-none : (d : Float) → eq d nought ≡ true → stepOf d ≡ 0
-unfolding stepOf
+pub step-none : (d : Float) → eq d nought ≡ true → stepBy d ≡ 0
+unfolding stepBy
 step-none d p = rw (not-above d p, not-below d p)
 
 -- ---- an index is below the count

@@ -12,7 +12,8 @@ use lib.Dec.{ltb, eqb}
 use borrow.Author.Tests.{lt-ltb, le-ltb, eqb-true}
 use Rattle.slices.specs.Lists.{any, elem}
 use Rattle.slices.proofs.Members.{any-append, elem-at}
-use Rattle.walk.specs.Pushes.{kept, pushOf}
+use Rattle.walk.specs.Pushes.{kept}
+use Rattle.walk.specs.Modular.{pushBy}
 use Rattle.walk.specs.Inside.{Grown, Covers, lastIs}
 
 pub none : {xs : List ℕ} {n : ℕ} → n ≤ length xs → Grown xs xs n n []
@@ -45,16 +46,16 @@ number x y cols rows h k =
     omega arith
 
 module _ (cols rows col row : ℕ) where
-  pub inside : col < cols → row < rows → pushOf cols rows col row ≡ (row * cols + col) ∷ []
-  unfolding pushOf kept
+  pub inside : col < cols → row < rows → pushBy cols rows col row ≡ (row * cols + col) ∷ []
+  unfolding pushBy kept
   inside h k = rw (lt-ltb col cols h, lt-ltb row rows k)
 
-  pub beyond-row : col < cols → rows ≤ row → pushOf cols rows col row ≡ []
-  unfolding pushOf kept
+  pub beyond-row : col < cols → rows ≤ row → pushBy cols rows col row ≡ []
+  unfolding pushBy kept
   beyond-row h k = rw (lt-ltb col cols h, le-ltb row rows k)
 
-  pub beyond-col : cols ≤ col → pushOf cols rows col row ≡ []
-  unfolding pushOf kept
+  pub beyond-col : cols ≤ col → pushBy cols rows col row ≡ []
+  unfolding pushBy kept
   beyond-col h = rw (le-ltb col cols h)
 
   kept-le : (b : Bool) (c : ℕ) → length (kept b c) ≤ 1
@@ -62,8 +63,8 @@ module _ (cols rows col row : ℕ) where
   kept-le true c = omega arith
   kept-le false c = omega arith
 
-  pub at-most-one : length (pushOf cols rows col row) ≤ 1
-  unfolding pushOf
+  pub at-most-one : length (pushBy cols rows col row) ≤ 1
+  unfolding pushBy
   at-most-one = kept-le (ltb col cols && ltb row rows) (row * cols + col)
 
 -- ---- a push that leaves out what is there already

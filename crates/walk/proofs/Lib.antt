@@ -1,6 +1,8 @@
 -- For the crates above: `Visits`, `Outcomes`, and `entry-is` of `Answer`. `Faithful` holds the definitions to document 01.
--- `Floats`, `Grows`, `Loop`, `Added`, `Spread`, `Answer` and `Entry` are the steps of the functions' proofs.
+-- `Whole` and `Tolerance` hold the code's way to them. `Floats`, `Grows`, `Loop`, `Added`, `Spread`, `Answer` and `Entry` are the steps of the functions' proofs.
 pub mod Floats
+pub mod Whole
+pub mod Tolerance
 pub mod Grows
 pub mod Loop
 pub mod Added

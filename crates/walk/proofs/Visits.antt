@@ -1,6 +1,5 @@
 -- What a segment's cells are, for the crates above: increasing, inside the grid, few, and just the cells that were pushed. Assumes nothing.
 use mathlib.Core.Path.{_≡_, refl, sym, ap, _∙_, subst}
-use mathlib.Core.Logic.{_⊎_, inl, inr}
 use Prim.Native.Nat.{ℕ, zero, suc, _+_, _-_, _*_, _%_, _≤_, _<_}
 use native.Mathlib.Omega.{arith}
 use mathlib.Core.Bool.{Bool, true, false, cond, _&&_}
@@ -22,11 +21,13 @@ use Rattle.grid.proofs.Bools.{and-left, and-right}
 use Rattle.grid.proofs.Shapes.{Shape, shape-says}
 use Rattle.walk.specs.declared.Walk.{Walk}
 use Rattle.walk.specs.declared.Way.{Way}
-use Rattle.walk.specs.Turns.{turnOf, steppedOf, movedOf, wayOf, startOf}
-use Rattle.walk.specs.Pushes.{kept, pushOf, sidesOf, pushedBy, Outcome, refused, found, before, after, nextOf, goingOf, turns, walkedOf}
+use Rattle.walk.specs.Turns.{Ray, State, rayOf, startOf, turnOf}
+use Rattle.walk.specs.Pushes.{kept, pushOf, pushedOf, Outcome, refused, found, before, after, nextOf, goingOf, turns, walkedOf}
+use Rattle.walk.specs.Modular.{turnBy, steppedBy, movedBy, wayBy, startBy, pushBy, sidesBy, pushedBy, nextBy, goingBy, turnsBy, walkedBy}
 use Rattle.walk.specs.Segment.{lowColOf, lowRowOf, cornerOf, besideOf, addedOf, alongOn, cellOf, endOf, pushesOf, answered, unlessNone, segmentOf}
-use Rattle.walk.specs.Inside.{Straight, Still, share}
+use Rattle.walk.specs.Inside.{Straight, Still}
 use Rattle.walk.proofs.Floats.{index-le}
+use Rattle.walk.proofs.Whole.{walked-is}
 use Rattle.walk.proofs.Grows.{number, at-most-one}
 use Rattle.walk.proofs.Loop.{at-most-three, one-way, turn-lean, far-of, straight-next, still-next}
 use Rattle.walk.proofs.Added.{added-le, end-le, share-room}
@@ -68,36 +69,36 @@ kept-below n true c h = (h refl, tt)
 kept-below n false c h = tt
 
 module _ (cols rows : ℕ) where
-  push-below : (col row : ℕ) → Below (rows * cols) (pushOf cols rows col row)
-  unfolding pushOf
+  push-below : (col row : ℕ) → Below (rows * cols) (pushBy cols rows col row)
+  unfolding pushBy
   push-below col row =
       kept-below (rows * cols) (ltb col cols && ltb row rows) (row * cols + col)
       (λ e. number col row cols rows (ltb-true col cols (and-left (ltb col cols) (ltb row rows) e)) (ltb-true row rows (and-right (ltb col cols) (ltb row rows) e)))
 
-  sides-below : (b : Bool) (way : Way) (w : Walk) → Below (rows * cols) (sidesOf b cols rows way w)
-  unfolding sidesOf
+  sides-below : (b : Bool) (way : Way) (w : Walk) → Below (rows * cols) (sidesBy b cols rows way w)
+  unfolding sidesBy
   sides-below false way w = tt
   sides-below true way w =
-      below-append (rows * cols) (pushOf cols rows (steppedOf (way .x) (w .x)) (w .y .index)) (pushOf cols rows (w .x .index) (steppedOf (way .y) (w .y)))
-      (push-below (steppedOf (way .x) (w .x)) (w .y .index)) (push-below (w .x .index) (steppedOf (way .y) (w .y)))
+      below-append (rows * cols) (pushBy cols rows (steppedBy (way .x) (w .x)) (w .y .index)) (pushBy cols rows (w .x .index) (steppedBy (way .y) (w .y)))
+      (push-below (steppedBy (way .x) (w .x)) (w .y .index)) (push-below (w .x .index) (steppedBy (way .y) (w .y)))
 
-  turn-below : (way : Way) (w : Walk) → Below (rows * cols) (pushedBy (turnOf way w) cols rows way w)
+  turn-below : (way : Way) (w : Walk) → Below (rows * cols) (pushedBy (turnBy way w) cols rows way w)
   unfolding pushedBy
   turn-below way w =
-      let k = turnOf way w in
-      let n = movedOf k way w in
-      below-append (rows * cols) (sidesOf (k .x && k .y) cols rows way w) (pushOf cols rows (n .x .index) (n .y .index))
+      let k = turnBy way w in
+      let n = movedBy k way w in
+      below-append (rows * cols) (sidesBy (k .x && k .y) cols rows way w) (pushBy cols rows (n .x .index) (n .y .index))
       (sides-below (k .x && k .y) way w) (push-below (n .x .index) (n .y .index))
 
 -- ---- the turns: inside, three a turn, one a turn along an axis, none at a point
 
 -- a point that is not at its end never comes there
-still-refused : (left : ℕ) (g : Bool) (cols rows : ℕ) (way : Way) (w : Walk) → Still way w → g ≡ goingOf way w → g ≡ true → turns left g cols rows way w ≡ refused (refusal 7 0)
-unfolding turns before
+still-refused : (left : ℕ) (g : Bool) (cols rows : ℕ) (way : Way) (w : Walk) → Still way w → g ≡ goingBy way w → g ≡ true → turnsBy left g cols rows way w ≡ refused (refusal 7 0)
+unfolding turnsBy before
 still-refused zero g cols rows way w s e t = rw t
 still-refused (suc left) g cols rows way w s e t =
     let n = still-next way w s in
-    let i : turns left (goingOf way (nextOf way w)) cols rows way (nextOf way w) ≡ refused (refusal 7 0) = rw n (still-refused left (goingOf way w) cols rows way w s refl (sym e ∙ t)) in
+    let i : turnsBy left (goingBy way (nextBy way w)) cols rows way (nextBy way w) ≡ refused (refusal 7 0) = rw n (still-refused left (goingBy way w) cols rows way w s refl (sym e ∙ t)) in
     rw (t, i)
 
 record Pushed (n left : ℕ) (way : Way) (w : Walk) (xs : List ℕ) : Type 0 where
@@ -109,33 +110,33 @@ record Pushed (n left : ℕ) (way : Way) (w : Walk) (xs : List ℕ) : Type 0 whe
 none-pushed : (n left : ℕ) (way : Way) (w : Walk) (xs : List ℕ) → [] ≡ xs → Pushed n left way w xs
 none-pushed n left way w xs e = rw (← e) (record { inside = tt; all = omega arith; few = λ s. omega arith; least = λ s. omega arith })
 
-turns-pushed : (left : ℕ) (g : Bool) (cols rows : ℕ) (way : Way) (w : Walk) (xs : List ℕ) → g ≡ goingOf way w → turns left g cols rows way w ≡ found xs → Pushed (rows * cols) left way w xs
-unfolding turns
+turns-pushed : (left : ℕ) (g : Bool) (cols rows : ℕ) (way : Way) (w : Walk) (xs : List ℕ) → g ≡ goingBy way w → turnsBy left g cols rows way w ≡ found xs → Pushed (rows * cols) left way w xs
+unfolding turnsBy
 turns-pushed zero false cols rows way w xs g e = none-pushed (rows * cols) 0 way w xs (same-cells [] xs e)
 turns-pushed zero true cols rows way w xs g e = absurd (no-cells (refusal 7 0) xs e)
 turns-pushed (suc left) false cols rows way w xs g e = none-pushed (rows * cols) (suc left) way w xs (same-cells [] xs e)
 turns-pushed (suc left) true cols rows way w xs g e =
-    let ps = pushedBy (turnOf way w) cols rows way w in
-    let b = before-found ps (turns left (goingOf way (nextOf way w)) cols rows way (nextOf way w)) xs e in
-    let h = turns-pushed left (goingOf way (nextOf way w)) cols rows way (nextOf way w) (b .ys) refl (b .rest) in
+    let ps = pushedBy (turnBy way w) cols rows way w in
+    let b = before-found ps (turnsBy left (goingBy way (nextBy way w)) cols rows way (nextBy way w)) xs e in
+    let h = turns-pushed left (goingBy way (nextBy way w)) cols rows way (nextBy way w) (b .ys) refl (b .rest) in
     let l : length xs ≡ length ps + length (b .ys) = ap length (b .whole) ∙ length-append ps (b .ys) in
     record {
       inside = subst (λ (z : List ℕ). Below (rows * cols) z) (sym (b .whole)) (below-append (rows * cols) ps (b .ys) (turn-below cols rows way w) (h .inside));
-      all = omega (arith, l, h .all, at-most-three (turnOf way w) cols rows way w);
-      few = λ s. omega (arith, l, h .few (straight-next way w s), one-way (turnOf way w) cols rows way w (turn-lean way w (far-of way w s)));
+      all = omega (arith, l, h .all, at-most-three (turnBy way w) cols rows way w);
+      few = λ s. omega (arith, l, h .few (straight-next way w s), one-way (turnBy way w) cols rows way w (turn-lean way w (far-of way w s)));
       least = λ s. absurd (no-cells (refusal 7 0) xs (sym (still-refused (suc left) true cols rows way w s g refl) ∙ e));
     }
 
 -- the walk, with its first and its last cell
-walked-pushed : (cols rows : ℕ) (way : Way) (w : Walk) (xs : List ℕ) → walkedOf cols rows way w ≡ found xs
+walked-pushed : (cols rows : ℕ) (way : Way) (w : Walk) (xs : List ℕ) → walkedBy cols rows way w ≡ found xs
     → Below (rows * cols) xs × ((length xs ≤ 15002) × ((Straight way w → length xs ≤ 5002) × (Still way w → length xs ≤ 2)))
-unfolding walkedOf
+unfolding walkedBy
 walked-pushed cols rows way w xs e =
-    let f = pushOf cols rows (w .x .index) (w .y .index) in
-    let l = pushOf cols rows (way .x .end) (way .y .end) in
-    let a = after-found (before f (turns 5000 (goingOf way w) cols rows way w)) l xs e in
-    let b = before-found f (turns 5000 (goingOf way w) cols rows way w) (a .ys) (a .rest) in
-    let p = turns-pushed 5000 (goingOf way w) cols rows way w (b .ys) refl (b .rest) in
+    let f = pushBy cols rows (w .x .index) (w .y .index) in
+    let l = pushBy cols rows (way .x .end) (way .y .end) in
+    let a = after-found (before f (turnsBy 5000 (goingBy way w) cols rows way w)) l xs e in
+    let b = before-found f (turnsBy 5000 (goingBy way w) cols rows way w) (a .ys) (a .rest) in
+    let p = turns-pushed 5000 (goingBy way w) cols rows way w (b .ys) refl (b .rest) in
     let m : length xs ≡ (length f + length (b .ys)) + length l =
     ap length (a .whole) ∙ length-append (a .ys) l ∙ ap (λ (k : ℕ). k + length l) (ap length (b .whole) ∙ length-append f (b .ys)) in
     let u = at-most-one cols rows (w .x .index) (w .y .index) in
@@ -199,7 +200,7 @@ module _ (g : Grid) (x₀ y₀ x₁ y₁ : Float) where
   end-below s h x y = beside-below (g .rows * g .cols) (g .cols) (boundaryOn (xAxis g) x) (boundaryOn (yAxis g) y) (cellOf g x y) (cell-below g x y s h)
 
   pushes-visit : (walked : List ℕ) → Shape (g .cols) (g .rows) → 0 < g .cols → Below (g .rows * g .cols) walked
-      → length walked ≤ 15002 → (Straight (wayOf g x₀ y₀ x₁ y₁) (startOf g x₀ y₀ x₁ y₁) → length walked ≤ 5002) → (Still (wayOf g x₀ y₀ x₁ y₁) (startOf g x₀ y₀ x₁ y₁) → length walked ≤ 2)
+      → length walked ≤ 15002 → (Straight (wayBy g x₀ y₀ x₁ y₁) (startBy g x₀ y₀ x₁ y₁) → length walked ≤ 5002) → (Still (wayBy g x₀ y₀ x₁ y₁) (startBy g x₀ y₀ x₁ y₁) → length walked ≤ 2)
       → Visits g (distinctOf (sorted (pushesOf g x₀ y₀ x₁ y₁ walked)))
   unfolding pushesOf
   pushes-visit walked s c b l p q =
@@ -222,12 +223,12 @@ module _ (g : Grid) (x₀ y₀ x₁ y₁ : Float) where
         few = omega (arith, m, r, added-le v h (g .cols) walked, end-le g x₀ y₀, end-le g x₁ y₁, length-one-of-each (walked ++ ((a ++ e) ++ f)));
       }
 
-  answer-visits : (o : Outcome) (xs : List ℕ) → Shape (g .cols) (g .rows) → 0 < g .cols → o ≡ walkedOf (g .cols) (g .rows) (wayOf g x₀ y₀ x₁ y₁) (startOf g x₀ y₀ x₁ y₁)
+  answer-visits : (o : Outcome) (xs : List ℕ) → Shape (g .cols) (g .rows) → 0 < g .cols → o ≡ walkedBy (g .cols) (g .rows) (wayBy g x₀ y₀ x₁ y₁) (startBy g x₀ y₀ x₁ y₁)
       → answered g x₀ y₀ x₁ y₁ o ≡ found xs → Visits g xs
   unfolding answered
   answer-visits (refused why) xs s h e d = absurd (no-cells why xs d)
   answer-visits (found walked) xs s h e d =
-      let w = walked-pushed (g .cols) (g .rows) (wayOf g x₀ y₀ x₁ y₁) (startOf g x₀ y₀ x₁ y₁) walked (sym e) in
+      let w = walked-pushed (g .cols) (g .rows) (wayBy g x₀ y₀ x₁ y₁) (startBy g x₀ y₀ x₁ y₁) walked (sym e) in
       subst (λ (z : List ℕ). Visits g z) (same-cells (distinctOf (sorted (pushesOf g x₀ y₀ x₁ y₁ walked))) xs d)
       (pushes-visit walked s h (w .0) (w .1 .0) (w .1 .1 .0) (w .1 .1 .1))
 
@@ -240,16 +241,17 @@ module _ (g : Grid) (x₀ y₀ x₁ y₁ : Float) where
   pub segment-visits : (xs : List ℕ) → shape (g .cols) (g .rows) ≡ true → segmentOf g x₀ y₀ x₁ y₁ ≡ found xs → Visits g xs
   unfolding segmentOf
   segment-visits xs s e =
-      unless-visits (g .cols) (answered g x₀ y₀ x₁ y₁ (walkedOf (g .cols) (g .rows) (wayOf g x₀ y₀ x₁ y₁) (startOf g x₀ y₀ x₁ y₁))) xs e
-      (λ h d. answer-visits (walkedOf (g .cols) (g .rows) (wayOf g x₀ y₀ x₁ y₁) (startOf g x₀ y₀ x₁ y₁)) xs (shape-says (g .cols) (g .rows) s) h refl d)
+      let w = walkedOf (g .cols) (g .rows) (rayOf g x₀ y₀ x₁ y₁) (startOf g x₀ y₀ x₁ y₁) in
+      let k = shape-says (g .cols) (g .rows) s in
+      unless-visits (g .cols) (answered g x₀ y₀ x₁ y₁ w) xs e (λ h d. answer-visits w xs k h (walked-is g x₀ y₀ x₁ y₁ k) d)
 
   -- the cells are those that were pushed: the walked ones and the added ones
-  pub segment-members : (walked xs : List ℕ) → (g .cols ≡ 0 → ⊥) → walkedOf (g .cols) (g .rows) (wayOf g x₀ y₀ x₁ y₁) (startOf g x₀ y₀ x₁ y₁) ≡ found walked
+  pub segment-members : (walked xs : List ℕ) → (g .cols ≡ 0 → ⊥) → walkedOf (g .cols) (g .rows) (rayOf g x₀ y₀ x₁ y₁) (startOf g x₀ y₀ x₁ y₁) ≡ found walked
       → segmentOf g x₀ y₀ x₁ y₁ ≡ found xs → (v : ℕ) → elem v xs ≡ elem v (pushesOf g x₀ y₀ x₁ y₁ walked)
   unfolding answered
   segment-members walked xs h e d v =
       let is : segmentOf g x₀ y₀ x₁ y₁ ≡ found (distinctOf (sorted (pushesOf g x₀ y₀ x₁ y₁ walked))) =
-      segment-is g x₀ y₀ x₁ y₁ (wayOf g x₀ y₀ x₁ y₁) (startOf g x₀ y₀ x₁ y₁) refl refl h ∙ ap (answered g x₀ y₀ x₁ y₁) e in
+      segment-is g x₀ y₀ x₁ y₁ h ∙ ap (answered g x₀ y₀ x₁ y₁) e in
       ap (elem v) (same-cells xs (distinctOf (sorted (pushesOf g x₀ y₀ x₁ y₁ walked))) (sym d ∙ is)) ∙ elem-one-of-each v (pushesOf g x₀ y₀ x₁ y₁ walked)
 
 -- ---- the one refusal
@@ -264,21 +266,21 @@ unfolding after
 after-refused (refused y) ps why d = d
 after-refused (found ys) ps why d = absurd (no-cells why (ys ++ ps) (sym d))
 
-turns-refused : (left : ℕ) (g : Bool) (cols rows : ℕ) (way : Way) (w : Walk) (why : Refusal) → turns left g cols rows way w ≡ refused why → why ≡ refusal 7 0
+turns-refused : (left : ℕ) (g : Bool) (cols rows : ℕ) (r : Ray) (s : State) (why : Refusal) → turns left g cols rows r s ≡ refused why → why ≡ refusal 7 0
 unfolding turns
-turns-refused zero false cols rows way w why e = absurd (no-cells why [] (sym e))
-turns-refused zero true cols rows way w why e = cc
-turns-refused (suc left) false cols rows way w why e = absurd (no-cells why [] (sym e))
-turns-refused (suc left) true cols rows way w why e =
-    turns-refused left (goingOf way (nextOf way w)) cols rows way (nextOf way w) why
-    (before-refused (pushedBy (turnOf way w) cols rows way w) (turns left (goingOf way (nextOf way w)) cols rows way (nextOf way w)) why e)
+turns-refused zero false cols rows r s why e = absurd (no-cells why [] (sym e))
+turns-refused zero true cols rows r s why e = cc
+turns-refused (suc left) false cols rows r s why e = absurd (no-cells why [] (sym e))
+turns-refused (suc left) true cols rows r s why e =
+    turns-refused left (goingOf r (nextOf r s)) cols rows r (nextOf r s) why
+    (before-refused (pushedOf (turnOf r s) cols rows r s) (turns left (goingOf r (nextOf r s)) cols rows r (nextOf r s)) why e)
 
-walked-refused : (cols rows : ℕ) (way : Way) (w : Walk) (why : Refusal) → walkedOf cols rows way w ≡ refused why → why ≡ refusal 7 0
+walked-refused : (cols rows : ℕ) (r : Ray) (s : State) (why : Refusal) → walkedOf cols rows r s ≡ refused why → why ≡ refusal 7 0
 unfolding walkedOf
-walked-refused cols rows way w why e =
-    let f = pushOf cols rows (w .x .index) (w .y .index) in
-    let t = turns 5000 (goingOf way w) cols rows way w in
-    turns-refused 5000 (goingOf way w) cols rows way w why (before-refused f t why (after-refused (before f t) (pushOf cols rows (way .x .end) (way .y .end)) why e))
+walked-refused cols rows r s why e =
+    let f = pushOf cols rows (s .x .index) (s .y .index) in
+    let t = turns 5000 (goingOf r s) cols rows r s in
+    turns-refused 5000 (goingOf r s) cols rows r s why (before-refused f t why (after-refused (before f t) (pushOf cols rows (r .x .end) (r .y .end)) why e))
 
 module _ (g : Grid) (x₀ y₀ x₁ y₁ : Float) (why : Refusal) where
   answer-refused : (o : Outcome) → answered g x₀ y₀ x₁ y₁ o ≡ refused why → o ≡ refused why
@@ -294,6 +296,6 @@ module _ (g : Grid) (x₀ y₀ x₁ y₁ : Float) (why : Refusal) where
   pub segment-refused : segmentOf g x₀ y₀ x₁ y₁ ≡ refused why → why ≡ refusal 7 0
   unfolding segmentOf
   segment-refused e =
-      let o = walkedOf (g .cols) (g .rows) (wayOf g x₀ y₀ x₁ y₁) (startOf g x₀ y₀ x₁ y₁) in
-      walked-refused (g .cols) (g .rows) (wayOf g x₀ y₀ x₁ y₁) (startOf g x₀ y₀ x₁ y₁) why
+      let o = walkedOf (g .cols) (g .rows) (rayOf g x₀ y₀ x₁ y₁) (startOf g x₀ y₀ x₁ y₁) in
+      walked-refused (g .cols) (g .rows) (rayOf g x₀ y₀ x₁ y₁) (startOf g x₀ y₀ x₁ y₁) why
       (answer-refused o (unless-refused (g .cols) (answered g x₀ y₀ x₁ y₁ o) e))

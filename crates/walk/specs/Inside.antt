@@ -2,7 +2,7 @@
 use mathlib.Core.Path.{_≡_}
 use mathlib.Core.Logic.{_⊎_}
 use mathlib.Core.Bool.{Bool, true, false, cond}
-use mathlib.Core.List.{List, [], _∷_, _++_}
+use mathlib.Core.List.{List, _++_}
 use Prim.Native.Nat.{ℕ, zero, suc, _+_, _-_, _%_, _≤_}
 use lib.ListN.{length, take, getD}
 use lib.Dec.{eqb}
@@ -17,9 +17,10 @@ use Rattle.walk.specs.declared.Walk.{Walk}
 use Rattle.walk.specs.declared.Way.{Way}
 use Rattle.walk.specs.declared.Ran.{Ran}
 use Rattle.walk.specs.declared.Ran.the-variants.{Done, Over}
-use Rattle.walk.specs.Turns.{infinite, advanced}
+use Rattle.walk.specs.Turns.{infinite}
 use Rattle.walk.specs.Pushes.{Outcome, refused, found}
 use Rattle.walk.specs.Segment.{alongOn}
+use Rattle.walk.specs.Modular.{advancedBy}
 
 -- ys has `more` after the first n of xs, r in all
 pub record Grown (xs ys : List ℕ) (n r : ℕ) (more : List ℕ) : Type 0 where
@@ -67,8 +68,8 @@ Straight way w = Far (way .x) (w .x) ⊎ Far (way .y) (w .y)
 
 -- a single point: no move changes the state
 pub record Still (way : Way) (w : Walk) : Type 0 where
-  pub x : advanced true (way .x) (w .x) ≡ w .x
-  pub y : advanced true (way .y) (w .y) ≡ w .y
+  pub x : advancedBy true (way .x) (w .x) ≡ w .x
+  pub y : advancedBy true (way .y) (w .y) ≡ w .y
 
 -- A run, and how much it pushes behind the n that were there: three a turn; one a turn along an axis, since a turn both ways wants both t_max finite;
 -- none at a single point, which is at its end or never comes there.

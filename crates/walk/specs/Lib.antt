@@ -1,5 +1,7 @@
--- `Turns`, `Pushes` and `Segment` say what the public promises mean, in document 01's order; `Inside` is what the private functions promise to one another.
+-- `Turns`, `Pushes` and `Segment` say what the public promises mean, in document 01's order; `Modular` and `Inside` are what the private functions
+-- promise to one another.
 pub mod Turns
 pub mod Pushes
 pub mod Segment
+pub mod Modular
 pub mod Inside

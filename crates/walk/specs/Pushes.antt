@@ -3,13 +3,12 @@
 use Prim.Native.Nat.{ℕ, zero, suc, _+_, _*_}
 use mathlib.Core.Bool.{Bool, true, false, _&&_}
 use mathlib.Core.List.{List, [], _∷_, _++_}
+use lib.IntN.{ℤ, pos, negsuc}
 use lib.Dec.{ltb}
 use Rattle.grid.specs.Refusals.{refusal}
 use Rattle.grid.specs.declared.Refusal.{Refusal}
 use Rattle.walk.specs.declared.Turn.{Turn}
-use Rattle.walk.specs.declared.Walk.{Walk}
-use Rattle.walk.specs.declared.Way.{Way}
-use Rattle.walk.specs.Turns.{turnOf, goesOf, steppedOf, movedOf}
+use Rattle.walk.specs.Turns.{Ray, State, turnOf, goesOf, steppedOf, movedOf}
 
 -- c where the test holds
 unfoldable pub kept : Bool → ℕ → List ℕ
@@ -17,19 +16,21 @@ kept true c = c ∷ []
 kept false c = []
 
 -- a push keeps only cells inside the grid; a cell's number counts along the rows
-unfoldable pub pushOf : ℕ → ℕ → ℕ → ℕ → List ℕ
-pushOf cols rows col row = kept (ltb col cols && ltb row rows) (row * cols + col)
+unfoldable pub pushOf : ℕ → ℕ → ℤ → ℤ → List ℕ
+pushOf cols rows (pos col) (pos row) = kept (ltb col cols && ltb row rows) (row * cols + col)
+pushOf cols rows (pos col) (negsuc n) = []
+pushOf cols rows (negsuc n) row = []
 
 -- both ways: the side cell in x, then in y
-unfoldable pub sidesOf : Bool → ℕ → ℕ → Way → Walk → List ℕ
-sidesOf false cols rows way w = []
-sidesOf true cols rows way w = pushOf cols rows (steppedOf (way .x) (w .x)) (w .y .index) ++ pushOf cols rows (w .x .index) (steppedOf (way .y) (w .y))
+unfoldable pub sidesOf : Bool → ℕ → ℕ → Ray → State → List ℕ
+sidesOf false cols rows r s = []
+sidesOf true cols rows r s = pushOf cols rows (steppedOf (r .x) (s .x)) (s .y .index) ++ pushOf cols rows (s .x .index) (steppedOf (r .y) (s .y))
 
 -- what a turn pushes: the side cells, and the cell that it moves to
-unfoldable pub pushedBy : Turn → ℕ → ℕ → Way → Walk → List ℕ
-pushedBy k cols rows way w =
-    sidesOf (k .x && k .y) cols rows way w
-    ++ pushOf cols rows (movedOf k way w .x .index) (movedOf k way w .y .index)
+unfoldable pub pushedOf : Turn → ℕ → ℕ → Ray → State → List ℕ
+pushedOf k cols rows r s =
+    sidesOf (k .x && k .y) cols rows r s
+    ++ pushOf cols rows (movedOf k r s .x .index) (movedOf k r s .y .index)
 
 -- what a walk comes to
 pub data Outcome : Type 0 where
@@ -47,22 +48,26 @@ after (refused why) ys = refused why
 after (found xs) ys = found (xs ++ ys)
 
 -- the state after the turn that comes next, and whether there is one
-unfoldable pub nextOf : Way → Walk → Walk
-nextOf way w = movedOf (turnOf way w) way w
+unfoldable pub nextOf : Ray → State → State
+nextOf r s = movedOf (turnOf r s) r s
 
-unfoldable pub goingOf : Way → Walk → Bool
-goingOf way w = goesOf (turnOf way w)
+unfoldable pub goingOf : Ray → State → Bool
+goingOf r s = goesOf (turnOf r s)
 
--- The pushes of the turns from a state on, with so many turns left; refusal 7 where one more would be made. The Bool is `goingOf` of the state.
-unfoldable pub turns : ℕ → Bool → ℕ → ℕ → Way → Walk → Outcome
+-- The pushes of the turns from a state on, with so many turns left; refusal 7 where one more would be made. The Bool is whether there is a turn:
+-- it is matched on, so that a walk that stops is computed no further. `from` puts it in.
+unfoldable pub turns : ℕ → Bool → ℕ → ℕ → Ray → State → Outcome
 unfolding before
-turns zero false cols rows way w = found []
-turns zero true cols rows way w = refused (refusal 7 0)
-turns (suc left) false cols rows way w = found []
-turns (suc left) true cols rows way w = before (pushedBy (turnOf way w) cols rows way w) (turns left (goingOf way (nextOf way w)) cols rows way (nextOf way w))
+turns zero false cols rows r s = found []
+turns zero true cols rows r s = refused (refusal 7 0)
+turns (suc left) false cols rows r s = found []
+turns (suc left) true cols rows r s = before (pushedOf (turnOf r s) cols rows r s) (turns left (goingOf r (nextOf r s)) cols rows r (nextOf r s))
+
+abbrev pub from : ℕ → ℕ → ℕ → Ray → State → Outcome
+from left cols rows r s = turns left (goingOf r s) cols rows r s
 
 -- the start cell is pushed; the turns, 5,000 at most; after the loop the end cell is pushed
-unfoldable pub walkedOf : ℕ → ℕ → Way → Walk → Outcome
-walkedOf cols rows way w =
-    after (before (pushOf cols rows (w .x .index) (w .y .index)) (turns 5000 (goingOf way w) cols rows way w))
-    (pushOf cols rows (way .x .end) (way .y .end))
+unfoldable pub walkedOf : ℕ → ℕ → Ray → State → Outcome
+walkedOf cols rows r s =
+    after (before (pushOf cols rows (s .x .index) (s .y .index)) (from 5000 cols rows r s))
+    (pushOf cols rows (r .x .end) (r .y .end))

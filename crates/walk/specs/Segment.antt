@@ -16,8 +16,8 @@ use Rattle.grid.specs.Axes.{xAxis, yAxis, indexOn, boundaryOn}
 use Rattle.grid.specs.Domain.{scratchCheck, segmentCheck, gridCheck}
 use Rattle.walk.specs.declared.Cells.{Cells}
 use Rattle.walk.specs.declared.Cells.the-variants.{Found, Refused}
-use Rattle.walk.specs.Turns.{nought, wayOf, startOf}
-use Rattle.walk.specs.Pushes.{kept, Outcome, refused, found, walkedOf}
+use Rattle.walk.specs.Turns.{nought, rayOf, startOf}
+use Rattle.walk.specs.Pushes.{Outcome, refused, found, walkedOf}
 
 -- ---- what is added
 
@@ -80,7 +80,7 @@ unlessNone (suc n) o = o
 -- the cells of the segment from (x₀, y₀) to (x₁, y₁), or refusal 7
 unfoldable pub segmentOf : Grid → Float → Float → Float → Float → Outcome
 segmentOf g x₀ y₀ x₁ y₁ =
-    unlessNone (g .cols) (answered g x₀ y₀ x₁ y₁ (walkedOf (g .cols) (g .rows) (wayOf g x₀ y₀ x₁ y₁) (startOf g x₀ y₀ x₁ y₁)))
+    unlessNone (g .cols) (answered g x₀ y₀ x₁ y₁ (walkedOf (g .cols) (g .rows) (rayOf g x₀ y₀ x₁ y₁) (startOf g x₀ y₀ x₁ y₁)))
 
 -- ---- the refusals
 

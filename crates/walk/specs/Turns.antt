@@ -1,19 +1,16 @@
 -- Document 01, "The walk": one axis of the line and of the state, and which move comes next. Each float step rounds once, in the written order.
--- Nothing is asked of the floats: a NaN or an infinity takes the same steps. Definitions only.
-use Prim.Native.Nat.{ℕ, _+_, _%_}
+-- Nothing is asked of the floats: a NaN or an infinity takes the same steps. An index is a whole number: it can leave the grid either way.
+-- Definitions only.
+use Prim.Native.Nat.{_+_, _^_}
 use mathlib.Core.Bool.{Bool, true, false, not, cond, _&&_}
-use lib.IntN.{pos}
+use lib.IntN.{ℤ, pos, negsuc, _+ℤ_}
 use lib.Dec.{eqb}
 use lib.Ieee.{Float, nan, inf, fin, binary64, round, add, sub, mul, div, lt, le, eq}
 use Rattle.numbers.specs.Order.{leastOf, greatestOf, magnitudeOf}
 use Rattle.grid.specs.declared.Axis.{Axis}
 use Rattle.grid.specs.declared.Grid.{Grid}
 use Rattle.grid.specs.Axes.{xAxis, yAxis, indexOn, lowOn}
-use Rattle.walk.specs.declared.Course.{Course}
-use Rattle.walk.specs.declared.Position.{Position}
 use Rattle.walk.specs.declared.Turn.{Turn}
-use Rattle.walk.specs.declared.Walk.{Walk}
-use Rattle.walk.specs.declared.Way.{Way}
 
 abbrev pub nought : Float
 nought = fin false 0 (pos 0)
@@ -31,9 +28,9 @@ finiteOf (fin s m e) = true
 
 -- ---- one axis of the line, d being end - start on it
 
--- what a move adds to the index: one in the sign of d. An index can leave the grid by 5,000 either way, so it is kept modulo 2^32: -1 is 2^32 - 1.
-unfoldable pub stepOf : Float → ℕ
-stepOf d = cond (lt nought d) 1 (cond (lt d nought) 4294967295 0)
+-- one in the sign of d
+unfoldable pub signOf : Float → ℤ
+signOf d = cond (lt nought d) (pos 1) (cond (lt d nought) (negsuc 0) (pos 0))
 
 -- t_delta = cell_size / |d|; infinite where d = 0
 unfoldable pub deltaOf : Float → Float → Float
@@ -47,27 +44,46 @@ nextOn a start d = lowOn a (cond (lt nought d) (indexOn a start + 1) (indexOn a 
 unfoldable pub firstOn : Axis → Float → Float → Float
 firstOn a start d = cond (eq d nought) infinite (greatestOf (div binary64 (sub binary64 (nextOn a start d) start) d) nought)
 
--- what stays through a walk: the step, t_delta and the index of the end
-unfoldable pub courseOn : Axis → Float → Float → Course
-courseOn a start end = record { step = stepOf (sub binary64 end start); «t_delta» = deltaOf (a .size) (sub binary64 end start); end = indexOn a end }
+-- what stays through a walk: what a move adds to the index and to t_max, and the index of the end
+pub record Stride : Type 0 where
+  pub step : ℤ
+  pub «t_delta» : Float
+  pub end : ℤ
 
--- what moves: the index and t_max
-unfoldable pub positionOn : Axis → Float → Float → Position
-positionOn a start end = record { index = indexOn a start; «t_max» = firstOn a start (sub binary64 end start) }
+unfoldable pub strideOn : Axis → Float → Float → Stride
+strideOn a start end = record { step = signOf (sub binary64 end start); «t_delta» = deltaOf (a .size) (sub binary64 end start); end = pos (indexOn a end) }
+
+-- how far a walk has come: the index and t_max
+pub record Progress : Type 0 where
+  pub index : ℤ
+  pub «t_max» : Float
+
+unfoldable pub progressOn : Axis → Float → Float → Progress
+progressOn a start end = record { index = pos (indexOn a start); «t_max» = firstOn a start (sub binary64 end start) }
 
 -- both axes of the line, and of the state at its start
-unfoldable pub wayOf : Grid → Float → Float → Float → Float → Way
-wayOf g x₀ y₀ x₁ y₁ = record { x = courseOn (xAxis g) x₀ x₁; y = courseOn (yAxis g) y₀ y₁ }
+pub record Ray : Type 0 where
+  pub x : Stride
+  pub y : Stride
 
-unfoldable pub startOf : Grid → Float → Float → Float → Float → Walk
-startOf g x₀ y₀ x₁ y₁ = record { x = positionOn (xAxis g) x₀ x₁; y = positionOn (yAxis g) y₀ y₁ }
+pub record State : Type 0 where
+  pub x : Progress
+  pub y : Progress
+
+unfoldable pub rayOf : Grid → Float → Float → Float → Float → Ray
+rayOf g x₀ y₀ x₁ y₁ = record { x = strideOn (xAxis g) x₀ x₁; y = strideOn (yAxis g) y₀ y₁ }
+
+unfoldable pub startOf : Grid → Float → Float → Float → Float → State
+startOf g x₀ y₀ x₁ y₁ = record { x = progressOn (xAxis g) x₀ x₁; y = progressOn (yAxis g) y₀ y₁ }
 
 -- ---- which move comes next
 
--- 8 times 2^-52 times the largest of |t_max_x|, |t_max_y| and 1. A NaN gives way, so the order in which the largest is sought makes no difference; 8 times 2^-52 is exact.
+-- 8 times 2^-52 times the largest of |t_max_x|, |t_max_y| and 1
 unfoldable pub toleranceOf : Float → Float → Float
 unfolding round
-toleranceOf tx ty = mul binary64 (round binary64 false 8 4503599627370496) (greatestOf (greatestOf one (magnitudeOf tx)) (magnitudeOf ty))
+toleranceOf tx ty =
+    mul binary64 (mul binary64 (round binary64 false 8 1) (round binary64 false 1 (2 ^ 52)))
+    (greatestOf (greatestOf (magnitudeOf tx) (magnitudeOf ty)) one)
 
 -- both are finite and differ by at most tolerance
 unfoldable pub nearOf : Float → Float → Float → Bool
@@ -91,27 +107,34 @@ furtherOf tx ty =
     (cond (nearOf tx ty (toleranceOf tx ty)) both
     (single (lt tx ty)))
 
+-- two whole numbers are the same
+unfoldable pub same : ℤ → ℤ → Bool
+same (pos m) (pos n) = eqb m n
+same (negsuc m) (negsuc n) = eqb m n
+same (pos m) (negsuc n) = false
+same (negsuc m) (pos n) = false
+
 -- the end cell is reached
-unfoldable pub arrivedOf : Way → Walk → Bool
-arrivedOf way w = eqb (w .x .index) (way .x .end) && eqb (w .y .index) (way .y .end)
+unfoldable pub arrivedOf : Ray → State → Bool
+arrivedOf r s = same (s .x .index) (r .x .end) && same (s .y .index) (r .y .end)
 
 -- while the end cell is not reached
-unfoldable pub turnOf : Way → Walk → Turn
-turnOf way w = cond (arrivedOf way w) stop (furtherOf (w .x .«t_max») (w .y .«t_max»))
+unfoldable pub turnOf : Ray → State → Turn
+turnOf r s = cond (arrivedOf r s) stop (furtherOf (s .x .«t_max») (s .y .«t_max»))
 
 -- ---- a move
 
 -- the index after a move
-unfoldable pub steppedOf : Course → Position → ℕ
-steppedOf c p = (p .index + c .step) % 4294967296
+abbrev pub steppedOf : Stride → Progress → ℤ
+steppedOf c p = p .index +ℤ c .step
 
 -- a move on an axis changes its index by one in the sign of d and adds t_delta to its t_max
-unfoldable pub advanced : Bool → Course → Position → Position
+unfoldable pub advanced : Bool → Stride → Progress → Progress
 advanced false c p = p
 advanced true c p = record { index = steppedOf c p; «t_max» = add binary64 (p .«t_max») (c .«t_delta») }
 
-unfoldable pub movedOf : Turn → Way → Walk → Walk
-movedOf k way w = record { x = advanced (k .x) (way .x) (w .x); y = advanced (k .y) (way .y) (w .y) }
+unfoldable pub movedOf : Turn → Ray → State → State
+movedOf k r s = record { x = advanced (k .x) (r .x) (s .x); y = advanced (k .y) (r .y) (s .y) }
 
 -- whether a turn moves at all
 unfoldable pub goesOf : Turn → Bool

@@ -7,13 +7,14 @@ ghost use mathlib.Core.Path.{_≡_};
 ghost use mathlib.Core.Bool.{_&&_};
 ghost use Prim.Native.Nat.{_+_, _*_, _≤_, _<_};
 ghost use lib.ListN.{length, take};
-ghost use Rattle.walk.specs.Pushes.{pushOf, sidesOf, before, goingOf, turns, walkedOf};
+ghost use Rattle.walk.specs.Pushes.{before};
+ghost use Rattle.walk.specs.Modular.{pushBy, sidesBy, goingBy, turnsBy, walkedBy};
 ghost use Rattle.walk.specs.Inside.{Grown, Covers, lastIs, Runs, Walks};
 
 // Pushes the cell, where it is inside the grid.
 fn put(s: &mut [u32], n: usize, cols: u32, rows: u32, col: u32, row: u32) -> usize
     requires { ⌜ n < length (now s) ⌝ ∗ ⌜ rows * cols ≤ 1002001 ⌝ }
-    ensures { λ r. ⌜ Grown (now (s .entry)) (now (s .exit)) n r (pushOf cols rows col row) ⌝ }
+    ensures { λ r. ⌜ Grown (now (s .entry)) (now (s .exit)) n r (pushBy cols rows col row) ⌝ }
 {
     if col < cols {
         if row < rows {
@@ -39,7 +40,7 @@ fn last_is(s: &[u32], n: usize, c: u32) -> bool
 // Pushes the cell, where it is inside the grid and not the last pushed. A walk mostly ends in its end cell, which is thus pushed once.
 fn put_other(s: &mut [u32], n: usize, cols: u32, rows: u32, col: u32, row: u32) -> usize
     requires { ⌜ n < length (now s) ⌝ ∗ ⌜ rows * cols ≤ 1002001 ⌝ }
-    ensures { λ r. ⌜ Covers (now (s .entry)) (now (s .exit)) n r 1 (pushOf cols rows col row) ⌝ }
+    ensures { λ r. ⌜ Covers (now (s .entry)) (now (s .exit)) n r 1 (pushBy cols rows col row) ⌝ }
 {
     if col < cols {
         if row < rows {
@@ -58,7 +59,7 @@ fn put_other(s: &mut [u32], n: usize, cols: u32, rows: u32, col: u32, row: u32) 
 // Pushes the side cells of a turn both ways.
 fn sides(w: Walk, k: Turn, cols: u32, rows: u32, way: Way, s: &mut [u32], n: usize) -> usize
     requires { ⌜ n + 2 ≤ length (now s) ⌝ ∗ ⌜ rows * cols ≤ 1002001 ⌝ }
-    ensures { λ r. ⌜ Grown (now (s .entry)) (now (s .exit)) n r (sidesOf (k .x && k .y) cols rows way w) ⌝ }
+    ensures { λ r. ⌜ Grown (now (s .entry)) (now (s .exit)) n r (sidesBy (k .x && k .y) cols rows way w) ⌝ }
 {
     if k.x {
         if k.y {
@@ -73,7 +74,7 @@ fn sides(w: Walk, k: Turn, cols: u32, rows: u32, way: Way, s: &mut [u32], n: usi
 // The turns from a state on, 5,000 of them allowed.
 fn run(s: &mut [u32], n: usize, cols: u32, rows: u32, way: Way, start: Walk) -> Ran
     requires { ⌜ n + 15000 ≤ length (now s) ⌝ ∗ ⌜ rows * cols ≤ 1002001 ⌝ }
-    ensures { λ r. ⌜ Runs way start (before (take n (now (s .entry))) (turns 5000 (goingOf way start) cols rows way start)) n r (now (s .exit)) ⌝ }
+    ensures { λ r. ⌜ Runs way start (before (take n (now (s .entry))) (turnsBy 5000 (goingBy way start) cols rows way start)) n r (now (s .exit)) ⌝ }
 {
     let mut w = start;
     let mut m = n;
@@ -96,7 +97,7 @@ fn run(s: &mut [u32], n: usize, cols: u32, rows: u32, way: Way, start: Walk) -> 
 // The start cell, the turns, the end cell.
 pub(crate) fn walked(s: &mut [u32], cols: u32, rows: u32, way: Way, start: Walk) -> Ran
     requires { ⌜ 16384 ≤ length (now s) ⌝ ∗ ⌜ rows * cols ≤ 1002001 ⌝ }
-    ensures { λ r. ⌜ Walks way start (walkedOf cols rows way start) r (now (s .exit)) ⌝ }
+    ensures { λ r. ⌜ Walks way start (walkedBy cols rows way start) r (now (s .exit)) ⌝ }
 {
     let n = put(s, 0, cols, rows, start.x.index, start.y.index);
     let r = run(s, n, cols, rows, way, start);

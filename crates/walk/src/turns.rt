@@ -12,7 +12,8 @@ use numbers::order::magnitude;
 ghost use mathlib.Core.Path.{_≡_};
 ghost use mathlib.Core.Bool.{true, false};
 ghost use lib.Ieee.{inf, binary64, sub};
-ghost use Rattle.walk.specs.Turns.{finiteOf, stepOf, deltaOf, nextOn, firstOn, courseOn, positionOn, wayOf, startOf, toleranceOf, nearOf, furtherOf, arrivedOf, turnOf, steppedOf, advanced, movedOf, goesOf};
+ghost use Rattle.walk.specs.Turns.{finiteOf, deltaOf, nextOn, firstOn, toleranceOf, nearOf, furtherOf, goesOf};
+ghost use Rattle.walk.specs.Modular.{stepBy, courseBy, positionBy, wayBy, startBy, arrivedBy, turnBy, steppedBy, advancedBy, movedBy};
 
 fn infinity() -> f64
     ensures { λ r. ⌜ r ≡ inf false ⌝ }
@@ -32,7 +33,7 @@ fn is_finite(v: f64) -> bool
 
 // One in the sign of d, modulo 2^32.
 fn step_of(d: f64) -> u32
-    ensures { λ r. ⌜ r ≡ stepOf d ⌝ }
+    ensures { λ r. ⌜ r ≡ stepBy d ⌝ }
 {
     if 0.0 < d {
         return 1;
@@ -72,7 +73,7 @@ fn first_of(axis: Axis, start: f64, d: f64) -> f64
 }
 
 fn course(axis: Axis, start: f64, end: f64) -> Course
-    ensures { λ r. ⌜ r ≡ courseOn axis start end ⌝ }
+    ensures { λ r. ⌜ r ≡ courseBy axis start end ⌝ }
 {
     let d = end - start;
     Course {
@@ -83,7 +84,7 @@ fn course(axis: Axis, start: f64, end: f64) -> Course
 }
 
 fn position(axis: Axis, start: f64, end: f64) -> Position
-    ensures { λ r. ⌜ r ≡ positionOn axis start end ⌝ }
+    ensures { λ r. ⌜ r ≡ positionBy axis start end ⌝ }
 {
     Position {
         index: axis.index(start),
@@ -92,7 +93,7 @@ fn position(axis: Axis, start: f64, end: f64) -> Position
 }
 
 pub(crate) fn way_of(grid: Grid, start_x: f64, start_y: f64, end_x: f64, end_y: f64) -> Way
-    ensures { λ r. ⌜ r ≡ wayOf grid «start_x» «start_y» «end_x» «end_y» ⌝ }
+    ensures { λ r. ⌜ r ≡ wayBy grid «start_x» «start_y» «end_x» «end_y» ⌝ }
 {
     Way {
         x: course(grid.x_axis(), start_x, end_x),
@@ -101,7 +102,7 @@ pub(crate) fn way_of(grid: Grid, start_x: f64, start_y: f64, end_x: f64, end_y: 
 }
 
 pub(crate) fn started(grid: Grid, start_x: f64, start_y: f64, end_x: f64, end_y: f64) -> Walk
-    ensures { λ r. ⌜ r ≡ startOf grid «start_x» «start_y» «end_x» «end_y» ⌝ }
+    ensures { λ r. ⌜ r ≡ startBy grid «start_x» «start_y» «end_x» «end_y» ⌝ }
 {
     Walk {
         x: position(grid.x_axis(), start_x, end_x),
@@ -109,7 +110,7 @@ pub(crate) fn started(grid: Grid, start_x: f64, start_y: f64, end_x: f64, end_y:
     }
 }
 
-// 8 times 2^-52 times the largest of |tx|, |ty| and 1.
+// 8 times 2^-52 times the largest of |tx|, |ty| and 1. The constant is exact, and the order in which the largest is sought makes no difference.
 fn tolerance(tx: f64, ty: f64) -> f64
     ensures { λ r. ⌜ r ≡ toleranceOf tx ty ⌝ }
 {
@@ -156,14 +157,14 @@ impl Turn {
 
 impl Position {
     pub(crate) fn stepped(self, course: Course) -> u32
-        ensures { λ r. ⌜ r ≡ steppedOf course self ⌝ }
+        ensures { λ r. ⌜ r ≡ steppedBy course self ⌝ }
     {
         std::num::wrapping_add_u32(self.index, course.step)
     }
 
     // A move on the axis.
     fn moved(self, course: Course) -> Position
-        ensures { λ r. ⌜ r ≡ advanced true course self ⌝ }
+        ensures { λ r. ⌜ r ≡ advancedBy true course self ⌝ }
     {
         Position {
             index: self.stepped(course),
@@ -174,7 +175,7 @@ impl Position {
 
 impl Walk {
     fn arrived(self, way: Way) -> bool
-        ensures { λ r. ⌜ r ≡ arrivedOf way self ⌝ }
+        ensures { λ r. ⌜ r ≡ arrivedBy way self ⌝ }
     {
         if self.x.index == way.x.end {
             return self.y.index == way.y.end;
@@ -184,7 +185,7 @@ impl Walk {
 
     // Which move comes next.
     pub(crate) fn turn(self, way: Way) -> Turn
-        ensures { λ r. ⌜ r ≡ turnOf way self ⌝ }
+        ensures { λ r. ⌜ r ≡ turnBy way self ⌝ }
     {
         if self.arrived(way) {
             return Turn { x: false, y: false };
@@ -194,7 +195,7 @@ impl Walk {
 
     // The state after the turn k. A branch for each way: which way comes next is guessed well, and choosing values without one is slower.
     pub(crate) fn moved(self, k: Turn, way: Way) -> Walk
-        ensures { λ r. ⌜ r ≡ movedOf k way self ⌝ }
+        ensures { λ r. ⌜ r ≡ movedBy k way self ⌝ }
     {
         let x = self.x;
         let y = self.y;

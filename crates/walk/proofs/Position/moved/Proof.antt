@@ -1,6 +1,6 @@
 -- `walk::Position::moved` meets its contract. Assumes nothing.
 use borrow.Author.Needs.{needs}
-use Rattle.walk.specs.Turns.{advanced}
+use Rattle.walk.specs.Modular.{advancedBy}
 use Rattle.walk.proofs.Position.moved.Statement.{statement}
 use Rattle.walk.proofs.Position.moved.Tie as tie
 
@@ -8,7 +8,7 @@ stepped-requires : tie.Need-stepped-requires
 stepped-requires c κs = search needs
 
 returns : tie.Need-returns
-unfolding advanced
+unfolding advancedBy
 returns c = rw (c .before .before .stepped .ensures)
 
 pub moved-spec : {M : Type 1} → statement M

@@ -1,6 +1,6 @@
 -- `walk::Position::stepped` meets its contract. Assumes nothing.
 use borrow.Author.Needs.{needs}
-use Rattle.walk.specs.Turns.{steppedOf}
+use Rattle.walk.specs.Modular.{steppedBy}
 use Rattle.walk.proofs.Position.stepped.Statement.{statement}
 use Rattle.walk.proofs.Position.stepped.Tie as tie
 
@@ -8,7 +8,7 @@ wrapping-add-u32-requires : tie.Need-wrapping-add-u32-requires
 wrapping-add-u32-requires c κs = search needs
 
 returns : tie.Need-returns
-unfolding steppedOf
+unfolding steppedBy
 returns c = c .wrapping-add-u32 .ensures
 
 pub stepped-spec : {M : Type 1} → statement M

@@ -1,6 +1,6 @@
 -- `walk::Walk::turn` meets its contract. Assumes nothing.
 use borrow.Author.Needs.{needs}
-use Rattle.walk.specs.Turns.{turnOf}
+use Rattle.walk.specs.Modular.{turnBy}
 use Rattle.walk.proofs.Walk.turn.Statement.{statement}
 use Rattle.walk.proofs.Walk.turn.Tie as tie
 
@@ -8,14 +8,14 @@ arrived-requires : tie.Need-arrived-requires
 arrived-requires c κs = search needs
 
 returns : tie.Need-returns
-unfolding turnOf
+unfolding turnBy
 returns c = rw (← c .before .arrived .ensures, c .if1 .taken)
 
 further-requires : tie.Need-further-requires
 further-requires c κs = search needs
 
 returns-2 : tie.Need-returns-2
-unfolding turnOf
+unfolding turnBy
 returns-2 c = rw (← c .before .before .arrived .ensures, c .before .if1 .left) (c .further .ensures)
 
 pub turn-spec : {M : Type 1} → statement M

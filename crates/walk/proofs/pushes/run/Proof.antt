@@ -6,13 +6,14 @@ use native.Mathlib.Omega.{arith}
 use borrow.Author.Tests.{not-true, not-false}
 use lib.ListN.{length, take}
 use Rattle.walk.specs.Inside.{Straight, Still}
-use Rattle.walk.specs.Pushes.{before, goingOf, turns}
+use Rattle.walk.specs.Pushes.{before}
+use Rattle.walk.specs.Modular.{goingBy, turnsBy}
 use Rattle.walk.proofs.Loop.{Going, sides-le, going-is, again, done, over}
 use Rattle.walk.proofs.pushes.run.Statement.{statement}
 use Rattle.walk.proofs.pushes.run.Tie as tie
 
 abbrev Inv-loop : tie.InvT-loop
-Inv-loop s₀ n cols rows way w₀ m₀ left₀ s w m left = Going (Straight way w₀) (Still way w₀) (before (take n s₀) (turns 5000 (goingOf way w₀) cols rows way w₀)) n cols rows way left w m s × (length s ≡ length s₀)
+Inv-loop s₀ n cols rows way w₀ m₀ left₀ s w m left = Going (Straight way w₀) (Still way w₀) (before (take n s₀) (turnsBy 5000 (goingBy way w₀) cols rows way w₀)) n cols rows way left w m s × (length s ≡ length s₀)
 
 abbrev μ-loop : tie.MeasureT-loop
 μ-loop s₀ n cols rows way w₀ m₀ left₀ s w m left = left

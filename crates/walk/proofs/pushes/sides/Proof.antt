@@ -1,7 +1,7 @@
 -- `walk::pushes::sides` meets its contract. Assumes nothing.
 use native.Mathlib.Omega.{arith}
 use borrow.Author.Needs.{needs}
-use Rattle.walk.specs.Pushes.{sidesOf}
+use Rattle.walk.specs.Modular.{sidesBy}
 use Rattle.walk.proofs.Grows.{none, then, at-most-one}
 use Rattle.walk.proofs.pushes.sides.Statement.{statement}
 use Rattle.walk.proofs.pushes.sides.Tie as tie
@@ -22,15 +22,15 @@ same-length : tie.Need-same-length
 same-length c = search needs
 
 returns : tie.Need-returns
-unfolding sidesOf
+unfolding sidesBy
 returns c = rw (c .before .before .before .before .before .before .before .before .before .before .before .if1 .taken, c .before .before .before .before .before .before .before .before .before .before .if2 .taken, ← c .before .before .before .before .before .before .before .before .stepped .ensures, ← c .before .before .before .stepped2 .ensures) (then (c .before .before .before .before .before .before .before .put .ensures) (c .before .before .put2 .ensures))
 
 returns-2 : tie.Need-returns-2
-unfolding sidesOf
+unfolding sidesBy
 returns-2 c = rw (c .before .if1 .taken, c .if2 .left) (none (omega arith))
 
 returns-3 : tie.Need-returns-3
-unfolding sidesOf
+unfolding sidesBy
 returns-3 c = rw (c .if1 .left) (none (omega arith))
 
 pub sides-spec : {M : Type 1} → statement M

@@ -1,6 +1,6 @@
 -- `walk::turns::course` meets its contract. Assumes nothing.
 use borrow.Author.Needs.{needs}
-use Rattle.walk.specs.Turns.{courseOn}
+use Rattle.walk.specs.Modular.{courseBy}
 use Rattle.walk.proofs.turns.course.Statement.{statement}
 use Rattle.walk.proofs.turns.course.Tie as tie
 
@@ -14,7 +14,7 @@ index-requires : tie.Need-index-requires
 index-requires c κs = search needs
 
 returns : tie.Need-returns
-unfolding courseOn
+unfolding courseBy
 returns c = rw (c .before .before .step-of .ensures, c .before .delta-of .ensures, c .index .ensures)
 
 pub course-spec : {M : Type 1} → statement M

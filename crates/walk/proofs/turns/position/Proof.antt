@@ -1,6 +1,6 @@
 -- `walk::turns::position` meets its contract. Assumes nothing.
 use borrow.Author.Needs.{needs}
-use Rattle.walk.specs.Turns.{positionOn}
+use Rattle.walk.specs.Modular.{positionBy}
 use Rattle.walk.proofs.turns.position.Statement.{statement}
 use Rattle.walk.proofs.turns.position.Tie as tie
 
@@ -11,7 +11,7 @@ first-of-requires : tie.Need-first-of-requires
 first-of-requires c κs = search needs
 
 returns : tie.Need-returns
-unfolding positionOn
+unfolding positionBy
 returns c = rw (c .before .index .ensures, c .first-of .ensures)
 
 pub position-spec : {M : Type 1} → statement M

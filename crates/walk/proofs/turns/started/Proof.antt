@@ -1,6 +1,6 @@
 -- `walk::turns::started` meets its contract. Assumes nothing.
 use borrow.Author.Needs.{needs}
-use Rattle.walk.specs.Turns.{startOf}
+use Rattle.walk.specs.Modular.{startBy}
 use Rattle.walk.proofs.turns.started.Statement.{statement}
 use Rattle.walk.proofs.turns.started.Tie as tie
 
@@ -17,7 +17,7 @@ position-requires-2 : tie.Need-position-requires-2
 position-requires-2 c κs = search needs
 
 returns : tie.Need-returns
-unfolding startOf
+unfolding startBy
 returns c = rw (c .before .before .position .ensures, c .position2 .ensures, c .before .before .before .x-axis .ensures, c .before .y-axis .ensures)
 
 pub started-spec : {M : Type 1} → statement M

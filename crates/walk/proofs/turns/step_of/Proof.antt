@@ -1,19 +1,19 @@
 -- `walk::turns::step_of` meets its contract. Assumes nothing.
 use lib.Ieee.{ofBits}
-use Rattle.walk.specs.Turns.{stepOf}
+use Rattle.walk.specs.Modular.{stepBy}
 use Rattle.walk.proofs.turns.step_of.Statement.{statement}
 use Rattle.walk.proofs.turns.step_of.Tie as tie
 
 returns : tie.Need-returns
-unfolding stepOf ofBits
+unfolding stepBy ofBits
 returns c = rw (c .if1 .taken)
 
 returns-2 : tie.Need-returns-2
-unfolding stepOf ofBits
+unfolding stepBy ofBits
 returns-2 c = rw (c .before .if1 .left, c .if2 .taken)
 
 returns-3 : tie.Need-returns-3
-unfolding stepOf ofBits
+unfolding stepBy ofBits
 returns-3 c = rw (c .before .if1 .left, c .if2 .left)
 
 pub step-of-spec : {M : Type 1} → statement M

@@ -1,7 +1,7 @@
 -- `walk::turns::tolerance` meets its contract. Assumes nothing.
 use borrow.Author.Needs.{needs}
-use lib.Ieee.{ofBits, round}
-use Rattle.walk.specs.Turns.{toleranceOf}
+use lib.Ieee.{ofBits}
+use Rattle.walk.proofs.Tolerance.{tolerance-is}
 use Rattle.walk.proofs.turns.tolerance.Statement.{statement}
 use Rattle.walk.proofs.turns.tolerance.Tie as tie
 
@@ -18,8 +18,8 @@ greatest-requires-2 : tie.Need-greatest-requires-2
 greatest-requires-2 c κs = search needs
 
 returns : tie.Need-returns
-unfolding toleranceOf ofBits round
-returns c = rw (c .greatest2 .ensures, c .before .magnitude2 .ensures, c .before .before .greatest .ensures, c .before .before .before .magnitude .ensures)
+unfolding ofBits
+returns c = rw (c .greatest2 .ensures, c .before .magnitude2 .ensures, c .before .before .greatest .ensures, c .before .before .before .magnitude .ensures) (tolerance-is _ _)
 
 pub tolerance-spec : {M : Type 1} → statement M
 tolerance-spec =

@@ -1,6 +1,6 @@
 -- `walk::turns::way_of` meets its contract. Assumes nothing.
 use borrow.Author.Needs.{needs}
-use Rattle.walk.specs.Turns.{wayOf}
+use Rattle.walk.specs.Modular.{wayBy}
 use Rattle.walk.proofs.turns.way_of.Statement.{statement}
 use Rattle.walk.proofs.turns.way_of.Tie as tie
 
@@ -17,7 +17,7 @@ course-requires-2 : tie.Need-course-requires-2
 course-requires-2 c κs = search needs
 
 returns : tie.Need-returns
-unfolding wayOf
+unfolding wayBy
 returns c = rw (c .before .before .course .ensures, c .course2 .ensures, c .before .before .before .x-axis .ensures, c .before .y-axis .ensures)
 
 pub way-of-spec : {M : Type 1} → statement M

@@ -1,0 +1,80 @@
+-- The walk as the code takes it: an index is kept modulo 2^32, so that -1 is 2^32 - 1 and one comparison tells inside from outside. Over at most 5,000
+-- turns on a grid whose counts are fit it finds what the whole numbers of `Turns` and `Pushes` find (`walked-is` in proofs/Whole.antt). Definitions only.
+use Prim.Native.Nat.{ℕ, zero, suc, _+_, _*_, _%_}
+use mathlib.Core.Bool.{Bool, true, false, cond, _&&_}
+use mathlib.Core.List.{List, [], _++_}
+use lib.Dec.{ltb, eqb}
+use lib.Ieee.{Float, binary64, add, sub, lt}
+use Rattle.grid.specs.declared.Axis.{Axis}
+use Rattle.grid.specs.declared.Grid.{Grid}
+use Rattle.grid.specs.Axes.{xAxis, yAxis, indexOn}
+use Rattle.grid.specs.Refusals.{refusal}
+use Rattle.walk.specs.declared.Course.{Course}
+use Rattle.walk.specs.declared.Position.{Position}
+use Rattle.walk.specs.declared.Turn.{Turn}
+use Rattle.walk.specs.declared.Walk.{Walk}
+use Rattle.walk.specs.declared.Way.{Way}
+use Rattle.walk.specs.Turns.{nought, deltaOf, firstOn, stop, furtherOf, goesOf}
+use Rattle.walk.specs.Pushes.{kept, Outcome, refused, found, before, after}
+
+-- one in the sign of d
+unfoldable pub stepBy : Float → ℕ
+stepBy d = cond (lt nought d) 1 (cond (lt d nought) 4294967295 0)
+
+unfoldable pub courseBy : Axis → Float → Float → Course
+courseBy a start end = record { step = stepBy (sub binary64 end start); «t_delta» = deltaOf (a .size) (sub binary64 end start); end = indexOn a end }
+
+unfoldable pub positionBy : Axis → Float → Float → Position
+positionBy a start end = record { index = indexOn a start; «t_max» = firstOn a start (sub binary64 end start) }
+
+unfoldable pub wayBy : Grid → Float → Float → Float → Float → Way
+wayBy g x₀ y₀ x₁ y₁ = record { x = courseBy (xAxis g) x₀ x₁; y = courseBy (yAxis g) y₀ y₁ }
+
+unfoldable pub startBy : Grid → Float → Float → Float → Float → Walk
+startBy g x₀ y₀ x₁ y₁ = record { x = positionBy (xAxis g) x₀ x₁; y = positionBy (yAxis g) y₀ y₁ }
+
+unfoldable pub arrivedBy : Way → Walk → Bool
+arrivedBy way w = eqb (w .x .index) (way .x .end) && eqb (w .y .index) (way .y .end)
+
+unfoldable pub turnBy : Way → Walk → Turn
+turnBy way w = cond (arrivedBy way w) stop (furtherOf (w .x .«t_max») (w .y .«t_max»))
+
+unfoldable pub steppedBy : Course → Position → ℕ
+steppedBy c p = (p .index + c .step) % 4294967296
+
+unfoldable pub advancedBy : Bool → Course → Position → Position
+advancedBy false c p = p
+advancedBy true c p = record { index = steppedBy c p; «t_max» = add binary64 (p .«t_max») (c .«t_delta») }
+
+unfoldable pub movedBy : Turn → Way → Walk → Walk
+movedBy k way w = record { x = advancedBy (k .x) (way .x) (w .x); y = advancedBy (k .y) (way .y) (w .y) }
+
+unfoldable pub pushBy : ℕ → ℕ → ℕ → ℕ → List ℕ
+pushBy cols rows col row = kept (ltb col cols && ltb row rows) (row * cols + col)
+
+unfoldable pub sidesBy : Bool → ℕ → ℕ → Way → Walk → List ℕ
+sidesBy false cols rows way w = []
+sidesBy true cols rows way w = pushBy cols rows (steppedBy (way .x) (w .x)) (w .y .index) ++ pushBy cols rows (w .x .index) (steppedBy (way .y) (w .y))
+
+unfoldable pub pushedBy : Turn → ℕ → ℕ → Way → Walk → List ℕ
+pushedBy k cols rows way w =
+    sidesBy (k .x && k .y) cols rows way w
+    ++ pushBy cols rows (movedBy k way w .x .index) (movedBy k way w .y .index)
+
+unfoldable pub nextBy : Way → Walk → Walk
+nextBy way w = movedBy (turnBy way w) way w
+
+unfoldable pub goingBy : Way → Walk → Bool
+goingBy way w = goesOf (turnBy way w)
+
+unfoldable pub turnsBy : ℕ → Bool → ℕ → ℕ → Way → Walk → Outcome
+unfolding before
+turnsBy zero false cols rows way w = found []
+turnsBy zero true cols rows way w = refused (refusal 7 0)
+turnsBy (suc left) false cols rows way w = found []
+turnsBy (suc left) true cols rows way w = before (pushedBy (turnBy way w) cols rows way w) (turnsBy left (goingBy way (nextBy way w)) cols rows way (nextBy way w))
+
+unfoldable pub walkedBy : ℕ → ℕ → Way → Walk → Outcome
+walkedBy cols rows way w =
+    after (before (pushBy cols rows (w .x .index) (w .y .index)) (turnsBy 5000 (goingBy way w) cols rows way w))
+    (pushBy cols rows (way .x .end) (way .y .end))

@@ -28,7 +28,7 @@ module _ (g : Grid) (t : Tables) where
     unfolding standingCheck
     standing-grid r e = sym (then-fine _ _ a ∙ then-refused _ _ r e)
 
-    -- the count has passed, so 8 and 10 are left
+    -- both have passed: 10 is left
     pub standing-tables : gridCheck g ≡ Fine → tablesCheck t ≡ standingCheck g t
     unfolding standingCheck
     standing-tables e = sym (then-fine _ _ a ∙ then-fine _ _ e)

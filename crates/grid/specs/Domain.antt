@@ -8,6 +8,7 @@ use lib.Dec.{leb, ltb, eqb}
 use lib.Ieee.{Float, nan, binary64, round, le, eq}
 use Rattle.numbers.specs.Order.{magnitudeOf}
 use Rattle.grid.specs.declared.Grid.{Grid}
+use Rattle.grid.specs.declared.Segment.{Segment}
 use Rattle.grid.specs.declared.Check.{Check}
 use Rattle.grid.specs.Refusals.{unless, andThen, eachFrom}
 
@@ -22,8 +23,8 @@ unfoldable pub point : Float → Float → Bool
 point x y = coordinate x && coordinate y
 
 -- the four coordinates of a segment
-unfoldable pub segment : Float → Float → Float → Float → Bool
-segment x₀ y₀ x₁ y₁ = point x₀ y₀ && point x₁ y₁
+unfoldable pub segment : Segment → Bool
+segment s = point (s .«start_x») (s .«start_y») && point (s .«end_x») (s .«end_y»)
 
 -- ---- lines
 
@@ -41,6 +42,11 @@ lines x₀ y₀ x₁ y₁ = record { «start_x» = x₀; «start_y» = y₀; «e
 abbrev pub count : Lines → ℕ
 count ls = length (ls .«start_x»)
 
+-- line i; beyond the last line every coordinate is a NaN
+abbrev pub segmentAt : Lines → ℕ → Segment
+segmentAt ls i =
+    record { «start_x» = getD (ls .«start_x») i nan; «start_y» = getD (ls .«start_y») i nan; «end_x» = getD (ls .«end_x») i nan; «end_y» = getD (ls .«end_y») i nan }
+
 -- the four slices have one length
 pub record Alike (ls : Lines) : Type 0 where
   pub «start-y» : length (ls .«start_y») ≡ count ls
@@ -49,7 +55,7 @@ pub record Alike (ls : Lines) : Type 0 where
 
 -- the coordinates of line i obey the rule
 unfoldable pub lineFits : Lines → ℕ → Bool
-lineFits ls i = segment (getD (ls .«start_x») i nan) (getD (ls .«start_y») i nan) (getD (ls .«end_x») i nan) (getD (ls .«end_y») i nan)
+lineFits ls i = segment (segmentAt ls i)
 
 -- ---- the grid record
 
@@ -92,8 +98,8 @@ coordinatesCheck ls = eachFrom (lineFits ls) 1 (count ls) 0
 unfoldable pub pointCheck : Float → Float → Check
 pointCheck x y = unless (point x y) 1 0
 
-unfoldable pub segmentCheck : Float → Float → Float → Float → Check
-segmentCheck x₀ y₀ x₁ y₁ = unless (segment x₀ y₀ x₁ y₁) 1 0
+unfoldable pub segmentCheck : Segment → Check
+segmentCheck s = unless (segment s) 1 0
 
 -- 8: grid record unfit
 unfoldable pub gridCheck : Grid → Check

@@ -2,6 +2,8 @@
 use crate::Check;
 use crate::Grid;
 use crate::Refusal;
+use crate::Segment;
+use crate::segments::segment_at;
 ghost use mathlib.Core.Path.{_≡_};
 ghost use mathlib.Core.Bool.{false, _&&_};
 ghost use Prim.Native.Nat.{_≤_};
@@ -37,11 +39,11 @@ pub fn is_point(x: f64, y: f64) -> bool
     false
 }
 
-pub fn is_segment(start_x: f64, start_y: f64, end_x: f64, end_y: f64) -> bool
-    ensures { λ r. ⌜ r ≡ segment «start_x» «start_y» «end_x» «end_y» ⌝ }
+pub fn is_segment(s: Segment) -> bool
+    ensures { λ r. ⌜ r ≡ segment s ⌝ }
 {
-    if is_point(start_x, start_y) {
-        return is_point(end_x, end_y);
+    if is_point(s.start_x, s.start_y) {
+        return is_point(s.end_x, s.end_y);
     }
     false
 }
@@ -99,10 +101,10 @@ pub fn check_point(x: f64, y: f64) -> Check
     refuse_unless(is_point(x, y), 1, 0)
 }
 
-pub fn check_segment(start_x: f64, start_y: f64, end_x: f64, end_y: f64) -> Check
-    ensures { λ r. ⌜ r ≡ segmentCheck «start_x» «start_y» «end_x» «end_y» ⌝ }
+pub fn check_segment(s: Segment) -> Check
+    ensures { λ r. ⌜ r ≡ segmentCheck s ⌝ }
 {
-    refuse_unless(is_segment(start_x, start_y, end_x, end_y), 1, 0)
+    refuse_unless(is_segment(s), 1, 0)
 }
 
 pub fn check_grid(grid: Grid) -> Check
@@ -196,7 +198,7 @@ fn check_coordinates(start_x: &[f64], start_y: &[f64], end_x: &[f64], end_y: &[f
 {
     let mut i = 0;
     while i < start_x.len() {
-        if !is_segment(start_x[i], start_y[i], end_x[i], end_y[i]) {
+        if !is_segment(segment_at(start_x, start_y, end_x, end_y, i)) {
             return Check::Refused(Refusal {
                 number: 1,
                 value: i as u64,

@@ -1,6 +1,7 @@
-// The grid record, its axes, and the checks of document 01's domain. Every crate above cites these.
+// The grid record, its axes, segments and their boxes, and the checks of document 01's domain. Every crate above cites these.
 pub mod axes;
 pub mod checks;
+pub mod segments;
 
 // A uniform grid: its lower corner, the size of its cells, and how many there are each way.
 pub struct Grid {
@@ -16,6 +17,22 @@ pub struct Axis {
     pub low: f64,
     pub size: f64,
     pub count: u32,
+}
+
+// A line by value: from its start to its end.
+pub struct Segment {
+    pub start_x: f64,
+    pub start_y: f64,
+    pub end_x: f64,
+    pub end_y: f64,
+}
+
+// A bounding box.
+pub struct Box {
+    pub min_x: f64,
+    pub min_y: f64,
+    pub max_x: f64,
+    pub max_y: f64,
 }
 
 // A refusal by document 01's number, with its value.

@@ -5,12 +5,12 @@ use Prim.Native.Nat.{ℕ, _<_}
 use lib.ListN.{length, getD}
 use lib.Ieee.{Float, nan, inf, fin, lt, eq, le, isNan}
 use Rattle.numbers.specs.Order.{leastOf, greatestOf, magnitudeOf}
-use Rattle.grid.specs.Domain.{Lines, count, coordinate, point, segment, lineFits}
+use Rattle.grid.specs.declared.Box.{Box}
+use Rattle.grid.specs.Domain.{Lines, count, segmentAt, coordinate, point, segment, lineFits}
+use Rattle.grid.specs.Boxes.{boxOf}
 use Rattle.grid.proofs.Bools.{and-left, and-right}
 use Rattle.grid.proofs.Fine.{LinesFit, lines-fine}
-use Rattle.visit.specs.declared.boxes.Bounds.{Bounds}
-use Rattle.visit.specs.Overlap.{minX, minY, maxX, maxY, overlap}
-use Rattle.visit.specs.Inside.{LineAsks, boundsOf, meet}
+use Rattle.visit.specs.Inside.{LineAsks}
 
 number : (v : Float) → coordinate v ≡ true → isNan v ≡ false
 unfolding coordinate magnitudeOf le lt eq isNan
@@ -52,22 +52,17 @@ module _ (ls : Lines) (i : ℕ) (h : LineAsks ls i) where
   in-end-y = rw (fit .same .«end-y») (h .one)
 
   -- the box as the code makes it, by one comparison each
-  pub bounds-is : (a b d e : Float)
+  pub box-is : (a b d e : Float)
       → a ≡ cond (lt (getD (ls .«end_x») i nan) (getD (ls .«start_x») i nan)) (getD (ls .«end_x») i nan) (getD (ls .«start_x») i nan)
       → b ≡ cond (lt (getD (ls .«end_y») i nan) (getD (ls .«start_y») i nan)) (getD (ls .«end_y») i nan) (getD (ls .«start_y») i nan)
       → d ≡ cond (lt (getD (ls .«start_x») i nan) (getD (ls .«end_x») i nan)) (getD (ls .«end_x») i nan) (getD (ls .«start_x») i nan)
       → e ≡ cond (lt (getD (ls .«start_y») i nan) (getD (ls .«end_y») i nan)) (getD (ls .«end_y») i nan) (getD (ls .«start_y») i nan)
-      → _≡_ {A = Bounds} (record { «min_x» = a; «min_y» = b; «max_x» = d; «max_y» = e }) (boundsOf ls i)
-  unfolding minX minY maxX maxY
-  bounds-is a b d e p q s t =
+      → _≡_ {A = Box} (record { «min_x» = a; «min_y» = b; «max_x» = d; «max_y» = e }) (boxOf (segmentAt ls i))
+  unfolding boxOf
+  box-is a b d e p q s t =
       rw (
         p ∙ lesser-is (getD (ls .«start_x») i nan) (getD (ls .«end_x») i nan) x-number,
         q ∙ lesser-is (getD (ls .«start_y») i nan) (getD (ls .«end_y») i nan) y-number,
         s ∙ greater-is (getD (ls .«start_x») i nan) (getD (ls .«end_x») i nan) x-number,
         t ∙ greater-is (getD (ls .«start_y») i nan) (getD (ls .«end_y») i nan) y-number,
       )
-
--- two boxes meet exactly where their lines overlap
-pub meet-is : (ls : Lines) (a b : ℕ) → meet (boundsOf ls a) (boundsOf ls b) ≡ overlap ls a b
-unfolding overlap
-meet-is ls a b = refl

@@ -10,28 +10,27 @@ use lib.ListN.{length, getD, take, drop, set, length-set, length-drop, drop-of-l
 use lib.Seq.{drop-cons}
 use Rattle.slices.specs.Lists.{Below}
 use Rattle.slices.proofs.Members.{below-at}
-use Rattle.grid.specs.Domain.{Lines, count}
+use Rattle.grid.specs.declared.Box.{Box}
+use Rattle.grid.specs.Domain.{Lines, count, segmentAt}
+use Rattle.grid.specs.Boxes.{boxOf, overlaps}
 use Rattle.visit.specs.declared.Place.{Place}
 use Rattle.visit.specs.declared.Test.{Test}
 use Rattle.visit.specs.declared.scan.Step.{Step}
 use Rattle.visit.specs.declared.scan.Step.the-variants as step
-use Rattle.visit.specs.declared.boxes.Bounds.{Bounds}
 use Rattle.visit.specs.declared.scan.Row.{Row}
 use Rattle.visit.specs.Tests.{Pair, pair, withEach}
 use Rattle.visit.specs.Overlap.{overlap}
 use Rattle.visit.specs.Entries.{testOf}
-use Rattle.visit.specs.Inside.{nextStep, boundsOf, meet, numbers, RowAsks, Moved, ListAsks, InList, LinesAsk, InLines}
+use Rattle.visit.specs.Inside.{nextStep, numbers, RowAsks, Moved, ListAsks, InList, LinesAsk, InLines}
 use Rattle.visit.proofs.Clauses.{left-suc, with-nil, with-cons, numbers-zero, numbers-suc}
-use Rattle.visit.proofs.BoxLaws.{meet-is}
 use Rattle.visit.proofs.OtherLines.{length-numbers}
 use Rattle.visit.proofs.Moves.{moved-none, moved-then, moved-hit, moved-miss}
 
 -- the record of a test, as the code makes it
-pub row-test : (ls : Lines) (row : Row) (second : ℕ) → RowAsks ls row → (other : Bounds) (o : Bool) → other ≡ boundsOf ls second → o ≡ meet (row .bounds) other
+pub row-test : (ls : Lines) (row : Row) (second : ℕ) → RowAsks ls row → (other : Box) (o : Bool) → other ≡ boxOf (segmentAt ls second) → o ≡ overlaps (row .bounds) other
     → _≡_ {A = Test} (record { place = row .place; first = row .first; second = second; overlap = o }) (testOf ls (pair (row .place) (row .first) second))
-row-test ls row second a other o e m =
-    let m₁ : o ≡ overlap ls (row .first) second = m ∙ rw (a .held, e) (meet-is ls (row .first) second) in
-    rw m₁
+unfolding overlap
+row-test ls row second a other o e m = rw (m, a .held, e)
 
 -- the head of a row, or its end
 pub next-end : (ls : Lines) (pl : Place) (a : ℕ) (xs : List ℕ) → xs ≡ [] → step.End ≡ nextStep ls (withEach pl a xs)

@@ -10,11 +10,11 @@ use lib.Ieee.{le}
 use Rattle.slices.specs.Lists.{Below}
 use Rattle.grid.specs.declared.Check.the-variants.{Fine}
 use Rattle.grid.specs.declared.Grid.{Grid}
-use Rattle.grid.specs.Domain.{Lines, count, linesCheck}
+use Rattle.grid.specs.Domain.{Lines, count, segmentAt, linesCheck}
+use Rattle.grid.specs.Boxes.{boxOf}
 use Rattle.tables.specs.Tables.{Tables, cells, listIn}
 use Rattle.visit.specs.declared.Place.{Place}
 use Rattle.visit.specs.declared.Place.the-variants.{Global}
-use Rattle.visit.specs.declared.boxes.Bounds.{Bounds}
 use Rattle.visit.specs.declared.cursor.Cursor.{Cursor}
 use Rattle.visit.specs.declared.cursor.CellAt.{CellAt}
 use Rattle.visit.specs.declared.cursor.CellAt.the-variants as cellat
@@ -29,19 +29,10 @@ use Rattle.visit.specs.declared.scan.Ran.{Ran}
 use Rattle.visit.specs.declared.seek.Sought.{Sought}
 use Rattle.visit.specs.declared.seek.Sought.the-variants as sought
 use Rattle.visit.specs.Tests.{Pair, withEach, pairs, placeOf, cellTests, others, globalTests, testsOf}
-use Rattle.visit.specs.Overlap.{minX, minY, maxX, maxY}
 use Rattle.visit.specs.Batches.{made, handed, firsts, seconds}
 use Rattle.visit.specs.Entries.{visitCheck, testOf}
 
--- ---- boxes
-
-abbrev pub boundsOf : Lines → ℕ → Bounds
-boundsOf ls i = record { «min_x» = minX ls i; «min_y» = minY ls i; «max_x» = maxX ls i; «max_y» = maxY ls i }
-
-abbrev pub meet : Bounds → Bounds → Bool
-meet a b =
-    le (b .«min_x») (a .«max_x»)
-    && (le (a .«min_x») (b .«max_x») && (le (b .«min_y») (a .«max_y») && le (a .«min_y») (b .«max_y»)))
+-- ---- lines
 
 -- lines that pass their checks, and one of them
 pub record LineAsks (ls : Lines) (i : ℕ) : Type 0 where
@@ -152,12 +143,12 @@ numbers zero k = []
 numbers (suc left) k = k ∷ numbers left (suc k)
 
 abbrev pub rowOf : Lines → Place → ℕ → Row
-rowOf ls pl a = record { place = pl; first = a; bounds = boundsOf ls a }
+rowOf ls pl a = record { place = pl; first = a; bounds = boxOf (segmentAt ls a) }
 
 -- a row holds its first line's box
 pub record RowAsks (ls : Lines) (row : Row) : Type 0 where
   pub fine : linesCheck ls ≡ Fine
-  pub held : row .bounds ≡ boundsOf ls (row .first)
+  pub held : row .bounds ≡ boxOf (segmentAt ls (row .first))
 
 -- the first of the tests that are left, or the end mark
 unfoldable pub nextStep : Lines → List Pair → Step

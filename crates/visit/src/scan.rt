@@ -3,12 +3,12 @@
 use crate::Place;
 use crate::Test;
 use crate::boxes;
-use crate::boxes::Bounds;
 use crate::cursor;
 use crate::cursor::CellAt;
 use crate::cursor::Cursor;
 use crate::cursor::GlobalAt;
 use crate::cursor::wide;
+use grid::Box;
 use grid::Grid;
 ghost use mathlib.Core.Path.{_≡_};
 ghost use Prim.Native.Nat.{_<_, _-_};
@@ -22,7 +22,7 @@ ghost use Rattle.visit.specs.Inside.{LineAsks, rowOf, nextStep, TestAsks
 pub(crate) struct Row {
     pub place: Place,
     pub first: u32,
-    pub bounds: Bounds,
+    pub bounds: Box,
 }
 
 // One test, or the end mark.
@@ -68,7 +68,7 @@ fn row_of(
     requires { ⌜ LineAsks (lines (now «start_x») (now «start_y») (now «end_x») (now «end_y»)) first ⌝ }
     ensures { λ r. ⌜ r ≡ rowOf (lines (now («start_x» .entry)) (now («start_y» .entry)) (now («end_x» .entry)) (now («end_y» .entry))) place first ⌝ }
 {
-    let bounds = boxes::bounds_at(start_x, start_y, end_x, end_y, first);
+    let bounds = boxes::box_at(start_x, start_y, end_x, end_y, first);
     Row {
         place,
         first,
@@ -88,9 +88,9 @@ fn test_with(
     requires { ⌜ TestAsks (lines (now «start_x») (now «start_y») (now «end_x») (now «end_y»)) row second ⌝ }
     ensures { λ r. ⌜ r ≡ testOf (lines (now («start_x» .entry)) (now («start_y» .entry)) (now («end_x» .entry)) (now («end_y» .entry))) (pair (row .place) (row .first) second) ⌝ }
 {
-    let other = boxes::bounds_at(start_x, start_y, end_x, end_y, second);
+    let other = boxes::box_at(start_x, start_y, end_x, end_y, second);
     let bounds = row.bounds;
-    let overlap = bounds.meets(other);
+    let overlap = bounds.overlaps_with(other);
     let place = row.place;
     Test {
         place,

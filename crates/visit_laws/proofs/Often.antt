@@ -15,14 +15,16 @@ use borrow.Author.Tests.{eq-eqb, ne-eqb, eqb-true, eqb-false}
 use Rattle.slices.specs.Lists.{elem, Rising, Below}
 use Rattle.slices.proofs.Members.{any-append}
 use Rattle.slices.proofs.Distinct.{rising-low}
-use Rattle.grid.specs.Domain.{Lines}
+use Rattle.grid.specs.Domain.{Lines, segmentAt}
 use Rattle.grid.proofs.Bools.{and-left, and-right}
 use Rattle.tables.specs.Tables.{Tables, cells, listIn, listOf, globalsOf}
 use Rattle.tables.specs.Fit.{TablesFit}
 use Rattle.visit.specs.declared.Place.{Place}
 use Rattle.visit.specs.declared.Place.the-variants.{Global}
 use Rattle.visit.specs.Tests.{Pair, pair, withEach, pairs, placeOf, cellTests, others, globalTests, testsOf}
-use Rattle.visit.specs.Overlap.{minX, minY, maxX, maxY, overlap}
+use Rattle.grid.specs.declared.Box.{Box}
+use Rattle.grid.specs.Boxes.{boxOf, overlaps}
+use Rattle.visit.specs.Overlap.{overlap}
 use Rattle.visit.specs.Batches.{overlapping}
 use Rattle.visit.specs.Inside.{GlobalsFit}
 use Rattle.visit.proofs.Clauses.{with-nil, with-cons, pairs-nil, pairs-cons, cells-zero, cells-suc, globals-zero, globals-suc, others-zero, others-in, others-out, over-nil, over-hit, over-miss}
@@ -368,9 +370,11 @@ module _ (t : Tables) (f : TablesFit t) (a b : ℕ) (d : a ≡ b → ⊥) (la : 
 
 -- boxes overlap either way round
 pub overlap-swap : (ls : Lines) (a b : ℕ) → overlap ls a b ≡ overlap ls b a
-unfolding overlap
+unfolding overlap overlaps
 overlap-swap ls a b =
-    swap (le (minX ls b) (maxX ls a)) (le (minX ls a) (maxX ls b)) (le (minY ls b) (maxY ls a)) (le (minY ls a) (maxY ls b))
+    let p = boxOf (segmentAt ls a) in
+    let q = boxOf (segmentAt ls b) in
+    swap (le (q .«min_x») (p .«max_x»)) (le (p .«min_x») (q .«max_x»)) (le (q .«min_y») (p .«max_y»)) (le (p .«min_y») (q .«max_y»))
   where
     swap : (p q r s : Bool) → (p && (q && (r && s))) ≡ (q && (p && (s && r)))
     swap true true true true = refl

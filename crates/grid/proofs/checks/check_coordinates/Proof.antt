@@ -1,11 +1,11 @@
 -- `grid::checks::check_coordinates` meets its contract. Assumes nothing.
-use mathlib.Core.Path.{sym, _∙_}
+use mathlib.Core.Path.{sym, ap, _∙_}
 use borrow.Author.Tests.{not-true, not-false}
 use Prim.Native.Nat.{_-_}
 use native.Mathlib.Omega.{arith}
 use borrow.Author.Needs.{needs}
 use lib.ListN.{length}
-use Rattle.grid.specs.Domain.{lines, lineFits}
+use Rattle.grid.specs.Domain.{lines, segment, lineFits}
 use Rattle.grid.proofs.Fine.{Searched, searched-none, searched-more, searched-bad, searched-over}
 use Rattle.grid.proofs.checks.check_coordinates.Statement.{statement}
 use Rattle.grid.proofs.checks.check_coordinates.Tie as tie
@@ -19,36 +19,15 @@ abbrev μ-loop : tie.MeasureT-loop
 loop-holds : tie.Need-loop-holds Inv-loop μ-loop
 loop-holds c = searched-none _ (c .before .before .before .before .pre)
 
-mul-is-segment : tie.Need-mul-is-segment Inv-loop μ-loop
-mul-is-segment c = omega arith
-
-shared-slice-read-is-segment : tie.Need-shared-slice-read-is-segment Inv-loop μ-loop
-shared-slice-read-is-segment c = omega arith
-
-mul-is-segment-2 : tie.Need-mul-is-segment-2 Inv-loop μ-loop
-mul-is-segment-2 c = omega arith
-
-shared-slice-read-is-segment-2 : tie.Need-shared-slice-read-is-segment-2 Inv-loop μ-loop
-shared-slice-read-is-segment-2 c = omega arith
-
-mul-is-segment-3 : tie.Need-mul-is-segment-3 Inv-loop μ-loop
-mul-is-segment-3 c = omega arith
-
-shared-slice-read-is-segment-3 : tie.Need-shared-slice-read-is-segment-3 Inv-loop μ-loop
-shared-slice-read-is-segment-3 c = omega arith
-
-mul-is-segment-4 : tie.Need-mul-is-segment-4 Inv-loop μ-loop
-mul-is-segment-4 c = omega arith
-
-shared-slice-read-is-segment-4 : tie.Need-shared-slice-read-is-segment-4 Inv-loop μ-loop
-shared-slice-read-is-segment-4 c = omega arith
+segment-at-requires : tie.Need-segment-at-requires Inv-loop μ-loop
+segment-at-requires c κs = search needs
 
 is-segment-requires : tie.Need-is-segment-requires Inv-loop μ-loop
 is-segment-requires c κs = search needs
 
 returns : tie.Need-returns Inv-loop μ-loop
 unfolding lineFits
-returns c = searched-bad (c .before .before .before .before .before .before .before .loop .inv) (omega arith) (sym (c .before .is-segment .ensures) ∙ not-true _ (c .if1 .taken))
+returns c = searched-bad (c .before .before .before .before .loop .inv) (omega arith) (ap segment (sym (c .before .before .segment-at .ensures)) ∙ sym (c .before .is-segment .ensures) ∙ not-true _ (c .if1 .taken))
 
 add-i : tie.Need-add-i Inv-loop μ-loop
 add-i c = omega arith
@@ -58,7 +37,7 @@ loop-less c = omega arith
 
 loop-again : tie.Need-loop-again Inv-loop μ-loop
 unfolding lineFits
-loop-again c = searched-more (c .before .before .before .before .before .before .before .loop .inv) (omega arith) (sym (c .before .is-segment .ensures) ∙ not-false _ (c .if1 .left))
+loop-again c = searched-more (c .before .before .before .before .loop .inv) (omega arith) (ap segment (sym (c .before .before .segment-at .ensures)) ∙ sym (c .before .is-segment .ensures) ∙ not-false _ (c .if1 .left))
 
 returns-2 : tie.Need-returns-2 Inv-loop μ-loop
 returns-2 c = searched-over (c .before .loop .inv) (omega arith)
@@ -70,14 +49,7 @@ check-coordinates-spec =
     Inv-loop
     μ-loop
     loop-holds
-    mul-is-segment
-    shared-slice-read-is-segment
-    mul-is-segment-2
-    shared-slice-read-is-segment-2
-    mul-is-segment-3
-    shared-slice-read-is-segment-3
-    mul-is-segment-4
-    shared-slice-read-is-segment-4
+    segment-at-requires
     is-segment-requires
     returns
     add-i

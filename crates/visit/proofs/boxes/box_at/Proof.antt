@@ -1,11 +1,11 @@
--- `visit::boxes::bounds_at` meets its contract. Assumes nothing.
+-- `visit::boxes::box_at` meets its contract. Assumes nothing.
 use Rattle.grid.specs.Domain.{lines}
-use Rattle.visit.proofs.BoxLaws.{in-start-y, in-end-x, in-end-y, bounds-is}
+use Rattle.visit.proofs.BoxLaws.{in-start-y, in-end-x, in-end-y, box-is}
 use borrow.Author.Needs.{needs}
-use Rattle.visit.proofs.boxes.bounds_at.Statement.{statement}
-use Rattle.visit.proofs.boxes.bounds_at.Tie as tie
-use Rattle.visit.proofs.boxes.bounds_at.Reads as reads
-use Rattle.visit.proofs.boxes.bounds_at.Lts as lts
+use Rattle.visit.proofs.boxes.box_at.Statement.{statement}
+use Rattle.visit.proofs.boxes.box_at.Tie as tie
+use Rattle.visit.proofs.boxes.box_at.Reads as reads
+use Rattle.visit.proofs.boxes.box_at.Lts as lts
 use Rattle.visit.proofs.boxes.greater.Reads as greater-reads
 use Rattle.visit.proofs.boxes.lesser.Reads as lesser-reads
 
@@ -58,10 +58,10 @@ returns : tie.Need-returns
 returns c =
     let a = c .before .before .before .before .before .before .before .before .before .before .before .before .args in
     let ls = lines (a .start-x .now) (a .start-y .now) (a .end-x .now) (a .end-y .now) in
-    bounds-is ls (a .line) (c .before .before .before .before .before .before .before .before .before .before .before .before .pre) _ _ _ _ (c .before .before .before .lesser .ensures) (c .before .before .lesser2 .ensures) (c .before .greater .ensures) (c .greater2 .ensures)
+    box-is ls (a .line) (c .before .before .before .before .before .before .before .before .before .before .before .before .pre) _ _ _ _ (c .before .before .before .lesser .ensures) (c .before .before .lesser2 .ensures) (c .before .greater .ensures) (c .greater2 .ensures)
 
-pub bounds-at-spec : {M : Type 1} → statement M
-bounds-at-spec =
+pub box-at-spec : {M : Type 1} → statement M
+box-at-spec =
     tie.close
     (tie.spec
     mul-x0

@@ -11,7 +11,7 @@ use lib.ListN.{length, getD, take}
 use Rattle.slices.specs.Lists.{Rising, Below}
 use Rattle.grid.specs.declared.Grid.{Grid}
 use Rattle.grid.specs.declared.Refusal.{Refusal}
-use Rattle.grid.specs.Domain.{Lines, count, lineFits, shape}
+use Rattle.grid.specs.Domain.{Lines, count, segmentAt, lineFits, shape}
 use Rattle.grid.proofs.Shapes.{fit-says, fit-shape}
 use Rattle.walk.specs.declared.Cells.{Cells}
 use Rattle.walk.specs.declared.Cells.the-variants as cells-are
@@ -50,13 +50,13 @@ module _ (g : Grid) (ls : Lines) (i : ℕ) where
     where
       go : (o : Outcome) → walkOn g ls i ≡ o → Rising 0 (visited o) × Below (cells g) (visited o) × (length (visited o) ≤ 15008)
       go (refused why) e = (tt, tt, omega arith)
-      go (found xs) e = let v = segment-visits g _ _ _ _ xs h e in (v .rising, v .inside, v .few)
+      go (found xs) e = let v = segment-visits g _ xs h e in (v .rising, v .inside, v .few)
 
   -- the scratch, the line and the grid pass, so the walk can be refused by 7 alone
-  module _ {s : List ℕ} (w : Walkable g ls s) (l : i < count ls) (r : Cells) {s′ : List ℕ} (h : walk.Walked (walk.entryOf (length s) g (getD (ls .«start_x») i nan) (getD (ls .«start_y») i nan) (getD (ls .«end_x») i nan) (getD (ls .«end_y») i nan)) s r s′) where
+  module _ {s : List ℕ} (w : Walkable g ls s) (l : i < count ls) (r : Cells) {s′ : List ℕ} (h : walk.Walked (walk.entryOf (length s) g (segmentAt ls i)) s r s′) where
     inner : walk.Walked (walkOn g ls i) s r s′
     unfolding walkOn lineFits
-    inner = rw (entry-is g _ _ _ _ (length s) (w .space) (w .each i l) (w .fits)) at h
+    inner = rw (entry-is g _ (length s) (w .space) (w .each i l) (w .fits)) at h
 
     pub walk-found : (n : ℕ) → r ≡ cells-are.Found n → WalkedTo (walkOn g ls i) (walked.Cells n) s′
     unfolding cellsOn

@@ -2,10 +2,8 @@
 use mathlib.Core.Bool.{Bool, true, false}
 use mathlib.Core.List.{List, []}
 use Prim.Native.Nat.{ℕ, _*_}
-use lib.ListN.{getD}
-use lib.Ieee.{nan}
 use Rattle.grid.specs.declared.Grid.{Grid}
-use Rattle.grid.specs.Domain.{Lines, count}
+use Rattle.grid.specs.Domain.{Lines, count, segmentAt}
 use Rattle.walk.specs.Pushes.{Outcome, refused, found}
 use Rattle.walk.specs.Segment.{segmentOf}
 use Rattle.tables.specs.Lists.{localLines, globalLines}
@@ -16,8 +14,7 @@ cells g = g .rows * g .cols
 
 -- the walk of line i
 unfoldable pub walkOn : Grid → Lines → ℕ → Outcome
-walkOn g ls i =
-    segmentOf g (getD (ls .«start_x») i nan) (getD (ls .«start_y») i nan) (getD (ls .«end_x») i nan) (getD (ls .«end_y») i nan)
+walkOn g ls i = segmentOf g (segmentAt ls i)
 
 -- whether a walk ends within its turns, and the distinct cells that it visits
 abbrev pub ends : Outcome → Bool

@@ -12,6 +12,7 @@ use crate::Counting;
 use crate::Kind;
 use crate::Walked;
 use grid::Grid;
+use grid::segments::segment_at;
 use walk::Cells;
 
 // The walk of line i.
@@ -27,7 +28,8 @@ fn walk_line(
     requires { ⌜ i < count (lines (now «start_x») (now «start_y») (now «end_x») (now «end_y»)) ⌝ ∗ ⌜ Walkable grid (lines (now «start_x») (now «start_y») (now «end_x») (now «end_y»)) (now scratch) ⌝ }
     ensures { λ r. ⌜ WalkedTo (walkOn grid (lines (now («start_x» .entry)) (now («start_y» .entry)) (now («end_x» .entry)) (now («end_y» .entry))) i) r (now (scratch .exit)) ⌝ }
 {
-    let cells = walk::segment_cells(grid, start_x[i], start_y[i], end_x[i], end_y[i], scratch);
+    let line = segment_at(start_x, start_y, end_x, end_y, i);
+    let cells = walk::segment_cells(grid, line, scratch);
     match cells {
         Cells::Found(n) => Walked::Cells(n),
         Cells::Refused(_) => Walked::Over,

@@ -1,9 +1,11 @@
 // The cells of one segment.
 use crate::reply;
 use grid::Grid;
+use grid::Segment;
 use walk::Cells;
 ghost use Prim.Native.Nat.{_≤_};
 ghost use lib.ListN.{length};
+ghost use Rattle.grid.specs.Domain.{segmentBy};
 ghost use Rattle.walk.specs.Segment.{entryOf};
 ghost use Rattle.capi.specs.Replies.{Handed, gridBy};
 ghost use Rattle.capi.specs.Answers.{ofCells};
@@ -34,7 +36,7 @@ pub extern "C" fn mt_segment_cells(
     scratch: &mut [u32],
     out: &mut [u64],
 ) -> u32
-    ensures { λ r. ⌜ WalkReplies (entryOf (length (now (scratch .entry))) (gridBy «min_x» «min_y» «cell_size» cols rows) «start_x» «start_y» «end_x» «end_y») (now (scratch .entry)) (now (out .entry)) r (now (scratch .exit)) (now (out .exit)) ⌝ }
+    ensures { λ r. ⌜ WalkReplies (entryOf (length (now (scratch .entry))) (gridBy «min_x» «min_y» «cell_size» cols rows) (segmentBy «start_x» «start_y» «end_x» «end_y»)) (now (scratch .entry)) (now (out .entry)) r (now (scratch .exit)) (now (out .exit)) ⌝ }
 {
     if out.len() < 1 {
         return reply::SHORT;
@@ -46,8 +48,14 @@ pub extern "C" fn mt_segment_cells(
         cols,
         rows,
     };
+    let line = Segment {
+        start_x,
+        start_y,
+        end_x,
+        end_y,
+    };
     cells(
-        walk::cells_of_segment(grid, start_x, start_y, end_x, end_y, scratch),
+        walk::cells_of_segment(grid, line, scratch),
         out,
     )
 }

@@ -42,10 +42,13 @@ lines x₀ y₀ x₁ y₁ = record { «start_x» = x₀; «start_y» = y₀; «e
 abbrev pub count : Lines → ℕ
 count ls = length (ls .«start_x»)
 
+-- a segment by its four coordinates
+abbrev pub segmentBy : Float → Float → Float → Float → Segment
+segmentBy x₀ y₀ x₁ y₁ = record { «start_x» = x₀; «start_y» = y₀; «end_x» = x₁; «end_y» = y₁ }
+
 -- line i; beyond the last line every coordinate is a NaN
 abbrev pub segmentAt : Lines → ℕ → Segment
-segmentAt ls i =
-    record { «start_x» = getD (ls .«start_x») i nan; «start_y» = getD (ls .«start_y») i nan; «end_x» = getD (ls .«end_x») i nan; «end_y» = getD (ls .«end_y») i nan }
+segmentAt ls i = segmentBy (getD (ls .«start_x») i nan) (getD (ls .«start_y») i nan) (getD (ls .«end_x») i nan) (getD (ls .«end_y») i nan)
 
 -- the four slices have one length
 pub record Alike (ls : Lines) : Type 0 where

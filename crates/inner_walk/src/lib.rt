@@ -1,8 +1,10 @@
 // The walk of one line as a build takes it, for whoever times it. It is no part of the library.
 use grid::Grid;
+use grid::Segment;
 use walk::Cells;
 ghost use mathlib.Core.Path.{_≡_};
 ghost use lib.ListN.{length, set};
+ghost use Rattle.grid.specs.Domain.{segmentBy};
 ghost use Rattle.walk.specs.Segment.{entryOf};
 ghost use Rattle.inner_walk.specs.Replies.{gridBy, WalkReplies};
 
@@ -32,7 +34,7 @@ pub extern "C" fn mt_inner_walk(
     scratch: &mut [u32],
     out: &mut [u64],
 ) -> u32
-    ensures { λ r. ⌜ WalkReplies (entryOf (length (now (scratch .entry))) (gridBy «min_x» «min_y» «cell_size» cols rows) «start_x» «start_y» «end_x» «end_y») (now (scratch .entry)) (now (out .entry)) r (now (scratch .exit)) (now (out .exit)) ⌝ }
+    ensures { λ r. ⌜ WalkReplies (entryOf (length (now (scratch .entry))) (gridBy «min_x» «min_y» «cell_size» cols rows) (segmentBy «start_x» «start_y» «end_x» «end_y»)) (now (scratch .entry)) (now (out .entry)) r (now (scratch .exit)) (now (out .exit)) ⌝ }
 {
     let grid = Grid {
         min_x,
@@ -41,7 +43,13 @@ pub extern "C" fn mt_inner_walk(
         cols,
         rows,
     };
-    let cells = walk::segment_cells(grid, start_x, start_y, end_x, end_y, scratch);
+    let line = Segment {
+        start_x,
+        start_y,
+        end_x,
+        end_y,
+    };
+    let cells = walk::segment_cells(grid, line, scratch);
     match cells {
         Cells::Found(n) => {
             put(n as u64, out);

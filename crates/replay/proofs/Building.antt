@@ -5,6 +5,7 @@ use Prim.Native.Nat.{ℕ}
 use lib.Ieee.{Float}
 use lib.ListN.{length, replicate}
 use Rattle.grid.specs.Domain.{Lines}
+use Rattle.grid.specs.Domain.{segmentBy}
 use Rattle.walk.specs.Segment.{entryOf}
 use Rattle.build.specs.Build.{endOf}
 use Rattle.capi.specs.Replies.{gridBy}
@@ -18,7 +19,7 @@ use Rattle.replay.proofs.Reading.{to-end, padded-as, zeros-as}
 
 pub walk-answers : {x₀ y₀ s a b c d : Float} {r : ℕ} {scratch′ out : List ℕ} (w scratch : List ℕ) → x₀ ≡ floatAt 0 w → y₀ ≡ floatAt 2 w →
     s ≡ floatAt 4 w → a ≡ floatAt 8 w → b ≡ floatAt 10 w → c ≡ floatAt 12 w → d ≡ floatAt 14 w → r ≡ wordAt 17 w → out ≡ wides (part 18 20 w) →
-    WalkReplies (entryOf (length scratch) (gridBy x₀ y₀ s (wordAt 6 w) (wordAt 7 w)) a b c d) scratch (replicate 1 0) r scratch′ out →
+    WalkReplies (entryOf (length scratch) (gridBy x₀ y₀ s (wordAt 6 w) (wordAt 7 w)) (segmentBy a b c d)) scratch (replicate 1 0) r scratch′ out →
     WalkAnswers w scratch scratch′
 unfolding WalkAnswers gridAt
 walk-answers w scratch e₀ e₁ e₂ ea eb ec ed er eo h = rw (← e₀, ← e₁, ← e₂, ← ea, ← eb, ← ec, ← ed, ← er, ← eo) h

@@ -4,6 +4,7 @@ use mathlib.Core.Path.{_≡_}
 use mathlib.Core.List.{List}
 use lib.ListN.{length, replicate, getD}
 use lib.Ieee.{Float}
+use Rattle.grid.specs.Domain.{segmentBy}
 use Rattle.walk.specs.Segment.{entryOf}
 use Rattle.build.specs.Build.{endOf}
 use Rattle.visit.specs.Entries.{beside, testAt}
@@ -30,7 +31,7 @@ columnOf h k w = floats (part (h + 2 * (k * wordAt 0 w)) (h + 2 * (k * wordAt 0 
 -- the answer of a walk, listed in the record w
 unfoldable pub WalkAnswers : List ℕ → List ℕ → List ℕ → Type 0
 WalkAnswers w s s′ =
-    WalkReplies (entryOf (length s) (gridAt 0 w) (floatAt 8 w) (floatAt 10 w) (floatAt 12 w) (floatAt 14 w)) s (replicate 1 0) (wordAt 17 w) s′ (wides (part 18 20 w))
+    WalkReplies (entryOf (length s) (gridAt 0 w) (segmentBy (floatAt 8 w) (floatAt 10 w) (floatAt 12 w) (floatAt 14 w))) s (replicate 1 0) (wordAt 17 w) s′ (wides (part 18 20 w))
 
 -- the answer of a build of lines, likewise
 unfoldable pub BuildAnswers : List ℕ → Lines → List ℕ → List ℕ → List ℕ → List ℕ → List ℕ → List ℕ → List ℕ → List ℕ → Type 0

@@ -12,6 +12,7 @@ use Rattle.numbers.specs.Away.{roundAway}
 use Rattle.numbers.specs.Root.{root}
 use Rattle.grid.specs.Domain.{Lines}
 use Rattle.tables.specs.Tables.{Tables}
+use Rattle.grid.specs.Domain.{segmentBy}
 use Rattle.walk.specs.Segment.{entryOf}
 use Rattle.build.specs.Build.{endOf}
 use Rattle.visit.specs.Entries.{beside, testAt}
@@ -48,7 +49,7 @@ NumberHolds w = NumberIs (wordAt 0 w) (floatAt 1 w) (wideAt 3 w) (wideAt 5 w)
 -- for scratch that held s
 unfoldable pub WalkAgrees : List ℕ → List ℕ → Type 0
 WalkAgrees s w =
-    WalkReplies (entryOf (length s) (gridAt 0 w) (floatAt 8 w) (floatAt 10 w) (floatAt 12 w) (floatAt 14 w)) s (zeros 1) (wordAt 17 w)
+    WalkReplies (entryOf (length s) (gridAt 0 w) (segmentBy (floatAt 8 w) (floatAt 10 w) (floatAt 12 w) (floatAt 14 w))) s (zeros 1) (wordAt 17 w)
     (padded (length s) (drop 20 w)) (wides (part 18 20 w))
 
 unfoldable pub WalkHolds : List ℕ → Type 0

@@ -13,6 +13,7 @@ use borrow.Author.Tests.{le-leb, lt-leb}
 use Rattle.slices.specs.Slices.{sorted, distinctOf, OneOfEach, clearedFrom}
 use Rattle.grid.specs.declared.Axis.{Axis}
 use Rattle.grid.specs.declared.Grid.{Grid}
+use Rattle.grid.specs.declared.Segment.{Segment}
 use Rattle.grid.specs.declared.Refusal.{Refusal}
 use Rattle.grid.specs.Axes.{xAxis, yAxis, indexOn, boundaryOn}
 use Rattle.grid.specs.Refusals.{refusal, unless}
@@ -65,64 +66,64 @@ along-zero a start end p = and-left (eq (sub binary64 end start) nought) (bounda
 
 -- ---- the room in the scratch
 
-module _ (g : Grid) (x₀ y₀ x₁ y₁ : Float) where
-  pub straight-x : alongOn (xAxis g) x₀ x₁ ≡ true → Straight (wayBy g x₀ y₀ x₁ y₁) (startBy g x₀ y₀ x₁ y₁)
+module _ (g : Grid) (line : Segment) where
+  pub straight-x : alongOn (xAxis g) (line .«start_x») (line .«end_x») ≡ true → Straight (wayBy g line) (startBy g line)
   unfolding wayBy startBy
-  straight-x p = inl (far (xAxis g) x₀ x₁ (along-zero (xAxis g) x₀ x₁ p))
+  straight-x p = inl (far (xAxis g) (line .«start_x») (line .«end_x») (along-zero (xAxis g) (line .«start_x») (line .«end_x») p))
 
-  pub straight-y : alongOn (yAxis g) y₀ y₁ ≡ true → Straight (wayBy g x₀ y₀ x₁ y₁) (startBy g x₀ y₀ x₁ y₁)
+  pub straight-y : alongOn (yAxis g) (line .«start_y») (line .«end_y») ≡ true → Straight (wayBy g line) (startBy g line)
   unfolding wayBy startBy
-  straight-y p = inr (far (yAxis g) y₀ y₁ (along-zero (yAxis g) y₀ y₁ p))
+  straight-y p = inr (far (yAxis g) (line .«start_y») (line .«end_y») (along-zero (yAxis g) (line .«start_y») (line .«end_y») p))
 
-  pub still : Shape (g .cols) (g .rows) → alongOn (xAxis g) x₀ x₁ ≡ true → alongOn (yAxis g) y₀ y₁ ≡ true → Still (wayBy g x₀ y₀ x₁ y₁) (startBy g x₀ y₀ x₁ y₁)
+  pub still : Shape (g .cols) (g .rows) → alongOn (xAxis g) (line .«start_x») (line .«end_x») ≡ true → alongOn (yAxis g) (line .«start_y») (line .«end_y») ≡ true → Still (wayBy g line) (startBy g line)
   unfolding wayBy startBy
   still s p q = record {
-    x = stands (xAxis g) x₀ x₁ (along-zero (xAxis g) x₀ x₁ p) (s .wide);
-    y = stands (yAxis g) y₀ y₁ (along-zero (yAxis g) y₀ y₁ q) (s .high);
+    x = stands (xAxis g) (line .«start_x») (line .«end_x») (along-zero (xAxis g) (line .«start_x») (line .«end_x») p) (s .wide);
+    y = stands (yAxis g) (line .«start_y») (line .«end_y») (along-zero (yAxis g) (line .«start_y») (line .«end_y») q) (s .high);
   }
 
-  pub room : Shape (g .cols) (g .rows) → (way : Way) (w : Walk) (o : Outcome) (R : Ran) (s : List ℕ) (m : ℕ) → way ≡ wayBy g x₀ y₀ x₁ y₁ → w ≡ startBy g x₀ y₀ x₁ y₁
-      → R ≡ Done m → Walks way w o R s → m + m * shareOf g x₀ y₀ x₁ y₁ + 6 ≤ 15008
+  pub room : Shape (g .cols) (g .rows) → (way : Way) (w : Walk) (o : Outcome) (R : Ran) (s : List ℕ) (m : ℕ) → way ≡ wayBy g line → w ≡ startBy g line
+      → R ≡ Done m → Walks way w o R s → m + m * shareOf g line + 6 ≤ 15008
   unfolding shareOf
   room h way w o R s m e f d r =
-      share-room (alongOn (xAxis g) x₀ x₁) (alongOn (yAxis g) y₀ y₁) m (within-done R m 15002 d (r .all))
+      share-room (alongOn (xAxis g) (line .«start_x») (line .«end_x»)) (alongOn (yAxis g) (line .«start_y») (line .«end_y»)) m (within-done R m 15002 d (r .all))
       (λ p. within-done R m 5002 d (r .few (rw (e, f) (straight-x p))))
       (λ q. within-done R m 5002 d (r .few (rw (e, f) (straight-y q))))
       (λ p q. within-done R m 2 d (r .least (rw (e, f) (still h p q))))
 
-  module _ (v h : Bool) (e : v ≡ alongOn (xAxis g) x₀ x₁) (f : h ≡ alongOn (yAxis g) y₀ y₁) where
-    pub share-is : shareOf g x₀ y₀ x₁ y₁ ≡ share v h
+  module _ (v h : Bool) (e : v ≡ alongOn (xAxis g) (line .«start_x») (line .«end_x»)) (f : h ≡ alongOn (yAxis g) (line .«start_y») (line .«end_y»)) where
+    pub share-is : shareOf g line ≡ share v h
     unfolding shareOf
     share-is = rw (e, f)
 
-    pub completes : {s t u w : List ℕ} {n a c r b : ℕ} → Covers s t n a b (addedOf v h (g .cols) (take n s)) → Grown t u a c (endOf g x₀ y₀) → Grown u w c r (endOf g x₁ y₁)
-        → Complete w r (pushesOf g x₀ y₀ x₁ y₁ (take n s))
+    pub completes : {s t u w : List ℕ} {n a c r b : ℕ} → Covers s t n a b (addedOf v h (g .cols) (take n s)) → Grown t u a c (endOf g (line .«start_x») (line .«start_y»)) → Grown u w c r (endOf g (line .«end_x») (line .«end_y»))
+        → Complete w r (pushesOf g line (take n s))
     unfolding pushesOf
     completes p q k =
-        let z = and-then 3 (end-le g x₁ y₁) (and-then 3 (end-le g x₀ y₀) p q) k in
+        let z = and-then 3 (end-le g (line .«end_x») (line .«end_y»)) (and-then 3 (end-le g (line .«start_x») (line .«start_y»)) p q) k in
         record { within = z .within; same = rw (← e, ← f) (z .same) }
 
   -- ---- the refusals, and the walk behind them
 
   module _ (n : ℕ) where
-    pub short-is : n < 16384 → entryOf n g x₀ y₀ x₁ y₁ ≡ refused (refusal 3 0)
+    pub short-is : n < 16384 → entryOf n g line ≡ refused (refusal 3 0)
     unfolding entryOf scratchCheck checked unless
     short-is h = rw (lt-leb 16384 n h)
 
-    pub beyond-is : 16384 ≤ n → segment x₀ y₀ x₁ y₁ ≡ false → entryOf n g x₀ y₀ x₁ y₁ ≡ refused (refusal 1 0)
+    pub beyond-is : 16384 ≤ n → segment line ≡ false → entryOf n g line ≡ refused (refusal 1 0)
     unfolding entryOf scratchCheck segmentCheck checked unless
     beyond-is h k = rw (le-leb 16384 n h, k)
 
-    pub unfit-is : 16384 ≤ n → segment x₀ y₀ x₁ y₁ ≡ true → fit g ≡ false → entryOf n g x₀ y₀ x₁ y₁ ≡ refused (refusal 8 0)
+    pub unfit-is : 16384 ≤ n → segment line ≡ true → fit g ≡ false → entryOf n g line ≡ refused (refusal 8 0)
     unfolding entryOf scratchCheck segmentCheck gridCheck checked unless
     unfit-is h i k = rw (le-leb 16384 n h, i, k)
 
     -- of a scratch, a segment and a grid that pass them
-    pub entry-is : 16384 ≤ n → segment x₀ y₀ x₁ y₁ ≡ true → fit g ≡ true → entryOf n g x₀ y₀ x₁ y₁ ≡ segmentOf g x₀ y₀ x₁ y₁
+    pub entry-is : 16384 ≤ n → segment line ≡ true → fit g ≡ true → entryOf n g line ≡ segmentOf g line
     unfolding entryOf scratchCheck segmentCheck gridCheck checked unless
     entry-is h i k = rw (le-leb 16384 n h, i, k)
 
-  none-is : g .cols ≡ 0 → segmentOf g x₀ y₀ x₁ y₁ ≡ found []
+  none-is : g .cols ≡ 0 → segmentOf g line ≡ found []
   unfolding segmentOf unlessNone
   none-is e = rw e
 
@@ -131,14 +132,14 @@ module _ (g : Grid) (x₀ y₀ x₁ y₁ : Float) where
   some zero o h = absurd (h refl)
   some (suc n) o h = refl
 
-  pub segment-is : (g .cols ≡ 0 → ⊥) → segmentOf g x₀ y₀ x₁ y₁ ≡ answered g x₀ y₀ x₁ y₁ (walkedOf (g .cols) (g .rows) (rayOf g x₀ y₀ x₁ y₁) (startOf g x₀ y₀ x₁ y₁))
+  pub segment-is : (g .cols ≡ 0 → ⊥) → segmentOf g line ≡ answered g line (walkedOf (g .cols) (g .rows) (rayOf g line) (startOf g line))
   unfolding segmentOf
   segment-is h = some (g .cols) _ h
 
   -- by the code's walk
-  segment-by : (way : Way) (w : Walk) → way ≡ wayBy g x₀ y₀ x₁ y₁ → w ≡ startBy g x₀ y₀ x₁ y₁ → Shape (g .cols) (g .rows) → (g .cols ≡ 0 → ⊥)
-      → segmentOf g x₀ y₀ x₁ y₁ ≡ answered g x₀ y₀ x₁ y₁ (walkedBy (g .cols) (g .rows) way w)
-  segment-by way w e f s h = segment-is h ∙ ap (answered g x₀ y₀ x₁ y₁) (walked-is g x₀ y₀ x₁ y₁ s) ∙ rw (← e, ← f)
+  segment-by : (way : Way) (w : Walk) → way ≡ wayBy g line → w ≡ startBy g line → Shape (g .cols) (g .rows) → (g .cols ≡ 0 → ⊥)
+      → segmentOf g line ≡ answered g line (walkedBy (g .cols) (g .rows) way w)
+  segment-by way w e f s h = segment-is h ∙ ap (answered g line) (walked-is g line s) ∙ rw (← e, ← f)
 
 -- ---- the answers
 
@@ -150,50 +151,50 @@ pub found-walked : (o : Outcome) (xs was now : List ℕ) (r : ℕ) → o ≡ fou
 unfolding cellsOf
 found-walked o xs was now r e l c h = rw (e, c) (record { answer = refl; size = l; left = h })
 
-module _ (g : Grid) (x₀ y₀ x₁ y₁ : Float) (was : List ℕ) where
-  pub short-answer : length was < 16384 → Walked (entryOf (length was) g x₀ y₀ x₁ y₁) was (Refused (refusal 3 0)) was
+module _ (g : Grid) (line : Segment) (was : List ℕ) where
+  pub short-answer : length was < 16384 → Walked (entryOf (length was) g line) was (Refused (refusal 3 0)) was
   unfolding leftBy
-  short-answer h = refused-walked _ (refusal 3 0) was was (short-is g x₀ y₀ x₁ y₁ (length was) h) refl refl
+  short-answer h = refused-walked _ (refusal 3 0) was was (short-is g line (length was) h) refl refl
 
   module _ (long : 16384 ≤ length was) where
-    pub beyond-answer : segment x₀ y₀ x₁ y₁ ≡ false → Walked (entryOf (length was) g x₀ y₀ x₁ y₁) was (Refused (refusal 1 0)) was
+    pub beyond-answer : segment line ≡ false → Walked (entryOf (length was) g line) was (Refused (refusal 1 0)) was
     unfolding leftBy
-    beyond-answer h = refused-walked _ (refusal 1 0) was was (beyond-is g x₀ y₀ x₁ y₁ (length was) long h) refl refl
+    beyond-answer h = refused-walked _ (refusal 1 0) was was (beyond-is g line (length was) long h) refl refl
 
-    module _ (inside : segment x₀ y₀ x₁ y₁ ≡ true) where
-      pub unfit-answer : fit g ≡ false → Walked (entryOf (length was) g x₀ y₀ x₁ y₁) was (Refused (refusal 8 0)) was
+    module _ (inside : segment line ≡ true) where
+      pub unfit-answer : fit g ≡ false → Walked (entryOf (length was) g line) was (Refused (refusal 8 0)) was
       unfolding leftBy
-      unfit-answer h = refused-walked _ (refusal 8 0) was was (unfit-is g x₀ y₀ x₁ y₁ (length was) long inside h) refl refl
+      unfit-answer h = refused-walked _ (refusal 8 0) was was (unfit-is g line (length was) long inside h) refl refl
 
       module _ (fits : fit g ≡ true) where
-        pub none-answer : g .cols ≡ 0 → Walked (entryOf (length was) g x₀ y₀ x₁ y₁) was (Found 0) was
-        none-answer e = found-walked _ [] was was 0 (entry-is g x₀ y₀ x₁ y₁ (length was) long inside fits ∙ none-is g x₀ y₀ x₁ y₁ e) refl refl refl
+        pub none-answer : g .cols ≡ 0 → Walked (entryOf (length was) g line) was (Found 0) was
+        none-answer e = found-walked _ [] was was 0 (entry-is g line (length was) long inside fits ∙ none-is g line e) refl refl refl
 
-        module _ (way : Way) (w : Walk) (R : Ran) (s : List ℕ) (e : way ≡ wayBy g x₀ y₀ x₁ y₁) (f : w ≡ startBy g x₀ y₀ x₁ y₁) (some : g .cols ≡ 0 → ⊥)
+        module _ (way : Way) (w : Walk) (R : Ran) (s : List ℕ) (e : way ≡ wayBy g line) (f : w ≡ startBy g line) (some : g .cols ≡ 0 → ⊥)
             (run : Walks way w (walkedBy (g .cols) (g .rows) way w) R s) where
-          entry : entryOf (length was) g x₀ y₀ x₁ y₁ ≡ answered g x₀ y₀ x₁ y₁ (walkedBy (g .cols) (g .rows) way w)
-          entry = entry-is g x₀ y₀ x₁ y₁ (length was) long inside fits ∙ segment-by g x₀ y₀ x₁ y₁ way w e f (fit-says g fits .counts) some
+          entry : entryOf (length was) g line ≡ answered g line (walkedBy (g .cols) (g .rows) way w)
+          entry = entry-is g line (length was) long inside fits ∙ segment-by g line way w e f (fit-says g fits .counts) some
 
-          ordered : (o : Outcome) (n : ℕ) (l : List ℕ) → WalkedTo o (Done n) s → ((f : ℕ → Bool) → any f l ≡ any f (pushesOf g x₀ y₀ x₁ y₁ (take n s))) → answered g x₀ y₀ x₁ y₁ o ≡ found (distinctOf (sorted l))
+          ordered : (o : Outcome) (n : ℕ) (l : List ℕ) → WalkedTo o (Done n) s → ((f : ℕ → Bool) → any f l ≡ any f (pushesOf g line (take n s))) → answered g line o ≡ found (distinctOf (sorted l))
           unfolding answered
           ordered (refused why) n l p q = absurd p
-          ordered (found xs) n l p q = ap found (sym (same-answer g x₀ y₀ x₁ y₁ (take n s) xs (p .1)) ∙ sym (same-members l (pushesOf g x₀ y₀ x₁ y₁ (take n s)) (λ u. q (eqb u))))
+          ordered (found xs) n l p q = ap found (sym (same-answer g line (take n s) xs (p .1)) ∙ sym (same-members l (pushesOf g line (take n s)) (λ u. q (eqb u))))
 
-          pub found-answer : (n m r : ℕ) (t u : List ℕ) → R ≡ Done n → Complete t m (pushesOf g x₀ y₀ x₁ y₁ (take n s)) → length u ≡ length was
+          pub found-answer : (n m r : ℕ) (t u : List ℕ) → R ≡ Done n → Complete t m (pushesOf g line (take n s)) → length u ≡ length was
               → OneOfEach (sorted (take m t)) (sorted (take m t) ++ drop m t) u r
-              → Walked (entryOf (length was) g x₀ y₀ x₁ y₁) was (Found r) u
+              → Walked (entryOf (length was) g line) was (Found r) u
           found-answer n m r t u d q l k =
               found-walked _ (distinctOf (sorted (take m t))) was u r
               (entry ∙ ordered (walkedBy (g .cols) (g .rows) way w) n (take m t) (subst (λ (z : Ran). WalkedTo (walkedBy (g .cols) (g .rows) way w) z s) d (run .ran)) (q .same))
               l (k .count) (rw (k .left) (take-at (distinctOf (sorted (take m t))) (drop r (sorted (take m t) ++ drop m t)) (length (distinctOf (sorted (take m t)))) refl))
 
-          budget : (o : Outcome) → WalkedTo o Over s → answered g x₀ y₀ x₁ y₁ o ≡ refused (refusal 7 0)
+          budget : (o : Outcome) → WalkedTo o Over s → answered g line o ≡ refused (refusal 7 0)
           unfolding answered
           budget (refused why) p = ap refused p
           budget (found xs) p = absurd p
 
           -- 7 clears
-          pub over-answer : (t : List ℕ) → R ≡ Over → length s ≡ length was → length t ≡ length s → t ≡ clearedFrom 0 s → Walked (entryOf (length was) g x₀ y₀ x₁ y₁) was (Refused (refusal 7 0)) t
+          pub over-answer : (t : List ℕ) → R ≡ Over → length s ≡ length was → length t ≡ length s → t ≡ clearedFrom 0 s → Walked (entryOf (length was) g line) was (Refused (refusal 7 0)) t
           unfolding leftBy clearedFrom
           over-answer t d l k c =
               let z : length s - 0 ≡ length was = omega arith in

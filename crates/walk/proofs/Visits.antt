@@ -13,6 +13,7 @@ use Rattle.slices.specs.Lists.{elem, Below, Rising}
 use Rattle.slices.proofs.Members.{elem-one-of-each, below-append, below-one-of-each}
 use Rattle.slices.proofs.Distinct.{one-of-each-rising, length-one-of-each}
 use Rattle.grid.specs.declared.Grid.{Grid}
+use Rattle.grid.specs.declared.Segment.{Segment}
 use Rattle.grid.specs.declared.Refusal.{Refusal}
 use Rattle.grid.specs.Axes.{xAxis, yAxis, indexOn, boundaryOn}
 use Rattle.grid.specs.Refusals.{refusal}
@@ -194,42 +195,42 @@ pub record Visits (g : Grid) (xs : List ℕ) : Type 0 where
   pub inside : Below (g .rows * g .cols) xs
   pub few : length xs ≤ 15008
 
-module _ (g : Grid) (x₀ y₀ x₁ y₁ : Float) where
+module _ (g : Grid) (line : Segment) where
   end-below : Shape (g .cols) (g .rows) → 0 < g .cols → (x y : Float) → Below (g .rows * g .cols) (endOf g x y)
   unfolding endOf
   end-below s h x y = beside-below (g .rows * g .cols) (g .cols) (boundaryOn (xAxis g) x) (boundaryOn (yAxis g) y) (cellOf g x y) (cell-below g x y s h)
 
   pushes-visit : (walked : List ℕ) → Shape (g .cols) (g .rows) → 0 < g .cols → Below (g .rows * g .cols) walked
-      → length walked ≤ 15002 → (Straight (wayBy g x₀ y₀ x₁ y₁) (startBy g x₀ y₀ x₁ y₁) → length walked ≤ 5002) → (Still (wayBy g x₀ y₀ x₁ y₁) (startBy g x₀ y₀ x₁ y₁) → length walked ≤ 2)
-      → Visits g (distinctOf (sorted (pushesOf g x₀ y₀ x₁ y₁ walked)))
+      → length walked ≤ 15002 → (Straight (wayBy g line) (startBy g line) → length walked ≤ 5002) → (Still (wayBy g line) (startBy g line) → length walked ≤ 2)
+      → Visits g (distinctOf (sorted (pushesOf g line walked)))
   unfolding pushesOf
   pushes-visit walked s c b l p q =
       let n = g .rows * g .cols in
-      let v = alongOn (xAxis g) x₀ x₁ in
-      let h = alongOn (yAxis g) y₀ y₁ in
+      let v = alongOn (xAxis g) (line .«start_x») (line .«end_x») in
+      let h = alongOn (yAxis g) (line .«start_y») (line .«end_y») in
       let a = addedOf v h (g .cols) walked in
-      let e = endOf g x₀ y₀ in
-      let f = endOf g x₁ y₁ in
+      let e = endOf g (line .«start_x») (line .«start_y») in
+      let f = endOf g (line .«end_x») (line .«end_y») in
       let m : length (walked ++ ((a ++ e) ++ f)) ≡ length walked + ((length a + length e) + length f) =
       length-append walked ((a ++ e) ++ f) ∙ ap (λ (k : ℕ). length walked + k) (length-append (a ++ e) f ∙ ap (λ (k : ℕ). k + length f) (length-append a e)) in
       let r = share-room v h (length walked) l
-      (λ t. p (straight-x g x₀ y₀ x₁ y₁ t)) (λ t. p (straight-y g x₀ y₀ x₁ y₁ t)) (λ t u. q (still g x₀ y₀ x₁ y₁ s t u)) in
+      (λ t. p (straight-x g line t)) (λ t. p (straight-y g line t)) (λ t u. q (still g line s t u)) in
       record {
         rising = one-of-each-rising (walked ++ ((a ++ e) ++ f));
         inside =
             below-one-of-each n (walked ++ ((a ++ e) ++ f))
             (below-append n walked ((a ++ e) ++ f) b
-            (below-append n (a ++ e) f (below-append n a e (added-below n (g .cols) v h walked b) (end-below s c x₀ y₀)) (end-below s c x₁ y₁)));
-        few = omega (arith, m, r, added-le v h (g .cols) walked, end-le g x₀ y₀, end-le g x₁ y₁, length-one-of-each (walked ++ ((a ++ e) ++ f)));
+            (below-append n (a ++ e) f (below-append n a e (added-below n (g .cols) v h walked b) (end-below s c (line .«start_x») (line .«start_y»))) (end-below s c (line .«end_x») (line .«end_y»))));
+        few = omega (arith, m, r, added-le v h (g .cols) walked, end-le g (line .«start_x») (line .«start_y»), end-le g (line .«end_x») (line .«end_y»), length-one-of-each (walked ++ ((a ++ e) ++ f)));
       }
 
-  answer-visits : (o : Outcome) (xs : List ℕ) → Shape (g .cols) (g .rows) → 0 < g .cols → o ≡ walkedBy (g .cols) (g .rows) (wayBy g x₀ y₀ x₁ y₁) (startBy g x₀ y₀ x₁ y₁)
-      → answered g x₀ y₀ x₁ y₁ o ≡ found xs → Visits g xs
+  answer-visits : (o : Outcome) (xs : List ℕ) → Shape (g .cols) (g .rows) → 0 < g .cols → o ≡ walkedBy (g .cols) (g .rows) (wayBy g line) (startBy g line)
+      → answered g line o ≡ found xs → Visits g xs
   unfolding answered
   answer-visits (refused why) xs s h e d = absurd (no-cells why xs d)
   answer-visits (found walked) xs s h e d =
-      let w = walked-pushed (g .cols) (g .rows) (wayBy g x₀ y₀ x₁ y₁) (startBy g x₀ y₀ x₁ y₁) walked (sym e) in
-      subst (λ (z : List ℕ). Visits g z) (same-cells (distinctOf (sorted (pushesOf g x₀ y₀ x₁ y₁ walked))) xs d)
+      let w = walked-pushed (g .cols) (g .rows) (wayBy g line) (startBy g line) walked (sym e) in
+      subst (λ (z : List ℕ). Visits g z) (same-cells (distinctOf (sorted (pushesOf g line walked))) xs d)
       (pushes-visit walked s h (w .0) (w .1 .0) (w .1 .1 .0) (w .1 .1 .1))
 
   unless-visits : (n : ℕ) (o : Outcome) (xs : List ℕ) → unlessNone n o ≡ found xs → (0 < n → o ≡ found xs → Visits g xs) → Visits g xs
@@ -238,21 +239,21 @@ module _ (g : Grid) (x₀ y₀ x₁ y₁ : Float) where
   unless-visits (suc n) o xs e h = h (omega arith) e
 
   -- on a grid whose counts have a shape
-  pub segment-visits : (xs : List ℕ) → shape (g .cols) (g .rows) ≡ true → segmentOf g x₀ y₀ x₁ y₁ ≡ found xs → Visits g xs
+  pub segment-visits : (xs : List ℕ) → shape (g .cols) (g .rows) ≡ true → segmentOf g line ≡ found xs → Visits g xs
   unfolding segmentOf
   segment-visits xs s e =
-      let w = walkedOf (g .cols) (g .rows) (rayOf g x₀ y₀ x₁ y₁) (startOf g x₀ y₀ x₁ y₁) in
+      let w = walkedOf (g .cols) (g .rows) (rayOf g line) (startOf g line) in
       let k = shape-says (g .cols) (g .rows) s in
-      unless-visits (g .cols) (answered g x₀ y₀ x₁ y₁ w) xs e (λ h d. answer-visits w xs k h (walked-is g x₀ y₀ x₁ y₁ k) d)
+      unless-visits (g .cols) (answered g line w) xs e (λ h d. answer-visits w xs k h (walked-is g line k) d)
 
   -- the cells are those that were pushed: the walked ones and the added ones
-  pub segment-members : (walked xs : List ℕ) → (g .cols ≡ 0 → ⊥) → walkedOf (g .cols) (g .rows) (rayOf g x₀ y₀ x₁ y₁) (startOf g x₀ y₀ x₁ y₁) ≡ found walked
-      → segmentOf g x₀ y₀ x₁ y₁ ≡ found xs → (v : ℕ) → elem v xs ≡ elem v (pushesOf g x₀ y₀ x₁ y₁ walked)
+  pub segment-members : (walked xs : List ℕ) → (g .cols ≡ 0 → ⊥) → walkedOf (g .cols) (g .rows) (rayOf g line) (startOf g line) ≡ found walked
+      → segmentOf g line ≡ found xs → (v : ℕ) → elem v xs ≡ elem v (pushesOf g line walked)
   unfolding answered
   segment-members walked xs h e d v =
-      let is : segmentOf g x₀ y₀ x₁ y₁ ≡ found (distinctOf (sorted (pushesOf g x₀ y₀ x₁ y₁ walked))) =
-      segment-is g x₀ y₀ x₁ y₁ h ∙ ap (answered g x₀ y₀ x₁ y₁) e in
-      ap (elem v) (same-cells xs (distinctOf (sorted (pushesOf g x₀ y₀ x₁ y₁ walked))) (sym d ∙ is)) ∙ elem-one-of-each v (pushesOf g x₀ y₀ x₁ y₁ walked)
+      let is : segmentOf g line ≡ found (distinctOf (sorted (pushesOf g line walked))) =
+      segment-is g line h ∙ ap (answered g line) e in
+      ap (elem v) (same-cells xs (distinctOf (sorted (pushesOf g line walked))) (sym d ∙ is)) ∙ elem-one-of-each v (pushesOf g line walked)
 
 -- ---- the one refusal
 
@@ -282,20 +283,20 @@ walked-refused cols rows r s why e =
     let t = turns 5000 (goingOf r s) cols rows r s in
     turns-refused 5000 (goingOf r s) cols rows r s why (before-refused f t why (after-refused (before f t) (pushOf cols rows (r .x .end) (r .y .end)) why e))
 
-module _ (g : Grid) (x₀ y₀ x₁ y₁ : Float) (why : Refusal) where
-  answer-refused : (o : Outcome) → answered g x₀ y₀ x₁ y₁ o ≡ refused why → o ≡ refused why
+module _ (g : Grid) (line : Segment) (why : Refusal) where
+  answer-refused : (o : Outcome) → answered g line o ≡ refused why → o ≡ refused why
   unfolding answered
   answer-refused (refused y) d = d
-  answer-refused (found ys) d = absurd (no-cells why (distinctOf (sorted (pushesOf g x₀ y₀ x₁ y₁ ys))) (sym d))
+  answer-refused (found ys) d = absurd (no-cells why (distinctOf (sorted (pushesOf g line ys))) (sym d))
 
   unless-refused : (n : ℕ) (o : Outcome) → unlessNone n o ≡ refused why → o ≡ refused why
   unfolding unlessNone
   unless-refused zero o d = absurd (no-cells why [] (sym d))
   unless-refused (suc n) o d = d
 
-  pub segment-refused : segmentOf g x₀ y₀ x₁ y₁ ≡ refused why → why ≡ refusal 7 0
+  pub segment-refused : segmentOf g line ≡ refused why → why ≡ refusal 7 0
   unfolding segmentOf
   segment-refused e =
-      let o = walkedOf (g .cols) (g .rows) (rayOf g x₀ y₀ x₁ y₁) (startOf g x₀ y₀ x₁ y₁) in
-      walked-refused (g .cols) (g .rows) (rayOf g x₀ y₀ x₁ y₁) (startOf g x₀ y₀ x₁ y₁) why
-      (answer-refused o (unless-refused (g .cols) (answered g x₀ y₀ x₁ y₁ o) e))
+      let o = walkedOf (g .cols) (g .rows) (rayOf g line) (startOf g line) in
+      walked-refused (g .cols) (g .rows) (rayOf g line) (startOf g line) why
+      (answer-refused o (unless-refused (g .cols) (answered g line o) e))

@@ -11,6 +11,7 @@ use lib.Ieee.{Float, binary64, sub, lt}
 use borrow.Author.Tests.{le-ltb, ne-eqb}
 use Rattle.grid.specs.declared.Axis.{Axis}
 use Rattle.grid.specs.declared.Grid.{Grid}
+use Rattle.grid.specs.declared.Segment.{Segment}
 use Rattle.grid.specs.Axes.{xAxis, yAxis}
 use Rattle.grid.proofs.Shapes.{Shape}
 use Rattle.walk.specs.declared.Course.{Course}
@@ -189,11 +190,11 @@ module _ (a : Axis) (start end : Float) (l : a .count ≤ 4004) where
   unfolding progressOn positionBy
   at-start = record { index = (refl, omega (arith, index-le a start), omega arith); max = refl }
 
-pub walked-is : (g : Grid) (x₀ y₀ x₁ y₁ : Float) → Shape (g .cols) (g .rows)
-    → walkedOf (g .cols) (g .rows) (rayOf g x₀ y₀ x₁ y₁) (startOf g x₀ y₀ x₁ y₁) ≡ walkedBy (g .cols) (g .rows) (wayBy g x₀ y₀ x₁ y₁) (startBy g x₀ y₀ x₁ y₁)
+pub walked-is : (g : Grid) (line : Segment) → Shape (g .cols) (g .rows)
+    → walkedOf (g .cols) (g .rows) (rayOf g line) (startOf g line) ≡ walkedBy (g .cols) (g .rows) (wayBy g line) (startBy g line)
 unfolding rayOf startOf wayBy startBy
-walked-is g x₀ y₀ x₁ y₁ h =
+walked-is g line h =
     walked-are (g .cols) (g .rows) (h .wide) (h .high)
-    (record { x = along (xAxis g) x₀ x₁ (h .wide); y = along (yAxis g) y₀ y₁ (h .high) })
-    (startOf g x₀ y₀ x₁ y₁) (startBy g x₀ y₀ x₁ y₁)
-    (record { x = at-start (xAxis g) x₀ x₁ (h .wide); y = at-start (yAxis g) y₀ y₁ (h .high) })
+    (record { x = along (xAxis g) (line .«start_x») (line .«end_x») (h .wide); y = along (yAxis g) (line .«start_y») (line .«end_y») (h .high) })
+    (startOf g line) (startBy g line)
+    (record { x = at-start (xAxis g) (line .«start_x») (line .«end_x») (h .wide); y = at-start (yAxis g) (line .«start_y») (line .«end_y») (h .high) })

@@ -9,6 +9,7 @@ use lib.Dec.{eqb}
 use lib.Ieee.{Float}
 use Rattle.slices.specs.Lists.{any}
 use Rattle.grid.specs.declared.Grid.{Grid}
+use Rattle.grid.specs.declared.Segment.{Segment}
 use Rattle.grid.specs.Axes.{xAxis, yAxis}
 use Rattle.grid.specs.Refusals.{refusal}
 use Rattle.walk.specs.declared.Course.{Course}
@@ -105,5 +106,5 @@ share false true = 1
 share false false = 0
 
 -- how many cells the line adds at most to each that it walks
-unfoldable pub shareOf : Grid → Float → Float → Float → Float → ℕ
-shareOf g x₀ y₀ x₁ y₁ = share (alongOn (xAxis g) x₀ x₁) (alongOn (yAxis g) y₀ y₁)
+unfoldable pub shareOf : Grid → Segment → ℕ
+shareOf g line = share (alongOn (xAxis g) (line .«start_x») (line .«end_x»)) (alongOn (yAxis g) (line .«start_y») (line .«end_y»))

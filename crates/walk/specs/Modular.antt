@@ -7,6 +7,7 @@ use lib.Dec.{ltb, eqb}
 use lib.Ieee.{Float, binary64, add, sub, lt}
 use Rattle.grid.specs.declared.Axis.{Axis}
 use Rattle.grid.specs.declared.Grid.{Grid}
+use Rattle.grid.specs.declared.Segment.{Segment}
 use Rattle.grid.specs.Axes.{xAxis, yAxis, indexOn}
 use Rattle.grid.specs.Refusals.{refusal}
 use Rattle.walk.specs.declared.Course.{Course}
@@ -27,11 +28,11 @@ courseBy a start end = record { step = stepBy (sub binary64 end start); «t_delt
 unfoldable pub positionBy : Axis → Float → Float → Position
 positionBy a start end = record { index = indexOn a start; «t_max» = firstOn a start (sub binary64 end start) }
 
-unfoldable pub wayBy : Grid → Float → Float → Float → Float → Way
-wayBy g x₀ y₀ x₁ y₁ = record { x = courseBy (xAxis g) x₀ x₁; y = courseBy (yAxis g) y₀ y₁ }
+unfoldable pub wayBy : Grid → Segment → Way
+wayBy g line = record { x = courseBy (xAxis g) (line .«start_x») (line .«end_x»); y = courseBy (yAxis g) (line .«start_y») (line .«end_y») }
 
-unfoldable pub startBy : Grid → Float → Float → Float → Float → Walk
-startBy g x₀ y₀ x₁ y₁ = record { x = positionBy (xAxis g) x₀ x₁; y = positionBy (yAxis g) y₀ y₁ }
+unfoldable pub startBy : Grid → Segment → Walk
+startBy g line = record { x = positionBy (xAxis g) (line .«start_x») (line .«end_x»); y = positionBy (yAxis g) (line .«start_y») (line .«end_y») }
 
 unfoldable pub arrivedBy : Way → Walk → Bool
 arrivedBy way w = eqb (w .x .index) (way .x .end) && eqb (w .y .index) (way .y .end)

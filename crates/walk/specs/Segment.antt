@@ -9,6 +9,7 @@ use lib.Ieee.{Float, binary64, sub, eq}
 use Rattle.slices.specs.Slices.{sorted, distinctOf}
 use Rattle.grid.specs.declared.Axis.{Axis}
 use Rattle.grid.specs.declared.Grid.{Grid}
+use Rattle.grid.specs.declared.Segment.{Segment}
 use Rattle.grid.specs.declared.Refusal.{Refusal}
 use Rattle.grid.specs.declared.Check.{Check}
 use Rattle.grid.specs.declared.Check.the-variants.{Fine, Refused as Due}
@@ -60,27 +61,27 @@ endOf g x y = besideOf (boundaryOn (xAxis g) x) (boundaryOn (yAxis g) y) (g .col
 -- ---- the answer
 
 -- all that is pushed: the walked cells, what the line adds to each of them, what its endpoints add
-unfoldable pub pushesOf : Grid → Float → Float → Float → Float → List ℕ → List ℕ
-pushesOf g x₀ y₀ x₁ y₁ walked =
+unfoldable pub pushesOf : Grid → Segment → List ℕ → List ℕ
+pushesOf g line walked =
     walked
-    ++ ((addedOf (alongOn (xAxis g) x₀ x₁) (alongOn (yAxis g) y₀ y₁) (g .cols) walked
-    ++ endOf g x₀ y₀)
-    ++ endOf g x₁ y₁)
+    ++ ((addedOf (alongOn (xAxis g) (line .«start_x») (line .«end_x»)) (alongOn (yAxis g) (line .«start_y») (line .«end_y»)) (g .cols) walked
+    ++ endOf g (line .«start_x») (line .«start_y»))
+    ++ endOf g (line .«end_x») (line .«end_y»))
 
 -- increasing, no cell twice
-unfoldable pub answered : Grid → Float → Float → Float → Float → Outcome → Outcome
-answered g x₀ y₀ x₁ y₁ (refused why) = refused why
-answered g x₀ y₀ x₁ y₁ (found walked) = found (distinctOf (sorted (pushesOf g x₀ y₀ x₁ y₁ walked)))
+unfoldable pub answered : Grid → Segment → Outcome → Outcome
+answered g line (refused why) = refused why
+answered g line (found walked) = found (distinctOf (sorted (pushesOf g line walked)))
 
 -- a grid of 0 columns visits nothing
 unfoldable pub unlessNone : ℕ → Outcome → Outcome
 unlessNone zero o = found []
 unlessNone (suc n) o = o
 
--- the cells of the segment from (x₀, y₀) to (x₁, y₁), or refusal 7
-unfoldable pub segmentOf : Grid → Float → Float → Float → Float → Outcome
-segmentOf g x₀ y₀ x₁ y₁ =
-    unlessNone (g .cols) (answered g x₀ y₀ x₁ y₁ (walkedOf (g .cols) (g .rows) (rayOf g x₀ y₀ x₁ y₁) (startOf g x₀ y₀ x₁ y₁)))
+-- the cells of the segment from ((line .«start_x»), (line .«start_y»)) to ((line .«end_x»), (line .«end_y»)), or refusal 7
+unfoldable pub segmentOf : Grid → Segment → Outcome
+segmentOf g line =
+    unlessNone (g .cols) (answered g line (walkedOf (g .cols) (g .rows) (rayOf g line) (startOf g line)))
 
 -- ---- the refusals
 
@@ -90,8 +91,8 @@ checked Fine o = o
 checked (Due why) o = refused why
 
 -- the walk of one segment, by n entries of scratch: 3, 1, 8, 7
-unfoldable pub entryOf : ℕ → Grid → Float → Float → Float → Float → Outcome
-entryOf n g x₀ y₀ x₁ y₁ = checked (scratchCheck n) (checked (segmentCheck x₀ y₀ x₁ y₁) (checked (gridCheck g) (segmentOf g x₀ y₀ x₁ y₁)))
+unfoldable pub entryOf : ℕ → Grid → Segment → Outcome
+entryOf n g line = checked (scratchCheck n) (checked (segmentCheck line) (checked (gridCheck g) (segmentOf g line)))
 
 -- ---- what is handed back
 

@@ -9,6 +9,7 @@ use lib.Ieee.{Float, nan, inf, fin, binary64, round, add, sub, mul, div, lt, le,
 use Rattle.numbers.specs.Order.{leastOf, greatestOf, magnitudeOf}
 use Rattle.grid.specs.declared.Axis.{Axis}
 use Rattle.grid.specs.declared.Grid.{Grid}
+use Rattle.grid.specs.declared.Segment.{Segment}
 use Rattle.grid.specs.Axes.{xAxis, yAxis, indexOn, lowOn}
 use Rattle.walk.specs.declared.Turn.{Turn}
 
@@ -70,11 +71,11 @@ pub record State : Type 0 where
   pub x : Progress
   pub y : Progress
 
-unfoldable pub rayOf : Grid → Float → Float → Float → Float → Ray
-rayOf g x₀ y₀ x₁ y₁ = record { x = strideOn (xAxis g) x₀ x₁; y = strideOn (yAxis g) y₀ y₁ }
+unfoldable pub rayOf : Grid → Segment → Ray
+rayOf g line = record { x = strideOn (xAxis g) (line .«start_x») (line .«end_x»); y = strideOn (yAxis g) (line .«start_y») (line .«end_y») }
 
-unfoldable pub startOf : Grid → Float → Float → Float → Float → State
-startOf g x₀ y₀ x₁ y₁ = record { x = progressOn (xAxis g) x₀ x₁; y = progressOn (yAxis g) y₀ y₁ }
+unfoldable pub startOf : Grid → Segment → State
+startOf g line = record { x = progressOn (xAxis g) (line .«start_x») (line .«end_x»); y = progressOn (yAxis g) (line .«start_y») (line .«end_y») }
 
 -- ---- which move comes next
 

@@ -1,6 +1,7 @@
 // What a line on a boundary, and its endpoints, add beside the walked cells.
 use grid::Axis;
 use grid::Grid;
+use grid::Segment;
 ghost use mathlib.Core.Path.{_≡_};
 ghost use mathlib.Core.Bool.{true, false};
 ghost use Prim.Native.Nat.{_+_, _*_, _≤_, _<_};
@@ -148,17 +149,14 @@ pub(crate) fn completed(
     s: &mut [u32],
     n: usize,
     grid: Grid,
-    start_x: f64,
-    start_y: f64,
-    end_x: f64,
-    end_y: f64,
+    line: Segment,
 ) -> usize
-    requires { ⌜ Shape (grid .cols) (grid .rows) ⌝ ∗ ⌜ 0 < grid .cols ⌝ ∗ ⌜ n + n * shareOf grid «start_x» «start_y» «end_x» «end_y» + 6 ≤ length (now s) ⌝ }
-    ensures { λ r. ⌜ Complete (now (s .exit)) r (pushesOf grid «start_x» «start_y» «end_x» «end_y» (take n (now (s .entry)))) ⌝ }
+    requires { ⌜ Shape (grid .cols) (grid .rows) ⌝ ∗ ⌜ 0 < grid .cols ⌝ ∗ ⌜ n + n * shareOf grid line + 6 ≤ length (now s) ⌝ }
+    ensures { λ r. ⌜ Complete (now (s .exit)) r (pushesOf grid line (take n (now (s .entry)))) ⌝ }
 {
-    let on_x = along(grid.x_axis(), start_x, end_x);
-    let on_y = along(grid.y_axis(), start_y, end_y);
+    let on_x = along(grid.x_axis(), line.start_x, line.end_x);
+    let on_y = along(grid.y_axis(), line.start_y, line.end_y);
     let a = added(s, n, on_x, on_y, grid.cols);
-    let b = ended(s, a, grid, start_x, start_y);
-    ended(s, b, grid, end_x, end_y)
+    let b = ended(s, a, grid, line.start_x, line.start_y);
+    ended(s, b, grid, line.end_x, line.end_y)
 }

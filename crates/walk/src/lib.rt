@@ -6,6 +6,7 @@ mod turns;
 use beside::completed;
 use grid::Grid;
 use grid::Refusal;
+use grid::Segment;
 use pushes::walked;
 use turns::started;
 use turns::way_of;
@@ -58,13 +59,10 @@ pub enum Ran {
 // Refusals 3, 1, 8 and 7.
 pub fn segment_cells(
     grid: Grid,
-    start_x: f64,
-    start_y: f64,
-    end_x: f64,
-    end_y: f64,
+    line: Segment,
     scratch: &mut [u32],
 ) -> Cells
-    ensures { λ r. ⌜ Walked (entryOf (length (now (scratch .entry))) grid «start_x» «start_y» «end_x» «end_y») (now (scratch .entry)) r (now (scratch .exit)) ⌝ }
+    ensures { λ r. ⌜ Walked (entryOf (length (now (scratch .entry))) grid line) (now (scratch .entry)) r (now (scratch .exit)) ⌝ }
 {
     if scratch.len() < 16384 {
         return Cells::Refused(Refusal {
@@ -72,7 +70,7 @@ pub fn segment_cells(
             value: 0,
         });
     }
-    if !grid::checks::is_segment(start_x, start_y, end_x, end_y) {
+    if !grid::checks::is_segment(line) {
         return Cells::Refused(Refusal {
             number: 1,
             value: 0,
@@ -87,12 +85,12 @@ pub fn segment_cells(
     if grid.cols == 0 {
         return Cells::Found(0);
     }
-    let way = way_of(grid, start_x, start_y, end_x, end_y);
-    let start = started(grid, start_x, start_y, end_x, end_y);
+    let way = way_of(grid, line);
+    let start = started(grid, line);
     let r = walked(scratch, grid.cols, grid.rows, way, start);
     match r {
         Ran::Done(n) => {
-            let m = completed(scratch, n, grid, start_x, start_y, end_x, end_y);
+            let m = completed(scratch, n, grid, line);
             let count = slices::order_and_keep(scratch, m);
             Cells::Found(count)
         },
@@ -109,15 +107,12 @@ pub fn segment_cells(
 // The walk of one segment: the same, and zero beyond the cells.
 pub fn cells_of_segment(
     grid: Grid,
-    start_x: f64,
-    start_y: f64,
-    end_x: f64,
-    end_y: f64,
+    line: Segment,
     scratch: &mut [u32],
 ) -> Cells
-    ensures { λ r. ⌜ Entered (entryOf (length (now (scratch .entry))) grid «start_x» «start_y» «end_x» «end_y») (now (scratch .entry)) r (now (scratch .exit)) ⌝ }
+    ensures { λ r. ⌜ Entered (entryOf (length (now (scratch .entry))) grid line) (now (scratch .entry)) r (now (scratch .exit)) ⌝ }
 {
-    let r = segment_cells(grid, start_x, start_y, end_x, end_y, scratch);
+    let r = segment_cells(grid, line, scratch);
     match r {
         Cells::Found(n) => {
             slices::clear_from(scratch, n);

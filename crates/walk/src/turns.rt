@@ -6,6 +6,7 @@ use crate::Walk;
 use crate::Way;
 use grid::Axis;
 use grid::Grid;
+use grid::Segment;
 use numbers::order::greatest;
 use numbers::order::least;
 use numbers::order::magnitude;
@@ -92,21 +93,21 @@ fn position(axis: Axis, start: f64, end: f64) -> Position
     }
 }
 
-pub(crate) fn way_of(grid: Grid, start_x: f64, start_y: f64, end_x: f64, end_y: f64) -> Way
-    ensures { λ r. ⌜ r ≡ wayBy grid «start_x» «start_y» «end_x» «end_y» ⌝ }
+pub(crate) fn way_of(grid: Grid, line: Segment) -> Way
+    ensures { λ r. ⌜ r ≡ wayBy grid line ⌝ }
 {
     Way {
-        x: course(grid.x_axis(), start_x, end_x),
-        y: course(grid.y_axis(), start_y, end_y),
+        x: course(grid.x_axis(), line.start_x, line.end_x),
+        y: course(grid.y_axis(), line.start_y, line.end_y),
     }
 }
 
-pub(crate) fn started(grid: Grid, start_x: f64, start_y: f64, end_x: f64, end_y: f64) -> Walk
-    ensures { λ r. ⌜ r ≡ startBy grid «start_x» «start_y» «end_x» «end_y» ⌝ }
+pub(crate) fn started(grid: Grid, line: Segment) -> Walk
+    ensures { λ r. ⌜ r ≡ startBy grid line ⌝ }
 {
     Walk {
-        x: position(grid.x_axis(), start_x, end_x),
-        y: position(grid.y_axis(), start_y, end_y),
+        x: position(grid.x_axis(), line.start_x, line.end_x),
+        y: position(grid.y_axis(), line.start_y, line.end_y),
     }
 }
 

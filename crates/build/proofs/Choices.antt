@@ -4,9 +4,8 @@ use mathlib.Core.Bool.{Bool, true, false, _&&_}
 use mathlib.Core.List.{List}
 use Prim.Native.Nat.{ℕ, zero, suc, _+_, _-_, _*_, _≤_, _<_}
 use native.Mathlib.Omega.{arith}
-use borrow.Author.Tests.{le-leb, lt-leb}
+use borrow.Author.Tests.{le-leb, lt-leb, ltb-true}
 use lib.Dec.{ltb}
-use lib.Ieee.{Float}
 use lib.ListN.{length, getD, replicate}
 use Rattle.grid.specs.declared.Grid.{Grid}
 use Rattle.grid.specs.declared.Refusal.{Refusal}
@@ -15,11 +14,14 @@ use Rattle.grid.specs.declared.Check.the-variants.{Fine, Refused}
 use Rattle.grid.specs.Refusals.{refusal, unless, andThen}
 use Rattle.grid.specs.Domain.{Lines, count, Alike, shape}
 use Rattle.grid.proofs.Bools.{and-right}
-use Rattle.grid.proofs.Fine.{then-right}
+use Rattle.grid.proofs.Fine.{then-right, LinesFit, lines-fine}
+use Rattle.grid.proofs.Shapes.{fit-shape}
 use Rattle.sizing.specs.declared.Extent.{Extent}
+use Rattle.sizing.specs.declared.Size.{Size}
 use Rattle.sizing.specs.Bounds.{extentOf}
 use Rattle.sizing.specs.Size.{firstSize, halfOf}
 use Rattle.sizing.specs.Counts.{gridOf}
+use Rattle.sizing.proofs.FitLaws.{AllFit, fit-now, fit-next, all-fit}
 use Rattle.csr.specs.Tables.{linesAt}
 use Rattle.csr.proofs.Laws.{counted-none}
 use Rattle.build.specs.declared.Tried.the-variants as tried
@@ -29,7 +31,7 @@ use Rattle.build.specs.declared.Attempt.the-variants as attempt
 use Rattle.build.specs.OnGrid.{cells, listOn}
 use Rattle.build.specs.Choice.{roomCheck, turnsCheck, triedCheck, skewed, crowded, Choice, settled, refusedBy, unlessRefused, if, chosenFirst}
 use Rattle.build.specs.Choice as choice
-use Rattle.build.specs.Passes.{Walkable, localOn, CountedTo, GridTried, ChosenIs, AttemptIs, Shapes, Choosable}
+use Rattle.build.specs.Passes.{Walkable, localOn, CountedTo, GridTried, ChosenIs, AttemptIs, Choosable}
 
 -- ---- a grid tried: 4, then what the count finds
 
@@ -67,7 +69,7 @@ crowded-is g ls o h = ap (λ (f : ℕ → ℕ). skewed f (cells g) && ltb (cells
 suc-of : (n : ℕ) → (n ≡ 0 → ⊥) → n ≡ suc (n - 1)
 suc-of n h = omega arith
 
-module _ (e : Extent) (size : Float) (ls : Lines) (room : ℕ) {g : Grid} (is : g ≡ gridOf e size) (o : List ℕ) where
+module _ (e : Extent) (size : Size) (ls : Lines) (room : ℕ) {g : Grid} (is : g ≡ gridOf e size) (o : List ℕ) where
   -- a refusal ends it, however many halvings are left
   pub refused-at : (left : ℕ) (r : Refusal) → GridTried g ls room (tried.Refused r) o → ChosenIs (choice.chosen left e size ls room) ls (chosen.Refused r) o
   unfolding choice.chosen unlessRefused
@@ -103,48 +105,38 @@ module _ (e : Extent) (size : Float) (ls : Lines) (room : ℕ) {g : Grid} (is : 
       pub halve-at : (skewed (λ c. getD o c 0) (cells g) && ltb (cells g * 4) 1000000) ≡ true → AttemptIs left e size ls room attempt.Halve o
       unfolding if
       halve-at q =
-          (omega arith, chosen-more ∙ rw (crowded-so true q), rw is at (and-right (skewed (λ c. getD o c 0) (cells g)) (ltb (cells g * 4) 1000000) q))
+          (omega arith, chosen-more ∙ rw (crowded-so true q), ltb-true _ _ (rw is at (and-right (skewed (λ c. getD o c 0) (cells g)) (ltb (cells g * 4) 1000000) q)))
 
 -- ---- the sizes tried, one after another
 
-shapes-head : (e : Extent) (left : ℕ) (size : Float) → Shapes e left size → shape (gridOf e size .cols) (gridOf e size .rows) ≡ true
-shapes-head e zero size h = h
-shapes-head e (suc n) size h = h .0
-
-shapes-tail : (e : Extent) (left : ℕ) (size : Float) → 0 < left → Shapes e left size → ltb (cells (gridOf e size) * 4) 1000000 ≡ true → Shapes e (left - 1) (halfOf size)
-shapes-tail e left size l h q = go left l h
-  where
-    go : (n : ℕ) → 0 < n → Shapes e n size → Shapes e (n - 1) (halfOf size)
-    go zero l h = absurd (omega arith)
-    go (suc n) l h = let z : suc n - 1 ≡ n = omega arith in rw z (h .1 q)
-
-pub record Choosing (ls : Lines) (o₀ s₀ : List ℕ) (e : Extent) (o s : List ℕ) (size : Float) (left : ℕ) : Type 0 where
+pub record Choosing (ls : Lines) (o₀ s₀ : List ℕ) (e : Extent) (o s : List ℕ) (size : Size) (left : ℕ) : Type 0 where
   pub same : Alike ls
   pub few : count ls ≤ 65536
   pub space : 16384 ≤ length s
   pub len : length o ≡ length o₀
   pub len-scratch : length s ≡ length s₀
-  pub shapes : Shapes e left size
+  pub fits : AllFit left e size
   pub is : chosenFirst ls (length o₀) ≡ choice.chosen left e size ls (length o₀)
 
-pub choosing-first : {ls : Lines} {o s : List ℕ} {e : Extent} {size : Float} → Choosable ls s → e ≡ extentOf ls → size ≡ firstSize e (count ls) → Choosing ls o s e o s size 2
+pub choosing-first : {ls : Lines} {o s : List ℕ} {e : Extent} {size : Size} → Choosable ls s → e ≡ extentOf ls → size ≡ firstSize e (count ls) → Choosing ls o s e o s size 2
 unfolding chosenFirst
 choosing-first {ls} {o} {s} {e} {size} h d z =
+    let f : LinesFit ls = lines-fine ls (h .checked .fine) in
     record {
-      same = h .same;
-      few = h .few;
-      space = h .space;
+      same = f .same;
+      few = f .few;
+      space = h .checked .space;
       len = refl;
       len-scratch = refl;
-      shapes = rw (z, d) (h .shapes);
+      fits = rw (z, d) (all-fit ls f (h .some));
       is = rw (z, d);
     }
 
-module _ {ls : Lines} {o₀ s₀ : List ℕ} {e : Extent} {o s : List ℕ} {size : Float} {left : ℕ} (k : Choosing ls o₀ s₀ e o s size left) where
+module _ {ls : Lines} {o₀ s₀ : List ℕ} {e : Extent} {o s : List ℕ} {size : Size} {left : ℕ} (k : Choosing ls o₀ s₀ e o s size left) where
   pub choosing-walkable : Walkable (gridOf e size) ls s
-  choosing-walkable = record { same = k .same; few = k .few; counts = shapes-head e left size (k .shapes); space = k .space }
+  choosing-walkable = record { same = k .same; few = k .few; counts = fit-shape (gridOf e size) (fit-now left e size (k .fits)); space = k .space }
 
-  pub choosing-next : {o′ s′ : List ℕ} {half : Float} → AttemptIs left e size ls (length o) attempt.Halve o′ → half ≡ halfOf size → length o′ ≡ length o → length s′ ≡ length s → Choosing ls o₀ s₀ e o′ s′ half (left - 1)
+  pub choosing-next : {o′ s′ : List ℕ} {half : Size} → AttemptIs left e size ls (length o) attempt.Halve o′ → half ≡ halfOf size → length o′ ≡ length o → length s′ ≡ length s → Choosing ls o₀ s₀ e o′ s′ half (left - 1)
   choosing-next h z a b =
       record {
         same = k .same;
@@ -152,7 +144,7 @@ module _ {ls : Lines} {o₀ s₀ : List ℕ} {e : Extent} {o s : List ℕ} {size
         space = omega (arith, k .space);
         len = a ∙ k .len;
         len-scratch = b ∙ k .len-scratch;
-        shapes = rw z (shapes-tail e left size (h .0) (k .shapes) (h .2));
+        fits = rw z (fit-next left e size (h .0) (k .fits) (h .2));
         is = k .is ∙ rw z (rw (k .len) at (h .1));
       }
 

@@ -4,7 +4,7 @@ use mathlib.Core.Bool.{Bool, true, false}
 use mathlib.Core.List.{List, _++_}
 use Prim.Native.Nat.{ℕ, suc, _+_, _-_, _*_, _≤_, _<_}
 use native.Mathlib.Omega.{arith}
-use borrow.Author.Tests.{le-leb, lt-leb, leb-true, ltb-true}
+use borrow.Author.Tests.{le-leb, lt-leb, leb-true}
 use lib.Dec.{ltb}
 use lib.ListN.{length, replicate}
 use Rattle.grid.specs.declared.Grid.{Grid}
@@ -14,12 +14,7 @@ use Rattle.grid.specs.declared.Check.the-variants.{Fine, Refused}
 use Rattle.grid.specs.Refusals.{unless, andThen}
 use Rattle.grid.specs.Domain.{Lines, count, shape, scratchCheck, linesCheck}
 use Rattle.grid.proofs.Fine.{unless-fine, then-left, then-right, LinesFit, lines-fine}
-use Rattle.grid.proofs.Shapes.{fit-shape}
-use Rattle.sizing.specs.declared.Extent.{Extent}
-use Rattle.sizing.specs.Bounds.{extentOf}
-use Rattle.sizing.specs.Size.{firstSize, halfOf}
-use Rattle.sizing.specs.Counts.{gridOf, emptyGrid}
-use Rattle.sizing.proofs.FitLaws.{Within, Tried, lines-within, first-tried, again-tried}
+use Rattle.sizing.specs.Counts.{emptyGrid}
 use Rattle.csr.specs.Tables.{itemsOf, offsetsOf}
 use Rattle.build.specs.declared.Built.{Built}
 use Rattle.build.specs.declared.Built.the-variants as built
@@ -29,7 +24,7 @@ use Rattle.build.specs.declared.Chosen.the-variants as chosen
 use Rattle.build.specs.OnGrid.{cells, listOn, globalsOn}
 use Rattle.build.specs.Choice.{turnsCheck, triedCheck, Choice, settled, refusedBy, unlessRefused, if, chosenFirst, chosenNone, choice}
 use Rattle.build.specs.Build.{spaceCheck, End, untouched, cleared, made, endOn, endBy, endAfter, endOf, answerOf, leftOf, BuildIs}
-use Rattle.build.specs.Passes.{Walkable, CountedTo, GridTried, Shapes, Choosable, ChosenAs, ChosenIs, Stopped, FillAsks, Checked}
+use Rattle.build.specs.Passes.{Walkable, CountedTo, GridTried, Choosable, ChosenAs, ChosenIs, Stopped, FillAsks, Checked}
 use Rattle.build.proofs.Choices.{tried-turns}
 
 -- ---- two checks in a row
@@ -42,21 +37,7 @@ pub first-passes : (a b : Check) → a ≡ Fine → b ≡ andThen a b
 unfolding andThen
 first-passes a b h = rw h
 
--- ---- the choice: every grid that can be tried is fit
-
-shapes-of : (ls : Lines) → LinesFit ls → 1 ≤ count ls → Shapes (extentOf ls) 2 (firstSize (extentOf ls) (count ls))
-shapes-of ls h l =
-    let e = extentOf ls in
-    let s = firstSize e (count ls) in
-    let w : Within e = lines-within ls h l in
-    let t : Tried e 0 s = first-tried e (count ls) w l (h .few) in (
-      fit-shape (gridOf e s) (t .fits),
-      λ q.
-          let u : Tried e 1 (halfOf s) = again-tried e 0 s w t (omega arith) (ltb-true _ _ q) in (
-            fit-shape (gridOf e (halfOf s)) (u .fits),
-            λ p. fit-shape (gridOf e (halfOf (halfOf s))) (again-tried e 1 (halfOf s) w u (omega arith) (ltb-true _ _ p) .fits),
-          ),
-    )
+-- ---- the choice
 
 module _ {ls : Lines} {s : List ℕ} (h : Checked ls s) where
   fits : LinesFit ls
@@ -64,7 +45,7 @@ module _ {ls : Lines} {s : List ℕ} (h : Checked ls s) where
 
   pub choosable-of : (count ls ≡ 0 → ⊥) → Choosable ls s
   choosable-of n =
-      record { same = fits .same; few = fits .few; space = h .space; shapes = shapes-of ls fits (omega arith) }
+      record { checked = h; some = omega arith }
 
   pub walkable-on : {s′ : List ℕ} (g : Grid) → shape (g .cols) (g .rows) ≡ true → length s′ ≡ length s → Walkable g ls s′
   walkable-on g k e = record { same = fits .same; few = fits .few; counts = k; space = omega (arith, h .space) }

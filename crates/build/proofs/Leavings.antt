@@ -7,7 +7,6 @@ use Prim.Native.Nat.{ℕ, zero, suc, _-_, _≤_, _<_}
 use native.Mathlib.Omega.{arith}
 use borrow.Author.Tests.{le-leb, lt-leb}
 use lib.Dec.{leb}
-use lib.Ieee.{Float}
 use lib.ListN.{length, replicate}
 use Rattle.grid.specs.declared.Grid.{Grid}
 use Rattle.grid.specs.declared.Refusal.{Refusal}
@@ -16,6 +15,7 @@ use Rattle.grid.specs.declared.Check.the-variants.{Fine, Refused}
 use Rattle.grid.specs.Refusals.{unless, andThen, eachFrom}
 use Rattle.grid.specs.Domain.{Lines, count, lengthsCheck, countCheck, coordinatesCheck, lineFits, scratchCheck, linesCheck}
 use Rattle.sizing.specs.declared.Extent.{Extent}
+use Rattle.sizing.specs.declared.Size.{Size}
 use Rattle.sizing.specs.Bounds.{extentOf}
 use Rattle.sizing.specs.Size.{firstSize, halfOf}
 use Rattle.sizing.specs.Counts.{gridOf, emptyGrid}
@@ -90,7 +90,7 @@ unfolding if
 if-choice true x y h k = h
 if-choice false x y h k = k
 
-chosen-within : (left : ℕ) (e : Extent) (s : Float) (ls : Lines) (room : ℕ) → ChoiceWithin (choosing.chosen left e s ls room)
+chosen-within : (left : ℕ) (e : Extent) (s : Size) (ls : Lines) (room : ℕ) → ChoiceWithin (choosing.chosen left e s ls room)
 unfolding choosing.chosen
 chosen-within zero e s ls room =
     unless-choice (triedCheck (gridOf e s) ls room) (settled (gridOf e s)) (tried-within (gridOf e s) ls room) tt

@@ -5,7 +5,6 @@ use mathlib.Core.List.{List}
 use Prim.Native.Nat.{ℕ, zero, suc, _+_, _*_}
 use lib.Dec.{leb, ltb}
 use lib.ListN.{length}
-use lib.Ieee.{Float}
 use Rattle.grid.specs.declared.Grid.{Grid}
 use Rattle.grid.specs.declared.Refusal.{Refusal}
 use Rattle.grid.specs.declared.Check.{Check}
@@ -13,6 +12,7 @@ use Rattle.grid.specs.declared.Check.the-variants.{Fine, Refused}
 use Rattle.grid.specs.Refusals.{unless, andThen, eachFrom}
 use Rattle.grid.specs.Domain.{Lines, count}
 use Rattle.sizing.specs.declared.Extent.{Extent}
+use Rattle.sizing.specs.declared.Size.{Size}
 use Rattle.sizing.specs.Bounds.{extentOf}
 use Rattle.sizing.specs.Size.{firstSize, halfOf}
 use Rattle.sizing.specs.Counts.{gridOf, emptyGrid}
@@ -53,14 +53,14 @@ unfoldable pub if : Bool → Choice → Choice → Choice
 if true a b = a
 if false a b = b
 
--- the choice from a cell size on, with so many halvings left
-unfoldable pub chosen : ℕ → Extent → Float → Lines → ℕ → Choice
+-- the choice from a size on, with so many halvings left
+unfoldable pub chosen : ℕ → Extent → Size → Lines → ℕ → Choice
 chosen zero e size ls room = unlessRefused (triedCheck (gridOf e size) ls room) (settled (gridOf e size))
 chosen (suc halvings) e size ls room =
     unlessRefused (triedCheck (gridOf e size) ls room)
     (if (crowded (gridOf e size) ls) (chosen halvings e (halfOf size) ls room) (settled (gridOf e size)))
 
--- the choice for some lines: from the first cell size on, with two halvings
+-- the choice for some lines: from the first size on, with two halvings
 unfoldable pub chosenFirst : Lines → ℕ → Choice
 chosenFirst ls room = chosen 2 (extentOf ls) (firstSize (extentOf ls) (count ls)) ls room
 

@@ -4,15 +4,14 @@ use mathlib.Core.Bool.{Bool, true, false}
 use mathlib.Core.List.{List, _++_}
 use Prim.Native.Nat.{ℕ, zero, suc, _+_, _-_, _*_, _≤_, _<_}
 use lib.Dec.{ltb}
-use lib.Ieee.{Float}
 use lib.ListN.{length, take, getD, set, replicate}
 use Rattle.grid.specs.declared.Grid.{Grid}
 use Rattle.grid.specs.declared.Check.the-variants.{Fine, Refused}
 use Rattle.grid.specs.Refusals.{refusal}
 use Rattle.grid.specs.Domain.{Lines, count, Alike, shape, linesCheck}
 use Rattle.sizing.specs.declared.Extent.{Extent}
-use Rattle.sizing.specs.Bounds.{extentOf}
-use Rattle.sizing.specs.Size.{firstSize, halfOf}
+use Rattle.sizing.specs.declared.Size.{Size}
+use Rattle.sizing.specs.Size.{halfOf}
 use Rattle.sizing.specs.Counts.{gridOf}
 use Rattle.walk.specs.Pushes.{Outcome, refused, found}
 use Rattle.csr.specs.Tables.{long, local, linesAt, sum}
@@ -90,22 +89,10 @@ pub record ChosenIs (c : Choice) (ls : Lines) (r : Chosen) (o : List ℕ) : Type
   pub is : ChosenAs c ls r o
 
 -- one grid tried, with so many halvings left: the choice from here, or that the choice goes on from the next halving
-abbrev pub AttemptIs : ℕ → Extent → Float → Lines → ℕ → Attempt → List ℕ → Type 0
+abbrev pub AttemptIs : ℕ → Extent → Size → Lines → ℕ → Attempt → List ℕ → Type 0
 AttemptIs left e size ls room (attempt.Settled r) o = ChosenIs (choice.chosen left e size ls room) ls r o
 AttemptIs left e size ls room attempt.Halve o =
-    (0 < left) × (choice.chosen left e size ls room ≡ choice.chosen (left - 1) e (halfOf size) ls room) × (ltb (cells (gridOf e size) * 4) 1000000 ≡ true)
-
--- every grid that can be tried from a cell size on has fit counts
-abbrev pub Shapes : Extent → ℕ → Float → Type 0
-Shapes e zero size = shape (gridOf e size .cols) (gridOf e size .rows) ≡ true
-Shapes e (suc h) size = (shape (gridOf e size .cols) (gridOf e size .rows) ≡ true) × (ltb (cells (gridOf e size) * 4) 1000000 ≡ true → Shapes e h (halfOf size))
-
--- lines of which every grid that can be tried is fit
-pub record Choosable (ls : Lines) (s : List ℕ) : Type 0 where
-  pub same : Alike ls
-  pub few : count ls ≤ 65536
-  pub space : 16384 ≤ length s
-  pub shapes : Shapes (extentOf ls) 2 (firstSize (extentOf ls) (count ls))
+    (0 < left) × (choice.chosen left e size ls room ≡ choice.chosen (left - 1) e (halfOf size) ls room) × (cells (gridOf e size) * 4 < 1000000)
 
 -- the second pass has placed the lines below i, and listed the globals among them
 pub record PlacedTo (g : Grid) (ls : Lines) (i : ℕ) (o t : List ℕ) : Type 0 where
@@ -166,3 +153,8 @@ pub record FillAsks (g : Grid) (ls : Lines) (found : ℕ) (o t gs s : List ℕ) 
 pub record Checked (ls : Lines) (s : List ℕ) : Type 0 where
   pub fine : linesCheck ls ≡ Fine
   pub space : 16384 ≤ length s
+
+-- and there are lines
+pub record Choosable (ls : Lines) (s : List ℕ) : Type 0 where
+  pub checked : Checked ls s
+  pub some : 1 ≤ count ls

@@ -1,4 +1,4 @@
-// Which grid a build settles on: the first cell size, halved at most twice while some cell is crowded.
+// Which grid a build settles on: that of the first size, halved at most twice while some cell is crowded.
 ghost use mathlib.Core.Path.{_≡_};
 ghost use mathlib.Core.Bool.{true, _&&_};
 ghost use lib.Dec.{ltb};
@@ -18,6 +18,7 @@ use crate::passes::count_cells;
 use grid::Grid;
 use grid::Refusal;
 use sizing::Extent;
+use sizing::Size;
 
 // The number of cells of a grid.
 pub(crate) fn cell_count(grid: Grid) -> usize
@@ -77,7 +78,7 @@ fn attempt_size(
     end_x: &[f64],
     end_y: &[f64],
     extent: Extent,
-    size: f64,
+    size: Size,
     left: u32,
     offsets: &mut [u32],
     scratch: &mut [u32],
@@ -101,7 +102,7 @@ fn attempt_size(
     }
 }
 
-// The grid of some lines: the first cell size, halved at most twice.
+// The grid of some lines: that of the first size, halved at most twice.
 fn choose(
     start_x: &[f64],
     start_y: &[f64],

@@ -21,11 +21,12 @@ use Rattle.sizing.specs.Bounds.{extentOf}
 use Rattle.sizing.specs.Size.{firstSize, halfOf}
 use Rattle.sizing.specs.Counts.{gridOf, emptyGrid}
 use Rattle.sizing.proofs.FitLaws.{AllFit, all-fit, empty-fits}
-use Rattle.build.specs.OnGrid.{cells, listOn, globalsOn}
-use Rattle.build.specs.Choice.{roomCheck, turnsCheck, triedCheck, skewed, crowded, Choice, settled, refusedBy, unlessRefused, if, chosenFirst, chosenNone, choice}
+use Rattle.fill.specs.OnGrid.{cells, listOn, globalsOn, total}
+use Rattle.fill.specs.Checks.{roomCheck, turnsCheck, triedCheck, spaceCheck}
+use Rattle.fill.specs.Fill.{above}
+use Rattle.build.specs.Choice.{crowded, Choice, settled, refusedBy, unlessRefused, if, chosenFirst, chosenNone, choice}
 use Rattle.build.specs.Choice as choosing
-use Rattle.build.specs.Build.{total, spaceCheck, End, untouched, cleared, made, endOn, endBy, endAfter, endOf}
-use Rattle.build.proofs.Choices.{tried-turns}
+use Rattle.build.specs.Build.{End, untouched, cleared, made, endOn, endBy, endAfter, endOf}
 
 -- ---- a choice that settled on a grid
 
@@ -50,7 +51,7 @@ settled-here f g ls room a b h = let e : f ≡ g = cc in record { fits = rw e at
 crowded-few : (g : Grid) (ls : Lines) → crowded g ls ≡ true → cells g * 4 < 1000000
 unfolding crowded
 crowded-few g ls h =
-    ltb-true (cells g * 4) 1000000 (and-right (skewed (λ c. length (listOn g ls c)) (cells g)) (ltb (cells g * 4) 1000000) h)
+    ltb-true (cells g * 4) 1000000 (and-right (above 500 (λ c. length (listOn g ls c)) (cells g)) (ltb (cells g * 4) 1000000) h)
 
 -- from a size on of which every grid that can be tried is fit
 chosen-settled : (e : Extent) (ls : Lines) (room : ℕ) (g : Grid) (left : ℕ) (s : Size) → AllFit left e s → choosing.chosen left e s ls room ≡ settled g → SettledOn g ls room
@@ -93,6 +94,10 @@ by-made (settled f) ls items globals g h =
     let k = on-made f (spaceCheck f ls items globals) g h in
     (ap settled (k .1), rw (k .1) at (k .0))
 
+turns-say : (g : Grid) (ls : Lines) (room : ℕ) → triedCheck g ls room ≡ Fine → turnsCheck g ls ≡ Fine
+unfolding triedCheck
+turns-say g ls room h = then-right (roomCheck g room) (turnsCheck g ls) h
+
 room-says : (g : Grid) (ls : Lines) (room : ℕ) → triedCheck g ls room ≡ Fine → cells g + 1 ≤ room
 unfolding triedCheck roomCheck
 room-says g ls room h =
@@ -127,7 +132,7 @@ made-says ls offsets items globals scratch g h =
     record {
       lines-fit = f;
       fits = s .fits;
-      turns = tried-turns g ls offsets (s .tried);
+      turns = turns-say g ls offsets (s .tried);
       room = room-says g ls offsets (s .tried);
       space = space-items g ls items globals (b .1);
       listed = space-globals g ls items globals (b .1);

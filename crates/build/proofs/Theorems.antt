@@ -25,10 +25,10 @@ use Rattle.tables.proofs.Facts.{facts-check, part-slice}
 use Rattle.build.specs.declared.Standing.{Standing}
 use Rattle.build.specs.declared.Built.{Built}
 use Rattle.build.specs.declared.Built.the-variants as built
-use Rattle.build.specs.OnGrid.{cells, walkOn, ends, visited, cellsOn, listOn, globalsOn}
-use Rattle.build.specs.Choice.{turnsCheck}
-use Rattle.build.specs.Build.{total, End, untouched, cleared, made, endOf, answerOf, leftOf, BuildIs}
-use Rattle.build.specs.Passes.{localOn, oneIf}
+use Rattle.fill.specs.OnGrid.{cells, walkOn, ends, visited, cellsOn, listOn, globalsOn, total, oneIf}
+use Rattle.fill.specs.Checks.{turnsCheck}
+use Rattle.fill.specs.Inside.{localOn}
+use Rattle.build.specs.Build.{End, untouched, cleared, made, endOf, answerOf, leftOf, BuildIs}
 use Rattle.build.proofs.Settled.{Made, made-says}
 
 -- ---- the promise settles everything

@@ -21,9 +21,11 @@ use Rattle.sizing.specs.declared.Size.{Size}
 use Rattle.sizing.specs.Bounds.{extentOf}
 use Rattle.sizing.specs.Size.{firstSize, halfOf}
 use Rattle.sizing.specs.Counts.{gridOf, emptyGrid}
-use Rattle.build.specs.OnGrid as on
-use Rattle.build.specs.Choice.{Choice, refusedBy, settled, roomCheck, turnsCheck, triedCheck, crowded, unlessRefused, if, chosen, chosenFirst, chosenNone, choice}
-use Rattle.build.specs.Build.{End, untouched, cleared, made, total, spaceCheck, endOn, endBy, endAfter, endOf}
+use Rattle.fill.specs.OnGrid as on
+use Rattle.fill.specs.OnGrid.{total}
+use Rattle.fill.specs.Checks.{roomCheck, turnsCheck, triedCheck, spaceCheck}
+use Rattle.build.specs.Choice.{Choice, refusedBy, settled, crowded, unlessRefused, if, chosen, chosenFirst, chosenNone, choice}
+use Rattle.build.specs.Build.{End, untouched, cleared, made, endOn, endBy, endAfter, endOf}
 use Rattle.tables.specs.Tables.{Tables, cells, listOf, globalsOf}
 use Rattle.tables.specs.Fit.{TablesFit}
 use Rattle.tables.proofs.Facts.{all-within}

@@ -20,7 +20,7 @@ use Rattle.tables.specs.Fit.{TablesFit}
 use Rattle.tables.proofs.Facts.{check-facts}
 use Rattle.build.specs.declared.Standing.{Standing}
 use Rattle.build.specs.declared.Built.the-variants as built
-use Rattle.build.specs.OnGrid.{cells, cellsOn}
+use Rattle.fill.specs.OnGrid.{cells, cellsOn}
 use Rattle.build.specs.Choice.{choice}
 use Rattle.build.specs.Build.{End, endBy, endAfter, endOf, answerOf}
 use Rattle.build.proofs.Theorems.{ListsAre, first-half, no-misfit}

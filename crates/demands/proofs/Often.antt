@@ -8,7 +8,7 @@ use Rattle.slices.specs.Lists.{elem}
 use Rattle.grid.specs.Domain.{Lines, count}
 use Rattle.csr.specs.Tables.{sum}
 use Rattle.tables.specs.Tables.{cells, listOf}
-use Rattle.build.specs.Passes.{oneIf}
+use Rattle.fill.specs.OnGrid.{oneIf}
 use Rattle.build.proofs.Theorems.{few-lists}
 use Rattle.visit.specs.Tests.{testsOf}
 use Rattle.visit_laws.specs.Words.{one, countBelow, times, Different}

@@ -10,7 +10,7 @@ use Rattle.grid.specs.declared.Grid.{Grid}
 use Rattle.grid.specs.Domain.{Lines, count}
 use Rattle.walk.specs.Pushes.{found}
 use Rattle.tables.specs.Tables.{Tables, cells, listOf, globalsOf}
-use Rattle.build.specs.OnGrid.{walkOn, cellsOn}
+use Rattle.fill.specs.OnGrid.{walkOn, cellsOn}
 use Rattle.visit.specs.Tests.{testsOf}
 use Rattle.visit.specs.Overlap.{overlap}
 use Rattle.visit_laws.specs.Words.{half, sumBelow, times, Different}

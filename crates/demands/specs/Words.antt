@@ -10,7 +10,7 @@ use Rattle.csr.specs.Tables.{long}
 use Rattle.tables.specs.Tables.{Tables}
 use Rattle.build.specs.declared.Standing.{Standing}
 use Rattle.build.specs.declared.Built.the-variants as built
-use Rattle.build.specs.OnGrid.{cells, cellsOn}
+use Rattle.fill.specs.OnGrid.{cells, cellsOn}
 use Rattle.build.specs.Build.{endOf, BuildIs}
 use Rattle.visit.specs.Entries.{beside}
 use Rattle.visit_laws.specs.Words.{countBelow}

@@ -1,4 +1,4 @@
-//! Says where the Rust source stands, cuts out of it what cannot be included whole, and links the port's library.
+//! Says where the Rust source stands, cuts out of it what cannot be included whole, and links the port's archives.
 
 use std::env;
 use std::fs;
@@ -27,13 +27,16 @@ fn main() {
     let modules = position(&noding, "pub mod grid;");
     fs::write(out.join("candidates.rs"), noding[..modules].join("\n") + "\n").unwrap();
 
-    println!("cargo:rerun-if-env-changed=MORELTURRET_PORT_LIB");
-    if let Ok(archive) = env::var("MORELTURRET_PORT_LIB") {
-        let archive = PathBuf::from(archive);
-        println!("cargo:rerun-if-changed={}", archive.display());
-        println!("cargo:rustc-link-search=native={}", archive.parent().unwrap().display());
-        let name = archive.file_stem().unwrap().to_str().unwrap();
-        println!("cargo:rustc-link-lib=static={}", name.strip_prefix("lib").unwrap());
+    // The library, and the inner walk that is no part of it. Each archive exports only its own functions, so the two link side by side.
+    for variable in ["MORELTURRET_PORT_LIB", "MORELTURRET_INNER_LIB"] {
+        println!("cargo:rerun-if-env-changed={variable}");
+        if let Ok(archive) = env::var(variable) {
+            let archive = PathBuf::from(archive);
+            println!("cargo:rerun-if-changed={}", archive.display());
+            println!("cargo:rustc-link-search=native={}", archive.parent().unwrap().display());
+            let name = archive.file_stem().unwrap().to_str().unwrap();
+            println!("cargo:rustc-link-lib=static={}", name.strip_prefix("lib").unwrap());
+        }
     }
 }
 

@@ -23,15 +23,21 @@ fi
 built=$PWD/target/beside
 mkdir -p "$built"
 features=
-unset MORELTURRET_PORT_LIB
+unset MORELTURRET_PORT_LIB MORELTURRET_INNER_LIB
 if grep -q '^capi:' crates.txt; then
     archive=$PWD/target/library/libmorelturret.a
     tools/build_library >"$built/library.log" 2>&1 || { cat "$built/library.log"; echo "${0##*/}: the port's library was not built"; exit 1; }
     export MORELTURRET_PORT_LIB=$archive
-    names=$(nm "$archive" 2>/dev/null | sed -n 's/^.* T mt_//p')
+    # the inner walk, which is no part of the library
+    inner=$built/libinner_walk.a
+    if [ ! -f "$inner" ] || [ -n "$(find crates crates.txt -newer "$inner" -print -quit)" ]; then
+        tools/native_lib inner_walk "$inner" >>"$built/library.log" 2>&1 || { cat "$built/library.log"; echo "${0##*/}: the inner walk was not built"; exit 1; }
+    fi
+    export MORELTURRET_INNER_LIB=$inner
+    names=$(nm "$archive" "$inner" 2>/dev/null | sed -n 's/^.* T mt_//p')
     exported() { for f in "$@"; do [[ $'\n'$names$'\n' == *$'\n'$f$'\n'* ]] || return 1; done; }
     ! exported least greatest magnitude floor clamped_floor ceiling round_half_away square_root || features+=,numbers
-    ! exported segment_cells line_cells || features+=,walk
+    ! exported segment_cells inner_walk || features+=,walk
     ! exported build || features+=,build
     ! exported batch test_at || features+=,visit
     ! exported point_owned overlap_owned owner || features+=,own

@@ -112,13 +112,6 @@ uint32_t mt_owner(double min_x, double min_y, double cell_size, uint32_t cols, u
 uint32_t mt_segment_cells(double min_x, double min_y, double cell_size, uint32_t cols, uint32_t rows, double start_x, double start_y,
                           double end_x, double end_y, uint32_t *scratch, size_t scratch_len, uint64_t *out, size_t out_len);
 
-/* The same walk for a caller who walks many lines of a grid that he has checked. Of grid and coordinates only cols and rows are checked here,
- * and the scratch is not zeroed: what stands beyond the cells, and throughout after refusal 7, is left open.
- * out (1 word): the number of cells.
- * Refuses by 3, 8 (of cols and rows alone), 7. */
-uint32_t mt_line_cells(double min_x, double min_y, double cell_size, uint32_t cols, uint32_t rows, double start_x, double start_y, double end_x,
-                       double end_y, uint32_t *scratch, size_t scratch_len, uint64_t *out, size_t out_len);
-
 /* ---- the build ---- */
 
 /* Picks a grid for the lines and writes its tables. Line i goes from (start_x[i], start_y[i]) to (end_x[i], end_y[i]). The list of cell c is

@@ -1,4 +1,4 @@
-//! The port: the exported functions of its crate `capi`, and the only place in this package that names them.
+//! The port: the exported functions of its crate `capi`, the inner walk of `inner_walk`, and the only place in this package that names them.
 //! A slice goes in as its address and its length, a grid as its five numbers. The answer is document 01's number, 0 for success,
 //! with values in `out`. A wrapper is inlined, so that what is timed is one call. Each kind stands behind its own feature, which the scripts switch on where the library exports its functions.
 
@@ -77,12 +77,12 @@ pub fn segment_cells(g: &Grid, line: &Line, scratch: &mut [u32], out: &mut [u64]
     }
 }
 
-/// The walk that a build takes: it looks at no coordinate, and leaves the scratch beyond the cells as it comes. out: the number of cells.
+/// The walk that a build takes: it leaves the scratch beyond the cells as it comes. out: the number of cells. It is no part of the library.
 #[cfg(feature = "walk")]
 #[inline]
-pub fn line_cells(g: &Grid, line: &Line, scratch: &mut [u32], out: &mut [u64]) -> u32 {
+pub fn inner_walk(g: &Grid, line: &Line, scratch: &mut [u32], out: &mut [u64]) -> u32 {
     extern "C" {
-        fn mt_line_cells(
+        fn mt_inner_walk(
             min_x: f64, min_y: f64, cell_size: f64, cols: u32, rows: u32,
             x0: f64, y0: f64, x1: f64, y1: f64,
             scratch: *mut u32, scratch_len: usize,
@@ -91,7 +91,7 @@ pub fn line_cells(g: &Grid, line: &Line, scratch: &mut [u32], out: &mut [u64]) -
     }
     let [x0, y0, x1, y1] = *line;
     unsafe {
-        mt_line_cells(
+        mt_inner_walk(
             g.min_x, g.min_y, g.cell_size, g.cols, g.rows,
             x0, y0, x1, y1,
             scratch.as_mut_ptr(), scratch.len(),

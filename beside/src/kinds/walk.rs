@@ -24,6 +24,17 @@ fn entries() -> Vec<(&'static str, Entry)> {
     all
 }
 
+/// The inner walk: the same answer and the same cells; what is beyond them on success is open, and a refusal leaves what the entry's leaves.
+#[cfg(feature = "walk")]
+fn inner(case: &Case, wanted: &(u32, u64, Vec<u32>)) -> Result<(), String> {
+    let mut scratch = vec![JUNK; case.scratch];
+    let mut out = [u64::MAX; 8];
+    let number = crate::port::inner_walk(&case.grid, &case.line, &mut scratch, &mut out);
+    answers("inner walk", (wanted.0, &[wanted.1]), (number, &[out[0]]))?;
+    let settled = if number == 0 { out[0] as usize } else { case.scratch };
+    slices("inner walk: scratch", &wanted.2[..settled], &scratch[..settled])
+}
+
 pub struct Walk;
 
 impl Kind for Walk {
@@ -70,6 +81,8 @@ impl Kind for Walk {
             answers(who, (wanted.0, &[wanted.1]), (got.0, &[got.1]))?;
             slices(&format!("{who}: scratch"), &wanted.2, &got.2)?;
         }
+        #[cfg(feature = "walk")]
+        inner(case, wanted.as_ref().unwrap())?;
         Ok(match wanted.unwrap().0 {
             7 => "past the budget",
             n => word(n),

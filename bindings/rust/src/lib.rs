@@ -55,7 +55,7 @@ pub use place::{overlap_owned, owner, point_owned, snap, Grid, Strategy};
 pub use read::{read_line_string, read_points};
 pub use refusal::Refusal;
 pub use tables::{build, Batch, Built, Pairs, Place, Room, Standing, Tables, Test};
-pub use walk::{line_cells, segment_cells};
+pub use walk::segment_cells;
 
 /// The most lines that a build or a visit takes: above it refusal 2.
 pub const MAX_LINES: usize = 65_536;

@@ -40,12 +40,6 @@ extern "C" {
         scratch: *mut u32, scratch_len: usize,
         out: *mut u64, out_len: usize,
     ) -> u32;
-    fn mt_line_cells(
-        min_x: f64, min_y: f64, cell_size: f64, cols: u32, rows: u32,
-        start_x: f64, start_y: f64, end_x: f64, end_y: f64,
-        scratch: *mut u32, scratch_len: usize,
-        out: *mut u64, out_len: usize,
-    ) -> u32;
     fn mt_build(
         start_x: *const f64, start_x_len: usize,
         start_y: *const f64, start_y_len: usize,
@@ -183,19 +177,6 @@ pub(crate) fn segment_cells(g: Grid, start: (f64, f64), end: (f64, f64), scratch
     // SAFETY: Rust slices, lent for this call; `&mut` keeps the two apart.
     unsafe {
         mt_segment_cells(
-            g.min_x, g.min_y, g.cell_size, g.cols, g.rows,
-            start.0, start.1, end.0, end.1,
-            scratch.as_mut_ptr(), scratch.len(),
-            out.as_mut_ptr(), out.len(),
-        )
-    }
-}
-
-#[rustfmt::skip]
-pub(crate) fn line_cells(g: Grid, start: (f64, f64), end: (f64, f64), scratch: &mut [u32], out: &mut [u64]) -> u32 {
-    // SAFETY: Rust slices, lent for this call; `&mut` keeps the two apart.
-    unsafe {
-        mt_line_cells(
             g.min_x, g.min_y, g.cell_size, g.cols, g.rows,
             start.0, start.1, end.0, end.1,
             scratch.as_mut_ptr(), scratch.len(),

@@ -20,21 +20,3 @@ pub fn segment_cells(grid: Grid, start: (f64, f64), end: (f64, f64), scratch: &m
     let [count] = answer(|out| sys::segment_cells(grid, start, end, scratch, out))?;
     Ok(&scratch[..count as usize])
 }
-
-/// The same walk for a caller who walks many lines of a grid that is checked already. Of grid and coordinates only the columns and rows are
-/// checked here, and the scratch is not zeroed: what stands beyond the cells, and throughout after refusal 7, is left open.
-///
-/// Refuses by 3 (a short scratch), 8 (columns and rows alone), 7 (a walk too long).
-///
-/// ```
-/// use morelturret::{line_cells, Grid, SCRATCH};
-///
-/// let grid = Grid { min_x: 0.0, min_y: 0.0, cell_size: 1.0, cols: 4, rows: 4 };
-/// let mut scratch = vec![0; SCRATCH];
-/// assert_eq!(line_cells(grid, (1.0, 0.5), (1.0, 2.5), &mut scratch)?, [0, 1, 4, 5, 8, 9]);
-/// # Ok::<(), morelturret::Refusal>(())
-/// ```
-pub fn line_cells(grid: Grid, start: (f64, f64), end: (f64, f64), scratch: &mut [u32]) -> Result<&[u32], Refusal> {
-    let [count] = answer(|out| sys::line_cells(grid, start, end, scratch, out))?;
-    Ok(&scratch[..count as usize])
-}

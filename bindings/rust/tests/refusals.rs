@@ -92,7 +92,6 @@ fn three_lengths() {
     assert_eq!(refused_build(owned.lines(), ROOM, SCRATCH - 1), ((3, 0), LEFT));
     let mut short = vec![JUNK; SCRATCH - 1];
     assert_eq!(of(segment_cells(FOUR, (0.5, 0.5), (0.5, 0.5), &mut short)), (3, 0));
-    assert_eq!(of(line_cells(FOUR, (0.5, 0.5), (0.5, 0.5), &mut short)), (3, 0));
     let (mut first, mut second) = ([JUNK; 3], [JUNK; 4]);
     assert_eq!(of(tables.batch(owned.lines(), 0, &mut first, &mut second)), (3, 0));
     assert_eq!((first, second), ([JUNK; 3], [JUNK; 4]));
@@ -151,7 +150,6 @@ fn seven_a_walk_too_long() {
     let others: LineVec = (0..lines.len()).map(|i| if i == 1 { [0.0, 0.0, 0.0, 4.16] } else { lines.get(i).unwrap() }).collect();
     let grid = Tables::of(others.lines()).unwrap().grid();
     let mut scratch = vec![JUNK; SCRATCH];
-    assert_eq!(of(line_cells(grid, (0.0, 0.0), (1e-300, 4.16), &mut scratch)), (7, 0));
     assert_eq!(of(segment_cells(grid, (0.0, 0.0), (1e-300, 4.16), &mut scratch)), (7, 0));
     assert!(scratch.iter().all(|&entry| entry == 0));
 }
@@ -182,8 +180,6 @@ fn eight_an_unfit_grid() {
         assert_eq!(of(standing.test_at(owned.lines(), 0)), (8, 0));
         assert_eq!(of(standing.pairs(owned.lines(), 4)), (8, 0));
     }
-    assert_eq!(of(line_cells(Grid { cols: 0, ..FOUR }, (0.5, 0.5), (0.5, 0.5), &mut scratch)), (8, 0), "columns and rows alone");
-    assert!(line_cells(Grid { min_x: f64::NAN, ..FOUR }, (0.5, 0.5), (0.5, 0.5), &mut scratch).is_ok());
 }
 
 #[test]

@@ -11,7 +11,7 @@ use Rattle.tables.specs.Tables.{Tables}
 use Rattle.wkb.specs.declared.Read.{Read}
 use Rattle.wkb.specs.Reading as wkb
 use Rattle.walk.specs.Pushes.{Outcome}
-use Rattle.walk.specs.Segment.{cellsOf, Walked, Entered}
+use Rattle.walk.specs.Segment.{cellsOf, Entered}
 use Rattle.build.specs.Build as build
 use Rattle.visit.specs.declared.BatchAnswer.{BatchAnswer}
 use Rattle.visit.specs.Tests.{testsOf}
@@ -32,12 +32,6 @@ pub record ReadReplies (bytes : List ℕ) (x y : List Float) (out : List ℕ) (r
 pub record WalkReplies (o : Outcome) (scratch out : List ℕ) (r : ℕ) (scratch′ out′ : List ℕ) : Type 0 where
   pub replies : Replies 1 (ofCells (cellsOf o)) out r out′
   pub called : 1 ≤ length out → Entered o scratch (cellsOf o) scratch′
-  pub short : length out < 1 → scratch′ ≡ scratch
-
--- the walk of a line inside a larger call
-pub record LineReplies (o : Outcome) (scratch out : List ℕ) (r : ℕ) (scratch′ out′ : List ℕ) : Type 0 where
-  pub replies : Replies 1 (ofCells (cellsOf o)) out r out′
-  pub called : 1 ≤ length out → Walked o scratch (cellsOf o) scratch′
   pub short : length out < 1 → scratch′ ≡ scratch
 
 -- a build that ends in e

@@ -4,10 +4,10 @@ use grid::Grid;
 use walk::Cells;
 ghost use Prim.Native.Nat.{_≤_};
 ghost use lib.ListN.{length};
-ghost use Rattle.walk.specs.Segment.{innerOf, entryOf};
+ghost use Rattle.walk.specs.Segment.{entryOf};
 ghost use Rattle.capi.specs.Replies.{Handed, gridBy};
 ghost use Rattle.capi.specs.Answers.{ofCells};
-ghost use Rattle.capi.specs.Lent.{WalkReplies, LineReplies};
+ghost use Rattle.capi.specs.Lent.{WalkReplies};
 
 fn cells(answer: Cells, out: &mut [u64]) -> u32
     requires { ⌜ 1 ≤ length (now out) ⌝ }
@@ -48,39 +48,6 @@ pub extern "C" fn mt_segment_cells(
     };
     cells(
         walk::cells_of_segment(grid, start_x, start_y, end_x, end_y, scratch),
-        out,
-    )
-}
-
-// The walk of one line inside a larger call: of coordinates and grid the counts alone are checked, and what stands in the scratch beyond the cells is open.
-#[no_mangle]
-pub extern "C" fn mt_line_cells(
-    min_x: f64,
-    min_y: f64,
-    cell_size: f64,
-    cols: u32,
-    rows: u32,
-    start_x: f64,
-    start_y: f64,
-    end_x: f64,
-    end_y: f64,
-    scratch: &mut [u32],
-    out: &mut [u64],
-) -> u32
-    ensures { λ r. ⌜ LineReplies (innerOf (length (now (scratch .entry))) (gridBy «min_x» «min_y» «cell_size» cols rows) «start_x» «start_y» «end_x» «end_y») (now (scratch .entry)) (now (out .entry)) r (now (scratch .exit)) (now (out .exit)) ⌝ }
-{
-    if out.len() < 1 {
-        return reply::SHORT;
-    }
-    let grid = Grid {
-        min_x,
-        min_y,
-        cell_size,
-        cols,
-        rows,
-    };
-    cells(
-        walk::segment_cells(grid, start_x, start_y, end_x, end_y, scratch),
         out,
     )
 }

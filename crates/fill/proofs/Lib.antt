@@ -1,4 +1,4 @@
--- Laws for the proofs of `fill`. For the crates above: `Leaves`, and `above-never` in `Sums`.
+-- Laws for the proofs of `fill`. For the crates above: `Theorems`, `Leaves`, and `above-never` in `Sums`.
 pub mod Leaves
 pub mod Visits
 pub mod Sums
@@ -8,3 +8,4 @@ pub mod Counts
 pub mod Places
 pub mod Fills
 pub mod Entries
+pub mod Theorems

@@ -12,7 +12,7 @@ use Rattle.grid.specs.declared.Grid.{Grid}
 use Rattle.grid.specs.declared.Refusal.{Refusal}
 use Rattle.grid.specs.declared.Check.the-variants.{Fine, Refused}
 use Rattle.grid.specs.Refusals.{refusal, unless}
-use Rattle.grid.specs.Domain.{Lines, count, fit}
+use Rattle.grid.specs.Domain.{Lines, count, lineFits, fit}
 use Rattle.grid.proofs.Fine.{unless-fine}
 use Rattle.grid.proofs.Shapes.{shape-says, fit-shape}
 use Rattle.walk.specs.declared.Cells.{Cells}
@@ -20,14 +20,14 @@ use Rattle.walk.specs.declared.Cells.the-variants as cells-are
 use Rattle.walk.specs.Pushes.{Outcome, refused, found}
 use Rattle.walk.specs.Segment as walk
 use Rattle.walk.proofs.Visits.{segment-visits}
-use Rattle.walk.proofs.Answer.{inner-is}
+use Rattle.walk.proofs.Answer.{entry-is}
 use Rattle.csr.specs.Tables.{long, local}
 use Rattle.csr.specs.States.{Walks, Line}
 use Rattle.csr.proofs.Lists.{local-walks, local-short}
 use Rattle.fill.specs.declared.Count.the-variants as counted
 use Rattle.fill.specs.OnGrid.{cells, walkOn, ends, visited, cellsOn}
 use Rattle.fill.specs.Checks.{walkCheck}
-use Rattle.fill.specs.Inside.{CountAs, Walkable, Front, localOn}
+use Rattle.fill.specs.Inside.{CountAs, Walkable, WalkAsks, Front, localOn}
 
 -- ---- what the walk answers, as a count
 
@@ -55,15 +55,16 @@ module _ (g : Grid) (ls : Lines) (i : ℕ) where
       go (refused why) e = (tt, tt, omega arith)
       go (found xs) e = let v = segment-visits g _ _ _ _ xs (fit-shape g h) e in (v .rising, v .inside, v .few)
 
-  module _ {s : List ℕ} (w : Walkable g ls s) (r : Cells) {s′ : List ℕ} (h : walk.Walked (walk.innerOf (length s) g (getD (ls .«start_x») i nan) (getD (ls .«start_y») i nan) (getD (ls .«end_x») i nan) (getD (ls .«end_y») i nan)) s r s′) where
+  -- the scratch, the line and the grid pass, so the walk can be refused by 7 alone
+  module _ {s : List ℕ} (a : WalkAsks g ls i s) (r : Cells) {s′ : List ℕ} (h : walk.Walked (walk.entryOf (length s) g (getD (ls .«start_x») i nan) (getD (ls .«start_y») i nan) (getD (ls .«end_x») i nan) (getD (ls .«end_y») i nan)) s r s′) where
     inner : walk.Walked (walkOn g ls i) s r s′
-    unfolding walkOn
-    inner = rw (inner-is g _ _ _ _ (length s) (w .space) (fit-shape g (w .fits))) at h
+    unfolding walkOn lineFits
+    inner = let w = a .walkable in rw (entry-is g _ _ _ _ (length s) (w .space) (w .each i (a .at)) (w .fits)) at h
 
     pub walk-found : (n : ℕ) → r ≡ cells-are.Found n → CountAs (walkCheck g ls i) (Front g ls i s′) (counted.Of n)
     unfolding cellsOn walkCheck unless
     walk-found n e =
-        let k = walked-found (walkOn g ls i) s n s′ (rw e at inner) (inner .size) (omega (arith, visits (w .fits) .2, w .space)) in
+        let k = walked-found (walkOn g ls i) s n s′ (rw e at inner) (inner .size) (omega (arith, visits (a .walkable .fits) .2, a .walkable .space)) in
         (rw (k .0), record { size = k .1; within = k .2; front = k .3 })
 
     pub walk-over : (q : Refusal) → r ≡ cells-are.Refused q → CountAs (walkCheck g ls i) (Front g ls i s′) (counted.Refused (refusal 7 i))

@@ -5,18 +5,18 @@ use Prim.Native.Nat.{ℕ, zero, suc, _+_, _-_, _*_, _%_, _^_, _≤_, _<_}
 use native.Mathlib.Omega.{arith}
 use mathlib.Core.Bool.{Bool, true, false, _&&_}
 use mathlib.Core.List.{List, [], _∷_, _++_}
-use lib.ListN.{length, take, drop, replicate}
+use lib.ListN.{length, take, drop}
 use lib.Seq.{take-at}
 use lib.Dec.{leb, eqb}
 use lib.Ieee.{Float, inf, binary64, sub, eq}
 use borrow.Author.Tests.{le-leb, lt-leb}
-use Rattle.slices.specs.Slices.{sorted, distinctOf, OneOfEach}
+use Rattle.slices.specs.Slices.{sorted, distinctOf, OneOfEach, clearedFrom}
 use Rattle.grid.specs.declared.Axis.{Axis}
 use Rattle.grid.specs.declared.Grid.{Grid}
 use Rattle.grid.specs.declared.Refusal.{Refusal}
 use Rattle.grid.specs.Axes.{xAxis, yAxis, indexOn, boundaryOn}
 use Rattle.grid.specs.Refusals.{refusal, unless}
-use Rattle.grid.specs.Domain.{shape, scratchCheck}
+use Rattle.grid.specs.Domain.{segment, fit, scratchCheck, segmentCheck, gridCheck}
 use Rattle.grid.proofs.Bools.{and-left}
 use Rattle.grid.proofs.Shapes.{Shape}
 use Rattle.walk.specs.declared.Walk.{Walk}
@@ -27,7 +27,7 @@ use Rattle.walk.specs.declared.Cells.{Cells}
 use Rattle.walk.specs.declared.Cells.the-variants.{Found, Refused}
 use Rattle.walk.specs.Turns.{nought, deltaOf, firstOn, courseOn, positionOn, wayOf, startOf, steppedOf, advanced}
 use Rattle.walk.specs.Pushes.{Outcome, refused, found, walkedOf}
-use Rattle.walk.specs.Segment.{addedOf, alongOn, endOf, pushesOf, answered, unlessNone, segmentOf, checked, shapeCheck, innerOf, cellsOf, Left, Walked}
+use Rattle.walk.specs.Segment.{addedOf, alongOn, endOf, pushesOf, answered, unlessNone, segmentOf, checked, entryOf, cellsOf, leftBy, Walked}
 use Rattle.walk.specs.Inside.{Grown, Covers, Complete, RanWithin, Far, Straight, Still, WalkedTo, Walks, share, shareOf}
 use Rattle.walk.proofs.Floats.{sum-far, step-none, index-le}
 use Rattle.walk.proofs.Grows.{and-then}
@@ -104,17 +104,22 @@ module _ (g : Grid) (x₀ y₀ x₁ y₁ : Float) where
   -- ---- the refusals, and the walk behind them
 
   module _ (n : ℕ) where
-    pub short-is : n < 16384 → innerOf n g x₀ y₀ x₁ y₁ ≡ refused (refusal 3 0)
-    unfolding innerOf scratchCheck checked unless
+    pub short-is : n < 16384 → entryOf n g x₀ y₀ x₁ y₁ ≡ refused (refusal 3 0)
+    unfolding entryOf scratchCheck checked unless
     short-is h = rw (lt-leb 16384 n h)
 
-    pub unfit-is : 16384 ≤ n → shape (g .cols) (g .rows) ≡ false → innerOf n g x₀ y₀ x₁ y₁ ≡ refused (refusal 8 0)
-    unfolding innerOf scratchCheck shapeCheck checked unless
-    unfit-is h k = rw (le-leb 16384 n h, k)
+    pub beyond-is : 16384 ≤ n → segment x₀ y₀ x₁ y₁ ≡ false → entryOf n g x₀ y₀ x₁ y₁ ≡ refused (refusal 1 0)
+    unfolding entryOf scratchCheck segmentCheck checked unless
+    beyond-is h k = rw (le-leb 16384 n h, k)
 
-    pub inner-is : 16384 ≤ n → shape (g .cols) (g .rows) ≡ true → innerOf n g x₀ y₀ x₁ y₁ ≡ segmentOf g x₀ y₀ x₁ y₁
-    unfolding innerOf scratchCheck shapeCheck checked unless
-    inner-is h k = rw (le-leb 16384 n h, k)
+    pub unfit-is : 16384 ≤ n → segment x₀ y₀ x₁ y₁ ≡ true → fit g ≡ false → entryOf n g x₀ y₀ x₁ y₁ ≡ refused (refusal 8 0)
+    unfolding entryOf scratchCheck segmentCheck gridCheck checked unless
+    unfit-is h i k = rw (le-leb 16384 n h, i, k)
+
+    -- of a scratch, a segment and a grid that pass them
+    pub entry-is : 16384 ≤ n → segment x₀ y₀ x₁ y₁ ≡ true → fit g ≡ true → entryOf n g x₀ y₀ x₁ y₁ ≡ segmentOf g x₀ y₀ x₁ y₁
+    unfolding entryOf scratchCheck segmentCheck gridCheck checked unless
+    entry-is h i k = rw (le-leb 16384 n h, i, k)
 
   none-is : g .cols ≡ 0 → segmentOf g x₀ y₀ x₁ y₁ ≡ found []
   unfolding segmentOf unlessNone
@@ -132,8 +137,7 @@ module _ (g : Grid) (x₀ y₀ x₁ y₁ : Float) where
 
 -- ---- the answers
 
--- a walk that is refused: nothing is changed, but by refusal 7
-pub refused-walked : (o : Outcome) (why : Refusal) (was now : List ℕ) → o ≡ refused why → length now ≡ length was → ((why .number ≡ 7 → ⊥) → now ≡ was) → Walked o was (Refused why) now
+pub refused-walked : (o : Outcome) (why : Refusal) (was now : List ℕ) → o ≡ refused why → length now ≡ length was → now ≡ leftBy why was → Walked o was (Refused why) now
 unfolding cellsOf
 refused-walked o why was now e l h = rw e (record { answer = refl; size = l; left = h })
 
@@ -142,42 +146,52 @@ unfolding cellsOf
 found-walked o xs was now r e l c h = rw (e, c) (record { answer = refl; size = l; left = h })
 
 module _ (g : Grid) (x₀ y₀ x₁ y₁ : Float) (was : List ℕ) where
-  pub short-answer : length was < 16384 → Walked (innerOf (length was) g x₀ y₀ x₁ y₁) was (Refused (refusal 3 0)) was
-  short-answer h = refused-walked _ (refusal 3 0) was was (short-is g x₀ y₀ x₁ y₁ (length was) h) refl (λ n. refl)
+  pub short-answer : length was < 16384 → Walked (entryOf (length was) g x₀ y₀ x₁ y₁) was (Refused (refusal 3 0)) was
+  unfolding leftBy
+  short-answer h = refused-walked _ (refusal 3 0) was was (short-is g x₀ y₀ x₁ y₁ (length was) h) refl refl
 
   module _ (long : 16384 ≤ length was) where
-    pub unfit-answer : shape (g .cols) (g .rows) ≡ false → Walked (innerOf (length was) g x₀ y₀ x₁ y₁) was (Refused (refusal 8 0)) was
-    unfit-answer h = refused-walked _ (refusal 8 0) was was (unfit-is g x₀ y₀ x₁ y₁ (length was) long h) refl (λ n. refl)
+    pub beyond-answer : segment x₀ y₀ x₁ y₁ ≡ false → Walked (entryOf (length was) g x₀ y₀ x₁ y₁) was (Refused (refusal 1 0)) was
+    unfolding leftBy
+    beyond-answer h = refused-walked _ (refusal 1 0) was was (beyond-is g x₀ y₀ x₁ y₁ (length was) long h) refl refl
 
-    module _ (fits : shape (g .cols) (g .rows) ≡ true) where
-      pub none-answer : g .cols ≡ 0 → Walked (innerOf (length was) g x₀ y₀ x₁ y₁) was (Found 0) was
-      none-answer e = found-walked _ [] was was 0 (inner-is g x₀ y₀ x₁ y₁ (length was) long fits ∙ none-is g x₀ y₀ x₁ y₁ e) refl refl refl
+    module _ (inside : segment x₀ y₀ x₁ y₁ ≡ true) where
+      pub unfit-answer : fit g ≡ false → Walked (entryOf (length was) g x₀ y₀ x₁ y₁) was (Refused (refusal 8 0)) was
+      unfolding leftBy
+      unfit-answer h = refused-walked _ (refusal 8 0) was was (unfit-is g x₀ y₀ x₁ y₁ (length was) long inside h) refl refl
 
-      module _ (way : Way) (w : Walk) (R : Ran) (s : List ℕ) (e : way ≡ wayOf g x₀ y₀ x₁ y₁) (f : w ≡ startOf g x₀ y₀ x₁ y₁) (some : g .cols ≡ 0 → ⊥)
-          (run : Walks way w (walkedOf (g .cols) (g .rows) way w) R s) where
-        inner : innerOf (length was) g x₀ y₀ x₁ y₁ ≡ answered g x₀ y₀ x₁ y₁ (walkedOf (g .cols) (g .rows) way w)
-        inner = inner-is g x₀ y₀ x₁ y₁ (length was) long fits ∙ segment-is g x₀ y₀ x₁ y₁ way w e f some
+      module _ (fits : fit g ≡ true) where
+        pub none-answer : g .cols ≡ 0 → Walked (entryOf (length was) g x₀ y₀ x₁ y₁) was (Found 0) was
+        none-answer e = found-walked _ [] was was 0 (entry-is g x₀ y₀ x₁ y₁ (length was) long inside fits ∙ none-is g x₀ y₀ x₁ y₁ e) refl refl refl
 
-        ordered : (o : Outcome) (n : ℕ) (l : List ℕ) → WalkedTo o (Done n) s → ((f : ℕ → Bool) → any f l ≡ any f (pushesOf g x₀ y₀ x₁ y₁ (take n s))) → answered g x₀ y₀ x₁ y₁ o ≡ found (distinctOf (sorted l))
-        unfolding answered
-        ordered (refused why) n l p q = absurd p
-        ordered (found xs) n l p q = ap found (sym (same-answer g x₀ y₀ x₁ y₁ (take n s) xs (p .1)) ∙ sym (same-members l (pushesOf g x₀ y₀ x₁ y₁ (take n s)) (λ u. q (eqb u))))
+        module _ (way : Way) (w : Walk) (R : Ran) (s : List ℕ) (e : way ≡ wayOf g x₀ y₀ x₁ y₁) (f : w ≡ startOf g x₀ y₀ x₁ y₁) (some : g .cols ≡ 0 → ⊥)
+            (run : Walks way w (walkedOf (g .cols) (g .rows) way w) R s) where
+          entry : entryOf (length was) g x₀ y₀ x₁ y₁ ≡ answered g x₀ y₀ x₁ y₁ (walkedOf (g .cols) (g .rows) way w)
+          entry = entry-is g x₀ y₀ x₁ y₁ (length was) long inside fits ∙ segment-is g x₀ y₀ x₁ y₁ way w e f some
 
-        pub found-answer : (n m r : ℕ) (t u : List ℕ) → R ≡ Done n → Complete t m (pushesOf g x₀ y₀ x₁ y₁ (take n s)) → length u ≡ length was
-            → OneOfEach (sorted (take m t)) (sorted (take m t) ++ drop m t) u r
-            → Walked (innerOf (length was) g x₀ y₀ x₁ y₁) was (Found r) u
-        found-answer n m r t u d q l k =
-            found-walked _ (distinctOf (sorted (take m t))) was u r
-            (inner ∙ ordered (walkedOf (g .cols) (g .rows) way w) n (take m t) (subst (λ (z : Ran). WalkedTo (walkedOf (g .cols) (g .rows) way w) z s) d (run .ran)) (q .same))
-            l (k .count) (rw (k .left) (take-at (distinctOf (sorted (take m t))) (drop r (sorted (take m t) ++ drop m t)) (length (distinctOf (sorted (take m t)))) refl))
+          ordered : (o : Outcome) (n : ℕ) (l : List ℕ) → WalkedTo o (Done n) s → ((f : ℕ → Bool) → any f l ≡ any f (pushesOf g x₀ y₀ x₁ y₁ (take n s))) → answered g x₀ y₀ x₁ y₁ o ≡ found (distinctOf (sorted l))
+          unfolding answered
+          ordered (refused why) n l p q = absurd p
+          ordered (found xs) n l p q = ap found (sym (same-answer g x₀ y₀ x₁ y₁ (take n s) xs (p .1)) ∙ sym (same-members l (pushesOf g x₀ y₀ x₁ y₁ (take n s)) (λ u. q (eqb u))))
 
-        budget : (o : Outcome) → WalkedTo o Over s → answered g x₀ y₀ x₁ y₁ o ≡ refused (refusal 7 0)
-        unfolding answered
-        budget (refused why) p = ap refused p
-        budget (found xs) p = absurd p
+          pub found-answer : (n m r : ℕ) (t u : List ℕ) → R ≡ Done n → Complete t m (pushesOf g x₀ y₀ x₁ y₁ (take n s)) → length u ≡ length was
+              → OneOfEach (sorted (take m t)) (sorted (take m t) ++ drop m t) u r
+              → Walked (entryOf (length was) g x₀ y₀ x₁ y₁) was (Found r) u
+          found-answer n m r t u d q l k =
+              found-walked _ (distinctOf (sorted (take m t))) was u r
+              (entry ∙ ordered (walkedOf (g .cols) (g .rows) way w) n (take m t) (subst (λ (z : Ran). WalkedTo (walkedOf (g .cols) (g .rows) way w) z s) d (run .ran)) (q .same))
+              l (k .count) (rw (k .left) (take-at (distinctOf (sorted (take m t))) (drop r (sorted (take m t) ++ drop m t)) (length (distinctOf (sorted (take m t)))) refl))
 
-        pub over-answer : R ≡ Over → length s ≡ length was → Walked (innerOf (length was) g x₀ y₀ x₁ y₁) was (Refused (refusal 7 0)) s
-        over-answer d l =
-            refused-walked _ (refusal 7 0) was s
-            (inner ∙ budget (walkedOf (g .cols) (g .rows) way w) (subst (λ (z : Ran). WalkedTo (walkedOf (g .cols) (g .rows) way w) z s) d (run .ran)))
-            l (λ n. absurd (n refl))
+          budget : (o : Outcome) → WalkedTo o Over s → answered g x₀ y₀ x₁ y₁ o ≡ refused (refusal 7 0)
+          unfolding answered
+          budget (refused why) p = ap refused p
+          budget (found xs) p = absurd p
+
+          -- 7 clears
+          pub over-answer : (t : List ℕ) → R ≡ Over → length s ≡ length was → length t ≡ length s → t ≡ clearedFrom 0 s → Walked (entryOf (length was) g x₀ y₀ x₁ y₁) was (Refused (refusal 7 0)) t
+          unfolding leftBy clearedFrom
+          over-answer t d l k c =
+              let z : length s - 0 ≡ length was = omega arith in
+              refused-walked _ (refusal 7 0) was t
+              (entry ∙ budget (walkedOf (g .cols) (g .rows) way w) (subst (λ (z : Ran). WalkedTo (walkedOf (g .cols) (g .rows) way w) z s) d (run .ran)))
+              (k ∙ l) (c ∙ rw z)

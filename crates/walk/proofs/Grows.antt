@@ -13,7 +13,7 @@ use borrow.Author.Tests.{lt-ltb, le-ltb, eqb-true}
 use Rattle.slices.specs.Lists.{any, elem}
 use Rattle.slices.proofs.Members.{any-append, elem-at}
 use Rattle.walk.specs.Pushes.{kept, pushOf}
-use Rattle.walk.specs.Inside.{Grown, Covers}
+use Rattle.walk.specs.Inside.{Grown, Covers, lastIs}
 
 pub none : {xs : List ℕ} {n : ℕ} → n ≤ length xs → Grown xs xs n n []
 none {xs} {n} h = record { len = refl; count = omega arith; within = h; is = sym (append-nil (take n xs)) }
@@ -86,17 +86,28 @@ passes f c (x ∷ l) e h = go (eqb c x) refl e (λ d. passes f c l d h)
     go true k d later = rw (← eqb-true c x k, h)
     go false k d later = or-right (f x) (any f l) (later d)
 
-pub last-elem : (s : List ℕ) (n c : ℕ) → n ≤ length s → 0 < n → eqb (getD s (n - 1) 0) c ≡ true → elem c (take n s) ≡ true
-last-elem s n c l h e =
-    let i : getD (take n s) (n - 1) 0 ≡ c = getD-take n s (n - 1) 0 (omega arith) ∙ eqb-true (getD s (n - 1) 0) c e in
-    subst (λ (v : ℕ). elem v (take n s) ≡ true) i (elem-at (take n s) (n - 1) (omega (arith, length-take-le n s l)))
+pub last-none : (s : List ℕ) (n c : ℕ) → n ≡ 0 → false ≡ lastIs n s c
+unfolding lastIs
+last-none s n c e = rw e
 
-pub left-out : {xs : List ℕ} {n c : ℕ} {more : List ℕ} → n ≤ length xs → more ≡ c ∷ [] → elem c (take n xs) ≡ true → Covers xs xs n n 1 more
+pub last-one : (s : List ℕ) (n c : ℕ) → 0 < n → eqb (getD s (n - 1) 0) c ≡ lastIs n s c
+unfolding lastIs
+last-one s zero c h = absurd (omega arith)
+last-one s (suc n) c h = let e : suc n - 1 ≡ n = omega arith in rw e
+
+last-elem : (s : List ℕ) (n c : ℕ) → n ≤ length s → lastIs n s c ≡ true → elem c (take n s) ≡ true
+unfolding lastIs
+last-elem s zero c l e = absurd (true≢false (sym e))
+last-elem s (suc n) c l e =
+    let i : getD (take (suc n) s) n 0 ≡ c = getD-take (suc n) s n 0 (omega arith) ∙ eqb-true (getD s n 0) c e in
+    subst (λ (v : ℕ). elem v (take (suc n) s) ≡ true) i (elem-at (take (suc n) s) n (omega (arith, length-take-le (suc n) s l)))
+
+pub left-out : {xs : List ℕ} {n c : ℕ} {more : List ℕ} → n ≤ length xs → more ≡ c ∷ [] → lastIs n xs c ≡ true → Covers xs xs n n 1 more
 left-out {xs} {n} {c} {more} l e h = record {
   len = refl;
   count = omega arith;
   within = l;
-  same = λ f. or-last (any f (take n xs)) (f c) (passes f c (take n xs) h) ∙ sym (any-append f (take n xs) (c ∷ [])) ∙ ap (λ (z : List ℕ). any f (take n xs ++ z)) (sym e);
+  same = λ f. or-last (any f (take n xs)) (f c) (passes f c (take n xs) (last-elem xs n c l h)) ∙ sym (any-append f (take n xs) (c ∷ [])) ∙ ap (λ (z : List ℕ). any f (take n xs ++ z)) (sym e);
 }
 
 pub covers : {xs ys : List ℕ} {n r : ℕ} {more : List ℕ} (b : ℕ) → length more ≤ b → Grown xs ys n r more → Covers xs ys n r b more

@@ -1,4 +1,4 @@
--- For the crates above: `Visits`, and `inner-is` of `Answer`. `Faithful` and `Points` hold the definitions to document 01.
+-- For the crates above: `Visits`, and `entry-is` of `Answer`. `Faithful` and `Points` hold the definitions to document 01.
 -- `Floats`, `Grows`, `Loop`, `Added`, `Spread`, `Answer` and `Entry` are the steps of the functions' proofs.
 pub mod Floats
 pub mod Grows

@@ -3,8 +3,8 @@ use mathlib.Core.Path.{_≡_}
 use mathlib.Core.Logic.{_⊎_}
 use mathlib.Core.Bool.{Bool, true, false, cond}
 use mathlib.Core.List.{List, [], _∷_, _++_}
-use Prim.Native.Nat.{ℕ, _+_, _-_, _%_, _≤_}
-use lib.ListN.{length, take}
+use Prim.Native.Nat.{ℕ, zero, suc, _+_, _-_, _%_, _≤_}
+use lib.ListN.{length, take, getD}
 use lib.Dec.{eqb}
 use lib.Ieee.{Float}
 use Rattle.slices.specs.Lists.{any}
@@ -34,6 +34,11 @@ pub record Covers (xs ys : List ℕ) (n r b : ℕ) (more : List ℕ) : Type 0 wh
   pub count : r ≤ n + b
   pub within : r ≤ length ys
   pub same : (f : ℕ → Bool) → any f (take r ys) ≡ any f (take n xs ++ more)
+
+-- whether the last of the first n of s is c
+unfoldable pub lastIs : ℕ → List ℕ → ℕ → Bool
+lastIs zero s c = false
+lastIs (suc n) s c = eqb (getD s n 0) c
 
 -- the first r of s are just these cells, in some order, how often ever
 pub record Complete (s : List ℕ) (r : ℕ) (cells : List ℕ) : Type 0 where

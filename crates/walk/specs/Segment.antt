@@ -13,8 +13,7 @@ use Rattle.grid.specs.declared.Refusal.{Refusal}
 use Rattle.grid.specs.declared.Check.{Check}
 use Rattle.grid.specs.declared.Check.the-variants.{Fine, Refused as Due}
 use Rattle.grid.specs.Axes.{xAxis, yAxis, indexOn, boundaryOn}
-use Rattle.grid.specs.Refusals.{unless}
-use Rattle.grid.specs.Domain.{shape, scratchCheck, segmentCheck, gridCheck}
+use Rattle.grid.specs.Domain.{scratchCheck, segmentCheck, gridCheck}
 use Rattle.walk.specs.declared.Cells.{Cells}
 use Rattle.walk.specs.declared.Cells.the-variants.{Found, Refused}
 use Rattle.walk.specs.Turns.{nought, wayOf, startOf}
@@ -90,14 +89,6 @@ unfoldable pub checked : Check → Outcome → Outcome
 checked Fine o = o
 checked (Due why) o = refused why
 
--- 8, of the counts alone
-unfoldable pub shapeCheck : Grid → Check
-shapeCheck g = unless (shape (g .cols) (g .rows)) 8 0
-
--- the walk of a line inside a larger call, by n entries of scratch: 3; 8, of the counts alone; 7
-unfoldable pub innerOf : ℕ → Grid → Float → Float → Float → Float → Outcome
-innerOf n g x₀ y₀ x₁ y₁ = checked (scratchCheck n) (checked (shapeCheck g) (segmentOf g x₀ y₀ x₁ y₁))
-
 -- the walk of one segment, by n entries of scratch: 3, 1, 8, 7
 unfoldable pub entryOf : ℕ → Grid → Float → Float → Float → Float → Outcome
 entryOf n g x₀ y₀ x₁ y₁ = checked (scratchCheck n) (checked (segmentCheck x₀ y₀ x₁ y₁) (checked (gridCheck g) (segmentOf g x₀ y₀ x₁ y₁)))
@@ -118,12 +109,12 @@ unfoldable pub scratchOf : Outcome → List ℕ → List ℕ
 scratchOf (refused why) was = leftBy why was
 scratchOf (found xs) was = xs ++ replicate (length was - length xs) 0
 
--- the scratch of an inner walk: the cells at its start (what is beyond them is open); a refusal other than 7 changes nothing
+-- the scratch of a walk inside a larger call: the cells at its start (what is beyond them is open), or what the refusal leaves
 abbrev pub Left : Outcome → List ℕ → List ℕ → Type 0
-Left (refused why) was now = (why .number ≡ 7 → ⊥) → now ≡ was
+Left (refused why) was now = now ≡ leftBy why was
 Left (found xs) was now = take (length xs) now ≡ xs
 
--- what an inner walk promises
+-- what a walk inside a larger call promises
 pub record Walked (o : Outcome) (was : List ℕ) (r : Cells) (now : List ℕ) : Type 0 where
   pub answer : r ≡ cellsOf o
   pub size : length now ≡ length was

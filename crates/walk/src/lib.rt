@@ -11,7 +11,7 @@ use turns::started;
 use turns::way_of;
 ghost use mathlib.Core.Path.{_≡_};
 ghost use lib.ListN.{length};
-ghost use Rattle.walk.specs.Segment.{innerOf, entryOf, Walked, Entered};
+ghost use Rattle.walk.specs.Segment.{entryOf, Walked, Entered};
 
 // The number of cells, which stand in the lent scratch, or a refusal.
 pub enum Cells {
@@ -55,7 +55,7 @@ pub enum Ran {
 }
 
 // The walk of one line inside a larger call: its cells, increasing, none twice, at the start of the scratch. What is beyond them there is not zeroed.
-// Refusals 3, 8 (of the counts alone) and 7.
+// Refusals 3, 1, 8 and 7.
 pub fn segment_cells(
     grid: Grid,
     start_x: f64,
@@ -64,49 +64,7 @@ pub fn segment_cells(
     end_y: f64,
     scratch: &mut [u32],
 ) -> Cells
-    ensures { λ r. ⌜ Walked (innerOf (length (now (scratch .entry))) grid «start_x» «start_y» «end_x» «end_y») (now (scratch .entry)) r (now (scratch .exit)) ⌝ }
-{
-    if scratch.len() < 16384 {
-        return Cells::Refused(Refusal {
-            number: 3,
-            value: 0,
-        });
-    }
-    if !grid::checks::is_shape(grid.cols, grid.rows) {
-        return Cells::Refused(Refusal {
-            number: 8,
-            value: 0,
-        });
-    }
-    if grid.cols == 0 {
-        return Cells::Found(0);
-    }
-    let way = way_of(grid, start_x, start_y, end_x, end_y);
-    let start = started(grid, start_x, start_y, end_x, end_y);
-    let r = walked(scratch, grid.cols, grid.rows, way, start);
-    match r {
-        Ran::Done(n) => {
-            let m = completed(scratch, n, grid, start_x, start_y, end_x, end_y);
-            let count = slices::order_and_keep(scratch, m);
-            Cells::Found(count)
-        },
-        Ran::Over => Cells::Refused(Refusal {
-            number: 7,
-            value: 0,
-        }),
-    }
-}
-
-// The walk of one segment: its cells, increasing, none twice, at the start of the scratch, and zero beyond them. Refusals 3, 1, 8 and 7.
-pub fn cells_of_segment(
-    grid: Grid,
-    start_x: f64,
-    start_y: f64,
-    end_x: f64,
-    end_y: f64,
-    scratch: &mut [u32],
-) -> Cells
-    ensures { λ r. ⌜ Entered (entryOf (length (now (scratch .entry))) grid «start_x» «start_y» «end_x» «end_y») (now (scratch .entry)) r (now (scratch .exit)) ⌝ }
+    ensures { λ r. ⌜ Walked (entryOf (length (now (scratch .entry))) grid «start_x» «start_y» «end_x» «end_y») (now (scratch .entry)) r (now (scratch .exit)) ⌝ }
 {
     if scratch.len() < 16384 {
         return Cells::Refused(Refusal {
@@ -126,15 +84,45 @@ pub fn cells_of_segment(
             value: 0,
         });
     }
+    if grid.cols == 0 {
+        return Cells::Found(0);
+    }
+    let way = way_of(grid, start_x, start_y, end_x, end_y);
+    let start = started(grid, start_x, start_y, end_x, end_y);
+    let r = walked(scratch, grid.cols, grid.rows, way, start);
+    match r {
+        Ran::Done(n) => {
+            let m = completed(scratch, n, grid, start_x, start_y, end_x, end_y);
+            let count = slices::order_and_keep(scratch, m);
+            Cells::Found(count)
+        },
+        Ran::Over => {
+            slices::clear_from(scratch, 0);
+            Cells::Refused(Refusal {
+                number: 7,
+                value: 0,
+            })
+        },
+    }
+}
+
+// The walk of one segment: the same, and zero beyond the cells.
+pub fn cells_of_segment(
+    grid: Grid,
+    start_x: f64,
+    start_y: f64,
+    end_x: f64,
+    end_y: f64,
+    scratch: &mut [u32],
+) -> Cells
+    ensures { λ r. ⌜ Entered (entryOf (length (now (scratch .entry))) grid «start_x» «start_y» «end_x» «end_y») (now (scratch .entry)) r (now (scratch .exit)) ⌝ }
+{
     let r = segment_cells(grid, start_x, start_y, end_x, end_y, scratch);
     match r {
         Cells::Found(n) => {
             slices::clear_from(scratch, n);
             Cells::Found(n)
         },
-        Cells::Refused(why) => {
-            slices::clear_from(scratch, 0);
-            Cells::Refused(why)
-        },
+        Cells::Refused(why) => Cells::Refused(why),
     }
 }

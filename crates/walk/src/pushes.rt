@@ -4,12 +4,11 @@ use crate::Turn;
 use crate::Walk;
 use crate::Way;
 ghost use mathlib.Core.Path.{_≡_};
-ghost use mathlib.Core.Bool.{true, _&&_};
+ghost use mathlib.Core.Bool.{_&&_};
 ghost use Prim.Native.Nat.{_+_, _*_, _≤_, _<_};
 ghost use lib.ListN.{length, take};
-ghost use Rattle.slices.specs.Lists.{elem};
 ghost use Rattle.walk.specs.Pushes.{pushOf, sidesOf, before, goingOf, turns, walkedOf};
-ghost use Rattle.walk.specs.Inside.{Grown, Covers, Runs, Walks};
+ghost use Rattle.walk.specs.Inside.{Grown, Covers, lastIs, Runs, Walks};
 
 // Pushes the cell, where it is inside the grid.
 fn put(s: &mut [u32], n: usize, cols: u32, rows: u32, col: u32, row: u32) -> usize
@@ -26,9 +25,10 @@ fn put(s: &mut [u32], n: usize, cols: u32, rows: u32, col: u32, row: u32) -> usi
     n
 }
 
+// Whether the last of the first n is c.
 fn last_is(s: &[u32], n: usize, c: u32) -> bool
     requires { ⌜ n ≤ length (now s) ⌝ }
-    ensures { λ r. ⌜ (r ≡ true → elem c (take n (now (s .entry))) ≡ true) ⌝ }
+    ensures { λ r. ⌜ r ≡ lastIs n (now (s .entry)) c ⌝ }
 {
     if n == 0 {
         return false;

@@ -82,8 +82,8 @@ fn compared(clock: &Clock, r: &mut Random, walk: Walk, bar: Option<f64>) {
 }
 
 pub fn times(clock: &Clock, r: &mut Random) {
-    clock.head("Walk, as a build takes it (mt_line_cells): neither side clears anything. In brackets the cells of a line on average.");
-    compared(clock, r, port::line_cells, BAR);
-    clock.head("Walk of one segment (mt_segment_cells): the port also checks the segment and the grid, and clears 16,384 entries of scratch.");
+    clock.head("Walk, as a build takes it (mt_inner_walk): the port also checks the segment and the grid, and neither side clears anything. In brackets the cells of a line on average.");
+    compared(clock, r, port::inner_walk, BAR);
+    clock.head("Walk of one segment (mt_segment_cells): the port also clears 16,384 entries of scratch.");
     compared(clock, r, port::segment_cells, None);
 }

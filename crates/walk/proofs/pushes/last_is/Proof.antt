@@ -1,14 +1,12 @@
 -- `walk::pushes::last_is` meets its contract. Assumes nothing.
-use mathlib.Core.Bool.{true≢false}
-use mathlib.Core.Path.{sym}
 use native.Mathlib.Omega.{arith}
 use borrow.Author.Needs.{needs}
-use Rattle.walk.proofs.Grows.{last-elem}
+use Rattle.walk.proofs.Grows.{last-none, last-one}
 use Rattle.walk.proofs.pushes.last_is.Statement.{statement}
 use Rattle.walk.proofs.pushes.last_is.Tie as tie
 
 returns : tie.Need-returns
-returns c = λ p. absurd (true≢false (sym p))
+returns c = last-none _ _ _ (omega arith)
 
 sub-result : tie.Need-sub-result
 sub-result c = search needs
@@ -20,7 +18,7 @@ shared-slice-read-result : tie.Need-shared-slice-read-result
 shared-slice-read-result c = search needs
 
 returns-2 : tie.Need-returns-2
-returns-2 c = let a = c .before .before .args in λ p. last-elem (a .s .now) (a .n) (a .c) (omega arith) (omega arith) p
+returns-2 c = let a = c .before .before .args in last-one (a .s .now) (a .n) (a .c) (omega arith)
 
 pub last-is-spec : {M : Type 1} → statement M
 last-is-spec =

@@ -1,4 +1,5 @@
 -- `walk::pushes::put_other` meets its contract. Assumes nothing.
+use mathlib.Core.Path.{sym, _∙_}
 use native.Mathlib.Omega.{arith}
 use borrow.Author.Needs.{needs}
 use Rattle.walk.proofs.Grows.{none, one, number, inside, beyond-row, beyond-col, at-most-one, covers, left-out}
@@ -18,7 +19,7 @@ same-length : tie.Need-same-length
 same-length c = search needs
 
 returns : tie.Need-returns
-returns c = left-out (omega arith) (inside _ _ _ _ (c .before .before .before .before .if1 .taken) (c .before .before .before .if2 .taken)) (c .before .last-is .ensures (c .if3 .taken))
+returns c = left-out (omega arith) (inside _ _ _ _ (c .before .before .before .before .if1 .taken) (c .before .before .before .if2 .taken)) (sym (c .before .last-is .ensures) ∙ c .if3 .taken)
 
 mul-s : tie.Need-mul-s
 mul-s c = search needs

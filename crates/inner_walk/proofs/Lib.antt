@@ -1,0 +1,2 @@
+-- The steps of the functions' proofs.
+pub mod Reply

@@ -1,0 +1,2 @@
+-- What the exported walk answers, in numbers.
+pub mod Replies

@@ -1,0 +1,29 @@
+-- The exported walk: document 01's number and value for each outcome, and what is left in each lent slice. Definitions only.
+use Prim.Native.Nat.{ℕ}
+use mathlib.Core.Path.{_≡_}
+use mathlib.Core.List.{List}
+use lib.Ieee.{Float}
+use lib.ListN.{length, set}
+use Rattle.grid.specs.declared.Grid.{Grid}
+use Rattle.walk.specs.Pushes.{Outcome, refused, found}
+use Rattle.walk.specs.Segment.{cellsOf, Walked}
+
+-- a grid by its five numbers
+abbrev pub gridBy : Float → Float → Float → ℕ → ℕ → Grid
+gridBy x y size cols rows = record { «min_x» = x; «min_y» = y; «cell_size» = size; cols = cols; rows = rows }
+
+-- 0, or the refusal's number
+unfoldable pub numberOf : Outcome → ℕ
+numberOf (found xs) = 0
+numberOf (refused why) = why .number
+
+-- the number of cells, or the refusal's value
+unfoldable pub valueOf : Outcome → ℕ
+valueOf (found xs) = length xs
+valueOf (refused why) = why .value
+
+-- the walk whose outcome is o: its number, its value at the start of `out`, and the scratch as the walk promises it
+pub record WalkReplies (o : Outcome) (scratch out : List ℕ) (r : ℕ) (scratch′ out′ : List ℕ) : Type 0 where
+  pub number : r ≡ numberOf o
+  pub value : out′ ≡ set out 0 (valueOf o)
+  pub walked : Walked o scratch (cellsOf o) scratch′

@@ -1,163 +1,367 @@
 -- One grid tried, and the choice that goes on from it. Assumes nothing.
-use mathlib.Core.Path.{_≡_, refl, sym, ap, _∙_, fun-ext}
+use mathlib.Core.Path.{_≡_, refl, sym, ap, _∙_, subst}
 use mathlib.Core.Bool.{Bool, true, false, _&&_}
-use mathlib.Core.List.{List}
-use Prim.Native.Nat.{ℕ, zero, suc, _+_, _-_, _*_, _≤_, _<_}
+use mathlib.Core.List.{List, _++_}
+use Prim.Native.Nat.{ℕ, zero, suc, _+_, _-_, _*_, _^_, _≤_, _<_}
+use native.Mathlib.Nat.{le-trans, mul-le-mul-right}
 use native.Mathlib.Omega.{arith}
-use borrow.Author.Tests.{le-leb, lt-leb}
+use borrow.Author.Tests.{le-leb, lt-leb, lt-ltb, le-ltb, ltb-true}
 use lib.Dec.{ltb}
-use lib.Ieee.{Float}
-use lib.ListN.{length, getD, replicate}
+use lib.ListN.{length, replicate}
 use Rattle.grid.specs.declared.Grid.{Grid}
 use Rattle.grid.specs.declared.Refusal.{Refusal}
 use Rattle.grid.specs.declared.Check.{Check}
 use Rattle.grid.specs.declared.Check.the-variants.{Fine, Refused}
-use Rattle.grid.specs.Refusals.{refusal, unless, andThen}
-use Rattle.grid.specs.Domain.{Lines, count, Alike, lineFits, fit}
-use Rattle.grid.proofs.Bools.{and-right}
-use Rattle.grid.proofs.Fine.{then-right}
+use Rattle.grid.specs.Refusals.{unless, andThen}
+use Rattle.grid.specs.Domain.{Lines, count, fit, scratchCheck, linesCheck, gridCheck}
+use Rattle.grid.proofs.Fine.{then-right, LinesFit, lines-fine}
+use Rattle.walk.specs.Segment.{leftBy}
+use Rattle.tables.specs.Lists.{itemsOf, offsetsOf}
+use Rattle.tables.proofs.Laws.{lines-few}
 use Rattle.sizing.specs.declared.Extent.{Extent}
+use Rattle.sizing.specs.declared.Size.{Size}
 use Rattle.sizing.specs.Bounds.{extentOf}
 use Rattle.sizing.specs.Size.{firstSize, halfOf}
-use Rattle.sizing.specs.Counts.{gridOf}
-use Rattle.tables.specs.Lists.{linesAt}
-use Rattle.tables.proofs.Laws.{counted-none}
-use Rattle.build.specs.declared.Tried.the-variants as tried
-use Rattle.build.specs.declared.Chosen.{Chosen}
-use Rattle.build.specs.declared.Chosen.the-variants as chosen
+use Rattle.sizing.specs.Counts.{gridOf, emptyGrid}
+use Rattle.sizing.proofs.FitLaws.{AllFit, fit-now, fit-next, all-fit, empty-fits}
+use Rattle.fill.specs.declared.Filled.{Filled}
+use Rattle.fill.specs.declared.Filled.the-variants as filled
+use Rattle.fill.specs.OnGrid.{cells, listOn, globalsOn, total}
+use Rattle.fill.specs.Checks.{lentCheck, triedCheck, countingCheck, spaceCheck}
+use Rattle.fill.specs.Fill.{above, fillingOf, filledOf, leftIn, FillIs, crowdedIf}
+use Rattle.fill.specs.Fill as filling
+use Rattle.fill.specs.Inside.{localOn}
+use Rattle.fill.proofs.Leaves.{Within, left-zeros, left-low, tried-within, space-within}
+use Rattle.fill.proofs.Sums.{above-never}
+use Rattle.build.specs.declared.Built.{Built}
+use Rattle.build.specs.declared.Built.the-variants as built
+use Rattle.build.specs.declared.Attempt.{Attempt}
 use Rattle.build.specs.declared.Attempt.the-variants as attempt
-use Rattle.build.specs.OnGrid.{cells, listOn}
-use Rattle.build.specs.Choice.{roomCheck, turnsCheck, triedCheck, skewed, crowded, Choice, settled, refusedBy, unlessRefused, if, chosenFirst}
-use Rattle.build.specs.Choice as choice
-use Rattle.build.specs.Passes.{Walkable, localOn, CountedTo, GridTried, ChosenIs, AttemptIs, AllFit, Choosable}
+use Rattle.build.specs.Choice.{crowded, Choice, settled, refusedBy, unlessRefused, if, chosen, chosenFirst, chosenNone, choice}
+use Rattle.build.specs.Build.{End, untouched, cleared, made, endOn, endBy, endAfter, endOf, answerOf, leftOf, BuildIs}
+use Rattle.build.specs.Inside.{mostOn, attemptBy, lentOf, AttemptAsks, endFrom, Halved, AttemptIs}
+use Rattle.build.proofs.Leavings.{lent-within}
 
--- ---- a grid tried: 4, then what the count finds
+-- ---- the checks, as `fill` has them
 
-module _ (g : Grid) (ls : Lines) (room n : ℕ) (e : n ≡ cells g) where
-  pub try-short : room < n + 1 → triedCheck g ls room ≡ Refused (refusal 4 (n + 1))
-  unfolding triedCheck roomCheck unless andThen
-  try-short l = let k : room < cells g + 1 = omega arith in rw (lt-leb (cells g + 1) room k, e)
+then-then : (a b c : Check) → andThen a (andThen b c) ≡ andThen (andThen a b) c
+unfolding andThen
+then-then Fine b c = refl
+then-then (Refused r) b c = refl
 
-  pub try-on : n + 1 ≤ room → triedCheck g ls room ≡ turnsCheck g ls
-  unfolding triedCheck roomCheck unless andThen
-  try-on l = let k : cells g + 1 ≤ room = omega arith in rw (le-leb (cells g + 1) room k)
+module _ (g : Grid) (ls : Lines) (offsets scratch : ℕ) where
+  counting-is : countingCheck g ls offsets scratch ≡ andThen (andThen (lentOf ls scratch) (gridCheck g)) (triedCheck g ls offsets)
+  unfolding countingCheck lentCheck
+  counting-is = ap (λ (k : Check). andThen k (triedCheck g ls offsets)) (then-then (scratchCheck scratch) (linesCheck ls) (gridCheck g))
 
-pub tried-turns : (g : Grid) (ls : Lines) (room : ℕ) → triedCheck g ls room ≡ Fine → turnsCheck g ls ≡ Fine
-unfolding triedCheck
-tried-turns g ls room h = then-right (roomCheck g room) (turnsCheck g ls) h
+  counting-lent : (r : Refusal) → lentOf ls scratch ≡ Refused r → countingCheck g ls offsets scratch ≡ Refused r
+  unfolding andThen
+  counting-lent r h = counting-is ∙ rw h
 
-pub zeros-at : (n k : ℕ) → getD (replicate {A = ℕ} n 0) k 0 ≡ 0
-zeros-at zero k = refl
-zeros-at (suc n) zero = refl
-zeros-at (suc n) (suc k) = zeros-at n k
+  counting-tried : lentOf ls scratch ≡ Fine → fit g ≡ true → countingCheck g ls offsets scratch ≡ triedCheck g ls offsets
+  unfolding andThen gridCheck unless
+  counting-tried h f = counting-is ∙ rw (h, f)
 
--- cleared offsets count no line
-pub counted-clear : (g : Grid) (ls : Lines) (o o′ : List ℕ) (n : ℕ) → o′ ≡ replicate (length o) 0 → length o′ ≡ length o → n ≡ cells g → n + 1 ≤ length o → CountedTo g ls 0 o′
-counted-clear g ls o o′ n e s d l =
-    record { room = omega arith; counts = counted-none (localOn g ls) o′ (λ k. rw e (zeros-at (length o) k)) }
+-- ---- how the tables of a grid end
 
--- ---- the counts say which cells are crowded
+module _ {ls : Lines} {g : Grid} {o t gs s : List ℕ} {w : Filled} {o′ t′ gs′ s′ : List ℕ} where
+  -- a refusal that changes nothing
+  ends-untouched : (r : Refusal) → r .number < 4 → FillIs g ls o t gs s w o′ t′ gs′ s′ (filling.refused r)
+      → (attemptBy g w ≡ attempt.Ended (built.Refused r)) × BuildIs ls o t gs s (built.Refused r) o′ t′ gs′ s′ (untouched r)
+  unfolding filledOf leftIn answerOf leftOf
+  ends-untouched r l k = (
+    ap (attemptBy g) (k .answer),
+    record {
+      answer = refl;
+      «cell_offsets» = k .offsets-are ∙ sym (left-low r o l);
+      «cell_items» = k .items-are ∙ sym (left-low r t l);
+      «global_lines» = k .globals-are ∙ sym (left-low r gs l);
+      scratch-is = k .scratch-is ∙ sym (left-low r s l);
+    },
+  )
 
-crowded-is : (g : Grid) (ls : Lines) (o : List ℕ) → CountedTo g ls (count ls) o → (skewed (λ c. getD o c 0) (cells g) && ltb (cells g * 4) 1000000) ≡ crowded g ls
-unfolding crowded listOn
-crowded-is g ls o h = ap (λ (f : ℕ → ℕ). skewed f (cells g) && ltb (cells g * 4) 1000000) (fun-ext (h .counts .count-is))
+  -- a refusal by which all is cleared
+  ends-cleared : (r : Refusal) → (4 ≤ r .number) × (r .number ≤ 7) → FillIs g ls o t gs s w o′ t′ gs′ s′ (filling.refused r)
+      → (attemptBy g w ≡ attempt.Ended (built.Refused r)) × BuildIs ls o t gs s (built.Refused r) o′ t′ gs′ s′ (cleared r)
+  unfolding filledOf leftIn answerOf leftOf
+  ends-cleared r l k = (
+    ap (attemptBy g) (k .answer),
+    record {
+      answer = refl;
+      «cell_offsets» = k .offsets-are ∙ left-zeros r o l;
+      «cell_items» = k .items-are ∙ left-zeros r t l;
+      «global_lines» = k .globals-are ∙ left-zeros r gs l;
+      scratch-is = k .scratch-is ∙ left-zeros r s l;
+    },
+  )
 
--- ---- the choice from a cell size on
+  ends-made : FillIs g ls o t gs s w o′ t′ gs′ s′ filling.made
+      → (attemptBy g w ≡ attempt.Ended (answerOf (made g) ls)) × BuildIs ls o t gs s (answerOf (made g) ls) o′ t′ gs′ s′ (made g)
+  unfolding filledOf leftIn answerOf leftOf
+  ends-made k = (
+    ap (attemptBy g) (k .answer),
+    record {
+      answer = refl;
+      «cell_offsets» = k .offsets-are;
+      «cell_items» = k .items-are;
+      «global_lines» = k .globals-are;
+      scratch-is = k .scratch-is;
+    },
+  )
 
-suc-of : (n : ℕ) → (n ≡ 0 → ⊥) → n ≡ suc (n - 1)
-suc-of n h = omega arith
+-- what a grid tried comes to, where `next` is the choice that goes on from it: the end of the build, or a crowded cell
+data Tried (ls : Lines) (g : Grid) (most : ℕ) (next : Choice) (o t gs s : List ℕ) (w : Filled) (o′ t′ gs′ s′ : List ℕ) : Type 0 where
+  ended : (b : Built) → attemptBy g w ≡ attempt.Ended b
+      → BuildIs ls o t gs s b o′ t′ gs′ s′ (endAfter (lentOf ls (length s)) (endBy (unlessRefused (triedCheck g ls (length o)) next) ls (length t) (length gs))) → Tried ls g most next o t gs s w o′ t′ gs′ s′
+  halved : attemptBy g w ≡ attempt.Halve → lentOf ls (length s) ≡ Fine → triedCheck g ls (length o) ≡ Fine → above most (λ c. length (listOn g ls c)) (cells g) ≡ true → Tried ls g most next o t gs s w o′ t′ gs′ s′
 
-module _ (e : Extent) (size : Float) (ls : Lines) (room : ℕ) {g : Grid} (is : g ≡ gridOf e size) (o : List ℕ) where
-  -- a refusal ends it, however many halvings are left
-  pub refused-at : (left : ℕ) (r : Refusal) → GridTried g ls room (tried.Refused r) o → ChosenIs (choice.chosen left e size ls room) ls (chosen.Refused r) o
-  unfolding choice.chosen unlessRefused
-  refused-at zero r h = let k : triedCheck (gridOf e size) ls room ≡ Refused r = rw is at h in record { is = rw k }
-  refused-at (suc n) r h = let k : triedCheck (gridOf e size) ls room ≡ Refused r = rw is at h in record { is = rw k }
+module _ (ls : Lines) (g : Grid) (most : ℕ) (next : Choice) {o t gs s : List ℕ} {w : Filled} {o′ t′ gs′ s′ : List ℕ}
+    (k : FillIs g ls o t gs s w o′ t′ gs′ s′ (fillingOf g ls most (length o) (length t) (length gs) (length s)))
+    (fits : lentOf ls (length s) ≡ Fine → fit g ≡ true)
+    (stop : lentOf ls (length s) ≡ Fine → above most (λ c. length (listOn g ls c)) (cells g) ≡ false → next ≡ settled g) where
+  abbrev Comes : Type 0
+  Comes = Tried ls g most next o t gs s w o′ t′ gs′ s′
 
-  module _ (fits : fit g ≡ true) (k : ℕ) (h : GridTried g ls room (tried.Globals k) o) where
-    on-grid : ChosenIs (settled (gridOf e size)) ls (chosen.On g k) o
-    on-grid = record { is = rw (← is) (refl, fits, tried-turns g ls room (h .0), h .1, h .2) }
+  module _ (lent : lentOf ls (length s) ≡ Fine) (tried : triedCheck g ls (length o) ≡ Fine) where
+    counting : countingCheck g ls (length o) (length s) ≡ Fine
+    counting = counting-tried g ls (length o) (length s) lent (fits lent) ∙ tried
 
-    tried-fine : triedCheck (gridOf e size) ls room ≡ Fine
-    tried-fine = rw is at (h .0)
+    on-space : (c : Check) → Within 4 7 c → spaceCheck g ls (length t) (length gs) ≡ c → above most (λ c. length (listOn g ls c)) (cells g) ≡ false → Comes
+    unfolding fillingOf filling.unlessRefused crowdedIf endAfter unlessRefused endBy endOn
+    on-space (Refused r) n q b = let e = ends-cleared r n (rw (counting, b, q) at k) in ended (built.Refused r) (e .0) (rw (lent, tried, stop lent b, q) (e .1))
+    on-space Fine n q b = let e = ends-made (rw (counting, b, q) at k) in ended (answerOf (made g) ls) (e .0) (rw (lent, tried, stop lent b, q) (e .1))
 
-    -- with no halving left the grid is settled on
-    pub last-at : (left : ℕ) → left ≡ 0 → ChosenIs (choice.chosen left e size ls room) ls (chosen.On g k) o
-    unfolding choice.chosen unlessRefused
-    last-at left z = rw (z, tried-fine) on-grid
+    on-crowd : (b : Bool) → above most (λ c. length (listOn g ls c)) (cells g) ≡ b → Comes
+    unfolding fillingOf filling.unlessRefused crowdedIf filledOf
+    on-crowd true b = halved (let f : FillIs g ls o t gs s w o′ t′ gs′ s′ filling.crowded = rw (counting, b) at k in ap (attemptBy g) (f .answer)) lent tried b
+    on-crowd false b = on-space (spaceCheck g ls (length t) (length gs)) (space-within g ls (length t) (length gs)) refl b
 
-    module _ (left : ℕ) (some : left ≡ 0 → ⊥) where
-      chosen-more : choice.chosen left e size ls room ≡ if (crowded (gridOf e size) ls) (choice.chosen (left - 1) e (halfOf size) ls room) (settled (gridOf e size))
-      unfolding choice.chosen unlessRefused
-      chosen-more = ap (λ (n : ℕ). choice.chosen n e size ls room) (suc-of left some) ∙ rw tried-fine
+  on-tried : (c : Check) → Within 4 7 c → lentOf ls (length s) ≡ Fine → triedCheck g ls (length o) ≡ c → Comes
+  unfolding fillingOf filling.unlessRefused endAfter unlessRefused endBy
+  on-tried (Refused r) n h q =
+      let e = ends-cleared r n (rw (counting-tried g ls (length o) (length s) h (fits h), q) at k) in
+      ended (built.Refused r) (e .0) (rw (h, q) (e .1))
+  on-tried Fine n h q = on-crowd h q (above most (λ c. length (listOn g ls c)) (cells g)) refl
 
-      crowded-so : (b : Bool) → (skewed (λ c. getD o c 0) (cells g) && ltb (cells g * 4) 1000000) ≡ b → crowded (gridOf e size) ls ≡ b
-      crowded-so b q = rw is at (sym (crowded-is g ls o (h .2)) ∙ q)
+  on-lent : (c : Check) → Within 1 3 c → lentOf ls (length s) ≡ c → Comes
+  unfolding fillingOf filling.unlessRefused endAfter
+  on-lent (Refused r) n h =
+      let e = ends-untouched r (omega arith) (rw (counting-lent g ls (length o) (length s) r h) at k) in
+      ended (built.Refused r) (e .0) (rw h (e .1))
+  on-lent Fine n h = on-tried (triedCheck g ls (length o)) (tried-within g ls (length o)) h refl
 
-      -- so it is where no cell is crowded
-      pub settled-at : (skewed (λ c. getD o c 0) (cells g) && ltb (cells g * 4) 1000000) ≡ false → ChosenIs (choice.chosen left e size ls room) ls (chosen.On g k) o
-      unfolding if
-      settled-at q = rw (chosen-more, crowded-so false q) on-grid
+  comes : Comes
+  comes = on-lent (lentOf ls (length s)) (lent-within ls (length s)) refl
 
-      -- and else the choice goes on from half the size
-      pub halve-at : (skewed (λ c. getD o c 0) (cells g) && ltb (cells g * 4) 1000000) ≡ true → AttemptIs left e size ls room attempt.Halve o
-      unfolding if
-      halve-at q =
-          (omega arith, chosen-more ∙ rw (crowded-so true q), rw is at (and-right (skewed (λ c. getD o c 0) (cells g)) (ltb (cells g * 4) 1000000) q))
+-- ---- the limit: no cell lists more than all lines
+
+lists-most : (g : Grid) (ls : Lines) (scratch : ℕ) → lentOf ls scratch ≡ Fine → above 65536 (λ c. length (listOn g ls c)) (cells g) ≡ false
+unfolding listOn
+lists-most g ls scratch h =
+    let f : LinesFit ls = lines-fine ls (then-right (scratchCheck scratch) (linesCheck ls) h) in
+    above-never 65536 _ (λ c. le-trans (lines-few (localOn g ls) (count ls) c) (f .few)) (cells g)
+
+pub most-none : (g : Grid) (left : ℕ) → left ≡ 0 → 65536 ≡ mostOn g left
+most-none g left h = rw h
+
+pub most-some : (g : Grid) (left : ℕ) → (left ≡ 0 → ⊥) → cells g < 250000 → 500 ≡ mostOn g left
+most-some g left h l =
+    let a : 0 < left = omega arith in
+    let b : cells g * 4 < 1000000 = omega arith in
+    rw (lt-ltb 0 left a, lt-ltb (cells g * 4) 1000000 b)
+
+pub most-many : (g : Grid) (left : ℕ) → (left ≡ 0 → ⊥) → 250000 ≤ cells g → 65536 ≡ mostOn g left
+most-many g left h l =
+    let a : 0 < left = omega arith in
+    let b : 1000000 ≤ cells g * 4 = omega arith in
+    rw (lt-ltb 0 left a, le-ltb (cells g * 4) 1000000 b)
+
+-- the number of cells of any two counts fits 64 bits
+pub cells-fit : (a b : ℕ) → a < 2 ^ 32 → b < 2 ^ 32 → a * b < 2 ^ 64
+cells-fit a b h k =
+    let u : a * b ≤ 4294967296 * b = mul-le-mul-right b (omega arith) in
+    omega arith
+
+-- ---- the choice from a size on
+
+module _ (e : Extent) (size : Size) (ls : Lines) (offsets scratch : ℕ) where
+  -- what goes on where the grid of the size is not refused
+  next : ℕ → Choice
+  next zero = settled (gridOf e size)
+  next (suc left) = if (crowded (gridOf e size) ls) (chosen left e (halfOf size) ls offsets) (settled (gridOf e size))
+
+  chosen-is : (left : ℕ) → chosen left e size ls offsets ≡ unlessRefused (triedCheck (gridOf e size) ls offsets) (next left)
+  unfolding chosen next
+  chosen-is zero = refl
+  chosen-is (suc left) = refl
+
+  module _ (lent : lentOf ls scratch ≡ Fine) where
+    limit : (b : Bool) → (above 65536 (λ c. length (listOn (gridOf e size) ls c)) (cells (gridOf e size)) ≡ true) → b ≡ false
+    limit b h = let z : _≡_ {A = Bool} true false = sym h ∙ lists-most (gridOf e size) ls scratch lent in let y : _≡_ {A = ℕ} 0 1 = cc in absurd (omega arith)
+
+    -- no cell above the limit: the grid is settled on
+    next-stops : (left : ℕ) → above (mostOn (gridOf e size) left) (λ c. length (listOn (gridOf e size) ls c)) (cells (gridOf e size)) ≡ false → next left ≡ settled (gridOf e size)
+    unfolding next if crowded
+    next-stops zero h = refl
+    next-stops (suc left) h = go (ltb (cells (gridOf e size) * 4) 1000000) refl
+      where
+        and-false : (p : Bool) → (p && false) ≡ false
+        and-false true = refl
+        and-false false = refl
+
+        go : (b : Bool) → ltb (cells (gridOf e size) * 4) 1000000 ≡ b → next (suc left) ≡ settled (gridOf e size)
+        go true q = let a = rw (lt-ltb 0 (suc left) (omega arith), q) at h in rw a
+        go false q = rw (q, and-false (above 500 (λ c. length (listOn (gridOf e size) ls c)) (cells (gridOf e size))))
+
+    -- some cell above it: the choice goes on from half the size
+    next-halves : (left : ℕ) → triedCheck (gridOf e size) ls offsets ≡ Fine → above (mostOn (gridOf e size) left) (λ c. length (listOn (gridOf e size) ls c)) (cells (gridOf e size)) ≡ true → Halved left e size ls offsets scratch
+    unfolding next if crowded unlessRefused
+    next-halves zero t h = let z : _≡_ {A = Bool} true false = limit true h in let y : _≡_ {A = ℕ} 0 1 = cc in absurd (omega arith)
+    next-halves (suc left) t h = go (ltb (cells (gridOf e size) * 4) 1000000) refl
+      where
+        go : (b : Bool) → ltb (cells (gridOf e size) * 4) 1000000 ≡ b → Halved (suc left) e size ls offsets scratch
+        go true q =
+            let a = rw (lt-ltb 0 (suc left) (omega arith), q) at h in
+            let z : suc left - 1 ≡ left = omega arith in
+            record { some = omega arith; lent = lent; next = chosen-is (suc left) ∙ rw (t, a, q, z); few = ltb-true _ _ q }
+        go false q =
+            let a = rw (lt-ltb 0 (suc left) (omega arith), q) at h in
+            let z : _≡_ {A = Bool} true false = limit true a in
+            let y : _≡_ {A = ℕ} 0 1 = cc in
+            absurd (omega arith)
+
+-- ---- one size tried
+
+module _ (left : ℕ) (e : Extent) (size : Size) {ls : Lines} {o t gs s : List ℕ} {w : Filled} {o′ t′ gs′ s′ : List ℕ} where
+  attempt-comes : {r : Attempt} → Tried ls (gridOf e size) (mostOn (gridOf e size) left) (next e size ls (length o) (length s) left) o t gs s w o′ t′ gs′ s′ → r ≡ attemptBy (gridOf e size) w
+      → AttemptIs left e size ls o t gs s o′ t′ gs′ s′ r
+  attempt-comes {r} (ended b q h) p =
+      subst (λ (r : Attempt). AttemptIs left e size ls o t gs s o′ t′ gs′ s′ r) (sym (p ∙ q)) (rw (chosen-is e size ls (length o) (length s) left) h)
+  attempt-comes {r} (halved q lent tried b) p =
+      subst (λ (r : Attempt). AttemptIs left e size ls o t gs s o′ t′ gs′ s′ r) (sym (p ∙ q)) (next-halves e size ls (length o) (length s) lent left tried b)
+
+  pub attempt-is : {g : Grid} {most : ℕ} {r : Attempt} → AttemptAsks ls e size s → g ≡ gridOf e size → most ≡ mostOn g left → FillIs g ls o t gs s w o′ t′ gs′ s′ (fillingOf g ls most (length o) (length t) (length gs) (length s))
+      → r ≡ attemptBy g w → AttemptIs left e size ls o t gs s o′ t′ gs′ s′ r
+  attempt-is a is m k p =
+      attempt-comes
+      (comes ls (gridOf e size) (mostOn (gridOf e size) left) (next e size ls (length o) (length s) left) (rw (m, is) at k) (a .fits)
+      (λ lent h. next-stops e size ls (length o) (length s) lent left h)) (rw is at p)
 
 -- ---- the sizes tried, one after another
 
-fit-head : (e : Extent) (left : ℕ) (size : Float) → AllFit e left size → fit (gridOf e size) ≡ true
-fit-head e zero size h = h
-fit-head e (suc n) size h = h .0
+-- what the end of the build leaves of a slice does not tell `was` from `now`
+abbrev Same : End → List ℕ → List ℕ → Type 0
+Same e was now = (on : ℕ → Grid → List ℕ) → leftOf e now (on (length now)) ≡ leftOf e was (on (length was))
 
-fit-tail : (e : Extent) (left : ℕ) (size : Float) → 0 < left → AllFit e left size → ltb (cells (gridOf e size) * 4) 1000000 ≡ true → AllFit e (left - 1) (halfOf size)
-fit-tail e left size l h q = go left l h
+-- an end after the checks asks of a slice only its length
+same-by : (e : End) (ch : Choice) (ls : Lines) (items globals : ℕ) (was now : List ℕ) → e ≡ endBy ch ls items globals → length now ≡ length was → Same e was now
+unfolding endBy endOn leftOf
+same-by e (refusedBy r) ls items globals was now h l on = rw (h, l)
+same-by e (settled g) ls items globals was now h l on = go (spaceCheck g ls items globals) h
   where
-    go : (n : ℕ) → 0 < n → AllFit e n size → AllFit e (n - 1) (halfOf size)
-    go zero l h = absurd (omega arith)
-    go (suc n) l h = let z : suc n - 1 ≡ n = omega arith in rw z (h .1 q)
+    go : (c : Check) → e ≡ endOn g c → leftOf e now (on (length now)) ≡ leftOf e was (on (length was))
+    go Fine q = rw (q, l)
+    go (Refused r) q = rw (q, l)
 
-pub record Choosing (ls : Lines) (o₀ s₀ : List ℕ) (e : Extent) (o s : List ℕ) (size : Float) (left : ℕ) : Type 0 where
-  pub same : Alike ls
-  pub few : count ls ≤ 65536
-  pub each : (i : ℕ) → i < count ls → lineFits ls i ≡ true
-  pub space : 16384 ≤ length s
+pub record Choosing (ls : Lines) (o₀ t₀ gs₀ s₀ : List ℕ) (e : Extent) (o t gs s : List ℕ) (size : Size) (left : ℕ) : Type 0 where
+  pub is : endOf ls (length o₀) (length t₀) (length gs₀) (length s₀) ≡ endFrom left e size ls (length o₀) (length t₀) (length gs₀) (length s₀)
+  pub fits : lentOf ls (length s₀) ≡ Fine → AllFit left e size
   pub len : length o ≡ length o₀
+  pub len-items : length t ≡ length t₀
+  pub len-globals : length gs ≡ length gs₀
   pub len-scratch : length s ≡ length s₀
-  pub fits : AllFit e left size
-  pub is : chosenFirst ls (length o₀) ≡ choice.chosen left e size ls (length o₀)
+  pub offsets : Same (endOf ls (length o₀) (length t₀) (length gs₀) (length s₀)) o₀ o
+  pub items : Same (endOf ls (length o₀) (length t₀) (length gs₀) (length s₀)) t₀ t
+  pub globals : Same (endOf ls (length o₀) (length t₀) (length gs₀) (length s₀)) gs₀ gs
+  pub scratch : Same (endOf ls (length o₀) (length t₀) (length gs₀) (length s₀)) s₀ s
 
-pub choosing-first : {ls : Lines} {o s : List ℕ} {e : Extent} {size : Float} → Choosable ls s → e ≡ extentOf ls → size ≡ firstSize e (count ls) → Choosing ls o s e o s size 2
-unfolding chosenFirst
-choosing-first {ls} {o} {s} {e} {size} h d z =
+pub choosing-first : {ls : Lines} {o t gs s : List ℕ} {e : Extent} {size : Size} → (count ls ≡ 0 → ⊥) → e ≡ extentOf ls → size ≡ firstSize e (count ls) → Choosing ls o t gs s e o t gs s size 2
+unfolding endOf choice if chosenFirst
+choosing-first {ls} {o} {t} {gs} {s} {e} {size} n d z =
+    let l : 1 ≤ count ls = omega arith in
     record {
-      same = h .same;
-      few = h .few;
-      each = h .each;
-      space = h .space;
+      is = rw (z, d, le-leb 1 (count ls) l);
+      fits = λ h. rw (z, d) (all-fit ls (lines-fine ls (then-right (scratchCheck (length s)) (linesCheck ls) h)) l);
       len = refl;
+      len-items = refl;
+      len-globals = refl;
       len-scratch = refl;
-      fits = rw (z, d) (h .fits);
-      is = rw (z, d);
+      offsets = λ on. refl;
+      items = λ on. refl;
+      globals = λ on. refl;
+      scratch = λ on. refl;
     }
 
-module _ {ls : Lines} {o₀ s₀ : List ℕ} {e : Extent} {o s : List ℕ} {size : Float} {left : ℕ} (k : Choosing ls o₀ s₀ e o s size left) where
-  pub choosing-walkable : Walkable (gridOf e size) ls s
-  choosing-walkable = record { same = k .same; few = k .few; each = k .each; fits = fit-head e left size (k .fits); space = k .space }
+module _ {ls : Lines} {o₀ t₀ gs₀ s₀ : List ℕ} {e : Extent} {o t gs s : List ℕ} {size : Size} {left : ℕ} (k : Choosing ls o₀ t₀ gs₀ s₀ e o t gs s size left) where
+  pub choosing-asks : AttemptAsks ls e size s
+  choosing-asks = record { fits = λ h. fit-now left e size (k .fits (rw (k .len-scratch) at h)) }
 
-  pub choosing-next : {o′ s′ : List ℕ} {half : Float} → AttemptIs left e size ls (length o) attempt.Halve o′ → half ≡ halfOf size → length o′ ≡ length o → length s′ ≡ length s → Choosing ls o₀ s₀ e o′ s′ half (left - 1)
-  choosing-next h z a b =
+  pub choosing-next : {o′ t′ gs′ s′ : List ℕ} {half : Size} → Halved left e size ls (length o) (length s) → half ≡ halfOf size → length o′ ≡ length o → length t′ ≡ length t → length gs′ ≡ length gs → length s′ ≡ length s
+      → Choosing ls o₀ t₀ gs₀ s₀ e o′ t′ gs′ s′ half (left - 1)
+  unfolding endAfter
+  choosing-next {o′} {t′} {gs′} {s′} h z a b c d =
+      let lent : lentOf ls (length s₀) ≡ Fine = rw (k .len-scratch) at (h .lent) in
+      let again : chosen left e size ls (length o₀) ≡ chosen (left - 1) e (halfOf size) ls (length o₀) = rw (k .len) at (h .next) in
+      let E = endOf ls (length o₀) (length t₀) (length gs₀) (length s₀) in
+      let by : E ≡ endBy (chosen left e size ls (length o₀)) ls (length t₀) (length gs₀) = k .is ∙ rw lent in
       record {
-        same = k .same;
-        few = k .few;
-        each = k .each;
-        space = omega (arith, k .space);
+        is = k .is ∙ rw (again, z);
+        fits = λ q. rw z (fit-next left e size (h .some) (k .fits q) (h .few));
         len = a ∙ k .len;
-        len-scratch = b ∙ k .len-scratch;
-        fits = rw z (fit-tail e left size (h .0) (k .fits) (h .2));
-        is = k .is ∙ rw z (rw (k .len) at (h .1));
+        len-items = b ∙ k .len-items;
+        len-globals = c ∙ k .len-globals;
+        len-scratch = d ∙ k .len-scratch;
+        offsets = same-by E (chosen left e size ls (length o₀)) ls (length t₀) (length gs₀) o₀ o′ by (a ∙ k .len);
+        items = same-by E (chosen left e size ls (length o₀)) ls (length t₀) (length gs₀) t₀ t′ by (b ∙ k .len-items);
+        globals = same-by E (chosen left e size ls (length o₀)) ls (length t₀) (length gs₀) gs₀ gs′ by (c ∙ k .len-globals);
+        scratch = same-by E (chosen left e size ls (length o₀)) ls (length t₀) (length gs₀) s₀ s′ by (d ∙ k .len-scratch);
       }
 
-  pub choosing-done : (r : Chosen) (o′ : List ℕ) → AttemptIs left e size ls (length o) (attempt.Settled r) o′ → ChosenIs (chosenFirst ls (length o₀)) ls r o′
-  choosing-done r o′ h = rw (k .is) (rw (k .len) at h)
+  pub choosing-done : {b : Built} {o′ t′ gs′ s′ : List ℕ} → BuildIs ls o t gs s b o′ t′ gs′ s′ (endFrom left e size ls (length o) (length t) (length gs) (length s))
+      → BuildIs ls o₀ t₀ gs₀ s₀ b o′ t′ gs′ s′ (endOf ls (length o₀) (length t₀) (length gs₀) (length s₀))
+  choosing-done {b} {o′} {t′} {gs′} {s′} h =
+      let q : endFrom left e size ls (length o) (length t) (length gs) (length s) ≡ endOf ls (length o₀) (length t₀) (length gs₀) (length s₀) =
+      rw (k .len, k .len-items, k .len-globals, k .len-scratch) (sym (k .is)) in
+      let d : BuildIs ls o t gs s b o′ t′ gs′ s′ (endOf ls (length o₀) (length t₀) (length gs₀) (length s₀)) = subst (λ (x : End). BuildIs ls o t gs s b o′ t′ gs′ s′ x) q h in
+      record {
+        answer = d .answer;
+        «cell_offsets» = d .«cell_offsets» ∙ k .offsets (λ n g. offsetsOf (listOn g ls) (cells g) n);
+        «cell_items» = d .«cell_items» ∙ k .items (λ n g. itemsOf (listOn g ls) (cells g) n);
+        «global_lines» = d .«global_lines» ∙ k .globals (λ n g. globalsOn g ls ++ replicate (n - length (globalsOn g ls)) 0);
+        scratch-is = d .scratch-is ∙ k .scratch (λ n g. replicate {A = ℕ} n 0);
+      }
+
+-- ---- no lines
+
+module _ {ls : Lines} (none : count ls ≡ 0) {g : Grid} (is : g ≡ emptyGrid) {o t gs s : List ℕ} {w : Filled} {o′ t′ gs′ s′ : List ℕ}
+    (k : FillIs g ls o t gs s w o′ t′ gs′ s′ (fillingOf g ls 65536 (length o) (length t) (length gs) (length s))) {r : Attempt} (p : r ≡ attemptBy g w) where
+  none-comes : Tried ls emptyGrid 65536 (settled emptyGrid) o t gs s w o′ t′ gs′ s′
+  none-comes = comes ls emptyGrid 65536 (settled emptyGrid) (rw is at k) (λ _. empty-fits) (λ _ _. refl)
+
+  pub none-ends : (b : Built) → r ≡ attempt.Ended b → BuildIs ls o t gs s b o′ t′ gs′ s′ (endOf ls (length o) (length t) (length gs) (length s))
+  unfolding endOf choice if chosenNone
+  none-ends b q = go none-comes
+    where
+      go : Tried ls emptyGrid 65536 (settled emptyGrid) o t gs s w o′ t′ gs′ s′ → BuildIs ls o t gs s b o′ t′ gs′ s′ (endOf ls (length o) (length t) (length gs) (length s))
+      go (ended d e h) =
+          let l : count ls < 1 = omega arith in
+          let x : attempt.Ended b ≡ attempt.Ended d = sym q ∙ (rw is at p) ∙ e in
+          let y : d ≡ b = cc in
+          rw (lt-leb 1 (count ls) l, ← y) h
+      go (halved e lent tried h) =
+          let x : attempt.Ended b ≡ attempt.Halve = sym q ∙ (rw is at p) ∙ e in
+          let y : _≡_ {A = ℕ} 0 1 = cc in
+          absurd (omega arith)
+
+  pub none-halves : r ≡ attempt.Halve → ⊥
+  none-halves q = go none-comes
+    where
+      go : Tried ls emptyGrid 65536 (settled emptyGrid) o t gs s w o′ t′ gs′ s′ → ⊥
+      go (ended d e h) =
+          let x : attempt.Halve ≡ attempt.Ended d = sym q ∙ (rw is at p) ∙ e in
+          let y : _≡_ {A = ℕ} 0 1 = cc in
+          omega arith
+      go (halved e lent tried h) =
+          let x : _≡_ {A = Bool} true false = sym h ∙ lists-most emptyGrid ls (length s) lent in
+          let y : _≡_ {A = ℕ} 0 1 = cc in
+          omega arith

@@ -7,7 +7,6 @@ use Prim.Native.Nat.{ℕ, zero, suc, _-_, _≤_, _<_}
 use native.Mathlib.Omega.{arith}
 use borrow.Author.Tests.{le-leb, lt-leb}
 use lib.Dec.{leb}
-use lib.Ieee.{Float}
 use lib.ListN.{length, replicate}
 use Rattle.grid.specs.declared.Grid.{Grid}
 use Rattle.grid.specs.declared.Refusal.{Refusal}
@@ -16,6 +15,7 @@ use Rattle.grid.specs.declared.Check.the-variants.{Fine, Refused}
 use Rattle.grid.specs.Refusals.{unless, andThen, eachFrom}
 use Rattle.grid.specs.Domain.{Lines, count, lengthsCheck, countCheck, coordinatesCheck, lineFits, scratchCheck, linesCheck}
 use Rattle.sizing.specs.declared.Extent.{Extent}
+use Rattle.sizing.specs.declared.Size.{Size}
 use Rattle.sizing.specs.Bounds.{extentOf}
 use Rattle.sizing.specs.Size.{firstSize, halfOf}
 use Rattle.sizing.specs.Counts.{gridOf, emptyGrid}
@@ -23,56 +23,23 @@ use Rattle.walk.specs.Segment.{leftBy}
 use Rattle.tables.specs.Lists.{offsetsOf, itemsOf}
 use Rattle.build.specs.declared.Built.{Built}
 use Rattle.build.specs.declared.Built.the-variants as built
-use Rattle.build.specs.OnGrid.{cells, walkOn, ends, listOn, globalsOn}
-use Rattle.build.specs.Choice.{roomCheck, turnsCheck, triedCheck, crowded, Choice, settled, refusedBy, unlessRefused, if, chosenFirst, chosenNone, choice}
+use Rattle.fill.specs.OnGrid.{cells, listOn, globalsOn}
+use Rattle.fill.specs.Checks.{triedCheck, spaceCheck}
+use Rattle.fill.proofs.Leaves.{Within, unless-within, then-within, each-within, tried-within, space-within}
+use Rattle.build.specs.Choice.{crowded, Choice, settled, refusedBy, unlessRefused, if, chosenFirst, chosenNone, choice}
 use Rattle.build.specs.Choice as choosing
-use Rattle.build.specs.Build.{total, spaceCheck, End, untouched, cleared, made, endOn, endBy, endAfter, endOf, answerOf, leftOf, BuildIs}
+use Rattle.build.specs.Build.{End, untouched, cleared, made, endOn, endBy, endAfter, endOf, answerOf, leftOf, BuildIs}
 
 -- ---- the numbers that a check can refuse with
 
-abbrev Within : ℕ → ℕ → Check → Type 0
-Within lo hi Fine = Unit {0}
-Within lo hi (Refused r) = (lo ≤ r .number) × (r .number ≤ hi)
-
-module _ (lo hi : ℕ) where
-  unless-within : (b : Bool) (n v : ℕ) → lo ≤ n → n ≤ hi → Within lo hi (unless b n v)
-  unfolding unless
-  unless-within true n v l m = tt
-  unless-within false n v l m = (l, m)
-
-  then-within : (a b : Check) → Within lo hi a → Within lo hi b → Within lo hi (andThen a b)
-  unfolding andThen
-  then-within Fine b h k = k
-  then-within (Refused r) b h k = h
-
-  each-within : (ok : ℕ → Bool) (n left i : ℕ) → lo ≤ n → n ≤ hi → Within lo hi (eachFrom ok n left i)
-  unfolding eachFrom
-  each-within ok n zero i l m = tt
-  each-within ok n (suc left) i l m =
-      then-within (unless (ok i) n i) (eachFrom ok n left (suc i)) (unless-within (ok i) n i l m) (each-within ok n left (suc i) l m)
-
 -- 3, 2, 1 come before anything is written
-lent-within : (ls : Lines) (scratch : ℕ) → Within 1 3 (andThen (scratchCheck scratch) (linesCheck ls))
+pub lent-within : (ls : Lines) (scratch : ℕ) → Within 1 3 (andThen (scratchCheck scratch) (linesCheck ls))
 unfolding scratchCheck linesCheck lengthsCheck countCheck coordinatesCheck
 lent-within ls scratch =
     then-within 1 3 (scratchCheck scratch) (linesCheck ls) (unless-within 1 3 _ 3 0 (omega arith) (omega arith))
     (then-within 1 3 (lengthsCheck ls) (andThen (countCheck (count ls)) (coordinatesCheck ls)) (unless-within 1 3 _ 3 0 (omega arith) (omega arith))
     (then-within 1 3 (countCheck (count ls)) (coordinatesCheck ls) (unless-within 1 3 _ 2 (count ls) (omega arith) (omega arith))
     (each-within 1 3 (lineFits ls) 1 (count ls) 0 (omega arith) (omega arith))))
-
--- 4 and 7 at each grid tried
-tried-within : (g : Grid) (ls : Lines) (room : ℕ) → Within 4 7 (triedCheck g ls room)
-unfolding triedCheck roomCheck turnsCheck
-tried-within g ls room =
-    then-within 4 7 (roomCheck g room) (turnsCheck g ls) (unless-within 4 7 _ 4 _ (omega arith) (omega arith))
-    (each-within 4 7 (λ i. ends (walkOn g ls i)) 7 (count ls) 0 (omega arith) (omega arith))
-
--- then 5, 6
-space-within : (g : Grid) (ls : Lines) (items globals : ℕ) → Within 4 7 (spaceCheck g ls items globals)
-unfolding spaceCheck
-space-within g ls items globals =
-    then-within 4 7 _ _ (unless-within 4 7 (leb (total g ls) items) 5 (total g ls) (omega arith) (omega arith))
-    (unless-within 4 7 (leb (length (globalsOn g ls)) globals) 6 (length (globalsOn g ls)) (omega arith) (omega arith))
 
 -- ---- so can a choice, and an end
 
@@ -90,7 +57,7 @@ unfolding if
 if-choice true x y h k = h
 if-choice false x y h k = k
 
-chosen-within : (left : ℕ) (e : Extent) (s : Float) (ls : Lines) (room : ℕ) → ChoiceWithin (choosing.chosen left e s ls room)
+chosen-within : (left : ℕ) (e : Extent) (s : Size) (ls : Lines) (room : ℕ) → ChoiceWithin (choosing.chosen left e s ls room)
 unfolding choosing.chosen
 chosen-within zero e s ls room =
     unless-choice (triedCheck (gridOf e s) ls room) (settled (gridOf e s)) (tried-within (gridOf e s) ls room) tt

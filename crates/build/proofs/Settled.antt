@@ -6,7 +6,6 @@ use Prim.Native.Nat.{ℕ, zero, suc, _+_, _*_, _≤_, _<_}
 use native.Mathlib.Omega.{arith}
 use borrow.Author.Tests.{leb-true, ltb-true}
 use lib.Dec.{leb, ltb}
-use lib.Ieee.{Float}
 use lib.ListN.{length}
 use Rattle.grid.specs.declared.Grid.{Grid}
 use Rattle.grid.specs.declared.Refusal.{Refusal}
@@ -17,15 +16,17 @@ use Rattle.grid.specs.Domain.{Lines, count, fit, scratchCheck, linesCheck}
 use Rattle.grid.proofs.Bools.{and-right}
 use Rattle.grid.proofs.Fine.{unless-fine, then-left, then-right, LinesFit, lines-fine}
 use Rattle.sizing.specs.declared.Extent.{Extent}
+use Rattle.sizing.specs.declared.Size.{Size}
 use Rattle.sizing.specs.Bounds.{extentOf}
 use Rattle.sizing.specs.Size.{firstSize, halfOf}
 use Rattle.sizing.specs.Counts.{gridOf, emptyGrid}
-use Rattle.sizing.proofs.FitLaws.{Within, Tried, lines-within, first-tried, again-tried, empty-fits}
-use Rattle.build.specs.OnGrid.{cells, listOn, globalsOn}
-use Rattle.build.specs.Choice.{roomCheck, turnsCheck, triedCheck, skewed, crowded, Choice, settled, refusedBy, unlessRefused, if, chosenFirst, chosenNone, choice}
+use Rattle.sizing.proofs.FitLaws.{AllFit, all-fit, empty-fits}
+use Rattle.fill.specs.OnGrid.{cells, listOn, globalsOn, total}
+use Rattle.fill.specs.Checks.{roomCheck, turnsCheck, triedCheck, spaceCheck}
+use Rattle.fill.specs.Fill.{above}
+use Rattle.build.specs.Choice.{crowded, Choice, settled, refusedBy, unlessRefused, if, chosenFirst, chosenNone, choice}
 use Rattle.build.specs.Choice as choosing
-use Rattle.build.specs.Build.{total, spaceCheck, End, untouched, cleared, made, endOn, endBy, endAfter, endOf}
-use Rattle.build.proofs.Choices.{tried-turns}
+use Rattle.build.specs.Build.{End, untouched, cleared, made, endOn, endBy, endAfter, endOf}
 
 -- ---- a choice that settled on a grid
 
@@ -50,29 +51,26 @@ settled-here f g ls room a b h = let e : f ≡ g = cc in record { fits = rw e at
 crowded-few : (g : Grid) (ls : Lines) → crowded g ls ≡ true → cells g * 4 < 1000000
 unfolding crowded
 crowded-few g ls h =
-    ltb-true (cells g * 4) 1000000 (and-right (skewed (λ c. length (listOn g ls c)) (cells g)) (ltb (cells g * 4) 1000000) h)
+    ltb-true (cells g * 4) 1000000 (and-right (above 500 (λ c. length (listOn g ls c)) (cells g)) (ltb (cells g * 4) 1000000) h)
 
--- from a cell size on whose grid is fit, after k halvings
-chosen-settled : (e : Extent) → Within e → (ls : Lines) (room : ℕ) (g : Grid) (left k : ℕ) (s : Float) → k + left ≡ 2 → Tried e k s → choosing.chosen left e s ls room ≡ settled g → SettledOn g ls room
+-- from a size on of which every grid that can be tried is fit
+chosen-settled : (e : Extent) (ls : Lines) (room : ℕ) (g : Grid) (left : ℕ) (s : Size) → AllFit left e s → choosing.chosen left e s ls room ≡ settled g → SettledOn g ls room
 unfolding choosing.chosen
-chosen-settled e w ls room g zero k s z t h =
+chosen-settled e ls room g zero s f h =
     let u = tried-settled (triedCheck (gridOf e s) ls room) (settled (gridOf e s)) g h in
-    settled-here (gridOf e s) g ls room (t .fits) (u .0) (u .1)
-chosen-settled e w ls room g (suc left) k s z t h =
+    settled-here (gridOf e s) g ls room f (u .0) (u .1)
+chosen-settled e ls room g (suc left) s f h =
     let next = choosing.chosen left e (halfOf s) ls room in
     let u = tried-settled (triedCheck (gridOf e s) ls room) (if (crowded (gridOf e s) ls) next (settled (gridOf e s))) g h in
     if-settled (SettledOn g ls room) (crowded (gridOf e s) ls) next (settled (gridOf e s)) g
-    (λ c n. chosen-settled e w ls room g left (k + 1) (halfOf s) (omega arith) (again-tried e k s w t (omega arith) (crowded-few (gridOf e s) ls c)) n)
-    (λ n. settled-here (gridOf e s) g ls room (t .fits) (u .0) n) (u .1)
+    (λ c n. chosen-settled e ls room g left (halfOf s) (f .1 (crowded-few (gridOf e s) ls c)) n)
+    (λ n. settled-here (gridOf e s) g ls room (f .0) (u .0) n) (u .1)
 
 choice-settled : (ls : Lines) (room : ℕ) (g : Grid) → LinesFit ls → choice ls room ≡ settled g → SettledOn g ls room
 unfolding choice chosenFirst chosenNone
 choice-settled ls room g f h =
     if-settled (SettledOn g ls room) (leb 1 (count ls)) (chosenFirst ls room) (chosenNone ls room) g
-    (λ b n.
-    let l : 1 ≤ count ls = leb-true 1 (count ls) b in
-    let w : Within (extentOf ls) = lines-within ls f l in
-    chosen-settled (extentOf ls) w ls room g 2 0 (firstSize (extentOf ls) (count ls)) refl (first-tried (extentOf ls) (count ls) w l (f .few)) n)
+    (λ b n. chosen-settled (extentOf ls) ls room g 2 (firstSize (extentOf ls) (count ls)) (all-fit ls f (leb-true 1 (count ls) b)) n)
     (λ n.
     let u = tried-settled (triedCheck emptyGrid ls room) (settled emptyGrid) g n in
     settled-here emptyGrid g ls room empty-fits (u .0) (u .1)) h
@@ -95,6 +93,10 @@ by-made (refusedBy r) ls items globals g h = let z : _≡_ {A = ℕ} 0 1 = cc in
 by-made (settled f) ls items globals g h =
     let k = on-made f (spaceCheck f ls items globals) g h in
     (ap settled (k .1), rw (k .1) at (k .0))
+
+turns-say : (g : Grid) (ls : Lines) (room : ℕ) → triedCheck g ls room ≡ Fine → turnsCheck g ls ≡ Fine
+unfolding triedCheck
+turns-say g ls room h = then-right (roomCheck g room) (turnsCheck g ls) h
 
 room-says : (g : Grid) (ls : Lines) (room : ℕ) → triedCheck g ls room ≡ Fine → cells g + 1 ≤ room
 unfolding triedCheck roomCheck
@@ -130,7 +132,7 @@ made-says ls offsets items globals scratch g h =
     record {
       lines-fit = f;
       fits = s .fits;
-      turns = tried-turns g ls offsets (s .tried);
+      turns = turns-say g ls offsets (s .tried);
       room = room-says g ls offsets (s .tried);
       space = space-items g ls items globals (b .1);
       listed = space-globals g ls items globals (b .1);

@@ -12,7 +12,6 @@ use Rattle.grid.specs.declared.Check.the-variants.{Fine, Refused}
 use Rattle.grid.specs.Refusals.{andThen}
 use Rattle.grid.specs.Domain.{Lines, count, scratchCheck, linesCheck}
 use Rattle.grid.proofs.Fine.{each-says, then-right}
-use Rattle.grid.proofs.Shapes.{fit-shape}
 use Rattle.walk.specs.Pushes.{Outcome, refused, found}
 use Rattle.tables.specs.Tables.{tables, listIn}
 use Rattle.tables.specs.Lists.{sum, offsetsOf, itemsOf}
@@ -22,10 +21,11 @@ use Rattle.tables.proofs.Stands.{Laid, laid-stands}
 use Rattle.build.specs.declared.Standing.{Standing}
 use Rattle.build.specs.declared.Built.{Built}
 use Rattle.build.specs.declared.Built.the-variants as built
-use Rattle.build.specs.OnGrid.{cells, walkOn, ends, visited, cellsOn, listOn, globalsOn}
-use Rattle.build.specs.Choice.{turnsCheck, choice}
-use Rattle.build.specs.Build.{total, End, untouched, cleared, made, endBy, endAfter, endOf, answerOf, leftOf, BuildIs}
-use Rattle.build.proofs.Walks.{cells-walk}
+use Rattle.fill.specs.OnGrid.{cells, walkOn, ends, visited, cellsOn, listOn, globalsOn, total}
+use Rattle.fill.specs.Checks.{turnsCheck}
+use Rattle.fill.proofs.Walks.{cells-walk}
+use Rattle.build.specs.Choice.{choice}
+use Rattle.build.specs.Build.{End, untouched, cleared, made, endBy, endAfter, endOf, answerOf, leftOf, BuildIs}
 use Rattle.build.proofs.Settled.{Made, made-says}
 
 -- ---- the promise settles everything
@@ -110,7 +110,7 @@ success {ls} {o} {t} {gs} {s} {r} {o′} {t′} {gs′} {s′} {st} h ok =
           record {
             grid-fit = m .fits;
             few = m .lines-fit .few;
-            walks = cells-walk g ls (fit-shape g (m .fits));
+            walks = cells-walk g ls (m .fits);
             room = rw p (m .room);
             space = rw q (m .space);
             table = table-made l (m .space) x y;

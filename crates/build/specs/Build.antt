@@ -2,29 +2,20 @@
 use mathlib.Core.Path.{_≡_}
 use mathlib.Core.List.{List, _++_}
 use Prim.Native.Nat.{ℕ, _-_}
-use lib.Dec.{leb}
 use lib.ListN.{length, replicate}
 use Rattle.grid.specs.declared.Grid.{Grid}
 use Rattle.grid.specs.declared.Refusal.{Refusal}
 use Rattle.grid.specs.declared.Check.{Check}
 use Rattle.grid.specs.declared.Check.the-variants.{Fine, Refused}
-use Rattle.grid.specs.Refusals.{unless, andThen}
+use Rattle.grid.specs.Refusals.{andThen}
 use Rattle.grid.specs.Domain.{Lines, count, scratchCheck, linesCheck}
-use Rattle.tables.specs.Lists.{start, itemsOf, offsetsOf}
+use Rattle.tables.specs.Lists.{itemsOf, offsetsOf}
 use Rattle.build.specs.declared.Standing.{Standing}
 use Rattle.build.specs.declared.Built.{Built}
 use Rattle.build.specs.declared.Built.the-variants as built
-use Rattle.build.specs.OnGrid.{cells, listOn, globalsOn}
+use Rattle.fill.specs.OnGrid.{cells, listOn, globalsOn, total}
+use Rattle.fill.specs.Checks.{spaceCheck}
 use Rattle.build.specs.Choice.{Choice, refusedBy, settled, choice}
-
--- the number of items on a grid
-unfoldable pub total : Grid → Lines → ℕ
-total g ls = start (listOn g ls) (cells g)
-
--- 5: items lent are fewer than the total; then 6: globals lent are fewer than found
-unfoldable pub spaceCheck : Grid → Lines → ℕ → ℕ → Check
-spaceCheck g ls items globals =
-    andThen (unless (leb (total g ls) items) 5 (total g ls)) (unless (leb (length (globalsOn g ls)) globals) 6 (length (globalsOn g ls)))
 
 -- how a build ends: refused with nothing changed, refused with everything cleared, or made on a grid
 pub data End : Type 0 where

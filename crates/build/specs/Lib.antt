@@ -1,6 +1,4 @@
--- The definitions that the contracts of `build` cite: `OnGrid` the lists on a grid, `Choice` which grid, `Build` the entry, `Passes` what the
--- private functions promise.
-pub mod OnGrid
+-- The definitions that the contracts of `build` cite: `Choice` which grid, `Build` the entry, `Inside` what the private functions ask and promise.
 pub mod Choice
 pub mod Build
-pub mod Passes
+pub mod Inside

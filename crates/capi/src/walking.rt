@@ -54,8 +54,5 @@ pub extern "C" fn mt_segment_cells(
         end_x,
         end_y,
     };
-    cells(
-        walk::cells_of_segment(grid, line, scratch),
-        out,
-    )
+    cells(walk::cells_of_segment(grid, line, scratch), out)
 }

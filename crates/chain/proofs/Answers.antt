@@ -11,8 +11,8 @@ use Rattle.grid.specs.declared.Check.{Check}
 use Rattle.grid.specs.declared.Check.the-variants.{Fine, Refused}
 use Rattle.grid.specs.Domain.{Lines}
 use Rattle.tables.specs.Lists.{itemsOf, offsetsOf}
-use Rattle.build.specs.OnGrid.{listOn, globalsOn}
-use Rattle.build.specs.Build.{End, untouched, cleared, made, total, answerOf, leftOf, endOf, BuildIs}
+use Rattle.fill.specs.OnGrid.{listOn, globalsOn, total}
+use Rattle.build.specs.Build.{End, untouched, cleared, made, answerOf, leftOf, endOf, BuildIs}
 use Rattle.build.specs.declared.Standing.{Standing}
 use Rattle.build.specs.declared.Built.{Built}
 use Rattle.build.specs.declared.Built.the-variants as built

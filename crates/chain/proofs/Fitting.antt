@@ -6,7 +6,7 @@ use Prim.Native.Nat.{ℕ, zero, suc, _+_, _-_, _*_, _/_, _%_, _≤_, _<_}
 use native.Mathlib.Omega.{arith}
 use borrow.Author.Tests.{leb-true}
 use lib.Dec.{leb}
-use lib.Ieee.{Float, binary64, toBits}
+use lib.Ieee.{binary64, toBits}
 use lib.ListN.{length, getD, take, length-append, length-take, length-replicate}
 use lib.Seq.{length-slice}
 use Rattle.grid.specs.declared.Grid.{Grid}
@@ -17,12 +17,15 @@ use Rattle.grid.specs.Refusals.{unless, andThen}
 use Rattle.grid.proofs.Fine.{unless-fine, then-left, then-right}
 use Rattle.tables.specs.Lists.{concat, sum, start, itemsOf, offsetsOf}
 use Rattle.sizing.specs.declared.Extent.{Extent}
+use Rattle.sizing.specs.declared.Size.{Size}
 use Rattle.sizing.specs.Bounds.{extentOf}
 use Rattle.sizing.specs.Size.{firstSize, halfOf}
 use Rattle.sizing.specs.Counts.{gridOf, emptyGrid}
-use Rattle.build.specs.OnGrid as on
-use Rattle.build.specs.Choice.{Choice, refusedBy, settled, roomCheck, turnsCheck, triedCheck, crowded, unlessRefused, if, chosen, chosenFirst, chosenNone, choice}
-use Rattle.build.specs.Build.{End, untouched, cleared, made, total, spaceCheck, endOn, endBy, endAfter, endOf}
+use Rattle.fill.specs.OnGrid as on
+use Rattle.fill.specs.OnGrid.{total}
+use Rattle.fill.specs.Checks.{roomCheck, turnsCheck, triedCheck, spaceCheck}
+use Rattle.build.specs.Choice.{Choice, refusedBy, settled, crowded, unlessRefused, if, chosen, chosenFirst, chosenNone, choice}
+use Rattle.build.specs.Build.{End, untouched, cleared, made, endOn, endBy, endAfter, endOf}
 use Rattle.tables.specs.Tables.{Tables, cells, listOf, globalsOf}
 use Rattle.tables.specs.Fit.{TablesFit}
 use Rattle.tables.proofs.Facts.{all-within}
@@ -86,7 +89,7 @@ unfolding if
 if-settled true x y g e P f k = f e
 if-settled false x y g e P f k = k e
 
-chosen-room : (halvings : ℕ) (x : Extent) (size : Float) (ls : Lines) (room : ℕ) (g : Grid) → chosen halvings x size ls room ≡ settled g → on.cells g + 1 ≤ room
+chosen-room : (halvings : ℕ) (x : Extent) (size : Size) (ls : Lines) (room : ℕ) (g : Grid) → chosen halvings x size ls room ≡ settled g → on.cells g + 1 ≤ room
 unfolding chosen
 chosen-room zero x size ls room g e =
     let s = settled-next (triedCheck (gridOf x size) ls room) (settled (gridOf x size)) g e in

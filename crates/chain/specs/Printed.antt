@@ -11,8 +11,8 @@ use Rattle.grid.specs.declared.Check.{Check}
 use Rattle.grid.specs.declared.Check.the-variants.{Fine, Refused}
 use Rattle.grid.specs.Domain.{Lines, lines}
 use Rattle.tables.specs.Lists.{itemsOf, offsetsOf}
-use Rattle.build.specs.OnGrid.{listOn, globalsOn}
-use Rattle.build.specs.Build.{End, untouched, cleared, made, endOf, total}
+use Rattle.fill.specs.OnGrid.{listOn, globalsOn, total}
+use Rattle.build.specs.Build.{End, untouched, cleared, made, endOf}
 use Rattle.tables.specs.Tables.{Tables, cells, listOf, globalsOf}
 use Rattle.visit.specs.Tests.{testsOf}
 use Rattle.visit.specs.Batches.{overlapping}

@@ -5,7 +5,7 @@ use Rattle.grid.specs.declared.Grid.{Grid}
 use Rattle.grid.specs.Domain.{Lines, count}
 use Rattle.walk.specs.Pushes.{found}
 use Rattle.tables.specs.Tables.{Tables}
-use Rattle.build.specs.OnGrid.{walkOn, cellsOn}
+use Rattle.fill.specs.OnGrid.{walkOn, cellsOn}
 use Rattle.demands.specs.Demand.{Demand3}
 
 pub record AfterBuild (ls : Lines) (g : Grid) (t : Tables) : Type 0 where

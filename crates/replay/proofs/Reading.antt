@@ -9,7 +9,7 @@ use native.Mathlib.Decide.{decLe}
 use lib.Ieee.{Float, binary64, ofBits}
 use lib.ListN.{length, take, drop, replicate, length-drop, getD, length-append, length-replicate, length-map, List·getD-map}
 use lib.Seq.{ext-getD, take-all, take-take, getD-take, getD-drop}
-use Rattle.build.proofs.Choices.{zeros-at}
+use Rattle.fill.proofs.Counts.{zeros-at}
 use Rattle.replay.specs.Inside.{fourAt}
 use Rattle.replay.specs.Files.{after}
 use Rattle.replay.specs.Words.{wordsOf, Tells, wideAt, floatAt, wides, floats, padded, part}

@@ -15,7 +15,7 @@ use lib.Ieee.Scale.{grid, finite, normal-of-fraction}
 use lib.Ieee.Positive.{num, den, den-pos, positive, above-of-le}
 use Rattle.numbers.specs.Ceiling.{ceilingOf}
 use Rattle.numbers.proofs.CeilingLaws.{ceiling-most, ceiling-some, ceiling-times}
-use Rattle.sizing.specs.Size.{halfOf}
+use Rattle.sizing.specs.Size.{half}
 use Rattle.sizing.specs.Counts.{countOn}
 use Rattle.sizing.proofs.Constants.{two, two-is}
 use Rattle.sizing.proofs.Reach.{Spans}
@@ -104,17 +104,17 @@ module _ (x s : Float) (j K : ℕ) (p : Stretched x) (z : Sized j s) (few : j �
   small' : K ≤ 2 ^ 53
   small' = omega arith
 
-  same-half : halfOf s ≡ div binary64 s two
-  unfolding halfOf
+  same-half : half s ≡ div binary64 s two
+  unfolding half
   same-half = rw two-is
 
-  pub ceiling-twice : ceilingOf (div binary64 x (halfOf s)) ≤ 2 * ceilingOf (div binary64 x s)
+  pub ceiling-twice : ceilingOf (div binary64 x (half s)) ≤ 2 * ceilingOf (div binary64 x s)
   ceiling-twice =
       let y = div binary64 x s in
-      let v = div binary64 x (halfOf s) in
+      let v = div binary64 x (half s) in
       let s+ = z .above in
       let x+ = nonneg-of-positive x (p .above) in
-      let ok : T (finite v) = quot-finite x (halfOf s) (2 * j) (2 * K) p (half-sized j s z few) small (times-half j s z few x K t) in
+      let ok : T (finite v) = quot-finite x (half s) (2 * j) (2 * K) p (half-sized j s z few) small (times-half j s z few x K t) in
       let fine : T (finite (div binary64 x (div binary64 s two))) = subst (λ (h : Float). T (finite (div binary64 x h))) same-half ok in
       let q : ℕ = grid binary64 (num x * den s) (num s * den x) in
       let one : HasValue y false q (2 ^ 1074) = one-value binary64 two tt (refl, refl) x s x+ s+ (z .held) (half-low j s z few) (quot-finite x s j K p z small' t) in
@@ -155,10 +155,10 @@ module _ (w s : Float) (j : ℕ) (a : Across w j s) (z : Sized j s) (few : j ≤
   count-some = rw count-exact some
 
 module _ (w s : Float) (j : ℕ) (a : Across w j s) (z : Sized j s) (few : j ≤ 2) where
-  pub half-across : Across w (2 * j) (halfOf s)
-  half-across = record { spans = a .spans; times = subst (λ (k : ℕ). Times (stretched w) (halfOf s) k) (omega arith) (times-half j s z few (stretched w) (1001 * j) (a .times)) }
+  pub half-across : Across w (2 * j) (half s)
+  half-across = record { spans = a .spans; times = subst (λ (k : ℕ). Times (stretched w) (half s) k) (omega arith) (times-half j s z few (stretched w) (1001 * j) (a .times)) }
 
-  pub count-twice : countOn w (halfOf s) ≤ 2 * countOn w s
+  pub count-twice : countOn w (half s) ≤ 2 * countOn w s
   count-twice =
-      rw (count-exact w (halfOf s) (2 * j) half-across (half-sized j s z few) (omega arith), count-exact w s j a z (omega arith))
+      rw (count-exact w (half s) (2 * j) half-across (half-sized j s z few) (omega arith), count-exact w s j a z (omega arith))
       (ceiling-twice (stretched w) s j (1001 * j) (stretched-is w (a .spans)) z few (omega arith) (a .times))

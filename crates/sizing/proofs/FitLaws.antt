@@ -1,5 +1,5 @@
--- The grids that a build tries are fit: the first one, and each that comes of halving the cell size where four times the cells are below 1,000,000.
--- So no caller sees refusal 8 on a grid that a build returns. Assumes nothing.
+-- The grids that a build tries are fit: the first one, and each that comes of halving the size where four times the cells are below 1,000,000.
+-- So no caller sees refusal 8 on a grid that a build returns. `all-fit` says it in one statement, for whoever tries them. Assumes nothing.
 use mathlib.Core.Path.{_≡_, refl, sym, ap, _∙_, subst}
 use mathlib.Core.Bool.{Bool, true, false, _&&_}
 use Prim.Native.Nat.{ℕ, zero, suc, _+_, _-_, _*_, _^_, _≤_, _<_}
@@ -19,8 +19,9 @@ use Rattle.grid.proofs.Bools.{and-left, and-right, and-both}
 use Rattle.grid.proofs.Shapes.{shape-cells}
 use Rattle.grid.proofs.Fine.{LinesFit}
 use Rattle.sizing.specs.declared.Extent.{Extent}
+use Rattle.sizing.specs.declared.Size.{Size}
 use Rattle.sizing.specs.Bounds.{lowest, reach, whole, extentOf}
-use Rattle.sizing.specs.Size.{firstSize, halfOf}
+use Rattle.sizing.specs.Size.{firstSide, firstSize, half, halfOf}
 use Rattle.sizing.specs.Counts.{countOn, gridOf, emptyGrid}
 use Rattle.sizing.proofs.Constants.{quarter, quarter-is, 2e9, 2e9-is}
 use Rattle.sizing.proofs.Reach.{Lie, Spans, lowest-obeys, reach-spans}
@@ -119,7 +120,7 @@ module _ (e : Extent) (w : Within e) (j : ℕ) (s : Float) (z : SizedOn e j s) (
   rows-some : 1 ≤ countOn (e .height) s
   rows-some = count-some (e .height) s j (z .high) (z .sized) few
 
-  grid-fits : countOn (e .height) s * countOn (e .width) s ≤ 1002001 → fit (gridOf e s) ≡ true
+  grid-fits : countOn (e .height) s * countOn (e .width) s ≤ 1002001 → fit (gridOf e (record { «cell_size» = s })) ≡ true
   unfolding fit gridOf point
   grid-fits h =
       and-both (coordinate (e .«min_x») && coordinate (e .«min_y»)) (sizeFits s && shape (countOn (e .width) s) (countOn (e .height) s))
@@ -129,10 +130,10 @@ module _ (e : Extent) (w : Within e) (j : ℕ) (s : Float) (z : SizedOn e j s) (
 
 -- ---- the grids that a build tries
 
--- the cell size s, after k halvings: its grid is fit
-pub record Tried (e : Extent) (k : ℕ) (s : Float) : Type 0 where
+-- the size s, after k halvings: its grid is fit
+pub record Tried (e : Extent) (k : ℕ) (s : Size) : Type 0 where
   pub few : k ≤ 2
-  pub sized : SizedOn e (2 ^ k) s
+  pub sized : SizedOn e (2 ^ k) (s .«cell_size»)
   pub fits : fit (gridOf e s) ≡ true
 
 power-within : (k : ℕ) → k ≤ 2 → 2 ^ k ≤ 4
@@ -148,8 +149,9 @@ power-below (suc (suc k)) h = absurd (omega arith)
 
 -- the first one: 1,001 by 1,001 at most
 pub first-tried : (e : Extent) (n : ℕ) → Within e → 1 ≤ n → n ≤ 65536 → Tried e 0 (firstSize e n)
+unfolding firstSize
 first-tried e n w N most =
-    let s = firstSize e n in
+    let s = firstSide e n in
     let z = first-sized e n (w .wide) (w .high) N most in
     record { few = omega arith; sized = z; fits = grid-fits e w 1 s z (omega arith) (mul-le-mul (rows-most e w 1 s z (omega arith)) (cols-most e w 1 s z (omega arith))) }
 
@@ -158,43 +160,72 @@ fourfold : (r c r' c' : ℕ) → r' ≤ 2 * r → c' ≤ 2 * c → r * c * 4 < 1
 fourfold r c r' c' a b h = omega (arith, mul-le-mul a b)
 
 -- and after a halving
-pub again-tried : (e : Extent) (k : ℕ) (s : Float) → Within e → Tried e k s → k < 2 → gridOf e s .rows * gridOf e s .cols * 4 < 1000000 → Tried e (k + 1) (halfOf s)
-unfolding gridOf
+pub again-tried : (e : Extent) (k : ℕ) (s : Size) → Within e → Tried e k s → k < 2 → gridOf e s .rows * gridOf e s .cols * 4 < 1000000 → Tried e (k + 1) (halfOf s)
+unfolding gridOf halfOf
 again-tried e k s w t l h =
+    let v : Float = s .«cell_size» in
     let few : 2 ^ k ≤ 2 = power-below k l in
     let z = t .sized in
-    let z' : SizedOn e (2 * 2 ^ k) (halfOf s) =
-    record { sized = half-sized (2 ^ k) s (z .sized) few; wide = half-across (e .width) s (2 ^ k) (z .wide) (z .sized) few; high = half-across (e .height) s (2 ^ k) (z .high) (z .sized) few } in
+    let z' : SizedOn e (2 * 2 ^ k) (half v) =
+    record { sized = half-sized (2 ^ k) v (z .sized) few; wide = half-across (e .width) v (2 ^ k) (z .wide) (z .sized) few; high = half-across (e .height) v (2 ^ k) (z .high) (z .sized) few } in
     let p : 2 ^ (k + 1) ≡ 2 * 2 ^ k = ap (λ (m : ℕ). 2 ^ m) (add-one k) ∙ pow-succ' 2 k in
     record {
       few = omega arith;
-      sized = subst (λ (m : ℕ). SizedOn e m (halfOf s)) (sym p) z';
+      sized = subst (λ (m : ℕ). SizedOn e m (half v)) (sym p) z';
       fits =
-          grid-fits e w (2 * 2 ^ k) (halfOf s) z' (omega arith)
-          (fourfold (countOn (e .height) s) (countOn (e .width) s) (countOn (e .height) (halfOf s)) (countOn (e .width) (halfOf s))
-          (count-twice (e .height) s (2 ^ k) (z .high) (z .sized) few) (count-twice (e .width) s (2 ^ k) (z .wide) (z .sized) few) h);
+          grid-fits e w (2 * 2 ^ k) (half v) z' (omega arith)
+          (fourfold (countOn (e .height) v) (countOn (e .width) v) (countOn (e .height) (half v)) (countOn (e .width) (half v))
+          (count-twice (e .height) v (2 ^ k) (z .high) (z .sized) few) (count-twice (e .width) v (2 ^ k) (z .wide) (z .sized) few) h);
     }
+
+-- ---- all that can be tried
+
+-- The size s with so many halvings left: its grid is fit, and so is every grid that comes of halving it, which is done only where four times the
+-- cells are below 1,000,000.
+abbrev pub AllFit : ℕ → Extent → Size → Type 0
+AllFit zero e s = fit (gridOf e s) ≡ true
+AllFit (suc left) e s = (fit (gridOf e s) ≡ true) × (gridOf e s .rows * gridOf e s .cols * 4 < 1000000 → AllFit left e (halfOf s))
+
+pub fit-now : (left : ℕ) (e : Extent) (s : Size) → AllFit left e s → fit (gridOf e s) ≡ true
+fit-now zero e s h = h
+fit-now (suc left) e s h = h .0
+
+pub fit-next : (left : ℕ) (e : Extent) (s : Size) → 0 < left → AllFit left e s → gridOf e s .rows * gridOf e s .cols * 4 < 1000000 → AllFit (left - 1) e (halfOf s)
+fit-next zero e s l h few = absurd (omega arith)
+fit-next (suc left) e s l h few = let z : suc left - 1 ≡ left = omega arith in rw z (h .1 few)
+
+tried-all : (left : ℕ) (e : Extent) (k : ℕ) (s : Size) → Within e → k + left ≡ 2 → Tried e k s → AllFit left e s
+tried-all zero e k s w z t = t .fits
+tried-all (suc left) e k s w z t = (t .fits, λ few. tried-all left e (k + 1) (halfOf s) w (omega arith) (again-tried e k s w t (omega arith) few))
+
+-- every grid that can be tried from the first size on is fit
+pub all-fit : (ls : Lines) → LinesFit ls → 1 ≤ count ls → AllFit 2 (extentOf ls) (firstSize (extentOf ls) (count ls))
+all-fit ls f N =
+    let e = extentOf ls in
+    let w : Within e = lines-within ls f N in
+    tried-all 2 e 0 (firstSize e (count ls)) w refl (first-tried e (count ls) w N (f .few))
 
 -- ---- what the counts and the size of a tried grid are
 
-pub record Counted (e : Extent) (k : ℕ) (s : Float) : Type 0 where
+pub record Counted (e : Extent) (k : ℕ) (s : Size) : Type 0 where
   -- 32 bits are enough: the counts are the ceilings
-  pub «cols-are» : gridOf e s .cols ≡ ceilingOf (div binary64 (stretched (e .width)) s)
-  pub «rows-are» : gridOf e s .rows ≡ ceilingOf (div binary64 (stretched (e .height)) s)
+  pub «cols-are» : gridOf e s .cols ≡ ceilingOf (div binary64 (stretched (e .width)) (s .«cell_size»))
+  pub «rows-are» : gridOf e s .rows ≡ ceilingOf (div binary64 (stretched (e .height)) (s .«cell_size»))
   -- within 1,001, 2,002, 4,004
   pub «cols-most» : gridOf e s .cols ≤ 1001 * 2 ^ k
   pub «rows-most» : gridOf e s .rows ≤ 1001 * 2 ^ k
 
-pub tried-counted : (e : Extent) (k : ℕ) (s : Float) → Within e → Tried e k s → Counted e k s
+pub tried-counted : (e : Extent) (k : ℕ) (s : Size) → Within e → Tried e k s → Counted e k s
 unfolding gridOf
 tried-counted e k s w t =
+    let v : Float = s .«cell_size» in
     let few : 2 ^ k ≤ 4 = power-within k (t .few) in
     let z = t .sized in
     record {
-      «cols-are» = count-exact (e .width) s (2 ^ k) (z .wide) (z .sized) few;
-      «rows-are» = count-exact (e .height) s (2 ^ k) (z .high) (z .sized) few;
-      «cols-most» = cols-most e w (2 ^ k) s z few;
-      «rows-most» = rows-most e w (2 ^ k) s z few;
+      «cols-are» = count-exact (e .width) v (2 ^ k) (z .wide) (z .sized) few;
+      «rows-are» = count-exact (e .height) v (2 ^ k) (z .high) (z .sized) few;
+      «cols-most» = cols-most e w (2 ^ k) v z few;
+      «rows-most» = rows-most e w (2 ^ k) v z few;
     }
 
 -- the size is at least 1e-6, a half, a quarter of that, and at most 2e9
@@ -205,11 +236,12 @@ least-size (suc zero) s h z = cross→le (fin false 4722366482869645 (negsuc 72)
 least-size (suc (suc zero)) s h z = cross→le (fin false 4722366482869645 (negsuc 73)) s tt (nonneg-of-positive s (z .above)) (z .least)
 least-size (suc (suc (suc k))) s h z = absurd (omega arith)
 
-pub tried-size : (e : Extent) (k : ℕ) (s : Float) → Tried e k s → T (le (round binary64 false 1 (1000000 * 2 ^ k)) s) × T (le s (round binary64 false 2000000000 1))
+pub tried-size : (e : Extent) (k : ℕ) (s : Size) → Tried e k s → T (le (round binary64 false 1 (1000000 * 2 ^ k)) (s .«cell_size»)) × T (le (s .«cell_size») (round binary64 false 2000000000 1))
 tried-size e k s t =
+    let v : Float = s .«cell_size» in
     let z = t .sized .sized in
-    let b : num s * 1 ≤ 2000000000 * den s = let m = z .most in omega arith in
-    (least-size k s (t .few) z, rw 2e9-is (cross→le s 2e9 (nonneg-of-positive s (z .above)) tt b))
+    let b : num v * 1 ≤ 2000000000 * den v = let m = z .most in omega arith in
+    (least-size k v (t .few) z, rw 2e9-is (cross→le v 2e9 (nonneg-of-positive v (z .above)) tt b))
 
 -- ---- no lines
 

@@ -14,7 +14,7 @@ use lib.Ieee.Scale.{grid, grid-scale, finite}
 use lib.Ieee.Positive.{num, den, den-pos, positive, value→cross, positive-of-value}
 use Rattle.numbers.proofs.Values.{fits-says, pow-le-back}
 use Rattle.numbers.proofs.FloatQuotient.{num-pos}
-use Rattle.sizing.specs.Size.{halfOf}
+use Rattle.sizing.specs.Size.{half}
 use Rattle.sizing.proofs.Constants.{two, two-is}
 use Rattle.sizing.proofs.Plain.{nonneg, own-value, nonneg-of-positive, div-at, round-value, Times}
 
@@ -152,20 +152,20 @@ module _ (j : ℕ) (s : Float) (z : Sized j s) (few : j ≤ 2) where
   pub half-low : 2 * den s ≤ 2 ^ 1074
   half-low = low-enough binary64 s 4722366482869645 (2 ^ 73) (z .above) (z .held) (lit< tt) enough (lit≤ tt)
 
-  pub half-is : HasValue (halfOf s) false (num s) (2 * den s)
-  unfolding halfOf
+  pub half-is : HasValue (half s) false (num s) (2 * den s)
+  unfolding half
   half-is = rw two-is (half-value binary64 two tt (refl, refl) s (z .above) (z .held) half-low)
 
-  cross : num (halfOf s) * (2 * den s) ≡ num s * den (halfOf s)
-  cross = value→cross (halfOf s) (num s) (2 * den s) half-is
+  cross : num (half s) * (2 * den s) ≡ num s * den (half s)
+  cross = value→cross (half s) (num s) (2 * den s) half-is
 
-  half-held : T (fits binary64 (halfOf s))
-  unfolding halfOf
+  half-held : T (fits binary64 (half s))
+  unfolding half
   half-held = div-fits binary64 s (round binary64 false 2 1)
 
-  pub half-sized : Sized (2 * j) (halfOf s)
+  pub half-sized : Sized (2 * j) (half s)
   half-sized =
-      let h = halfOf s in
+      let h = half s in
       record {
         above = positive-of-value h (num s) (2 * den s) half-is (num-pos s (z .above));
         held = half-held;
@@ -173,5 +173,5 @@ module _ (j : ℕ) (s : Float) (z : Sized j s) (few : j ≤ 2) where
         most = half-most 2000000000 (num s) (den s) (num h) (den h) (den-pos s) cross (z .most);
       }
 
-  pub times-half : (x : Float) (K : ℕ) → Times x s K → Times x (halfOf s) (2 * K)
-  times-half x K h = let t = halfOf s in half-times (num x) (den x) K (num s) (den s) (num t) (den t) (den-pos s) cross h
+  pub times-half : (x : Float) (K : ℕ) → Times x s K → Times x (half s) (2 * K)
+  times-half x K h = let t = half s in half-times (num x) (den x) K (num s) (den s) (num t) (den t) (den-pos s) cross h

@@ -24,7 +24,7 @@ use Rattle.numbers.proofs.FloatOrder.{number, float-le-trans, at-most, le-numbe
 use Rattle.numbers.proofs.FloatSum.{below-zero, round-number}
 use Rattle.numbers.proofs.FloatQuotient.{div-mono}
 use Rattle.sizing.specs.declared.Extent.{Extent}
-use Rattle.sizing.specs.Size.{areaOf, firstSize}
+use Rattle.sizing.specs.Size.{areaOf, firstSide}
 use Rattle.sizing.proofs.Constants.{nought, 1e-9, 1e-9-is, 1e-6, 1e-6-is, thousand, thousand-is, 2e9}
 use Rattle.sizing.proofs.Extremes.{greatest-one, greatest-over}
 use Rattle.sizing.proofs.Reach.{Spans}
@@ -234,8 +234,8 @@ pub record SizedOn (e : Extent) (j : ℕ) (s : Float) : Type 0 where
   pub wide : Across (e .width) j s
   pub high : Across (e .height) j s
 
-pub first-sized : (e : Extent) (n : ℕ) → Spans (e .width) → Spans (e .height) → 1 ≤ n → n ≤ 65536 → SizedOn e 1 (firstSize e n)
-unfolding firstSize
+pub first-sized : (e : Extent) (n : ℕ) → Spans (e .width) → Spans (e .height) → 1 ≤ n → n ≤ 65536 → SizedOn e 1 (firstSide e n)
+unfolding firstSide
 first-sized e n p q N few =
     let v = div binary64 (areaOf e n) (ofInt binary64 (pos n)) in
     let t : Target (root v) = root-target v (div-fits binary64 (areaOf e n) (ofInt binary64 (pos n))) (share-rooted n N few (areaOf e n) (area-is n N few e p q)) in

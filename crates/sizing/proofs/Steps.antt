@@ -14,8 +14,9 @@ use Rattle.numbers.specs.Root.{root}
 use Rattle.grid.specs.declared.Grid.{Grid}
 use Rattle.grid.specs.Domain.{Lines}
 use Rattle.sizing.specs.declared.Extent.{Extent}
+use Rattle.sizing.specs.declared.Size.{Size}
 use Rattle.sizing.specs.Bounds.{picked, lowest, highest, reach, whole, extentOf}
-use Rattle.sizing.specs.Size.{areaOf, firstSize}
+use Rattle.sizing.specs.Size.{areaOf, firstSide, firstSize}
 use Rattle.sizing.specs.Counts.{countOn, gridOf}
 
 -- ---- the literals
@@ -81,8 +82,8 @@ module _ (e : Extent) (n : ℕ) where
   -- ---- the first size
 
   pub size-made : {k a t w v r : Float} → k ≡ ofInt binary64 (pos n) → a ≡ areaOf e n → t ≡ root (div binary64 a k) → w ≡ greatestOf (e .width) (e .height)
-      → v ≡ greatestOf t (div binary64 w (ofBits binary64 4652007308841189376)) → r ≡ greatestOf v (ofBits binary64 4517329193108106637) → r ≡ firstSize e n
-  unfolding firstSize
+      → v ≡ greatestOf t (div binary64 w (ofBits binary64 4652007308841189376)) → r ≡ greatestOf v (ofBits binary64 4517329193108106637) → _≡_ {A = Size} (record { «cell_size» = r }) (firstSize e n)
+  unfolding firstSide firstSize
   size-made p q s u x y = rw (← literal-1e-6, ← literal-1000) (cc)
 
 -- ---- the counts: the ceiling, or the largest that 32 bits hold
@@ -96,7 +97,7 @@ module _ (width size : Float) (n : ℕ) (e : n ≡ ceilingOf (div binary64 (add 
   unfolding countOn
   count-largest h = let k : 4294967295 ≡ min n (2 ^ 32 - 1) = omega arith in k ∙ ap (λ (m : ℕ). min m (2 ^ 32 - 1)) (rw literal-1e-9 at e)
 
-pub grid-made : (e : Extent) (size : Float) {c r : ℕ} → c ≡ countOn (e .width) size → r ≡ countOn (e .height) size
-    → _≡_ {A = Grid} (record { «min_x» = e .«min_x»; «min_y» = e .«min_y»; «cell_size» = size; cols = c; rows = r }) (gridOf e size)
+pub grid-made : (e : Extent) (s : Size) {c r : ℕ} → c ≡ countOn (e .width) (s .«cell_size») → r ≡ countOn (e .height) (s .«cell_size»)
+    → _≡_ {A = Grid} (record { «min_x» = e .«min_x»; «min_y» = e .«min_y»; «cell_size» = s .«cell_size»; cols = c; rows = r }) (gridOf e s)
 unfolding gridOf
-grid-made e size p q = cc
+grid-made e s p q = cc

@@ -11,7 +11,7 @@ use Rattle.numbers.specs.Root.{root}
 use Rattle.grid.specs.declared.Grid.{Grid}
 use Rattle.grid.specs.Domain.{Lines, lines, count}
 use Rattle.sizing.specs.Bounds.{lowest, highest, reach, extentOf}
-use Rattle.sizing.specs.Size.{areaOf, firstSize}
+use Rattle.sizing.specs.Size.{areaOf, firstSide, firstSize}
 use Rattle.sizing.specs.Counts.{countOn, gridOf}
 
 -- the first grid that a build of these lines tries
@@ -33,15 +33,15 @@ abbrev 2f : Float
 
 -- (0, 0) to (2, 2): cell_size 2, 2 by 2
 one-line : first (lines (0f ∷ []) (0f ∷ []) (2f ∷ []) (2f ∷ [])) ≡ square 2f 2
-unfolding lowest highest reach extentOf areaOf firstSize countOn gridOf leastOf greatestOf ceilingOf root lt isNan sub round ofInt mul add div
+unfolding lowest highest reach extentOf areaOf firstSide firstSize countOn gridOf leastOf greatestOf ceilingOf root lt isNan sub round ofInt mul add div
 one-line = refl
 
 -- (0, 0) to (0, 0): 1 by 1
 one-point : first (lines (0f ∷ []) (0f ∷ []) (0f ∷ []) (0f ∷ [])) ≡ square 1f 1
-unfolding lowest highest reach extentOf areaOf firstSize countOn gridOf leastOf greatestOf ceilingOf root lt isNan sub round ofInt mul add div
+unfolding lowest highest reach extentOf areaOf firstSide firstSize countOn gridOf leastOf greatestOf ceilingOf root lt isNan sub round ofInt mul add div
 one-point = refl
 
 -- (0, 0), (2, 0), (2, 2), (0, 2), (0, 0): cell_size 1, 3 by 3
 sample : first (lines (0f ∷ 2f ∷ 2f ∷ 0f ∷ []) (0f ∷ 0f ∷ 2f ∷ 2f ∷ []) (2f ∷ 2f ∷ 0f ∷ 0f ∷ []) (0f ∷ 2f ∷ 2f ∷ 0f ∷ [])) ≡ square 1f 3
-unfolding lowest highest reach extentOf areaOf firstSize countOn gridOf leastOf greatestOf ceilingOf root lt isNan sub round ofInt mul add div
+unfolding lowest highest reach extentOf areaOf firstSide firstSize countOn gridOf leastOf greatestOf ceilingOf root lt isNan sub round ofInt mul add div
 sample = refl

@@ -1,26 +1,27 @@
--- Document 01, "The build": the grid of a cell size, and the grid of no lines. Definitions only.
+-- Document 01, "The build": the grid of a size, and the grid of no lines. Definitions only.
 use Prim.Native.Nat.{ℕ, _-_, _^_, min}
 use mathlib.Core.Bool.{false}
 use lib.Ieee.{Float, binary64, round, add, div}
 use Rattle.numbers.specs.Ceiling.{ceilingOf}
 use Rattle.grid.specs.declared.Grid.{Grid}
 use Rattle.sizing.specs.declared.Extent.{Extent}
+use Rattle.sizing.specs.declared.Size.{Size}
 
--- How many cells of a size an axis takes: the ceiling of (width + 1e-9) / cell_size. A count has 32 bits, which is more than a build needs: on document
+-- How many cells of a length an axis takes: the ceiling of (width + 1e-9) / cell_size. A count has 32 bits, which is more than a build needs: on document
 -- 01's domain it is the ceiling itself (`tried-counted`).
 unfoldable pub countOn : Float → Float → ℕ
 countOn width size = min (ceilingOf (div binary64 (add binary64 width (round binary64 false 1 1000000000)) size)) (2 ^ 32 - 1)
 
--- the grid of a cell size: rows as columns
-unfoldable pub gridOf : Extent → Float → Grid
+-- the grid of a size: rows as columns
+unfoldable pub gridOf : Extent → Size → Grid
 unfolding countOn
-gridOf e size =
+gridOf e s =
     record {
       «min_x» = e .«min_x»;
       «min_y» = e .«min_y»;
-      «cell_size» = size;
-      cols = countOn (e .width) size;
-      rows = countOn (e .height) size;
+      «cell_size» = s .«cell_size»;
+      cols = countOn (e .width) (s .«cell_size»);
+      rows = countOn (e .height) (s .«cell_size»);
     }
 
 -- no lines: minima 0, cell_size 1, 0 by 0

@@ -1,4 +1,4 @@
-// The first half of document 01's "The build": the bounds over all endpoints, the first cell size, the grid of a cell size, and its half.
+// The first half of document 01's "The build": the bounds over all endpoints, the first size of the cells, the grid of a size, and half of a size.
 ghost use mathlib.Core.Path.{_≡_};
 ghost use Prim.Native.Nat.{_≤_, min};
 ghost use lib.ListN.{length};
@@ -18,6 +18,11 @@ pub struct Extent {
     pub min_y: f64,
     pub width: f64,
     pub height: f64,
+}
+
+// The size of a grid's cells. Whoever tries one size after another hands it on, and never looks inside.
+pub struct Size {
+    pub cell_size: f64,
 }
 
 // The bounds on one axis.
@@ -83,19 +88,22 @@ fn area_of(extent: Extent, lines: usize) -> f64
 }
 
 // About one line to a cell, but at most a thousand cells across, and no cell smaller than 1e-6.
-pub fn first_size(extent: Extent, lines: usize) -> f64
+pub fn first_size(extent: Extent, lines: usize) -> Size
     ensures { λ r. ⌜ r ≡ firstSize extent lines ⌝ }
 {
     let n = std::num::nearest_u64_to_f64(lines as u64);
     let target = square_root(area_of(extent, lines) / n);
     let across = greatest(extent.width, extent.height) / 1000.0;
-    greatest(greatest(target, across), 1e-6)
+    let cell_size = greatest(greatest(target, across), 1e-6);
+    Size { cell_size }
 }
 
-pub fn half_of(cell_size: f64) -> f64
-    ensures { λ r. ⌜ r ≡ halfOf «cell_size» ⌝ }
+pub fn half_of(size: Size) -> Size
+    ensures { λ r. ⌜ r ≡ halfOf size ⌝ }
 {
-    cell_size / 2.0
+    Size {
+        cell_size: size.cell_size / 2.0,
+    }
 }
 
 // The 1e-9 makes room for the upper end, which would else lie on the far edge of the last cell.
@@ -109,9 +117,10 @@ fn count_on(width: f64, cell_size: f64) -> u32
     4294967295
 }
 
-pub fn grid_of(extent: Extent, cell_size: f64) -> Grid
-    ensures { λ r. ⌜ r ≡ gridOf extent «cell_size» ⌝ }
+pub fn grid_of(extent: Extent, size: Size) -> Grid
+    ensures { λ r. ⌜ r ≡ gridOf extent size ⌝ }
 {
+    let cell_size = size.cell_size;
     let cols = count_on(extent.width, cell_size);
     let rows = count_on(extent.height, cell_size);
     Grid {

@@ -222,7 +222,7 @@ length-only true i = omega arith
 length-only false i = omega arith
 
 -- a line is in a cell's list once at most
-lines-few : (W : ℕ → List ℕ) (i c : ℕ) → length (linesAt W i c) ≤ i
+pub lines-few : (W : ℕ → List ℕ) (i c : ℕ) → length (linesAt W i c) ≤ i
 unfolding linesAt
 lines-few W zero c = omega arith
 lines-few W (suc i) c = rw length-append (omega (arith, lines-few W i c, length-only (elem c (W i)) i))
@@ -316,7 +316,7 @@ unfolding linesAt
 lines-beyond W n cells w c l zero b = refl
 lines-beyond W n cells w c l (suc i) b = rw (lines-beyond W n cells w c l i (omega arith), elem-beyond cells (W i) c (w .below i b) l)
 
-beyond : (W : ℕ → List ℕ) (n cells : ℕ) → Walks W n cells → (c : ℕ) → cells ≤ c → length (linesAt W n c) ≡ 0
+pub beyond : (W : ℕ → List ℕ) (n cells : ℕ) → Walks W n cells → (c : ℕ) → cells ≤ c → length (linesAt W n c) ≡ 0
 beyond W n cells w c l = ap length (lines-beyond W n cells w c l n (le-refl n))
 
 pub counted-none : (W : ℕ → List ℕ) (o : List ℕ) → ((k : ℕ) → getD o k 0 ≡ 0) → Counted (linesAt W 0) o
@@ -350,12 +350,12 @@ take-concat F t (suc n) l h =
     let b' : k < length (F n) = omega (arith, simp (length-take, length-drop) at b) in
     rw (getD-take (length (F n)) (drop (start F n) t) k 0 b', getD-drop) (h n k b'))))
 
-drop-zeros : (t : List ℕ) (n : ℕ) → n ≤ length t → ((p : ℕ) → n ≤ p → getD t p 0 ≡ 0) → drop n t ≡ replicate (length t - n) 0
+pub drop-zeros : (t : List ℕ) (n : ℕ) → n ≤ length t → ((p : ℕ) → n ≤ p → getD t p 0 ≡ 0) → drop n t ≡ replicate (length t - n) 0
 drop-zeros t n l z =
     ext-getD 0 (drop n t) (replicate (length t - n) 0) (simp (length-drop, length-replicate))
     (λ k b. rw (getD-drop, z (n + k) (omega arith), getD-replicate {A = ℕ} (length t - n) k 0 0 (rw length-drop at b)))
 
-take-tabulate : (g : ℕ → ℕ) (o : List ℕ) (n : ℕ) → n ≤ length o → ((c : ℕ) → c < n → getD o c 0 ≡ g c) → take n o ≡ tabulate g n
+pub take-tabulate : (g : ℕ → ℕ) (o : List ℕ) (n : ℕ) → n ≤ length o → ((c : ℕ) → c < n → getD o c 0 ≡ g c) → take n o ≡ tabulate g n
 unfolding tabulate
 take-tabulate g o zero l h = refl
 take-tabulate g o (suc n) l h = rw (take-suc o n 0 l, take-tabulate g o n (omega arith) (λ c b. h c (omega arith)), h n (omega arith))

@@ -145,12 +145,7 @@ fn ended(s: &mut [u32], n: usize, grid: Grid, x: f64, y: f64) -> usize
 }
 
 // Pushes what the line and its endpoints add to the n walked cells.
-pub(crate) fn completed(
-    s: &mut [u32],
-    n: usize,
-    grid: Grid,
-    line: Segment,
-) -> usize
+pub(crate) fn completed(s: &mut [u32], n: usize, grid: Grid, line: Segment) -> usize
     requires { ⌜ Shape (grid .cols) (grid .rows) ⌝ ∗ ⌜ 0 < grid .cols ⌝ ∗ ⌜ n + n * shareOf grid line + 6 ≤ length (now s) ⌝ }
     ensures { λ r. ⌜ Complete (now (s .exit)) r (pushesOf grid line (take n (now (s .entry)))) ⌝ }
 {

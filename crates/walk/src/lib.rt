@@ -57,11 +57,7 @@ pub enum Ran {
 
 // The walk of one line inside a larger call: its cells, increasing, none twice, at the start of the scratch. What is beyond them there is not zeroed.
 // Refusals 3, 1, 8 and 7.
-pub fn segment_cells(
-    grid: Grid,
-    line: Segment,
-    scratch: &mut [u32],
-) -> Cells
+pub fn segment_cells(grid: Grid, line: Segment, scratch: &mut [u32]) -> Cells
     ensures { λ r. ⌜ Walked (entryOf (length (now (scratch .entry))) grid line) (now (scratch .entry)) r (now (scratch .exit)) ⌝ }
 {
     if scratch.len() < 16384 {
@@ -105,11 +101,7 @@ pub fn segment_cells(
 }
 
 // The walk of one segment: the same, and zero beyond the cells.
-pub fn cells_of_segment(
-    grid: Grid,
-    line: Segment,
-    scratch: &mut [u32],
-) -> Cells
+pub fn cells_of_segment(grid: Grid, line: Segment, scratch: &mut [u32]) -> Cells
     ensures { λ r. ⌜ Entered (entryOf (length (now (scratch .entry))) grid line) (now (scratch .entry)) r (now (scratch .exit)) ⌝ }
 {
     let r = segment_cells(grid, line, scratch);

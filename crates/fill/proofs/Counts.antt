@@ -1,0 +1,119 @@
+-- The first pass over all lines: no walk so far was refused, and so many lines are global. Assumes nothing.
+use mathlib.Core.Path.{_≡_, refl, sym, ap, _∙_, subst}
+use mathlib.Core.Bool.{Bool, true, false}
+use mathlib.Core.List.{List}
+use Prim.Native.Nat.{ℕ, zero, suc, _+_, _-_, _≤_, _<_, _^_}
+use native.Mathlib.Numerals.{add-one}
+use native.Mathlib.Omega.{arith}
+use borrow.Author.Tests.{le-leb, lt-leb}
+use lib.ListN.{length, getD, replicate, length-append}
+use mir.Val.{Fits}
+use mir.Syntax.{w64}
+use Rattle.grid.specs.declared.Grid.{Grid}
+use Rattle.grid.specs.declared.Refusal.{Refusal}
+use Rattle.grid.specs.declared.Check.{Check}
+use Rattle.grid.specs.declared.Check.the-variants.{Fine, Refused}
+use Rattle.grid.specs.Refusals.{refusal, unless, andThen, eachFrom}
+use Rattle.grid.specs.Domain.{Lines, count}
+use Rattle.grid.proofs.Fine.{each-good, each-bad, each-over, each-says}
+use Rattle.tables.specs.Lists.{long, only, globalLines}
+use Rattle.tables.proofs.Laws.{counted-none}
+use Rattle.fill.specs.declared.Count.{Count}
+use Rattle.fill.specs.declared.Count.the-variants as counted
+use Rattle.fill.specs.OnGrid.{cells, walkOn, ends, cellsOn, globalsOn, oneIf}
+use Rattle.fill.specs.Checks.{roomCheck, walkCheck, turnsCheck, triedCheck}
+use Rattle.fill.specs.Inside.{CountAs, Walkable, localOn, CountedTo, CountAsks, LineCounted, PassAsks, AllCounted}
+use Rattle.fill.proofs.Walks.{walk-ends, walk-refused}
+
+-- the number of global lines grows by one where a line is global
+pub globals-count : (W : ℕ → List ℕ) (i : ℕ) → length (globalLines W (i + 1)) ≡ length (globalLines W i) + oneIf (long (W i))
+unfolding globalLines
+globals-count W i = rw (add-one, length-append) (ap (λ (n : ℕ). length (globalLines W i) + n) (go (long (W i))))
+  where
+    go : (b : Bool) → length (only b i) ≡ oneIf b
+    go true = refl
+    go false = refl
+
+pub one-if : (b : Bool) → oneIf b ≤ 1
+one-if true = omega arith
+one-if false = omega arith
+
+pub record CountingAll (g : Grid) (ls : Lines) (o₀ s₀ o s : List ℕ) (globals i : ℕ) : Type 0 where
+  pub walkable : Walkable g ls s
+  pub at : i ≤ count ls
+  pub len : length o ≡ length o₀
+  pub len-scratch : length s ≡ length s₀
+  pub turns : turnsCheck g ls ≡ eachFrom (λ i. ends (walkOn g ls i)) 7 (count ls - i) i
+  pub found : globals ≡ length (globalLines (cellsOn g ls) i)
+  pub most : globals ≤ i
+  pub counted : CountedTo g ls i o
+
+pub counting-all : {g : Grid} {ls : Lines} {o s : List ℕ} → PassAsks g ls o s → CountingAll g ls o s o s 0 0
+unfolding turnsCheck globalLines
+counting-all {g} {ls} h =
+    let e : count ls - 0 ≡ count ls = omega arith in
+    record { walkable = h .walkable; at = omega arith; len = refl; len-scratch = refl; turns = rw e; found = refl; most = omega arith; counted = h .counted }
+
+pub walkable-again : {g : Grid} {ls : Lines} {s s′ : List ℕ} → Walkable g ls s → length s′ ≡ length s → Walkable g ls s′
+walkable-again w e = record { same = w .same; few = w .few; each = w .each; fits = w .fits; space = omega (arith, w .space) }
+
+module _ {g : Grid} {ls : Lines} {o₀ s₀ o s : List ℕ} {globals i : ℕ} (k : CountingAll g ls o₀ s₀ o s globals i) (l : i < count ls) where
+  pub counting-asks : CountAsks g ls i o s
+  counting-asks = record { at = l; walkable = k .walkable; counted = k .counted }
+
+  module _ {o′ : List ℕ} {more : ℕ} (h : CountAs (walkCheck g ls i) (LineCounted g ls i o′) (counted.Of more)) where
+    pub counting-most : Fits w64 (globals + more)
+    counting-most = record { fits = omega (arith, k .most, h .1 .kind, one-if (long (cellsOn g ls i)), k .walkable .few) }
+
+    pub counting-next : {s′ : List ℕ} → length o′ ≡ length o → length s′ ≡ length s → CountingAll g ls o₀ s₀ o′ s′ (globals + more) (i + 1)
+    counting-next a b =
+        record {
+          walkable = walkable-again (k .walkable) b;
+          at = omega arith;
+          len = a ∙ k .len;
+          len-scratch = b ∙ k .len-scratch;
+          turns = k .turns ∙ each-good (λ i. ends (walkOn g ls i)) 7 (count ls) i l (walk-ends g ls i (h .0));
+          found = omega (arith, k .found, h .1 .kind, globals-count (cellsOn g ls) i);
+          most = omega (arith, k .most, h .1 .kind, one-if (long (cellsOn g ls i)));
+          counted = h .1 .next;
+        }
+
+  pub counting-over : (r : Refusal) → walkCheck g ls i ≡ Refused r → turnsCheck g ls ≡ Refused r
+  counting-over r h =
+      let q = walk-refused g ls i r h in
+      k .turns ∙ each-bad (λ i. ends (walkOn g ls i)) 7 (count ls) i l (q .0) ∙ ap Refused (sym (q .1))
+
+pub counting-end : {g : Grid} {ls : Lines} {o₀ s₀ o s : List ℕ} {globals i : ℕ} → CountingAll g ls o₀ s₀ o s globals i → count ls ≤ i → CountAs (turnsCheck g ls) (AllCounted g ls o) (counted.Of globals)
+unfolding globalsOn
+counting-end {g} {ls} {i = i} k l =
+    let e : i ≡ count ls = omega (arith, k .at) in
+    (k .turns ∙ each-over (λ i. ends (walkOn g ls i)) 7 (count ls) i l, record { found = rw e at (k .found); counted = rw e at (k .counted) })
+
+-- where no walk is refused, each ends
+pub turns-all : (g : Grid) (ls : Lines) → turnsCheck g ls ≡ Fine → (i : ℕ) → i < count ls → ends (walkOn g ls i) ≡ true
+unfolding turnsCheck
+turns-all g ls h i l = each-says (λ i. ends (walkOn g ls i)) 7 (count ls) 0 i h (omega arith) (omega arith)
+
+-- ---- from the start: 4, then what the pass finds
+
+module _ (g : Grid) (ls : Lines) (room n : ℕ) (e : n ≡ cells g) where
+  pub try-short : room < n + 1 → triedCheck g ls room ≡ Refused (refusal 4 (n + 1))
+  unfolding triedCheck roomCheck unless andThen
+  try-short l = let k : room < cells g + 1 = omega arith in rw (lt-leb (cells g + 1) room k, e)
+
+  try-on : n + 1 ≤ room → triedCheck g ls room ≡ turnsCheck g ls
+  unfolding triedCheck roomCheck unless andThen
+  try-on l = let k : cells g + 1 ≤ room = omega arith in rw (le-leb (cells g + 1) room k)
+
+  pub try-counted : (P : ℕ → Type 0) (r : Count) → n + 1 ≤ room → CountAs (turnsCheck g ls) P r → CountAs (triedCheck g ls room) P r
+  try-counted P r l h = subst (λ (k : Check). CountAs k P r) (sym (try-on l)) h
+
+pub zeros-at : (n k : ℕ) → getD (replicate {A = ℕ} n 0) k 0 ≡ 0
+zeros-at zero k = refl
+zeros-at (suc n) zero = refl
+zeros-at (suc n) (suc k) = zeros-at n k
+
+-- cleared offsets count no line
+pub counted-clear : (g : Grid) (ls : Lines) (o o′ : List ℕ) (n : ℕ) → o′ ≡ replicate (length o) 0 → length o′ ≡ length o → n ≡ cells g → n + 1 ≤ length o → CountedTo g ls 0 o′
+counted-clear g ls o o′ n e s d l =
+    record { room = omega arith; counts = counted-none (localOn g ls) o′ (λ k. rw e (zeros-at (length o) k)) }

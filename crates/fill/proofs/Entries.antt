@@ -1,0 +1,188 @@
+-- The entries: the checks, and what each answer leaves. Assumes nothing.
+use mathlib.Core.Path.{_≡_, refl, sym, ap, ap₂, _∙_}
+use mathlib.Core.Bool.{Bool, true, false}
+use mathlib.Core.List.{List, _++_}
+use Prim.Native.Nat.{ℕ, _+_, _-_, _≤_, _<_}
+use native.Mathlib.Omega.{arith}
+use borrow.Author.Tests.{leb-true}
+use lib.ListN.{length, getD, take, drop, replicate, take-append-drop}
+use Rattle.grid.specs.declared.Grid.{Grid}
+use Rattle.grid.specs.declared.Refusal.{Refusal}
+use Rattle.grid.specs.declared.Check.{Check}
+use Rattle.grid.specs.declared.Check.the-variants.{Fine, Refused}
+use Rattle.grid.specs.Refusals.{refusal, unless, andThen}
+use Rattle.grid.specs.Domain.{Lines, count, fit, scratchCheck, linesCheck, gridCheck}
+use Rattle.grid.proofs.Fine.{unless-fine, then-left, then-right, LinesFit, lines-fine}
+use Rattle.walk.specs.Segment.{leftBy}
+use Rattle.tables.specs.Lists.{linesAt, tabulate, itemsOf, offsetsOf}
+use Rattle.tables.proofs.Laws.{take-tabulate, drop-zeros, beyond}
+use Rattle.fill.specs.declared.Count.{Count}
+use Rattle.fill.specs.declared.Count.the-variants as counted
+use Rattle.fill.specs.declared.Filled.{Filled}
+use Rattle.fill.specs.OnGrid.{cells, listOn, globalsOn, countsOn}
+use Rattle.fill.specs.Checks.{lentCheck, turnsCheck, roomCheck, triedCheck, countingCheck, spaceCheck}
+use Rattle.fill.specs.Fill.{numberOr, leftOr, CountIs, above, Filling, refused, crowded, made, unlessRefused, crowdedIf, fillingOf, filledOf, leftIn, FillIs}
+use Rattle.fill.specs.Inside.{CountAs, Walkable, localOn, CountedTo, AllCounted, CountLent, FillAsks}
+use Rattle.fill.proofs.Walks.{all-walks}
+use Rattle.fill.proofs.Counts.{walkable-again}
+use Rattle.fill.proofs.Leaves.{Within, left-zeros, tried-within, space-within}
+
+-- ---- one check after another
+
+pub first-refuses : (a b : Check) (r : Refusal) → a ≡ Refused r → Refused r ≡ andThen a b
+unfolding andThen
+first-refuses a b r h = rw h
+
+pub first-passes : (a b : Check) → a ≡ Fine → b ≡ andThen a b
+unfolding andThen
+first-passes a b h = rw h
+
+-- 3, 2, 1, 8
+module _ (g : Grid) (ls : Lines) (scratch : ℕ) where
+  pub scratch-refused : (r : Refusal) → scratchCheck scratch ≡ Refused r → Refused r ≡ lentCheck g ls scratch
+  unfolding lentCheck
+  scratch-refused r h = first-refuses (scratchCheck scratch) (andThen (linesCheck ls) (gridCheck g)) r h
+
+  pub lines-refused : (r : Refusal) → scratchCheck scratch ≡ Fine → linesCheck ls ≡ Refused r → Refused r ≡ lentCheck g ls scratch
+  unfolding lentCheck
+  lines-refused r h k =
+      first-refuses (linesCheck ls) (gridCheck g) r k ∙ first-passes (scratchCheck scratch) (andThen (linesCheck ls) (gridCheck g)) h
+
+  pub grid-last : scratchCheck scratch ≡ Fine → linesCheck ls ≡ Fine → gridCheck g ≡ lentCheck g ls scratch
+  unfolding lentCheck
+  grid-last h k =
+      first-passes (linesCheck ls) (gridCheck g) k ∙ first-passes (scratchCheck scratch) (andThen (linesCheck ls) (gridCheck g)) h
+
+pub lent-walkable : {g : Grid} {ls : Lines} {s : List ℕ} → lentCheck g ls (length s) ≡ Fine → Walkable g ls s
+unfolding lentCheck scratchCheck gridCheck
+lent-walkable {g} {ls} {s} h =
+    let n : ℕ = length s in
+    let k = then-right (scratchCheck n) (andThen (linesCheck ls) (gridCheck g)) h in
+    let f : LinesFit ls = lines-fine ls (then-left (linesCheck ls) (gridCheck g) k) in
+    record {
+      same = f .same;
+      few = f .few;
+      each = f .each;
+      fits = unless-fine (fit g) 8 0 (then-right (linesCheck ls) (gridCheck g) k);
+      space = leb-true 16384 n (unless-fine _ 3 0 (then-left (scratchCheck n) (andThen (linesCheck ls) (gridCheck g)) h));
+    }
+
+-- ---- the checks and the count
+
+same-zeros : (k : Check) (q : Refusal) (was was′ : List ℕ) → Within 4 7 k → k ≡ Refused q → length was′ ≡ length was → leftBy q was′ ≡ leftBy q was
+same-zeros Fine q was was′ w h e = let z : _≡_ {A = ℕ} 0 1 = cc in absurd (omega arith)
+same-zeros (Refused r) q was was′ w h e =
+    let d : r ≡ q = cc in
+    rw (← d) (left-zeros r was′ w ∙ ap (λ (n : ℕ). replicate {A = ℕ} n 0) e ∙ sym (left-zeros r was w))
+
+-- of a slice, a crowded cell, refusals 5 and 6, and tables ask the length alone
+same-left : (b : Bool) (c : Check) → Within 4 7 c → (was was′ : List ℕ) (on : ℕ → List ℕ) → length was′ ≡ length was
+    → leftIn (crowdedIf b (unlessRefused c made)) was′ (on (length was′)) ≡ leftIn (crowdedIf b (unlessRefused c made)) was (on (length was))
+unfolding crowdedIf unlessRefused leftIn
+same-left true c w was was′ on e = ap (λ (n : ℕ). replicate {A = ℕ} n 0) e
+same-left false Fine w was was′ on e = ap on e
+same-left false (Refused r) w was was′ on e = same-zeros (Refused r) r was was′ w refl e
+
+module _ {g : Grid} {ls : Lines} {o s : List ℕ} where
+  pub lent-refused : {r : Refusal} → lentCheck g ls (length s) ≡ Refused r → CountLent g ls o s (counted.Refused r) o s
+  unfolding countingCheck
+  lent-refused {r} h =
+      record {
+        is = sym (first-refuses (lentCheck g ls (length s)) (triedCheck g ls (length o)) r h);
+        offsets = λ q e. refl;
+        scratch = λ q e. refl;
+      }
+
+  pub lent-counted : {r : Count} {o′ s′ : List ℕ} → lentCheck g ls (length s) ≡ Fine → CountAs (triedCheck g ls (length o)) (AllCounted g ls o′) r → length o′ ≡ length o → length s′ ≡ length s → CountLent g ls o s r o′ s′
+  unfolding countingCheck
+  lent-counted {r} {o′} {s′} h k a b =
+      record {
+        is = rw (← first-passes (lentCheck g ls (length s)) (triedCheck g ls (length o)) h) k;
+        offsets = λ q e. same-zeros (triedCheck g ls (length o)) q o o′ (tried-within g ls (length o)) (rw e at k) a;
+        scratch = λ q e. same-zeros (triedCheck g ls (length o)) q s s′ (tried-within g ls (length o)) (rw e at k) b;
+      }
+
+-- ---- the count
+
+-- the counts, as a list
+counts-are : {g : Grid} {ls : Lines} {o : List ℕ} → fit g ≡ true → CountedTo g ls (count ls) o → o ≡ countsOn g ls (length o)
+unfolding countsOn listOn
+counts-are {g} {ls} {o} f h =
+    let W = localOn g ls in
+    let n : ℕ = cells g in
+    let l : n ≤ length o = let r = h .room in omega arith in
+    sym (take-append-drop n o)
+    ∙ ap₂ _++_ (take-tabulate (λ c. length (linesAt W (count ls) c)) o n l (λ c _. h .counts .count-is c))
+    (drop-zeros o n l (λ p q. h .counts .count-is p ∙ beyond W (count ls) n (all-walks g ls f) p q))
+
+module _ {g : Grid} {ls : Lines} {o s : List ℕ} {r : Count} {o₁ s₁ : List ℕ} (h : CountLent g ls o s r o₁ s₁) where
+  -- what is known where nothing was refused
+  counting-fine : (n : ℕ) → r ≡ counted.Of n → CountAs (countingCheck g ls (length o) (length s)) (AllCounted g ls o₁) (counted.Of n)
+  counting-fine n e = rw e at (h .is)
+
+  counting-walkable : (n : ℕ) → r ≡ counted.Of n → Walkable g ls s
+  unfolding countingCheck
+  counting-walkable n e = lent-walkable (then-left (lentCheck g ls (length s)) (triedCheck g ls (length o)) (counting-fine n e .0))
+
+  pub count-done : (n : ℕ) {s₂ : List ℕ} {long : ℕ} → r ≡ counted.Of n → length o₁ ≡ length o → s₂ ≡ replicate long 0 → long ≡ length s
+      → CountIs g ls o s (counted.Of n) o₁ s₂ (countingCheck g ls (length o) (length s))
+  unfolding numberOr leftOr
+  count-done n e a z b =
+      let k = counting-fine n e in
+      rw (k .0)
+      (record {
+        answer = ap counted.Of (k .1 .found);
+        counts-are = counts-are (counting-walkable n e .fits) (k .1 .counted) ∙ ap (countsOn g ls) a;
+        scratch-is = z ∙ ap (λ (n : ℕ). replicate {A = ℕ} n 0) b;
+      })
+
+  counting-refused : (q : Refusal) → r ≡ counted.Refused q → countingCheck g ls (length o) (length s) ≡ Refused q
+  counting-refused q e = rw e at (h .is)
+
+  pub count-refused : (q : Refusal) {o₂ s₂ : List ℕ} → r ≡ counted.Refused q → o₂ ≡ leftBy q o₁ → s₂ ≡ leftBy q s₁ → CountIs g ls o s (counted.Refused q) o₂ s₂ (countingCheck g ls (length o) (length s))
+  unfolding numberOr leftOr
+  count-refused q e x y =
+      rw (counting-refused q e) (record { answer = refl; counts-are = x ∙ h .offsets q e; scratch-is = y ∙ h .scratch q e })
+
+  -- ---- the tables
+
+  pub fill-asks : (n : ℕ) → r ≡ counted.Of n → length s₁ ≡ length s → FillAsks g ls n o₁ s₁
+  unfolding countingCheck triedCheck
+  fill-asks n e b =
+      let k = counting-fine n e in
+      record {
+        walkable = walkable-again (counting-walkable n e) b;
+        turns = then-right (roomCheck g (length o)) (turnsCheck g ls) (then-right (lentCheck g ls (length s)) (triedCheck g ls (length o)) (k .0));
+        all = k .1;
+      }
+
+  pub fill-refused : (q : Refusal) {t gs : List ℕ} {w : Filled} {o₂ t₂ gs₂ s₂ : List ℕ} (most : ℕ) → r ≡ counted.Refused q → ((g : Grid) (ls : Lines) → FillIs g ls o₁ t gs s₁ w o₂ t₂ gs₂ s₂ (refused q))
+      → FillIs g ls o t gs s w o₂ t₂ gs₂ s₂ (fillingOf g ls most (length o) (length t) (length gs) (length s))
+  unfolding fillingOf unlessRefused filledOf leftIn
+  fill-refused q most e all =
+      let k = all g ls in
+      rw (counting-refused q e)
+      (record {
+        answer = k .answer;
+        offsets-are = k .offsets-are ∙ h .offsets q e;
+        items-are = k .items-are;
+        globals-are = k .globals-are;
+        scratch-is = k .scratch-is ∙ h .scratch q e;
+      })
+
+  pub fill-done : (n : ℕ) {t gs : List ℕ} {w : Filled} {o₂ t₂ gs₂ s₂ : List ℕ} (most : ℕ) → r ≡ counted.Of n
+      → FillIs g ls o₁ t gs s₁ w o₂ t₂ gs₂ s₂ (crowdedIf (above most (λ c. length (listOn g ls c)) (cells g)) (unlessRefused (spaceCheck g ls (length t) (length gs)) made))
+      → length o₁ ≡ length o → length s₁ ≡ length s → FillIs g ls o t gs s w o₂ t₂ gs₂ s₂ (fillingOf g ls most (length o) (length t) (length gs) (length s))
+  unfolding fillingOf unlessRefused
+  fill-done n {t} {gs} most e k a b =
+      let crowd = above most (λ c. length (listOn g ls c)) (cells g) in
+      let room = spaceCheck g ls (length t) (length gs) in
+      let w = space-within g ls (length t) (length gs) in
+      rw (counting-fine n e .0)
+      (record {
+        answer = k .answer;
+        offsets-are = k .offsets-are ∙ same-left crowd room w o o₁ (λ n. offsetsOf (listOn g ls) (cells g) n) a;
+        items-are = k .items-are;
+        globals-are = k .globals-are;
+        scratch-is = k .scratch-is ∙ same-left crowd room w s s₁ (λ n. replicate {A = ℕ} n 0) b;
+      })

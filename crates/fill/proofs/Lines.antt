@@ -1,0 +1,85 @@
+-- One line more, in either pass. Assumes nothing.
+use mathlib.Core.Path.{_≡_, refl, sym, ap, _∙_}
+use mathlib.Core.Bool.{Bool, true, false}
+use mathlib.Core.List.{List}
+use Prim.Native.Nat.{ℕ, _+_, _*_, _≤_, _<_, _^_}
+use native.Mathlib.Nat.{mul-le-mul-right}
+use native.Mathlib.Omega.{arith}
+use lib.ListN.{length}
+use Rattle.grid.specs.declared.Grid.{Grid}
+use Rattle.grid.specs.Domain.{Lines, count, fit}
+use Rattle.tables.specs.Lists.{long, linesAt, start}
+use Rattle.tables.specs.States.{Counted, Placed, CanCount, CanPlace}
+use Rattle.tables.proofs.Laws.{total-few}
+use Rattle.tables.proofs.Lists.{local-long, local-few, list-none}
+use Rattle.fill.specs.OnGrid.{cells, cellsOn, listOn, total}
+use Rattle.fill.specs.Inside.{Front, localOn, CountedTo, CountAsks, LineCounted, PlacedTo, LineAsks, LinePlaced}
+use Rattle.fill.proofs.Walks.{is-long, is-short, all-walks, line-at}
+
+-- a global line is in no list
+long-none : (g : Grid) (ls : Lines) (i : ℕ) → long (cellsOn g ls i) ≡ true → linesAt (localOn g ls) i ≡ linesAt (localOn g ls) (i + 1)
+long-none g ls i h = list-none (localOn g ls) i (local-long (cellsOn g ls) i h)
+
+-- the total fits in 32 bits
+pub total-small : (g : Grid) (ls : Lines) → count ls ≤ 65536 → fit g ≡ true → total g ls < 2 ^ 32
+unfolding total listOn
+total-small g ls few h =
+    let t : start (linesAt (localOn g ls) (count ls)) (cells g) ≤ count ls * 2048 = total-few (localOn g ls) (count ls) (cells g) 2048 (all-walks g ls h) (λ i _. local-few (cellsOn g ls) i) in
+    let u : count ls * 2048 ≤ 65536 * 2048 = mul-le-mul-right 2048 few in
+    omega arith
+
+-- ---- the first pass
+
+module _ {g : Grid} {ls : Lines} {i : ℕ} {o s₀ s : List ℕ} {n : ℕ} (a : CountAsks g ls i o s₀) (k : Front g ls i s n) where
+  pub count-global : 2048 < n → LineCounted g ls i o 1
+  count-global b =
+      let h = is-long g ls i k b in
+      record { kind = rw h; next = record { room = a .counted .room; counts = rw (long-none g ls i h) at (a .counted .counts) } }
+
+  pub can-count : n ≤ 2048 → CanCount o s n
+  can-count b =
+      record {
+        W = localOn g ls;
+        lines = count ls;
+        cells = cells g;
+        i = i;
+        line = line-at (a .walkable) (a .at) k b;
+        room = omega (arith, a .counted .room);
+        counted = a .counted .counts;
+      }
+
+  pub count-next : {o′ : List ℕ} (b : n ≤ 2048) → ((p : CanCount o s n) → Counted (linesAt (p .W) (p .i + 1)) o′) → length o′ ≡ length o → LineCounted g ls i o′ 0
+  unfolding can-count
+  count-next b after e =
+      record { kind = rw (is-short g ls i k b); next = record { room = omega (arith, a .counted .room); counts = after (can-count b) } }
+
+-- ---- the second pass
+
+module _ {g : Grid} {ls : Lines} {i : ℕ} {o t s₀ s : List ℕ} {n : ℕ} (a : LineAsks g ls i o t s₀) (k : Front g ls i s n) where
+  pub place-global : 2048 < n → LinePlaced g ls i o t 1
+  place-global b =
+      let h = is-long g ls i k b in
+      record { kind = rw h; next = record { room = a .placed .room; space = a .placed .space; placed = rw (long-none g ls i h) at (a .placed .placed) } }
+
+  pub can-place : n ≤ 2048 → CanPlace i o t s n
+  unfolding total listOn
+  can-place b =
+      record {
+        W = localOn g ls;
+        lines = count ls;
+        cells = cells g;
+        line = line-at (a .walkable) (a .at) k b;
+        room = a .placed .room;
+        space = a .placed .space;
+        small = total-small g ls (a .walkable .few) (a .walkable .fits);
+        placed = a .placed .placed;
+      }
+
+  pub place-next : {o′ t′ : List ℕ} (b : n ≤ 2048) → ((p : CanPlace i o t s n) → Placed (linesAt (p .W) (p .lines)) (p .cells) (linesAt (p .W) (i + 1)) o′ t′)
+      → length o′ ≡ length o → length t′ ≡ length t → LinePlaced g ls i o′ t′ 0
+  unfolding can-place total listOn
+  place-next b after e d =
+      record {
+        kind = rw (is-short g ls i k b);
+        next = record { room = omega (arith, a .placed .room); space = omega (arith, a .placed .space); placed = after (can-place b) };
+      }

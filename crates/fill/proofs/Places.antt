@@ -1,0 +1,127 @@
+-- The second pass over all lines, with the global lines listed on the way. Assumes nothing.
+use mathlib.Core.Path.{_≡_, refl, sym, ap, _∙_}
+use mathlib.Core.Bool.{Bool, true, false}
+use mathlib.Core.List.{List, [], _∷_, _++_, append-nil, append-assoc}
+use Prim.Native.Nat.{ℕ, zero, suc, _+_, _-_, _≤_, _<_, _^_}
+use native.Mathlib.Nat.{suc-add, zero-add}
+use native.Mathlib.Numerals.{add-one}
+use native.Mathlib.Omega.{arith}
+use mir.Val.{Fits}
+use mir.Syntax.{w64}
+use lib.ListN.{length, getD, set, replicate, length-append, length-set, length-replicate}
+use Rattle.grid.specs.declared.Grid.{Grid}
+use Rattle.grid.specs.Domain.{Lines, count}
+use Rattle.tables.specs.Lists.{long, only, globalLines}
+use Rattle.fill.specs.OnGrid.{walkOn, ends, cellsOn, globalsOn, oneIf}
+use Rattle.fill.specs.Inside.{Walkable, PlacedTo, LineAsks, LinePlaced, listed, PlaceAsks, AllPlaced}
+use Rattle.fill.proofs.Counts.{globals-count, one-if, walkable-again, turns-all}
+
+pub never : (b : Bool) → b ≡ true → b ≡ false → ⊥
+never b h k = let z : _≡_ {A = Bool} true false = sym h ∙ k in let y : _≡_ {A = ℕ} 0 1 = cc in omega arith
+
+pub listed-some : (more : ℕ) (xs : List ℕ) (at i : ℕ) → (more ≡ 0 → ⊥) → set xs at i ≡ listed more xs at i
+listed-some zero xs at i h = absurd (h refl)
+listed-some (suc n) xs at i h = refl
+
+-- a store just past xs, in zeros
+put-past : (xs : List ℕ) (m v : ℕ) → set (xs ++ replicate (suc m) 0) (length xs) v ≡ (xs ++ (v ∷ [])) ++ replicate m 0
+put-past [] m v = refl
+put-past (x ∷ xs) m v = ap (λ (zs : List ℕ). x ∷ zs) (put-past xs m v)
+
+-- the list of globals, with zeros beyond, when line i is listed
+listed-next : (W : ℕ → List ℕ) (i room : ℕ) → length (globalLines W (i + 1)) ≤ room
+    → listed (oneIf (long (W i))) (globalLines W i ++ replicate (room - length (globalLines W i)) 0) (length (globalLines W i)) i ≡ globalLines W (i + 1) ++ replicate (room - length (globalLines W (i + 1))) 0
+unfolding globalLines
+listed-next W i room l = rw add-one (go (long (W i)) (rw add-one at l))
+  where
+    go : (b : Bool) → length (globalLines W i ++ only b i) ≤ room
+        → listed (oneIf b) (globalLines W i ++ replicate (room - length (globalLines W i)) 0) (length (globalLines W i)) i ≡ (globalLines W i ++ only b i) ++ replicate (room - length (globalLines W i ++ only b i)) 0
+    go true k =
+        let k' : length (globalLines W i) + 1 ≤ room = simp length-append at k in
+        let e : room - length (globalLines W i) ≡ suc (room - (length (globalLines W i) + 1)) = omega arith in
+        rw (e, length-append) (put-past (globalLines W i) (room - (length (globalLines W i) + 1)) i)
+    go false k = rw append-nil
+
+globals-mono : (W : ℕ → List ℕ) (i d : ℕ) → length (globalLines W i) ≤ length (globalLines W (i + d))
+globals-mono W i zero = let e : i + 0 ≡ i = omega arith in rw e (omega arith)
+globals-mono W i (suc d) =
+    let e : i + suc d ≡ (i + d) + 1 = omega arith in
+    rw (e, globals-count W (i + d)) (omega (arith, globals-mono W i d))
+
+globals-within : (g : Grid) (ls : Lines) (i : ℕ) → i ≤ count ls → length (globalLines (cellsOn g ls) i) ≤ length (globalsOn g ls)
+unfolding globalsOn
+globals-within g ls i l = let e : count ls ≡ i + (count ls - i) = omega arith in rw e (globals-mono (cellsOn g ls) i (count ls - i))
+
+globals-few : (W : ℕ → List ℕ) (i : ℕ) → length (globalLines W i) ≤ i
+unfolding globalLines
+globals-few W zero = omega arith
+globals-few W (suc i) = let e = rw add-one at (globals-count W i) in omega (arith, e, globals-few W i, one-if (long (W i)))
+
+pub record PlacingAll (g : Grid) (ls : Lines) (o₀ t₀ gs₀ s₀ o t gs s : List ℕ) (found i : ℕ) : Type 0 where
+  pub walkable : Walkable g ls s
+  pub ended : (j : ℕ) → j < count ls → ends (walkOn g ls j) ≡ true
+  pub at : i ≤ count ls
+  pub len : length o ≡ length o₀
+  pub len-items : length t ≡ length t₀
+  pub len-globals : length gs ≡ length gs₀
+  pub len-scratch : length s ≡ length s₀
+  pub placed : PlacedTo g ls i o t
+  pub fits : length (globalsOn g ls) ≤ length gs₀
+  pub so-far : found ≡ length (globalLines (cellsOn g ls) i)
+  pub listing : gs ≡ globalLines (cellsOn g ls) i ++ replicate (length gs₀ - length (globalLines (cellsOn g ls) i)) 0
+
+pub placing-all : {g : Grid} {ls : Lines} {o t gs s : List ℕ} → PlaceAsks g ls o t gs s → PlacingAll g ls o t gs s o t gs s 0 0
+unfolding globalLines
+placing-all {g} {ls} {gs = gs} h =
+    let e : length gs - 0 ≡ length gs = omega arith in
+    record {
+      walkable = h .walkable;
+      ended = turns-all g ls (h .turns);
+      at = omega arith;
+      len = refl;
+      len-items = refl;
+      len-globals = refl;
+      len-scratch = refl;
+      placed = h .first;
+      fits = h .fits;
+      so-far = refl;
+      listing = rw e (h .clear);
+    }
+
+module _ {g : Grid} {ls : Lines} {o₀ t₀ gs₀ s₀ o t gs s : List ℕ} {found i : ℕ} (k : PlacingAll g ls o₀ t₀ gs₀ s₀ o t gs s found i) (l : i < count ls) where
+  pub placing-line : LineAsks g ls i o t s
+  placing-line = record { at = l; walkable = k .walkable; ended = k .ended i l; placed = k .placed }
+
+  next-fits : length (globalLines (cellsOn g ls) (i + 1)) ≤ length gs₀
+  next-fits = omega (arith, globals-within g ls (i + 1) (omega arith), k .fits)
+
+  module _ {o′ t′ : List ℕ} {more : ℕ} (h : LinePlaced g ls i o′ t′ more) where
+    pub placing-asks : (i < 65536) × (0 < more → found < length gs)
+    placing-asks =
+        (omega (arith, k .walkable .few), λ p. omega (arith, next-fits, globals-count (cellsOn g ls) i, h .kind, k .so-far, k .len-globals))
+
+    pub placing-found : Fits w64 (found + more)
+    placing-found = record { fits = omega (arith, h .kind, k .so-far, one-if (long (cellsOn g ls i)), globals-few (cellsOn g ls) i, k .walkable .few) }
+
+    pub placing-next : {gs′ s′ : List ℕ} → gs′ ≡ listed more gs found i → length o′ ≡ length o → length t′ ≡ length t → length gs′ ≡ length gs → length s′ ≡ length s
+        → PlacingAll g ls o₀ t₀ gs₀ s₀ o′ t′ gs′ s′ (found + more) (i + 1)
+    placing-next q a b d f =
+        record {
+          walkable = walkable-again (k .walkable) f;
+          ended = k .ended;
+          at = omega arith;
+          len = a ∙ k .len;
+          len-items = b ∙ k .len-items;
+          len-globals = d ∙ k .len-globals;
+          len-scratch = f ∙ k .len-scratch;
+          placed = h .next;
+          fits = k .fits;
+          so-far = omega (arith, k .so-far, h .kind, globals-count (cellsOn g ls) i);
+          listing = q ∙ rw (h .kind, k .so-far, k .listing) (listed-next (cellsOn g ls) i (length gs₀) next-fits);
+        }
+
+pub placing-end : {g : Grid} {ls : Lines} {o₀ t₀ gs₀ s₀ o t gs s : List ℕ} {found i : ℕ} → PlacingAll g ls o₀ t₀ gs₀ s₀ o t gs s found i → count ls ≤ i → AllPlaced g ls o t (length gs₀) gs
+unfolding globalsOn
+placing-end {g} {ls} {i = i} k l =
+    let e : i ≡ count ls = omega (arith, k .at) in
+    record { last = rw e at (k .placed); globals = rw e at (k .listing) }

@@ -1,0 +1,117 @@
+-- The walks of lines on a fit grid. Assumes nothing.
+use mathlib.Core.Path.{_≡_, refl, sym, ap, _∙_}
+use mathlib.Core.Bool.{Bool, true, false}
+use mathlib.Core.List.{List, []}
+use Prim.Native.Nat.{ℕ, _+_, _*_, _≤_, _<_, _^_}
+use native.Mathlib.Omega.{arith}
+use borrow.Author.Tests.{le-leb, lt-leb}
+use lib.ListN.{length, take}
+use Rattle.slices.specs.Lists.{Rising, Below}
+use Rattle.grid.specs.declared.Grid.{Grid}
+use Rattle.grid.specs.declared.Refusal.{Refusal}
+use Rattle.grid.specs.declared.Check.the-variants.{Fine, Refused}
+use Rattle.grid.specs.Refusals.{refusal, unless}
+use Rattle.grid.specs.Domain.{Lines, count, segmentAt, lineFits, fit}
+use Rattle.grid.proofs.Fine.{unless-fine}
+use Rattle.grid.proofs.Shapes.{shape-says, fit-shape}
+use Rattle.walk.specs.declared.Cells.{Cells}
+use Rattle.walk.specs.declared.Cells.the-variants as cells-are
+use Rattle.walk.specs.Pushes.{Outcome, refused, found}
+use Rattle.walk.specs.Segment as walk
+use Rattle.walk.proofs.Visits.{segment-visits}
+use Rattle.walk.proofs.Answer.{entry-is}
+use Rattle.tables.specs.Lists.{Walks, long, local}
+use Rattle.tables.specs.States.{Line}
+use Rattle.tables.proofs.Lists.{local-walks, local-short}
+use Rattle.fill.specs.declared.Count.the-variants as counted
+use Rattle.fill.specs.OnGrid.{cells, walkOn, ends, visited, cellsOn}
+use Rattle.fill.specs.Checks.{walkCheck}
+use Rattle.fill.specs.Inside.{CountAs, Walkable, WalkAsks, Front, localOn}
+
+-- ---- what the walk answers, as a count
+
+-- the answer names the cells, and they stand at the front; or the answer is a refusal
+walked-found : (o : Outcome) (was : List ℕ) (n : ℕ) (s : List ℕ) → walk.Walked o was (cells-are.Found n) s → length s ≡ length was → length (visited o) ≤ length was
+    → (ends o ≡ true) × (n ≡ length (visited o)) × (n ≤ length s) × (take n s ≡ visited o)
+unfolding walk.cellsOf
+walked-found (refused why) was n s h e l = let z : _≡_ {A = ℕ} 0 1 = cc (h .answer) in absurd (omega arith)
+walked-found (found xs) was n s h e l =
+    let k : n ≡ length xs = cc (h .answer) in
+    (refl, k, omega arith, rw k (h .left))
+
+walked-refused : (o : Outcome) (was : List ℕ) (r : Refusal) (s : List ℕ) → walk.Walked o was (cells-are.Refused r) s → ends o ≡ false
+unfolding walk.cellsOf
+walked-refused (refused why) was r s h = refl
+walked-refused (found xs) was r s h = let z : _≡_ {A = ℕ} 0 1 = cc (h .answer) in absurd (omega arith)
+
+module _ (g : Grid) (ls : Lines) (i : ℕ) where
+  -- the cells of a line increase and are inside the grid
+  visits : fit g ≡ true → Rising 0 (cellsOn g ls i) × Below (cells g) (cellsOn g ls i) × (length (cellsOn g ls i) ≤ 15008)
+  unfolding cellsOn walkOn
+  visits h = go (walkOn g ls i) refl
+    where
+      go : (o : Outcome) → walkOn g ls i ≡ o → Rising 0 (visited o) × Below (cells g) (visited o) × (length (visited o) ≤ 15008)
+      go (refused why) e = (tt, tt, omega arith)
+      go (found xs) e = let v = segment-visits g _ xs (fit-shape g h) e in (v .rising, v .inside, v .few)
+
+  -- the scratch, the line and the grid pass, so the walk can be refused by 7 alone
+  module _ {s : List ℕ} (a : WalkAsks g ls i s) (r : Cells) {s′ : List ℕ} (h : walk.Walked (walk.entryOf (length s) g (segmentAt ls i)) s r s′) where
+    inner : walk.Walked (walkOn g ls i) s r s′
+    unfolding walkOn lineFits
+    inner = let w = a .walkable in rw (entry-is g _ (length s) (w .space) (w .each i (a .at)) (w .fits)) at h
+
+    pub walk-found : (n : ℕ) → r ≡ cells-are.Found n → CountAs (walkCheck g ls i) (Front g ls i s′) (counted.Of n)
+    unfolding cellsOn walkCheck unless
+    walk-found n e =
+        let k = walked-found (walkOn g ls i) s n s′ (rw e at inner) (inner .size) (omega (arith, visits (a .walkable .fits) .2, a .walkable .space)) in
+        (rw (k .0), record { size = k .1; within = k .2; front = k .3 })
+
+    pub walk-over : (q : Refusal) → r ≡ cells-are.Refused q → CountAs (walkCheck g ls i) (Front g ls i s′) (counted.Refused (refusal 7 i))
+    unfolding walkCheck unless
+    walk-over q e = rw (walked-refused (walkOn g ls i) s q s′ (rw e at inner))
+
+-- ---- what a pass learns of a line
+
+module _ (g : Grid) (ls : Lines) (i : ℕ) where
+  pub walk-ends : walkCheck g ls i ≡ Fine → ends (walkOn g ls i) ≡ true
+  unfolding walkCheck
+  walk-ends h = unless-fine (ends (walkOn g ls i)) 7 i h
+
+  pub walk-refused : (r : Refusal) → walkCheck g ls i ≡ Refused r → (ends (walkOn g ls i) ≡ false) × (r ≡ refusal 7 i)
+  unfolding walkCheck unless
+  walk-refused r h = go (ends (walkOn g ls i)) h
+    where
+      go : (b : Bool) → unless b 7 i ≡ Refused r → (b ≡ false) × (r ≡ refusal 7 i)
+      go true k = let z : _≡_ {A = ℕ} 0 1 = cc in absurd (omega arith)
+      go false k = (refl, cc)
+
+  module _ {n : ℕ} {s : List ℕ} (k : Front g ls i s n) where
+    pub is-long : 2048 < n → long (cellsOn g ls i) ≡ true
+    unfolding long
+    is-long l = le-leb 2049 (length (cellsOn g ls i)) (omega (arith, k .size))
+
+    pub is-short : n ≤ 2048 → long (cellsOn g ls i) ≡ false
+    unfolding long
+    is-short l = lt-leb 2049 (length (cellsOn g ls i)) (omega (arith, k .size))
+
+-- the walks of all lines, and of those that are counted
+pub cells-walk : (g : Grid) (ls : Lines) → fit g ≡ true → Walks (cellsOn g ls) (count ls) (cells g)
+cells-walk g ls h = record { rises = λ i _. visits g ls i h .0; below = λ i _. visits g ls i h .1 }
+
+pub all-walks : (g : Grid) (ls : Lines) → fit g ≡ true → Walks (localOn g ls) (count ls) (cells g)
+all-walks g ls h = local-walks (cellsOn g ls) (count ls) (cells g) (cells-walk g ls h)
+
+-- the cells of a line that is not global stand at the front of the scratch
+pub line-at : {g : Grid} {ls : Lines} {s₀ s : List ℕ} {i n : ℕ} → Walkable g ls s₀ → i < count ls → Front g ls i s n → n ≤ 2048 → Line (localOn g ls) (count ls) (cells g) i s n
+line-at {g} {ls} {i = i} w l k b =
+    let e : localOn g ls i ≡ cellsOn g ls i = local-short (cellsOn g ls) i (is-short g ls i k b) in
+    record {
+      walks = all-walks g ls (w .fits);
+      in-lines = l;
+      lines-small = omega (arith, w .few);
+      cells-small = omega (arith, shape-says (g .cols) (g .rows) (fit-shape g (w .fits)) .cells);
+      few = omega arith;
+      fits = k .within;
+      size = rw e (k .size);
+      cells-are = rw e (k .front);
+    }

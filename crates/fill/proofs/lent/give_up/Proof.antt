@@ -1,0 +1,26 @@
+-- `fill::lent::give_up` meets its contract. Assumes nothing.
+use borrow.Author.Needs.{needs}
+use mathlib.Core.Path.{refl}
+use Rattle.fill.specs.Fill.{filledOf, leftIn}
+use Rattle.fill.proofs.lent.give_up.Statement.{statement}
+use Rattle.fill.proofs.lent.give_up.Tie as tie
+
+returns : tie.Need-returns
+unfolding filledOf leftIn
+returns c =
+    λ g ls.
+    record { answer = refl; offsets-are = c .before .before .before .before .before .before .before .before .before .before .before .before .before .before .clear .ensures; items-are = c .before .before .before .before .before .before .before .before .before .before .clear2 .ensures; globals-are = c .before .before .before .before .before .before .clear3 .ensures; scratch-is = c .before .before .clear4 .ensures }
+
+pub give-up-spec : {M : Type 1} → statement M
+give-up-spec =
+    tie.close
+    (tie.spec
+    (λ c κs. search needs)
+    (λ c κs. search needs)
+    (λ c κs. search needs)
+    (λ c κs. search needs)
+    (λ c. search needs)
+    (λ c. search needs)
+    (λ c. search needs)
+    (λ c. search needs)
+    returns)

@@ -1,0 +1,71 @@
+-- `fill::passes::count_visits` meets its contract. Assumes nothing.
+use Prim.Native.Nat.{_-_}
+use native.Mathlib.Omega.{arith}
+use Rattle.fill.proofs.Visits.{Counting, counting-none, counting-read, counting-cell, counting-fits, counting-more, counting-done}
+use Rattle.fill.proofs.passes.count_visits.Statement.{statement}
+use Rattle.fill.proofs.passes.count_visits.Tie as tie
+
+abbrev Inv-loop : tie.InvT-loop
+Inv-loop scratch n offsets₀ j₀ offsets j = Counting scratch n offsets₀ offsets j
+
+abbrev μ-loop : tie.MeasureT-loop
+μ-loop scratch n offsets₀ j₀ offsets j = n - j
+
+loop-holds : tie.Need-loop-holds Inv-loop μ-loop
+loop-holds c = counting-none (c .pre)
+
+mul-c : tie.Need-mul-c Inv-loop μ-loop
+mul-c c = let h = counting-read (c .before .loop .inv) (c .before .loop .inv .at) (c .loop-test .taken) in omega arith
+
+shared-slice-read-c : tie.Need-shared-slice-read-c Inv-loop μ-loop
+shared-slice-read-c c = counting-read (c .before .before .loop .inv) (c .before .before .loop .inv .at) (c .before .loop-test .taken)
+
+cast-c : tie.Need-cast-c Inv-loop μ-loop
+cast-c c = let h = counting-cell (c .before .before .loop .inv) (c .before .loop-test .taken) in omega arith
+
+mul-offsets : tie.Need-mul-offsets Inv-loop μ-loop
+mul-offsets c = let h = counting-cell (c .before .before .loop .inv) (c .before .loop-test .taken) in let l = c .before .before .loop .inv .len in omega arith
+
+slice-read-offsets : tie.Need-slice-read-offsets Inv-loop μ-loop
+slice-read-offsets c = counting-cell (c .before .before .before .loop .inv) (c .before .before .loop-test .taken)
+
+add-offsets : tie.Need-add-offsets Inv-loop μ-loop
+add-offsets c = record { fits = counting-fits (c .before .before .before .loop .inv) (c .before .before .loop-test .taken) }
+
+slice-write-offsets : tie.Need-slice-write-offsets Inv-loop μ-loop
+slice-write-offsets c = counting-cell (c .before .before .before .loop .inv) (c .before .before .loop-test .taken)
+
+add-j : tie.Need-add-j Inv-loop μ-loop
+add-j c = omega arith
+
+loop-less : tie.Need-loop-less Inv-loop μ-loop
+loop-less c = omega arith
+
+loop-again : tie.Need-loop-again Inv-loop μ-loop
+loop-again c = counting-more (c .before .before .before .loop .inv) (c .before .before .loop-test .taken)
+
+same-length : tie.Need-same-length Inv-loop μ-loop
+same-length c = c .before .loop .inv .len
+
+returns : tie.Need-returns Inv-loop μ-loop
+returns c = counting-done (c .before .loop .inv) (c .loop-test .left)
+
+pub count-visits-spec : {M : Type 1} → statement M
+count-visits-spec =
+    tie.close
+    (tie.spec
+    Inv-loop
+    μ-loop
+    loop-holds
+    mul-c
+    shared-slice-read-c
+    cast-c
+    mul-offsets
+    slice-read-offsets
+    add-offsets
+    slice-write-offsets
+    add-j
+    loop-less
+    loop-again
+    same-length
+    returns)

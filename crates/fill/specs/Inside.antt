@@ -1,0 +1,141 @@
+-- What the private functions ask and promise. Definitions only.
+use mathlib.Core.Path.{_≡_}
+use mathlib.Core.Bool.{Bool, true, false}
+use mathlib.Core.List.{List, _++_}
+use Prim.Native.Nat.{ℕ, zero, suc, _+_, _-_, _≤_, _<_}
+use lib.ListN.{length, take, getD, set, replicate}
+use Rattle.grid.specs.declared.Grid.{Grid}
+use Rattle.grid.specs.declared.Refusal.{Refusal}
+use Rattle.grid.specs.declared.Check.{Check}
+use Rattle.grid.specs.declared.Check.the-variants.{Fine, Refused}
+use Rattle.grid.specs.Domain.{Lines, count, Alike, lineFits, fit}
+use Rattle.walk.specs.Segment.{leftBy}
+use Rattle.tables.specs.Lists.{long, local, linesAt, sum}
+use Rattle.tables.specs.States.{Counted, Placed}
+use Rattle.fill.specs.declared.Count.{Count}
+use Rattle.fill.specs.declared.Count.the-variants as counted
+use Rattle.fill.specs.OnGrid.{cells, walkOn, ends, cellsOn, listOn, globalsOn, total, oneIf}
+use Rattle.fill.specs.Checks.{turnsCheck, countingCheck}
+
+-- ---- a number, or refused
+
+-- the refusal of a check; or the check refuses nothing, and the number is as told
+abbrev pub CountAs : Check → (ℕ → Type 0) → Count → Type 0
+CountAs k P (counted.Of n) = (k ≡ Fine) × P n
+CountAs k P (counted.Refused r) = k ≡ Refused r
+
+-- ---- one line
+
+-- lines, a grid and a scratch that pass 3, 2, 1, 8
+pub record Walkable (g : Grid) (ls : Lines) (s : List ℕ) : Type 0 where
+  pub same : Alike ls
+  pub few : count ls ≤ 65536
+  pub each : (i : ℕ) → i < count ls → lineFits ls i ≡ true
+  pub fits : fit g ≡ true
+  pub space : 16384 ≤ length s
+
+-- the n cells of line i stand at the front of the scratch
+pub record Front (g : Grid) (ls : Lines) (i : ℕ) (s : List ℕ) (n : ℕ) : Type 0 where
+  pub size : n ≡ length (cellsOn g ls i)
+  pub within : n ≤ length s
+  pub front : take n s ≡ cellsOn g ls i
+
+-- a line that a walk can work on
+pub record WalkAsks (g : Grid) (ls : Lines) (i : ℕ) (s : List ℕ) : Type 0 where
+  pub at : i < count ls
+  pub walkable : Walkable g ls s
+
+-- ---- the first pass
+
+-- the cells that the lines are counted in
+abbrev pub localOn : Grid → Lines → ℕ → List ℕ
+localOn g ls = local (cellsOn g ls)
+
+-- the lines below i are counted
+pub record CountedTo (g : Grid) (ls : Lines) (i : ℕ) (o : List ℕ) : Type 0 where
+  pub room : cells g < length o
+  pub counts : Counted (linesAt (localOn g ls) i) o
+
+pub record CountAsks (g : Grid) (ls : Lines) (i : ℕ) (o s : List ℕ) : Type 0 where
+  pub at : i < count ls
+  pub walkable : Walkable g ls s
+  pub counted : CountedTo g ls i o
+
+-- line i counted: k is 1 for a global line
+pub record LineCounted (g : Grid) (ls : Lines) (i : ℕ) (o : List ℕ) (k : ℕ) : Type 0 where
+  pub kind : k ≡ oneIf (long (cellsOn g ls i))
+  pub next : CountedTo g ls (i + 1) o
+
+pub record PassAsks (g : Grid) (ls : Lines) (o s : List ℕ) : Type 0 where
+  pub walkable : Walkable g ls s
+  pub counted : CountedTo g ls 0 o
+
+-- all lines counted: k are global
+pub record AllCounted (g : Grid) (ls : Lines) (o : List ℕ) (k : ℕ) : Type 0 where
+  pub found : k ≡ length (globalsOn g ls)
+  pub counted : CountedTo g ls (count ls) o
+
+-- all lines counted, or a refusal, by whose rule both slices are as they were
+pub record CountLent (g : Grid) (ls : Lines) (o s : List ℕ) (r : Count) (o′ s′ : List ℕ) : Type 0 where
+  pub is : CountAs (countingCheck g ls (length o) (length s)) (AllCounted g ls o′) r
+  pub offsets : (q : Refusal) → r ≡ counted.Refused q → leftBy q o′ ≡ leftBy q o
+  pub scratch : (q : Refusal) → r ≡ counted.Refused q → leftBy q s′ ≡ leftBy q s
+
+-- ---- the second pass
+
+-- the lines below i are placed
+pub record PlacedTo (g : Grid) (ls : Lines) (i : ℕ) (o t : List ℕ) : Type 0 where
+  pub room : cells g < length o
+  pub space : total g ls ≤ length t
+  pub placed : Placed (listOn g ls) (cells g) (linesAt (localOn g ls) i) o t
+
+pub record LineAsks (g : Grid) (ls : Lines) (i : ℕ) (o t s : List ℕ) : Type 0 where
+  pub at : i < count ls
+  pub walkable : Walkable g ls s
+  pub ended : ends (walkOn g ls i) ≡ true
+  pub placed : PlacedTo g ls i o t
+
+-- line i placed: k is 1 for a global line
+pub record LinePlaced (g : Grid) (ls : Lines) (i : ℕ) (o t : List ℕ) (k : ℕ) : Type 0 where
+  pub kind : k ≡ oneIf (long (cellsOn g ls i))
+  pub next : PlacedTo g ls (i + 1) o t
+
+-- a global line written at its place
+abbrev pub listed : ℕ → List ℕ → ℕ → ℕ → List ℕ
+listed zero xs at i = xs
+listed (suc n) xs at i = set xs at i
+
+-- the second pass can begin, and has room
+pub record PlaceAsks (g : Grid) (ls : Lines) (o t gs s : List ℕ) : Type 0 where
+  pub walkable : Walkable g ls s
+  pub turns : turnsCheck g ls ≡ Fine
+  pub first : PlacedTo g ls 0 o t
+  pub clear : gs ≡ replicate (length gs) 0
+  pub fits : length (globalsOn g ls) ≤ length gs
+
+-- all lines placed, and the global lines listed
+pub record AllPlaced (g : Grid) (ls : Lines) (o t : List ℕ) (room : ℕ) (gs : List ℕ) : Type 0 where
+  pub last : PlacedTo g ls (count ls) o t
+  pub globals : gs ≡ globalsOn g ls ++ replicate (room - length (globalsOn g ls)) 0
+
+-- ---- the offsets
+
+-- o is o₀ with the running sums of its first entries in their place, and r is the total
+pub record Summed (o₀ o : List ℕ) (cells r : ℕ) : Type 0 where
+  pub total : r ≡ sum (λ k. getD o₀ k 0) cells
+  pub sums : (k : ℕ) → k ≤ cells → getD o k 0 ≡ sum (λ k. getD o₀ k 0) k
+  pub beyond : (k : ℕ) → cells < k → getD o k 0 ≡ getD o₀ k 0
+
+-- o is o₀ with its first entries moved up by one place, and 0 first
+pub record ShiftedBack (o₀ o : List ℕ) (cells : ℕ) : Type 0 where
+  pub first : getD o 0 0 ≡ 0
+  pub moved : (k : ℕ) → k < cells → getD o (k + 1) 0 ≡ getD o₀ k 0
+  pub beyond : (k : ℕ) → cells < k → getD o k 0 ≡ getD o₀ k 0
+
+-- ---- from the counts to the tables
+
+-- the lines are counted, and `found` are global
+pub record FillAsks (g : Grid) (ls : Lines) (found : ℕ) (o s : List ℕ) : Type 0 where
+  pub walkable : Walkable g ls s
+  pub turns : turnsCheck g ls ≡ Fine
+  pub all : AllCounted g ls o found

@@ -1,0 +1,122 @@
+// Counting lines on a given grid, and filling the tables of a grid: what `count_cells` and the second half of `new_impl` of grid.rs do, in lent
+// slices. How a grid is chosen is no matter here.
+mod filling;
+mod lent;
+mod offsets;
+mod passes;
+
+ghost use lib.ListN.{length};
+ghost use Rattle.grid.specs.Domain.{lines};
+ghost use Rattle.fill.specs.Checks.{countingCheck};
+ghost use Rattle.fill.specs.Fill.{CountIs, fillingOf, FillIs};
+ghost use Rattle.fill.specs.Inside.{CountLent};
+use crate::filling::fill_counted;
+use crate::lent::check;
+use crate::lent::leave;
+use crate::lent::refuse;
+use crate::passes::count_all;
+use grid::Check;
+use grid::Grid;
+use grid::Refusal;
+
+// A number, or the refusal that is due.
+pub enum Count {
+    Of(usize),
+    Refused(Refusal),
+}
+
+// How many items and global lines the tables have; or that some cell would list more lines than it may; or the refusal that is due.
+pub enum Filled {
+    Tables { items: usize, globals: usize },
+    Crowded,
+    Refused(Refusal),
+}
+
+// The checks, and the count. A refusal is not cleared up after yet.
+fn count_lent(
+    start_x: &[f64],
+    start_y: &[f64],
+    end_x: &[f64],
+    end_y: &[f64],
+    grid: Grid,
+    offsets: &mut [u32],
+    scratch: &mut [u32],
+) -> Count
+    ensures { λ r. let ls = lines (now («start_x» .entry)) (now («start_y» .entry)) (now («end_x» .entry)) (now («end_y» .entry)) in
+        ⌜ CountLent grid ls (now (offsets .entry)) (now (scratch .entry)) r (now (offsets .exit)) (now (scratch .exit)) ⌝ }
+{
+    let checked = check(start_x, start_y, end_x, end_y, grid, scratch.len());
+    if let Check::Refused(r) = checked {
+        return Count::Refused(r);
+    }
+    count_all(start_x, start_y, end_x, end_y, grid, offsets, scratch)
+}
+
+// Counts the lines of each cell, and answers how many lines are global: those that visit more than 2,048 cells, which are counted in none.
+pub fn count_on(
+    start_x: &[f64],
+    start_y: &[f64],
+    end_x: &[f64],
+    end_y: &[f64],
+    grid: Grid,
+    counts: &mut [u32],
+    scratch: &mut [u32],
+) -> Count
+    ensures { λ r. let ls = lines (now («start_x» .entry)) (now («start_y» .entry)) (now («end_x» .entry)) (now («end_y» .entry)) in
+        let k = countingCheck grid ls (length (now (counts .entry))) (length (now (scratch .entry))) in
+        ⌜ CountIs grid ls (now (counts .entry)) (now (scratch .entry)) r (now (counts .exit)) (now (scratch .exit)) k ⌝ }
+{
+    let counted = count_lent(start_x, start_y, end_x, end_y, grid, counts, scratch);
+    match counted {
+        Count::Of(n) => {
+            slices::clear(scratch);
+            Count::Of(n)
+        },
+        Count::Refused(r) => {
+            leave(r, counts);
+            leave(r, scratch);
+            Count::Refused(r)
+        },
+    }
+}
+
+// Fills the tables of a grid, unless some cell would list more than `most` lines. `offsets[c] .. offsets[c + 1]` is the range in the items of the
+// lines that visit cell c; lines that visit more than 2,048 cells go to the globals instead.
+pub fn fill_on(
+    start_x: &[f64],
+    start_y: &[f64],
+    end_x: &[f64],
+    end_y: &[f64],
+    grid: Grid,
+    most: u32,
+    offsets: &mut [u32],
+    items: &mut [u32],
+    globals: &mut [u32],
+    scratch: &mut [u32],
+) -> Filled
+    ensures { λ r. let ls = lines (now («start_x» .entry)) (now («start_y» .entry)) (now («end_x» .entry)) (now («end_y» .entry)) in
+        let o = now (offsets .entry) in
+        let t = now (items .entry) in
+        let gs = now (globals .entry) in
+        let s = now (scratch .entry) in
+        let f = fillingOf grid ls most (length o) (length t) (length gs) (length s) in
+        ⌜ FillIs grid ls o t gs s r (now (offsets .exit)) (now (items .exit)) (now (globals .exit)) (now (scratch .exit)) f ⌝ }
+{
+    let counted = count_lent(start_x, start_y, end_x, end_y, grid, offsets, scratch);
+    match counted {
+        Count::Of(found) => fill_counted(
+            start_x,
+            start_y,
+            end_x,
+            end_y,
+            grid,
+            found,
+            most,
+            offsets,
+            items,
+            globals,
+            scratch,
+        ),
+        Count::Refused(r) => refuse(r, offsets, items, globals, scratch),
+    }
+}

@@ -8,13 +8,14 @@ use native.Mathlib.Omega.{arith}
 use borrow.Author.Tests.{le-leb, lt-leb, lt-ltb, le-ltb, ltb-true}
 use lib.Dec.{ltb}
 use lib.ListN.{length, replicate}
+use Rattle.refusals.specs.declared.Refusal.{Refusal}
+use Rattle.refusals.specs.declared.Check.{Check}
+use Rattle.refusals.specs.declared.Check.the-variants.{Fine, Refused}
+use Rattle.refusals.specs.Refusals.{unless, andThen}
+use Rattle.refusals.proofs.Checks.{andThen-right}
 use Rattle.grid.specs.declared.Grid.{Grid}
-use Rattle.grid.specs.declared.Refusal.{Refusal}
-use Rattle.grid.specs.declared.Check.{Check}
-use Rattle.grid.specs.declared.Check.the-variants.{Fine, Refused}
-use Rattle.grid.specs.Refusals.{unless, andThen}
 use Rattle.grid.specs.Domain.{Lines, count, fit, scratchCheck, linesCheck, gridCheck}
-use Rattle.grid.proofs.Fine.{then-right, LinesFit, lines-fine}
+use Rattle.grid.proofs.Fine.{LinesFit, lines-fine}
 use Rattle.walk.specs.Segment.{leftBy}
 use Rattle.tables.specs.Lists.{itemsOf, offsetsOf}
 use Rattle.tables.proofs.Laws.{lines-few}
@@ -158,7 +159,7 @@ module _ (ls : Lines) (g : Grid) (most : ℕ) (next : Choice) {o t gs s : List �
 lists-most : (g : Grid) (ls : Lines) (scratch : ℕ) → lentOf ls scratch ≡ Fine → above 65536 (λ c. length (listOn g ls c)) (cells g) ≡ false
 unfolding listOn
 lists-most g ls scratch h =
-    let f : LinesFit ls = lines-fine ls (then-right (scratchCheck scratch) (linesCheck ls) h) in
+    let f : LinesFit ls = lines-fine ls (andThen-right (scratchCheck scratch) (linesCheck ls) h) in
     above-never 65536 _ (λ c. le-trans (lines-few (localOn g ls) (count ls) c) (f .few)) (cells g)
 
 pub most-none : (g : Grid) (left : ℕ) → left ≡ 0 → 65536 ≡ mostOn g left
@@ -281,7 +282,7 @@ choosing-first {ls} {o} {t} {gs} {s} {e} {size} n d z =
     let l : 1 ≤ count ls = omega arith in
     record {
       is = rw (z, d, le-leb 1 (count ls) l);
-      fits = λ h. rw (z, d) (all-fit ls (lines-fine ls (then-right (scratchCheck (length s)) (linesCheck ls) h)) l);
+      fits = λ h. rw (z, d) (all-fit ls (lines-fine ls (andThen-right (scratchCheck (length s)) (linesCheck ls) h)) l);
       len = refl;
       len-items = refl;
       len-globals = refl;

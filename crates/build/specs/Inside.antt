@@ -5,10 +5,10 @@ use mathlib.Core.List.{List}
 use Prim.Native.Nat.{ℕ, _-_, _*_, _<_}
 use lib.Dec.{ltb}
 use lib.ListN.{length}
+use Rattle.refusals.specs.declared.Check.{Check}
+use Rattle.refusals.specs.declared.Check.the-variants.{Fine}
+use Rattle.refusals.specs.Refusals.{andThen}
 use Rattle.grid.specs.declared.Grid.{Grid}
-use Rattle.grid.specs.declared.Check.{Check}
-use Rattle.grid.specs.declared.Check.the-variants.{Fine}
-use Rattle.grid.specs.Refusals.{andThen}
 use Rattle.grid.specs.Domain.{Lines, fit, scratchCheck, linesCheck}
 use Rattle.sizing.specs.declared.Extent.{Extent}
 use Rattle.sizing.specs.declared.Size.{Size}

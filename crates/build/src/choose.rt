@@ -9,7 +9,7 @@ use crate::Built;
 use crate::Standing;
 use fill::Filled;
 use grid::Grid;
-use grid::Refusal;
+use refusals::Refusal;
 use sizing::Extent;
 use sizing::Size;
 

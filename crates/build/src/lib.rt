@@ -7,7 +7,7 @@ ghost use Rattle.build.specs.Build.{endOf, BuildIs};
 use crate::choose::build_none;
 use crate::choose::build_some;
 use grid::Grid;
-use grid::Refusal;
+use refusals::Refusal;
 
 // The tables that stand after a build: their grid, and how many items and global lines there are.
 pub struct Standing {

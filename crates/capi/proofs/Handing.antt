@@ -9,9 +9,9 @@ use lib.ListN.{length, drop, set}
 use lib.Ieee.{Float, binary64, toBits, ne}
 use lib.Ieee.Compare.{differs-from-itself}
 use borrow.Author.Tests.{le-leb, lt-leb}
-use Rattle.grid.specs.declared.Check.{Check}
-use Rattle.grid.specs.declared.Check.the-variants.{Fine, Refused}
-use Rattle.grid.specs.declared.Refusal.{Refusal}
+use Rattle.refusals.specs.declared.Check.{Check}
+use Rattle.refusals.specs.declared.Check.the-variants.{Fine, Refused}
+use Rattle.refusals.specs.declared.Refusal.{Refusal}
 use Rattle.visit.specs.Places.{partOf}
 use Rattle.visit.proofs.PlaceLaws.{part-some, part-whole}
 use Rattle.capi.specs.Replies.{Reply, success, refusal, Handed, unlessShort, Replies}

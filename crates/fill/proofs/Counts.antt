@@ -9,13 +9,13 @@ use borrow.Author.Tests.{le-leb, lt-leb}
 use lib.ListN.{length, getD, replicate, length-append}
 use mir.Val.{Fits}
 use mir.Syntax.{w64}
+use Rattle.refusals.specs.declared.Refusal.{Refusal}
+use Rattle.refusals.specs.declared.Check.{Check}
+use Rattle.refusals.specs.declared.Check.the-variants.{Fine, Refused}
+use Rattle.refusals.specs.Refusals.{refusal, unless, andThen, eachFrom}
+use Rattle.refusals.proofs.Checks.{each-good, each-bad, each-over, each-says}
 use Rattle.grid.specs.declared.Grid.{Grid}
-use Rattle.grid.specs.declared.Refusal.{Refusal}
-use Rattle.grid.specs.declared.Check.{Check}
-use Rattle.grid.specs.declared.Check.the-variants.{Fine, Refused}
-use Rattle.grid.specs.Refusals.{refusal, unless, andThen, eachFrom}
 use Rattle.grid.specs.Domain.{Lines, count}
-use Rattle.grid.proofs.Fine.{each-good, each-bad, each-over, each-says}
 use Rattle.tables.specs.Lists.{long, only, globalLines}
 use Rattle.tables.proofs.Laws.{counted-none}
 use Rattle.fill.specs.declared.Count.{Count}

@@ -6,13 +6,14 @@ use Prim.Native.Nat.{ℕ, _+_, _-_, _≤_, _<_}
 use native.Mathlib.Omega.{arith}
 use borrow.Author.Tests.{leb-true}
 use lib.ListN.{length, getD, take, drop, replicate, take-append-drop}
+use Rattle.refusals.specs.declared.Refusal.{Refusal}
+use Rattle.refusals.specs.declared.Check.{Check}
+use Rattle.refusals.specs.declared.Check.the-variants.{Fine, Refused}
+use Rattle.refusals.specs.Refusals.{refusal, unless, andThen}
+use Rattle.refusals.proofs.Checks.{unless-fine, andThen-left, andThen-right}
 use Rattle.grid.specs.declared.Grid.{Grid}
-use Rattle.grid.specs.declared.Refusal.{Refusal}
-use Rattle.grid.specs.declared.Check.{Check}
-use Rattle.grid.specs.declared.Check.the-variants.{Fine, Refused}
-use Rattle.grid.specs.Refusals.{refusal, unless, andThen}
 use Rattle.grid.specs.Domain.{Lines, count, fit, scratchCheck, linesCheck, gridCheck}
-use Rattle.grid.proofs.Fine.{unless-fine, then-left, then-right, LinesFit, lines-fine}
+use Rattle.grid.proofs.Fine.{LinesFit, lines-fine}
 use Rattle.walk.specs.Segment.{leftBy}
 use Rattle.tables.specs.Lists.{linesAt, tabulate, itemsOf, offsetsOf}
 use Rattle.tables.proofs.Laws.{take-tabulate, drop-zeros, beyond}
@@ -57,14 +58,14 @@ pub lent-walkable : {g : Grid} {ls : Lines} {s : List ℕ} → lentCheck g ls (l
 unfolding lentCheck scratchCheck gridCheck
 lent-walkable {g} {ls} {s} h =
     let n : ℕ = length s in
-    let k = then-right (scratchCheck n) (andThen (linesCheck ls) (gridCheck g)) h in
-    let f : LinesFit ls = lines-fine ls (then-left (linesCheck ls) (gridCheck g) k) in
+    let k = andThen-right (scratchCheck n) (andThen (linesCheck ls) (gridCheck g)) h in
+    let f : LinesFit ls = lines-fine ls (andThen-left (linesCheck ls) (gridCheck g) k) in
     record {
       same = f .same;
       few = f .few;
       each = f .each;
-      fits = unless-fine (fit g) 8 0 (then-right (linesCheck ls) (gridCheck g) k);
-      space = leb-true 16384 n (unless-fine _ 3 0 (then-left (scratchCheck n) (andThen (linesCheck ls) (gridCheck g)) h));
+      fits = unless-fine (fit g) 8 0 (andThen-right (linesCheck ls) (gridCheck g) k);
+      space = leb-true 16384 n (unless-fine _ 3 0 (andThen-left (scratchCheck n) (andThen (linesCheck ls) (gridCheck g)) h));
     }
 
 -- ---- the checks and the count
@@ -122,7 +123,7 @@ module _ {g : Grid} {ls : Lines} {o s : List ℕ} {r : Count} {o₁ s₁ : List 
 
   counting-walkable : (n : ℕ) → r ≡ counted.Of n → Walkable g ls s
   unfolding countingCheck
-  counting-walkable n e = lent-walkable (then-left (lentCheck g ls (length s)) (triedCheck g ls (length o)) (counting-fine n e .0))
+  counting-walkable n e = lent-walkable (andThen-left (lentCheck g ls (length s)) (triedCheck g ls (length o)) (counting-fine n e .0))
 
   pub count-done : (n : ℕ) {s₂ : List ℕ} {long : ℕ} → r ≡ counted.Of n → length o₁ ≡ length o → s₂ ≡ replicate long 0 → long ≡ length s
       → CountIs g ls o s (counted.Of n) o₁ s₂ (countingCheck g ls (length o) (length s))
@@ -152,7 +153,7 @@ module _ {g : Grid} {ls : Lines} {o s : List ℕ} {r : Count} {o₁ s₁ : List 
       let k = counting-fine n e in
       record {
         walkable = walkable-again (counting-walkable n e) b;
-        turns = then-right (roomCheck g (length o)) (turnsCheck g ls) (then-right (lentCheck g ls (length s)) (triedCheck g ls (length o)) (k .0));
+        turns = andThen-right (roomCheck g (length o)) (turnsCheck g ls) (andThen-right (lentCheck g ls (length s)) (triedCheck g ls (length o)) (k .0));
         all = k .1;
       }
 

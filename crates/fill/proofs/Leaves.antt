@@ -7,11 +7,11 @@ use native.Mathlib.Omega.{arith}
 use borrow.Author.Tests.{le-leb, lt-leb}
 use lib.Dec.{leb}
 use lib.ListN.{length, replicate}
+use Rattle.refusals.specs.declared.Refusal.{Refusal}
+use Rattle.refusals.specs.declared.Check.{Check}
+use Rattle.refusals.specs.declared.Check.the-variants.{Fine, Refused}
+use Rattle.refusals.specs.Refusals.{unless, andThen, eachFrom}
 use Rattle.grid.specs.declared.Grid.{Grid}
-use Rattle.grid.specs.declared.Refusal.{Refusal}
-use Rattle.grid.specs.declared.Check.{Check}
-use Rattle.grid.specs.declared.Check.the-variants.{Fine, Refused}
-use Rattle.grid.specs.Refusals.{unless, andThen, eachFrom}
 use Rattle.grid.specs.Domain.{Lines, count}
 use Rattle.walk.specs.Segment.{leftBy}
 use Rattle.fill.specs.OnGrid.{cells, walkOn, ends, globalsOn, total}

@@ -2,8 +2,8 @@
 use mathlib.Core.Path.{_≡_, sym, _∙_}
 use mathlib.Core.List.{List}
 use Prim.Native.Nat.{ℕ}
+use Rattle.refusals.specs.declared.Check.{Check}
 use Rattle.grid.specs.declared.Grid.{Grid}
-use Rattle.grid.specs.declared.Check.{Check}
 use Rattle.grid.specs.Domain.{Lines}
 use Rattle.fill.specs.declared.Count.{Count}
 use Rattle.fill.specs.declared.Filled.{Filled}

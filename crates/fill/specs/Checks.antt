@@ -3,9 +3,9 @@ use mathlib.Core.Bool.{Bool}
 use Prim.Native.Nat.{ℕ, _+_}
 use lib.Dec.{leb}
 use lib.ListN.{length}
+use Rattle.refusals.specs.declared.Check.{Check}
+use Rattle.refusals.specs.Refusals.{unless, andThen, eachFrom}
 use Rattle.grid.specs.declared.Grid.{Grid}
-use Rattle.grid.specs.declared.Check.{Check}
-use Rattle.grid.specs.Refusals.{unless, andThen, eachFrom}
 use Rattle.grid.specs.Domain.{Lines, count, scratchCheck, linesCheck, gridCheck}
 use Rattle.fill.specs.OnGrid.{cells, walkOn, ends, globalsOn, total}
 

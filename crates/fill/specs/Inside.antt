@@ -4,10 +4,10 @@ use mathlib.Core.Bool.{Bool, true, false}
 use mathlib.Core.List.{List, _++_}
 use Prim.Native.Nat.{ℕ, zero, suc, _+_, _-_, _≤_, _<_}
 use lib.ListN.{length, take, getD, set, replicate}
+use Rattle.refusals.specs.declared.Refusal.{Refusal}
+use Rattle.refusals.specs.declared.Check.{Check}
+use Rattle.refusals.specs.declared.Check.the-variants.{Fine, Refused}
 use Rattle.grid.specs.declared.Grid.{Grid}
-use Rattle.grid.specs.declared.Refusal.{Refusal}
-use Rattle.grid.specs.declared.Check.{Check}
-use Rattle.grid.specs.declared.Check.the-variants.{Fine, Refused}
 use Rattle.grid.specs.Domain.{Lines, count, Alike, lineFits, fit}
 use Rattle.walk.specs.Segment.{leftBy}
 use Rattle.tables.specs.Lists.{long, local, linesAt, sum}

@@ -14,7 +14,7 @@ use crate::offsets::some_above;
 use crate::passes::cell_count;
 use crate::passes::place_lines;
 use grid::Grid;
-use grid::Refusal;
+use refusals::Refusal;
 
 // 5 and 6 are decided before an item is written.
 fn lay_out(

@@ -6,9 +6,9 @@ ghost use Rattle.walk.specs.Segment.{leftBy};
 ghost use Rattle.fill.specs.Checks.{lentCheck};
 ghost use Rattle.fill.specs.Fill.{refused, crowded, FillIs};
 use crate::Filled;
-use grid::Check;
 use grid::Grid;
-use grid::Refusal;
+use refusals::Check;
+use refusals::Refusal;
 
 // 3, 2, 1, 8: before anything is written.
 pub(crate) fn check(

@@ -15,9 +15,9 @@ use crate::lent::check;
 use crate::lent::leave;
 use crate::lent::refuse;
 use crate::passes::count_all;
-use grid::Check;
 use grid::Grid;
-use grid::Refusal;
+use refusals::Check;
+use refusals::Refusal;
 
 // A number, or the refusal that is due.
 pub enum Count {

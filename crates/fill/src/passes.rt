@@ -11,8 +11,8 @@ ghost use Rattle.fill.specs.Checks.{walkCheck, turnsCheck, triedCheck};
 ghost use Rattle.fill.specs.Inside.{CountAs, Walkable, WalkAsks, Front, CountAsks, LineCounted, PassAsks, AllCounted, LineAsks, LinePlaced, listed, PlaceAsks, AllPlaced};
 use crate::Count;
 use grid::Grid;
-use grid::Refusal;
 use grid::segments::segment_at;
+use refusals::Refusal;
 use walk::Cells;
 
 // The number of cells of a grid.

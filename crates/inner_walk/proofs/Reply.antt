@@ -4,7 +4,7 @@ use Prim.Native.Nat.{ℕ}
 use native.Mathlib.Omega.{arith}
 use mathlib.Core.List.{List, [], _∷_}
 use lib.ListN.{length, set}
-use Rattle.grid.specs.declared.Refusal.{Refusal}
+use Rattle.refusals.specs.declared.Refusal.{Refusal}
 use Rattle.walk.specs.declared.Cells.{Cells}
 use Rattle.walk.specs.declared.Cells.the-variants.{Found, Refused}
 use Rattle.walk.specs.Pushes.{Outcome, refused, found}

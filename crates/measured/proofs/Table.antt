@@ -6,7 +6,7 @@ use Rattle.numbers.specs.Order.{leastOf, greatestOf, magnitudeOf}
 use Rattle.numbers.specs.Floor.{clampedFloor, floorOf}
 use Rattle.numbers.specs.Away.{roundAway}
 use Rattle.slices.specs.Slices.{sorted, insert, insertIf, distinctOf, after as runAfter, unless as unlessHere}
-use Rattle.grid.specs.Refusals.{unless, andThen}
+use Rattle.refusals.specs.Refusals.{unless, andThen}
 use Rattle.grid.specs.Domain.{coordinate, point, segment, sizeFits, shape, fit, scratchCheck, pointCheck, segmentCheck, gridCheck, cellCheck, snapSize, snapCheck}
 use Rattle.grid.specs.Axes.{scaledOn, indexOn, lowOn, highOn, nearWhole, boundaryOn}
 use Rattle.walk.specs.Turns.{finiteOf, signOf as stepOf, deltaOf, nextOn, firstOn, strideOn, progressOn, rayOf, startOf, toleranceOf, nearOf, furtherOf, same, arrivedOf, turnOf, advanced, movedOf, goesOf}

@@ -11,12 +11,12 @@ use lib.Dec.{eqb}
 use lib.Ieee.{Float, inf, binary64, sub, eq}
 use borrow.Author.Tests.{le-leb, lt-leb}
 use Rattle.slices.specs.Slices.{sorted, distinctOf, OneOfEach, clearedFrom}
+use Rattle.refusals.specs.declared.Refusal.{Refusal}
+use Rattle.refusals.specs.Refusals.{refusal, unless}
 use Rattle.grid.specs.declared.Axis.{Axis}
 use Rattle.grid.specs.declared.Grid.{Grid}
 use Rattle.grid.specs.declared.Segment.{Segment}
-use Rattle.grid.specs.declared.Refusal.{Refusal}
 use Rattle.grid.specs.Axes.{xAxis, yAxis, indexOn, boundaryOn}
-use Rattle.grid.specs.Refusals.{refusal, unless}
 use Rattle.grid.specs.Domain.{segment, fit, scratchCheck, segmentCheck, gridCheck}
 use Rattle.grid.proofs.Bools.{and-left}
 use Rattle.grid.proofs.Shapes.{Shape, fit-says}

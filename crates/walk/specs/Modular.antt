@@ -5,11 +5,11 @@ use mathlib.Core.Bool.{Bool, true, false, cond, _&&_}
 use mathlib.Core.List.{List, [], _++_}
 use lib.Dec.{ltb, eqb}
 use lib.Ieee.{Float, binary64, add, sub, lt}
+use Rattle.refusals.specs.Refusals.{refusal}
 use Rattle.grid.specs.declared.Axis.{Axis}
 use Rattle.grid.specs.declared.Grid.{Grid}
 use Rattle.grid.specs.declared.Segment.{Segment}
 use Rattle.grid.specs.Axes.{xAxis, yAxis, indexOn}
-use Rattle.grid.specs.Refusals.{refusal}
 use Rattle.walk.specs.declared.Course.{Course}
 use Rattle.walk.specs.declared.Position.{Position}
 use Rattle.walk.specs.declared.Turn.{Turn}

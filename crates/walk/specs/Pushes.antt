@@ -5,8 +5,8 @@ use mathlib.Core.Bool.{Bool, true, false, _&&_}
 use mathlib.Core.List.{List, [], _∷_, _++_}
 use lib.IntN.{ℤ, pos, negsuc}
 use lib.Dec.{ltb}
-use Rattle.grid.specs.Refusals.{refusal}
-use Rattle.grid.specs.declared.Refusal.{Refusal}
+use Rattle.refusals.specs.Refusals.{refusal}
+use Rattle.refusals.specs.declared.Refusal.{Refusal}
 use Rattle.walk.specs.declared.Turn.{Turn}
 use Rattle.walk.specs.Turns.{Ray, State, turnOf, goesOf, steppedOf, movedOf}
 

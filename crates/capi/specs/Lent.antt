@@ -21,7 +21,7 @@ use Rattle.capi.specs.Answers.{ofRead, ofCells, ofBuilt, ofBatch}
 
 -- what the reader answers
 abbrev pub readAnswer : List ℕ → List Float → List Float → Read
-readAnswer bytes x y = wkb.answerOf (wkb.outcome (length x) (length y) bytes)
+readAnswer bytes x y = wkb.readOf (wkb.outcome (length x) (length y) bytes)
 
 pub record ReadReplies (bytes : List ℕ) (x y : List Float) (out : List ℕ) (r : ℕ) (x′ y′ : List Float) (out′ : List ℕ) : Type 0 where
   pub replies : Replies 1 (ofRead (readAnswer bytes x y)) out r out′

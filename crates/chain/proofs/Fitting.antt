@@ -9,12 +9,12 @@ use lib.Dec.{leb}
 use lib.Ieee.{Float, binary64, toBits}
 use lib.ListN.{length, getD, take, length-append, length-take, length-replicate}
 use lib.Seq.{length-slice}
+use Rattle.refusals.specs.declared.Check.{Check}
+use Rattle.refusals.specs.declared.Check.the-variants.{Fine, Refused}
+use Rattle.refusals.specs.Refusals.{unless, andThen, Answer, refused, gives, answerBy}
+use Rattle.refusals.proofs.Checks.{unless-fine, andThen-left, andThen-right}
 use Rattle.grid.specs.declared.Grid.{Grid}
-use Rattle.grid.specs.declared.Check.{Check}
-use Rattle.grid.specs.declared.Check.the-variants.{Fine, Refused}
 use Rattle.grid.specs.Domain.{Lines, count, scratchCheck, linesCheck}
-use Rattle.grid.specs.Refusals.{unless, andThen}
-use Rattle.grid.proofs.Fine.{unless-fine, then-left, then-right}
 use Rattle.csr.specs.Tables.{concat, sum, start, itemsOf, offsetsOf}
 use Rattle.sizing.specs.declared.Extent.{Extent}
 use Rattle.sizing.specs.Bounds.{extentOf}
@@ -30,10 +30,11 @@ use Rattle.visit.specs.Entries.{visitCheck, beside}
 use Rattle.visit.specs.Tests.{testsOf}
 use Rattle.visit.specs.Batches.{overlapping}
 use Rattle.visit.proofs.Standing.{stands}
-use Rattle.wkb.specs.Reading.{Found, points, refused, found}
+use Rattle.wkb.specs.Bytes.{Point}
+use Rattle.wkb.specs.Reading.{found}
 use Rattle.report.specs.Lines.{gridLine, cellLine, globalLine, visitLine, refusedLine}
 use Rattle.report.proofs.Sizes.{grid-size, cell-size, global-size, visit-size, refused-size}
-use Rattle.chain.specs.Printed.{cellLines, reportOf, reportBy, printedTables, tablesOn, printedEnd, printedLines, printedFound, printed}
+use Rattle.chain.specs.Printed.{cellLines, reportOf, reportBy, printedTables, tablesOn, printedEnd, printedLines, refusedText, printedPoints, printed}
 
 -- ---- tables that fit
 
@@ -77,7 +78,7 @@ roomy : (g h : Grid) (ls : Lines) (room : ℕ) (k : Check) → triedCheck h ls r
 unfolding triedCheck roomCheck
 roomy g h ls room k e s =
     let q : h ≡ g = cc in
-    let r : leb (on.cells h + 1) room ≡ true = unless-fine (leb (on.cells h + 1) room) 4 (on.cells h + 1) (then-left (roomCheck h room) (turnsCheck h ls) e) in
+    let r : leb (on.cells h + 1) room ≡ true = unless-fine (leb (on.cells h + 1) room) 4 (on.cells h + 1) (andThen-left (roomCheck h room) (turnsCheck h ls) e) in
     let w = leb-true (on.cells h + 1) room r in
     rw q at w
 
@@ -117,8 +118,8 @@ unfolding endOn spaceCheck
 on-made g h ls offsets items globals (Refused r) c s e = absurd (let z : _≡_ {A = ℕ} 0 1 = cc in omega arith)
 on-made g h ls offsets items globals Fine c s e =
     let q : h ≡ g = cc in
-    let a = unless-fine (leb (total h ls) items) 5 (total h ls) (then-left _ _ s) in
-    let b = unless-fine (leb (length (on.globalsOn h ls)) globals) 6 (length (on.globalsOn h ls)) (then-right _ _ s) in
+    let a = unless-fine (leb (total h ls) items) 5 (total h ls) (andThen-left _ _ s) in
+    let b = unless-fine (leb (length (on.globalsOn h ls)) globals) 6 (length (on.globalsOn h ls)) (andThen-right _ _ s) in
     rw (← q)
     (record {
       in-offsets = choice-room ls offsets h c;
@@ -160,10 +161,10 @@ end-size (made g) ls h =
     let r = made-room g ls 4096 4096 64 16384 h in
     by-size (visitCheck ls g (tablesOn ls g)) ls g (tablesOn ls g) (total g ls) refl (let o = r .in-offsets in omega arith) (items-size (on.listOn g ls) (g .rows * g .cols) (r .in-items)) (r .in-globals)
 
-found-size : (f : Found) → length (printedFound f) ≤ 280000
-unfolding printedFound printedLines
-found-size (points ps) = end-size _ _ refl
-found-size (refused k v) = let s = refused-size k in omega arith
+found-size : (f : Answer (List Point)) → length (answerBy refusedText printedPoints f) ≤ 280000
+unfolding answerBy printedPoints printedLines
+found-size (gives ps) = end-size _ _ refl
+found-size (refused r) = let s = refused-size (r .number) in omega arith
 
 -- 280,000 bytes hold every text
 pub printed-fits : (bs : List ℕ) → length (printed bs) ≤ 280000

@@ -5,10 +5,12 @@ use mathlib.Core.List.{List, [], _++_, map}
 use lib.Ieee.{Float, binary64, ofBits, toBits}
 use lib.ListN.{length, take, drop, replicate}
 use Rattle.wkb.specs.Bytes.{Point}
-use Rattle.wkb.specs.Reading.{Found, points, refused, found}
+use Rattle.wkb.specs.Reading.{found}
+use Rattle.refusals.specs.declared.Refusal.{Refusal}
+use Rattle.refusals.specs.declared.Check.{Check}
+use Rattle.refusals.specs.declared.Check.the-variants.{Fine, Refused}
+use Rattle.refusals.specs.Refusals.{answerBy}
 use Rattle.grid.specs.declared.Grid.{Grid}
-use Rattle.grid.specs.declared.Check.{Check}
-use Rattle.grid.specs.declared.Check.the-variants.{Fine, Refused}
 use Rattle.grid.specs.Domain.{Lines, lines}
 use Rattle.csr.specs.Tables.{itemsOf, offsetsOf}
 use Rattle.build.specs.OnGrid.{listOn, globalsOn}
@@ -18,6 +20,10 @@ use Rattle.visit.specs.Tests.{testsOf}
 use Rattle.visit.specs.Batches.{overlapping}
 use Rattle.visit.specs.Entries.{beside, visitCheck}
 use Rattle.report.specs.Lines.{gridLine, cellLine, globalLine, visitLine, refusedLine}
+
+-- a refusal prints `refused` and the number
+abbrev pub refusedText : Refusal → List ℕ
+refusedText r = refusedLine (r .number)
 
 -- ---- standing tables
 
@@ -63,13 +69,12 @@ printedLines ls = printedEnd (endOf ls 4096 4096 64 16384) ls
 unfoldable pub chainOf : List Float → List Float → Lines
 chainOf xs ys = lines (take (length xs - 1) xs) (take (length ys - 1) ys) (drop 1 xs) (drop 1 ys)
 
-unfoldable pub printedFound : Found → List ℕ
-printedFound (points ps) = printedLines (chainOf (map (λ (p : Point). ofBits binary64 (p .x)) ps) (map (λ (p : Point). ofBits binary64 (p .y)) ps))
-printedFound (refused number value) = refusedLine number
+unfoldable pub printedPoints : List Point → List ℕ
+printedPoints ps = printedLines (chainOf (map (λ (p : Point). ofBits binary64 (p .x)) ps) (map (λ (p : Point). ofBits binary64 (p .y)) ps))
 
 -- WHAT THE PROGRAM PRINTS for the bytes of its input
 unfoldable pub printed : List ℕ → List ℕ
-printed bs = printedFound (found bs)
+printed bs = answerBy refusedText printedPoints (found bs)
 
 -- the promise: as much of the text as there is room for, its end, and zero beyond (`printed-fits`: 280,000 bytes hold every text)
 pub record Prints (text out out′ : List ℕ) (r : ℕ) : Type 0 where

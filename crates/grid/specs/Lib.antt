@@ -1,4 +1,3 @@
 -- The definitions that the contracts of `grid` cite, and that every crate above rests on.
-pub mod Refusals
 pub mod Domain
 pub mod Axes

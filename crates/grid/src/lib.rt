@@ -17,15 +17,3 @@ pub struct Axis {
     pub size: f64,
     pub count: u32,
 }
-
-// A refusal by document 01's number, with its value.
-pub struct Refusal {
-    pub number: u32,
-    pub value: u64,
-}
-
-// What a check finds.
-pub enum Check {
-    Fine,
-    Refused(Refusal),
-}

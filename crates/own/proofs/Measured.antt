@@ -5,11 +5,10 @@ use mathlib.Core.List.{List, [], _∷_, _++_}
 use Prim.Native.Nat.{ℕ}
 use lib.Ieee.{Float, binary64, round, ofInt, add, mul, lt, le, eq}
 use Rattle.numbers.specs.Order.{magnitudeOf}
+use Rattle.refusals.specs.Refusals.{unless, andThen, _then_, answerBy}
 use Rattle.grid.specs.declared.Grid.{Grid}
 use Rattle.grid.specs.Axes.{lowOn, highOn}
-use Rattle.grid.specs.Refusals.{unless, andThen}
 use Rattle.grid.specs.Domain.{coordinate, point, sizeFits, shape, fit, pointCheck, gridCheck, cellCheck}
-use Rattle.snap.specs.Answer.{unlessRefused}
 use Rattle.snap.proofs.Measured.{Row, Hold, joined, p9·10, p9·10-hold}
 use Rattle.own.specs.declared.Owned.{Owned}
 use Rattle.own.specs.declared.Owned.the-variants.{Yes, No}
@@ -30,7 +29,7 @@ p7·8 =
     ∷ []
 
 pub p7·8-hold : Hold p7·8
-unfolding pointAnswer unlessRefused andThen placeCheck pointCheck gridCheck cellCheck unless point coordinate fit sizeFits shape magnitudeOf ownsPoint ownsOn lowOn highOn round ofInt add mul le lt eq
+unfolding pointAnswer answerBy _then_ andThen placeCheck pointCheck gridCheck cellCheck unless point coordinate fit sizeFits shape magnitudeOf ownsPoint ownsOn lowOn highOn round ofInt add mul le lt eq
 p7·8-hold = (refl, (refl, (refl, tt)))
 
 -- ---- the table

@@ -1,4 +1,3 @@
 pub mod SignBit
-pub mod Answers
 pub mod Measured
 pub mod Snapping

@@ -8,11 +8,10 @@ use lib.Ieee.{Float, binary64, round, add, mul, div, lt, le, eq}
 use Rattle.numbers.specs.Away.{roundAway}
 use Rattle.numbers.specs.Floor.{floorOf}
 use Rattle.numbers.specs.Order.{magnitudeOf}
-use Rattle.grid.specs.Refusals.{unless, andThen}
+use Rattle.refusals.specs.Refusals.{unless, _then_, answerBy}
 use Rattle.grid.specs.Domain.{coordinate, point, pointCheck, snapSize, snapCheck}
 use Rattle.snap.specs.declared.Snapped.{Snapped}
 use Rattle.snap.specs.declared.Snapped.the-variants.{Point}
-use Rattle.snap.specs.Answer.{unlessRefused}
 use Rattle.snap.specs.Snap.{gridSnap, signOf, geosSnap, snapOf, snapAnswer}
 
 pub record Row : Type 1 where
@@ -46,5 +45,5 @@ p9·10 =
     ∷ []
 
 pub p9·10-hold : Hold p9·10
-unfolding snapAnswer unlessRefused andThen pointCheck unless point coordinate magnitudeOf snapCheck snapSize snapOf gridSnap geosSnap signOf roundAway floorOf round add mul div le lt eq
+unfolding snapAnswer answerBy _then_ pointCheck unless point coordinate magnitudeOf snapCheck snapSize snapOf gridSnap geosSnap signOf roundAway floorOf round add mul div le lt eq
 p9·10-hold = (refl, (refl, (refl, (refl, tt))))

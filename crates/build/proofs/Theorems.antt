@@ -9,11 +9,11 @@ use lib.Dec.{leb, ltb}
 use lib.ListN.{length, getD, take, drop, replicate, length-append, length-replicate}
 use lib.Seq.{take-append-seam}
 use Rattle.slices.specs.Lists.{elem, Rising}
+use Rattle.refusals.specs.declared.Refusal.{Refusal}
+use Rattle.refusals.specs.declared.Check.the-variants.{Fine}
+use Rattle.refusals.proofs.Checks.{each-says}
 use Rattle.grid.specs.declared.Grid.{Grid}
-use Rattle.grid.specs.declared.Refusal.{Refusal}
-use Rattle.grid.specs.declared.Check.the-variants.{Fine}
 use Rattle.grid.specs.Domain.{Lines, count, fit}
-use Rattle.grid.proofs.Fine.{each-says}
 use Rattle.walk.specs.Pushes.{Outcome, refused, found}
 use Rattle.csr.specs.Tables.{long, only, sum, start, offsetsOf, itemsOf}
 use Rattle.csr.specs.States.{Table}

@@ -9,11 +9,11 @@ use lib.Dec.{leb, ltb}
 use lib.ListN.{length}
 use lib.Seq.{length-take-le}
 use Rattle.slices.specs.Lists.{elem}
-use Rattle.grid.specs.declared.Check.{Check}
-use Rattle.grid.specs.declared.Check.the-variants.{Fine, Refused}
-use Rattle.grid.specs.Refusals.{andThen}
+use Rattle.refusals.specs.declared.Check.{Check}
+use Rattle.refusals.specs.declared.Check.the-variants.{Fine, Refused}
+use Rattle.refusals.specs.Refusals.{andThen}
+use Rattle.refusals.proofs.Checks.{andThen-right}
 use Rattle.grid.specs.Domain.{Lines, count, scratchCheck, linesCheck}
-use Rattle.grid.proofs.Fine.{then-right}
 use Rattle.csr.proofs.Lists.{short-is}
 use Rattle.tables.specs.Tables.{listOf, globalsOf}
 use Rattle.tables.specs.Fit.{TablesFit}
@@ -53,7 +53,7 @@ module _ {ls : Lines} (s : Success ls) where
   unfolding endOf
   lines-passed =
       let before = andThen (scratchCheck (length (s .«lent-scratch»))) (linesCheck ls) in
-      then-right (scratchCheck (length (s .«lent-scratch»))) (linesCheck ls)
+      andThen-right (scratchCheck (length (s .«lent-scratch»))) (linesCheck ls)
       (checks-fine before (endBy (choice ls (length (s .«lent-offsets»))) ls (length (s .«lent-items»)) (length (s .«lent-globals»))) ls (s .standing) (s .promise .answer))
 
   -- a cell lists exactly the lines that are not global and whose walk visits it

@@ -10,14 +10,14 @@ use lib.ListN.{length, getD, take, drop}
 use lib.Seq.{slice}
 use lib.Dec.{ltb}
 use borrow.Author.Tests.{ltb-true}
+use Rattle.refusals.specs.declared.Refusal.{Refusal}
+use Rattle.refusals.specs.declared.Check.{Check}
+use Rattle.refusals.specs.declared.Check.the-variants.{Fine, Refused}
+use Rattle.refusals.specs.Refusals.{unless, andThen}
+use Rattle.refusals.proofs.Checks.{unless-fine, andThen-refused, andThen-fine, andThen-left, andThen-right}
 use Rattle.grid.specs.declared.Grid.{Grid}
-use Rattle.grid.specs.declared.Refusal.{Refusal}
-use Rattle.grid.specs.declared.Check.{Check}
-use Rattle.grid.specs.declared.Check.the-variants.{Fine, Refused}
-use Rattle.grid.specs.Refusals.{unless, andThen}
 use Rattle.grid.specs.Domain.{cellCheck}
 use Rattle.grid.proofs.Bools.{and-left, and-right}
-use Rattle.grid.proofs.Fine.{unless-fine, then-refused, then-fine, then-left, then-right}
 use Rattle.tables.specs.Tables.{Tables, cells, listOf}
 use Rattle.tables.specs.Fit.{TablesFit, standingCheck}
 use Rattle.tables.proofs.Facts.{part-slice}
@@ -33,11 +33,11 @@ use Rattle.visit.proofs.Standing.{cells-fit}
 module _ (g : Grid) (t : Tables) (pl : Place) where
   pub list-tables : (r : Refusal) → standingCheck g t ≡ Refused r → Refused r ≡ listCheck g t pl
   unfolding listCheck
-  list-tables r e = sym (then-refused _ _ r e)
+  list-tables r e = sym (andThen-refused _ _ r e)
 
   pub list-place : standingCheck g t ≡ Fine → placeCheck g (t .«global_count») pl ≡ listCheck g t pl
   unfolding listCheck
-  list-place e = sym (then-fine _ _ e)
+  list-place e = sym (andThen-fine _ _ e)
 
 -- ---- what they say
 
@@ -50,8 +50,8 @@ pub record CellPlace (g : Grid) (t : Tables) (row col : ℕ) : Type 0 where
 pub cell-place : (g : Grid) (t : Tables) (row col : ℕ) → listCheck g t (Cell row col) ≡ Fine → CellPlace g t row col
 unfolding listCheck placeCheck cellCheck
 cell-place g t row col h =
-    let s = standing-says g t (then-left _ _ h) in
-    let e : (ltb row (g .rows) && ltb col (g .cols)) ≡ true = unless-fine (ltb row (g .rows) && ltb col (g .cols)) 9 row (then-right _ _ h) in
+    let s = standing-says g t (andThen-left _ _ h) in
+    let e : (ltb row (g .rows) && ltb col (g .cols)) ≡ true = unless-fine (ltb row (g .rows) && ltb col (g .cols)) 9 row (andThen-right _ _ h) in
     record {
       table = s .tables;
       rows = ltb-true row (g .rows) (and-left (ltb row (g .rows)) (ltb col (g .cols)) e);
@@ -67,8 +67,8 @@ pub global-place : (g : Grid) (t : Tables) (p : ℕ) → listCheck g t (Global p
 unfolding listCheck placeCheck
 global-place g t p h =
     record {
-      table = standing-says g t (then-left _ _ h) .tables;
-      inside = ltb-true p (t .«global_count») (unless-fine (ltb p (t .«global_count»)) 9 p (then-right _ _ h));
+      table = standing-says g t (andThen-left _ _ h) .tables;
+      inside = ltb-true p (t .«global_count») (unless-fine (ltb p (t .«global_count»)) 9 p (andThen-right _ _ h));
     }
 
 -- a cell of the grid has a number below the number of cells

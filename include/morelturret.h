@@ -133,11 +133,11 @@ uint32_t mt_build(const double *start_x, size_t start_x_len, const double *start
 
 /* ---- standing tables ---- */
 
-/* Whether tables fit: offsets has at least cells + 1 entries, the first is 0, they never fall over those entries and the last is within items;
- * each list and the first global_count globals strictly increase below the number of lines; global_count is within globals. The grid is not
- * checked here: its cols and rows alone count.
+/* Whether every call below that is lent the tables takes them: at most 65,536 lines, a grid record that is fit, and tables that fit. Tables fit
+ * if offsets has at least cells + 1 entries, the first is 0, they never fall over those entries and the last is within items; each list and the
+ * first global_count globals strictly increase below the number of lines; global_count is within globals.
  * out (1 word): written only on a refusal.
- * Refuses by 10. */
+ * Refuses by 2, 8, 10. */
 uint32_t mt_check_tables(double min_x, double min_y, double cell_size, uint32_t cols, uint32_t rows, size_t lines, const uint32_t *offsets,
                          size_t offsets_len, const uint32_t *items, size_t items_len, const uint32_t *globals, size_t globals_len,
                          uint64_t global_count, uint64_t *out, size_t out_len);

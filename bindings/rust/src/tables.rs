@@ -239,9 +239,9 @@ pub struct Standing<'a> {
 }
 
 impl<'a> Standing<'a> {
-    /// Whether the tables fit. Of the grid, its columns and rows alone count here.
+    /// Whether every call that is lent the tables takes them.
     ///
-    /// Refuses by 10 (they do not).
+    /// Refuses by 2 (too many lines), 8 (the grid is unfit) and 10 (the tables do not fit).
     pub fn check_tables(&self) -> Result<(), Refusal> {
         answer::<1>(|out| sys::check_tables(self, out)).map(|_| ())
     }

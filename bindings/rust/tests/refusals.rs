@@ -66,6 +66,8 @@ fn two_too_many_lines() {
     let tables = Tables::of(lines(MAX_LINES)).unwrap();
     assert_eq!((tables.line_count(), tables.items().len()), (65_536, 65_536));
     let too_many = Standing { line_count: MAX_LINES + 1, ..tables.standing() };
+    assert_eq!(of(too_many.check_tables()), (2, 65_537));
+    assert_eq!(of(Standing { grid: UNFIT, ..too_many }.check_tables()), (2, 65_537), "2 before 8");
     assert_eq!(of(too_many.cell_list(0, 0)), (2, 65_537));
     assert_eq!(of(too_many.global_list(0)), (2, 65_537));
     assert_eq!(of(tables.batch(lines(MAX_LINES + 1), 0, &mut [0], &mut [0])), (2, 65_537));
@@ -177,6 +179,8 @@ fn eight_an_unfit_grid() {
         assert_eq!(of(overlap_owned(grid, 0, 0, 0.5, 0.5, 1.0, Strategy::Grid)), (8, 0));
         assert_eq!(of(owner(grid, 0.5, 0.5)), (8, 0));
         let standing = Standing { grid, ..tables.standing() };
+        assert_eq!(of(standing.check_tables()), (8, 0));
+        assert_eq!(of(Standing { offsets: &[], ..standing }.check_tables()), (8, 0), "8 before 10");
         assert_eq!(of(standing.cell_list(0, 0)), (8, 0));
         assert_eq!(of(standing.global_list(0)), (8, 0));
         assert_eq!(of(standing.test_at(owned.lines(), 0)), (8, 0));

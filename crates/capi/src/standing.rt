@@ -5,7 +5,7 @@ use refusals::Check;
 ghost use Prim.Native.Nat.{_≤_};
 ghost use lib.ListN.{length};
 ghost use Rattle.tables.specs.Tables.{tables};
-ghost use Rattle.tables.specs.Fit.{tablesCheck};
+ghost use Rattle.tables.specs.Fit.{standingCheck};
 ghost use Rattle.capi.specs.Replies.{Handed, Replies, gridBy};
 ghost use Rattle.capi.specs.Answers.{ofCheck};
 
@@ -19,7 +19,7 @@ fn checked(answer: Check, out: &mut [u64]) -> u32
     }
 }
 
-// Out: nothing where the tables fit.
+// Out: nothing where the tables pass, on a grid that is fit, for a number of lines that is allowed.
 #[no_mangle]
 pub extern "C" fn mt_check_tables(
     min_x: f64,
@@ -34,7 +34,7 @@ pub extern "C" fn mt_check_tables(
     global_count: u64,
     out: &mut [u64],
 ) -> u32
-    ensures { λ r. ⌜ Replies 1 (ofCheck (tablesCheck (tables (gridBy «min_x» «min_y» «cell_size» cols rows) lines (now (offsets .entry)) (now (items .entry)) (now (globals .entry)) «global_count»))) (now (out .entry)) r (now (out .exit)) ⌝ }
+    ensures { λ r. ⌜ Replies 1 (ofCheck (standingCheck (gridBy «min_x» «min_y» «cell_size» cols rows) (tables (gridBy «min_x» «min_y» «cell_size» cols rows) lines (now (offsets .entry)) (now (items .entry)) (now (globals .entry)) «global_count»))) (now (out .entry)) r (now (out .exit)) ⌝ }
 {
     if out.len() < 1 {
         return reply::SHORT;

@@ -10,7 +10,7 @@ use Rattle.refusals.specs.declared.Check.the-variants.{Fine, Refused}
 use Rattle.refusals.specs.Refusals.{unless, andThen}
 use Rattle.grid.specs.Domain.{Lines, count, countCheck, linesCheck, gridCheck}
 use Rattle.grid.proofs.Fine.{lines-fine}
-use Rattle.tables.specs.Fit.{tablesCheck}
+use Rattle.tables.specs.Fit.{tablesCheck, standingCheck}
 use Rattle.build.proofs.Theorems.{grid-fit, no-misfit}
 use Rattle.visit.specs.declared.Place.{Place}
 use Rattle.visit.specs.declared.BatchAnswer.{BatchAnswer}
@@ -66,5 +66,5 @@ module _ {ls : Lines} (s : Success ls) where
 
   -- the list of a place within its end is given
   pub list-given : (pl : Place) → placeCheck (gridLeft s) (s .standing .globals) pl ≡ Fine → listCheck (gridLeft s) (tablesLeft s) pl ≡ Fine
-  unfolding listCheck countCheck unless andThen
+  unfolding listCheck standingCheck countCheck unless andThen
   list-given pl h = rw (le-leb (count ls) 65536 (lines-fine ls (lines-passed s) .few), never-unfit, never-misfit) h

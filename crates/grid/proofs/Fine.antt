@@ -76,3 +76,8 @@ lines-fine ls h =
       few = leb-true _ _ (unless-fine _ _ _ (andThen-left _ _ (andThen-right _ _ h)));
       each = λ i l. each-says (lineFits ls) 1 (count ls) 0 i (andThen-right _ _ (andThen-right _ _ h)) (omega arith) (omega arith);
     }
+
+-- the number of lines that passed them passes 2 again
+pub lines-counted : (ls : Lines) → linesCheck ls ≡ Fine → countCheck (count ls) ≡ Fine
+unfolding linesCheck
+lines-counted ls h = andThen-left _ _ (andThen-right _ _ h)

@@ -1,3 +1,4 @@
--- Laws of `tables`. For the crates above: `Facts`.
+-- Laws of `tables`. For the crates above: `Facts` and `Standing`.
 pub mod Facts
 pub mod Turns
+pub mod Standing

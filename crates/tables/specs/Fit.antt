@@ -9,7 +9,9 @@ use mathlib.Core.List.{List, [], _∷_}
 use lib.ListN.{length, getD}
 use lib.Dec.{leb, ltb, eqb}
 use Rattle.refusals.specs.declared.Check.{Check}
-use Rattle.refusals.specs.Refusals.{unless}
+use Rattle.refusals.specs.Refusals.{unless, andThen}
+use Rattle.grid.specs.declared.Grid.{Grid}
+use Rattle.grid.specs.Domain.{countCheck, gridCheck}
 use Rattle.slices.specs.Lists.{Below, Rising}
 use Rattle.tables.specs.Tables.{Tables, cells, listIn, globalsOf}
 
@@ -60,3 +62,7 @@ tablesFit t =
 -- 10: tables misfit
 unfoldable pub tablesCheck : Tables → Check
 tablesCheck t = unless (tablesFit t) 10 0
+
+-- 2, 8, 10, in that order: what every call that is lent tables checks of them
+unfoldable pub standingCheck : Grid → Tables → Check
+standingCheck g t = andThen (countCheck (t .lines)) (andThen (gridCheck g) (tablesCheck t))

@@ -7,7 +7,7 @@ ghost use mathlib.Core.Bool.{_&&_};
 ghost use lib.ListN.{length, take};
 ghost use lib.Dec.{leb};
 ghost use Rattle.tables.specs.Tables.{tables};
-ghost use Rattle.tables.specs.Fit.{increases, listsFit, tablesFit, tablesCheck};
+ghost use Rattle.tables.specs.Fit.{increases, listsFit, tablesFit, standingCheck};
 
 fn wide(x: u32) -> usize
     ensures { λ r. ⌜ r ≡ x ⌝ }
@@ -93,7 +93,7 @@ pub fn is_fit(
     false
 }
 
-// Refusal 10, with value 0, exactly where the tables do not fit.
+// Refusals 2, 8 and 10, in that order: what every call that is lent tables checks of them.
 pub fn check_tables(
     grid: Grid,
     lines: usize,
@@ -102,8 +102,16 @@ pub fn check_tables(
     globals: &[u32],
     global_count: usize,
 ) -> Check
-    ensures { λ r. ⌜ r ≡ tablesCheck (tables grid lines (now (offsets .entry)) (now (items .entry)) (now (globals .entry)) «global_count») ⌝ }
+    ensures { λ r. ⌜ r ≡ standingCheck grid (tables grid lines (now (offsets .entry)) (now (items .entry)) (now (globals .entry)) «global_count») ⌝ }
 {
+    let many = grid::checks::check_count(lines);
+    if let Check::Refused(r) = many {
+        return Check::Refused(r);
+    }
+    let shape = grid::checks::check_grid(grid);
+    if let Check::Refused(r) = shape {
+        return Check::Refused(r);
+    }
     refusals::refuse_unless(
         is_fit(grid, lines, offsets, items, globals, global_count),
         10,

@@ -12,10 +12,12 @@ use Rattle.refusals.specs.declared.Refusal.{Refusal}
 use Rattle.refusals.specs.declared.Check.{Check}
 use Rattle.refusals.specs.declared.Check.the-variants.{Fine, Refused}
 use Rattle.refusals.specs.Refusals.{refusal, unless, andThen}
+use Rattle.refusals.proofs.Checks.{andThen-refused, andThen-fine}
 use Rattle.grid.specs.declared.Grid.{Grid}
 use Rattle.grid.specs.Domain.{Lines, count, linesCheck, gridCheck}
+use Rattle.grid.proofs.Fine.{lines-counted}
 use Rattle.tables.specs.Tables.{Tables}
-use Rattle.tables.specs.Fit.{tablesCheck}
+use Rattle.tables.specs.Fit.{tablesCheck, standingCheck}
 use Rattle.visit.specs.declared.Test.{Test}
 use Rattle.visit.specs.declared.TestAnswer.the-variants as answer
 use Rattle.visit.specs.declared.BatchAnswer.the-variants as batch
@@ -32,31 +34,17 @@ use Rattle.visit.specs.Inside.{nextStep, restOf, Ready, CursorIs, SeekIs
 use Rattle.visit.proofs.Lengths.{total-fits}
 use Rattle.visit.proofs.RunWhole.{here}
 
--- ---- two checks in a row
-
-pub then-refused : (a b : Check) (r : Refusal) → a ≡ Refused r → andThen a b ≡ Refused r
-unfolding andThen
-then-refused a b r e = rw e
-
-pub then-fine : (a b : Check) → a ≡ Fine → andThen a b ≡ b
-unfolding andThen
-then-fine a b e = rw e
-
 -- ---- the checks of a visit
 
 module _ (ls : Lines) (g : Grid) (t : Tables) where
   pub visit-lines : (r : Refusal) → linesCheck ls ≡ Refused r → Refused r ≡ visitCheck ls g t
   unfolding visitCheck
-  visit-lines r e = sym (then-refused (linesCheck ls) (andThen (gridCheck g) (tablesCheck t)) r e)
+  visit-lines r e = sym (andThen-refused (linesCheck ls) (andThen (gridCheck g) (tablesCheck t)) r e)
 
-  module _ (f : linesCheck ls ≡ Fine) where
-    pub visit-grid : (r : Refusal) → gridCheck g ≡ Refused r → Refused r ≡ visitCheck ls g t
-    unfolding visitCheck
-    visit-grid r e = sym (then-fine (linesCheck ls) (andThen (gridCheck g) (tablesCheck t)) f ∙ then-refused (gridCheck g) (tablesCheck t) r e)
-
-    pub visit-tables : gridCheck g ≡ Fine → tablesCheck t ≡ visitCheck ls g t
-    unfolding visitCheck
-    visit-tables e = sym (then-fine (linesCheck ls) (andThen (gridCheck g) (tablesCheck t)) f ∙ then-fine (gridCheck g) (tablesCheck t) e)
+  -- the lines have passed, 2 with them: what is left of the tables' check is 8 and 10
+  pub visit-tables : linesCheck ls ≡ Fine → t .lines ≡ count ls → standingCheck g t ≡ visitCheck ls g t
+  unfolding visitCheck standingCheck
+  visit-tables f e = andThen-fine _ _ (rw e (lines-counted ls f)) ∙ sym (andThen-fine _ _ f)
 
 -- ---- a seek, taken apart by what it is
 
@@ -92,17 +80,17 @@ steps-end ls (p ∷ ps) e = let z : _≡_ {A = ℕ} 0 1 = cc in absurd (omega ar
 module _ (ls : Lines) (g : Grid) (t : Tables) (b : ℕ) where
   pub test-refused : (r : Refusal) → visitCheck ls g t ≡ Refused r → answer.Refused r ≡ testAt ls g t b
   unfolding testAt answerOf
-  test-refused r e = rw (then-refused (visitCheck ls g t) (bookmarkCheck t b) r e)
+  test-refused r e = rw (andThen-refused (visitCheck ls g t) (bookmarkCheck t b) r e)
 
   module _ (f : visitCheck ls g t ≡ Fine) where
     pub test-beyond : length (testsOf t) < b → answer.Refused (refusal 9 b) ≡ testAt ls g t b
     unfolding testAt answerOf
-    test-beyond h = rw (then-fine (visitCheck ls g t) (bookmarkCheck t b) f, book-out t b h)
+    test-beyond h = rw (andThen-fine (visitCheck ls g t) (bookmarkCheck t b) f, book-out t b h)
 
     module _ (c : Cursor) (k : CursorIs ls g t b c) where
       test-is : nextTest ls (drop b (testsOf t)) ≡ testAt ls g t b
       unfolding testAt answerOf
-      test-is = rw (then-fine (visitCheck ls g t) (bookmarkCheck t b) f, book-in t b (k .at-most))
+      test-is = rw (andThen-fine (visitCheck ls g t) (bookmarkCheck t b) f, book-in t b (k .at-most))
 
       pub test-made : (x : Test) → step.Made x ≡ nextStep ls (restOf t c) → answer.Made x ≡ testAt ls g t b
       test-made x e = steps-same ls (drop b (testsOf t)) x (e ∙ ap (nextStep ls) (k .rest)) ∙ test-is
@@ -127,15 +115,15 @@ module _ (ls : Lines) (g : Grid) (t : Tables) (b : ℕ) (fs ss : List ℕ) where
     checks = rw (eq-eqb (length fs) (length ss) same)
 
     pub batch-refused : (r : Refusal) → visitCheck ls g t ≡ Refused r → BatchIs ls g t b fs ss fs ss (batch.Refused r)
-    batch-refused r e = refused r (checks ∙ then-refused (visitCheck ls g t) (bookmarkCheck t b) r e)
+    batch-refused r e = refused r (checks ∙ andThen-refused (visitCheck ls g t) (bookmarkCheck t b) r e)
 
     module _ (f : visitCheck ls g t ≡ Fine) where
       pub batch-beyond : length (testsOf t) < b → BatchIs ls g t b fs ss fs ss (batch.Refused (refusal 9 b))
-      batch-beyond h = refused (refusal 9 b) (checks ∙ then-fine (visitCheck ls g t) (bookmarkCheck t b) f ∙ book-out t b h)
+      batch-beyond h = refused (refusal 9 b) (checks ∙ andThen-fine (visitCheck ls g t) (bookmarkCheck t b) f ∙ book-out t b h)
 
       module _ (c : Cursor) (k : CursorIs ls g t b c) (fs₁ ss₁ : List ℕ) (r : Ran) (w : RanAll ls t c fs ss fs₁ ss₁ r) where
         fine : batchCheck ls g t b fs ss ≡ Fine
-        fine = checks ∙ then-fine (visitCheck ls g t) (bookmarkCheck t b) f ∙ book-in t b (k .at-most)
+        fine = checks ∙ andThen-fine (visitCheck ls g t) (bookmarkCheck t b) f ∙ book-in t b (k .at-most)
 
         rest : List Pair
         rest = drop b (testsOf t)

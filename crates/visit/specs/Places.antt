@@ -7,9 +7,9 @@ use Rattle.refusals.specs.declared.Check.{Check}
 use Rattle.refusals.specs.declared.Check.the-variants.{Fine, Refused}
 use Rattle.refusals.specs.Refusals.{unless, andThen}
 use Rattle.grid.specs.declared.Grid.{Grid}
-use Rattle.grid.specs.Domain.{countCheck, gridCheck, cellCheck}
+use Rattle.grid.specs.Domain.{cellCheck}
 use Rattle.tables.specs.Tables.{Tables, listOf}
-use Rattle.tables.specs.Fit.{tablesCheck}
+use Rattle.tables.specs.Fit.{standingCheck}
 use Rattle.visit.specs.declared.Place.{Place}
 use Rattle.visit.specs.declared.Place.the-variants.{Cell, Global}
 
@@ -18,9 +18,9 @@ unfoldable pub placeCheck : Grid → ℕ → Place → Check
 placeCheck g globals (Cell row col) = cellCheck g row col
 placeCheck g globals (Global p) = unless (ltb p globals) 9 p
 
--- 2, 8, 10, 9, in that order
+-- 2, 8 and 10 of the tables, then 9
 unfoldable pub listCheck : Grid → Tables → Place → Check
-listCheck g t pl = andThen (countCheck (t .lines)) (andThen (gridCheck g) (andThen (tablesCheck t) (placeCheck g (t .«global_count») pl)))
+listCheck g t pl = andThen (standingCheck g t) (placeCheck g (t .«global_count») pl)
 
 -- the list at a place within its end: cells are numbered in row order
 unfoldable pub listAt : Tables → Place → List ℕ

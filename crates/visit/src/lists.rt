@@ -29,14 +29,6 @@ pub fn list_check(
 ) -> Check
     ensures { λ r. ⌜ r ≡ listCheck grid (tables grid lines (now (offsets .entry)) (now (items .entry)) (now (globals .entry)) «global_count») place ⌝ }
 {
-    let many = grid::checks::check_count(lines);
-    if let Check::Refused(r) = many {
-        return Check::Refused(r);
-    }
-    let shape = grid::checks::check_grid(grid);
-    if let Check::Refused(r) = shape {
-        return Check::Refused(r);
-    }
     let fit = tables::check_tables(grid, lines, offsets, items, globals, global_count);
     if let Check::Refused(r) = fit {
         return Check::Refused(r);

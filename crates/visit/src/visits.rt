@@ -14,7 +14,7 @@ ghost use mathlib.Core.Path.{_≡_};
 ghost use Rattle.grid.specs.Domain.{lines};
 ghost use Rattle.visit.specs.Entries.{beside, visitCheck, testAt, BatchIs};
 
-// Refusals 3, 2, 1, 8 and 10, in that order.
+// Refusals 3, 2, 1, 8 and 10, in that order. The tables' check asks 2 again, of the number of lines that has passed it.
 fn check_visit(
     start_x: &[f64],
     start_y: &[f64],
@@ -30,10 +30,6 @@ fn check_visit(
 {
     let lines = grid::checks::check_lines(start_x, start_y, end_x, end_y);
     if let Check::Refused(r) = lines {
-        return Check::Refused(r);
-    }
-    let shape = grid::checks::check_grid(grid);
-    if let Check::Refused(r) = shape {
         return Check::Refused(r);
     }
     tables::check_tables(grid, start_x.len(), offsets, items, globals, global_count)

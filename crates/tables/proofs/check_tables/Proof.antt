@@ -1,29 +1,66 @@
 -- `tables::check_tables` meets its contract. Assumes nothing.
-use mathlib.Core.Path.{_≡_, ap, _∙_}
-use Prim.Native.Nat.{ℕ}
-use mathlib.Core.Bool.{Bool}
-use Rattle.refusals.specs.Refusals.{unless}
-use Rattle.tables.specs.Fit.{tablesCheck}
+use mathlib.Core.Path.{_≡_, sym, _∙_}
+use Rattle.tables.specs.Tables.{tables}
+use Rattle.tables.proofs.Standing.{unfit-refused, standing-many, standing-grid, standing-tables}
 use borrow.Author.Needs.{needs}
 use Rattle.tables.proofs.check_tables.Statement.{statement}
 use Rattle.tables.proofs.check_tables.Tie as tie
-use Rattle.tables.proofs.check_tables.Reads as reads
-use Rattle.tables.proofs.check_tables.Lts as lts
-use Rattle.refusals.proofs.refuse_unless.Reads as refuse-unless-reads
-use Rattle.tables.proofs.is_fit.Reads as is-fit-reads
 
--- src/lib.rt:108:9
+check-count-requires : tie.Need-check-count-requires
+check-count-requires c κs = search needs
+
+enum-known-many : tie.Need-enum-known-many
+enum-known-many c = search needs
+
+returns : tie.Need-returns
+returns c =
+    let a = c .before .before .before .before .before .before .before .args in
+    let t = tables (a .grid) (a .lines) (a .offsets .now) (a .items .now) (a .globals .now) (a .global-count) in
+    standing-many (a .grid) t _ (sym (c .before .before .before .check-count .ensures) ∙ c .before .many .given .1)
+
+enum-told : tie.Need-enum-told
+enum-told c = search needs
+
+check-grid-requires : tie.Need-check-grid-requires
+check-grid-requires c κs = search needs
+
+enum-known-shape : tie.Need-enum-known-shape
+enum-known-shape c = search needs
+
+returns-2 : tie.Need-returns-2
+returns-2 c =
+    let a = c .before .before .before .before .before .before .before .before .before .before .args in
+    let t = tables (a .grid) (a .lines) (a .offsets .now) (a .items .now) (a .globals .now) (a .global-count) in
+    standing-grid (a .grid) t (sym (c .before .before .before .before .before .before .check-count .ensures) ∙ c .before .before .before .before .enum-told .given .1) _ (sym (c .before .before .before .check-grid .ensures) ∙ c .before .shape .given .1)
+
+enum-told-2 : tie.Need-enum-told-2
+enum-told-2 c = search needs
+
 is-fit-requires : tie.Need-is-fit-requires
 is-fit-requires c κs = search needs
 
--- src/lib.rt:107:5
 refuse-unless-requires : tie.Need-refuse-unless-requires
 refuse-unless-requires c κs = search needs
 
--- src/lib.rt:97:1
-returns : tie.Need-returns
-unfolding tablesCheck
-returns c = c .refuse-unless .ensures ∙ ap (λ (b : Bool). unless b 10 0) (c .before .is-fit .ensures)
+returns-3 : tie.Need-returns-3
+returns-3 c =
+    let a = c .before .before .before .before .before .before .before .before .before .before .before .args in
+    let t = tables (a .grid) (a .lines) (a .offsets .now) (a .items .now) (a .globals .now) (a .global-count) in
+    unfit-refused t (c .refuse-unless .ensures) (c .before .is-fit .ensures)
+    ∙ standing-tables (a .grid) t (sym (c .before .before .before .before .before .before .before .check-count .ensures) ∙ c .before .before .before .before .before .enum-told .given .1) (sym (c .before .before .before .before .check-grid .ensures) ∙ c .before .before .enum-told2 .given .1)
 
 pub check-tables-spec : {M : Type 1} → statement M
-check-tables-spec = tie.close (tie.spec is-fit-requires refuse-unless-requires returns)
+check-tables-spec =
+    tie.close
+    (tie.spec
+    check-count-requires
+    enum-known-many
+    returns
+    enum-told
+    check-grid-requires
+    enum-known-shape
+    returns-2
+    enum-told-2
+    is-fit-requires
+    refuse-unless-requires
+    returns-3)

@@ -8,14 +8,14 @@ use borrow.Author.Tests.{le-leb, lt-leb}
 use lib.Dec.{ltb}
 use lib.Ieee.{Float}
 use lib.ListN.{length, getD, replicate}
+use Rattle.refusals.specs.declared.Refusal.{Refusal}
+use Rattle.refusals.specs.declared.Check.{Check}
+use Rattle.refusals.specs.declared.Check.the-variants.{Fine, Refused}
+use Rattle.refusals.specs.Refusals.{refusal, unless, andThen}
+use Rattle.refusals.proofs.Checks.{andThen-right}
 use Rattle.grid.specs.declared.Grid.{Grid}
-use Rattle.grid.specs.declared.Refusal.{Refusal}
-use Rattle.grid.specs.declared.Check.{Check}
-use Rattle.grid.specs.declared.Check.the-variants.{Fine, Refused}
-use Rattle.grid.specs.Refusals.{refusal, unless, andThen}
 use Rattle.grid.specs.Domain.{Lines, count, Alike, shape}
 use Rattle.grid.proofs.Bools.{and-right}
-use Rattle.grid.proofs.Fine.{then-right}
 use Rattle.sizing.specs.declared.Extent.{Extent}
 use Rattle.sizing.specs.Bounds.{extentOf}
 use Rattle.sizing.specs.Size.{firstSize, halfOf}
@@ -44,7 +44,7 @@ module _ (g : Grid) (ls : Lines) (room n : ℕ) (e : n ≡ cells g) where
 
 pub tried-turns : (g : Grid) (ls : Lines) (room : ℕ) → triedCheck g ls room ≡ Fine → turnsCheck g ls ≡ Fine
 unfolding triedCheck
-tried-turns g ls room h = then-right (roomCheck g room) (turnsCheck g ls) h
+tried-turns g ls room h = andThen-right (roomCheck g room) (turnsCheck g ls) h
 
 pub zeros-at : (n k : ℕ) → getD (replicate {A = ℕ} n 0) k 0 ≡ 0
 zeros-at zero k = refl

@@ -8,11 +8,11 @@ use native.Mathlib.Omega.{arith}
 use lib.ListN.{length, length-append}
 use mir.Val.{Fits}
 use mir.Syntax.{w64}
+use Rattle.refusals.specs.declared.Check.the-variants.{Fine, Refused}
+use Rattle.refusals.specs.Refusals.{refusal, eachFrom}
+use Rattle.refusals.proofs.Checks.{each-good, each-bad, each-over, each-says}
 use Rattle.grid.specs.declared.Grid.{Grid}
-use Rattle.grid.specs.declared.Check.the-variants.{Fine, Refused}
-use Rattle.grid.specs.Refusals.{refusal, eachFrom}
 use Rattle.grid.specs.Domain.{Lines, count}
-use Rattle.grid.proofs.Fine.{each-good, each-bad, each-over, each-says}
 use Rattle.tables.specs.Lists.{long, only, globalLines}
 use Rattle.build.specs.OnGrid.{walkOn, ends, cellsOn, globalsOn}
 use Rattle.build.specs.Choice.{turnsCheck}

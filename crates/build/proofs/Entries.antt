@@ -7,13 +7,14 @@ use native.Mathlib.Omega.{arith}
 use borrow.Author.Tests.{le-leb, lt-leb, leb-true, ltb-true}
 use lib.Dec.{ltb}
 use lib.ListN.{length, replicate}
+use Rattle.refusals.specs.declared.Refusal.{Refusal}
+use Rattle.refusals.specs.declared.Check.{Check}
+use Rattle.refusals.specs.declared.Check.the-variants.{Fine, Refused}
+use Rattle.refusals.specs.Refusals.{unless, andThen}
+use Rattle.refusals.proofs.Checks.{unless-fine, andThen-left, andThen-right}
 use Rattle.grid.specs.declared.Grid.{Grid}
-use Rattle.grid.specs.declared.Refusal.{Refusal}
-use Rattle.grid.specs.declared.Check.{Check}
-use Rattle.grid.specs.declared.Check.the-variants.{Fine, Refused}
-use Rattle.grid.specs.Refusals.{unless, andThen}
 use Rattle.grid.specs.Domain.{Lines, count, shape, scratchCheck, linesCheck}
-use Rattle.grid.proofs.Fine.{unless-fine, then-left, then-right, LinesFit, lines-fine}
+use Rattle.grid.proofs.Fine.{LinesFit, lines-fine}
 use Rattle.grid.proofs.Shapes.{fit-shape}
 use Rattle.sizing.specs.declared.Extent.{Extent}
 use Rattle.sizing.specs.Bounds.{extentOf}
@@ -168,8 +169,8 @@ pub entry-passed : {ls : Lines} {s : List ℕ} → andThen (scratchCheck (length
 unfolding scratchCheck
 entry-passed {ls} {s} h =
     record {
-      fine = then-right (scratchCheck (length s)) (linesCheck ls) h;
-      space = leb-true 16384 (length s) (unless-fine _ 3 0 (then-left (scratchCheck (length s)) (linesCheck ls) h));
+      fine = andThen-right (scratchCheck (length s)) (linesCheck ls) h;
+      space = leb-true 16384 (length s) (unless-fine _ 3 0 (andThen-left (scratchCheck (length s)) (linesCheck ls) h));
     }
 
 pub end-passed : (ls : Lines) (offsets items globals scratch : ℕ) → andThen (scratchCheck scratch) (linesCheck ls) ≡ Fine → endOf ls offsets items globals scratch ≡ endBy (choice ls offsets) ls items globals

@@ -8,14 +8,15 @@ use borrow.Author.Tests.{leb-true, ltb-true}
 use lib.Dec.{leb, ltb}
 use lib.Ieee.{Float}
 use lib.ListN.{length}
+use Rattle.refusals.specs.declared.Refusal.{Refusal}
+use Rattle.refusals.specs.declared.Check.{Check}
+use Rattle.refusals.specs.declared.Check.the-variants.{Fine, Refused}
+use Rattle.refusals.specs.Refusals.{unless, andThen}
+use Rattle.refusals.proofs.Checks.{unless-fine, andThen-left, andThen-right}
 use Rattle.grid.specs.declared.Grid.{Grid}
-use Rattle.grid.specs.declared.Refusal.{Refusal}
-use Rattle.grid.specs.declared.Check.{Check}
-use Rattle.grid.specs.declared.Check.the-variants.{Fine, Refused}
-use Rattle.grid.specs.Refusals.{unless, andThen}
 use Rattle.grid.specs.Domain.{Lines, count, fit, scratchCheck, linesCheck}
 use Rattle.grid.proofs.Bools.{and-right}
-use Rattle.grid.proofs.Fine.{unless-fine, then-left, then-right, LinesFit, lines-fine}
+use Rattle.grid.proofs.Fine.{LinesFit, lines-fine}
 use Rattle.sizing.specs.declared.Extent.{Extent}
 use Rattle.sizing.specs.Bounds.{extentOf}
 use Rattle.sizing.specs.Size.{firstSize, halfOf}
@@ -99,17 +100,17 @@ by-made (settled f) ls items globals g h =
 room-says : (g : Grid) (ls : Lines) (room : ℕ) → triedCheck g ls room ≡ Fine → cells g + 1 ≤ room
 unfolding triedCheck roomCheck
 room-says g ls room h =
-    leb-true (cells g + 1) room (unless-fine (leb (cells g + 1) room) 4 (cells g + 1) (then-left (roomCheck g room) (turnsCheck g ls) h))
+    leb-true (cells g + 1) room (unless-fine (leb (cells g + 1) room) 4 (cells g + 1) (andThen-left (roomCheck g room) (turnsCheck g ls) h))
 
 module _ (g : Grid) (ls : Lines) (items globals : ℕ) (h : spaceCheck g ls items globals ≡ Fine) where
   space-items : total g ls ≤ items
   unfolding spaceCheck
-  space-items = leb-true (total g ls) items (unless-fine (leb (total g ls) items) 5 (total g ls) (then-left _ _ h))
+  space-items = leb-true (total g ls) items (unless-fine (leb (total g ls) items) 5 (total g ls) (andThen-left _ _ h))
 
   space-globals : length (globalsOn g ls) ≤ globals
   unfolding spaceCheck
   space-globals =
-      leb-true (length (globalsOn g ls)) globals (unless-fine (leb (length (globalsOn g ls)) globals) 6 (length (globalsOn g ls)) (then-right _ _ h))
+      leb-true (length (globalsOn g ls)) globals (unless-fine (leb (length (globalsOn g ls)) globals) 6 (length (globalsOn g ls)) (andThen-right _ _ h))
 
 -- in slices of these lengths
 pub record Made (ls : Lines) (offsets items globals : ℕ) (g : Grid) : Type 0 where
@@ -125,7 +126,7 @@ unfolding endOf
 made-says ls offsets items globals scratch g h =
     let a = after-made (andThen (scratchCheck scratch) (linesCheck ls)) (endBy (choice ls offsets) ls items globals) g h in
     let b = by-made (choice ls offsets) ls items globals g (a .1) in
-    let f : LinesFit ls = lines-fine ls (then-right (scratchCheck scratch) (linesCheck ls) (a .0)) in
+    let f : LinesFit ls = lines-fine ls (andThen-right (scratchCheck scratch) (linesCheck ls) (a .0)) in
     let s : SettledOn g ls offsets = choice-settled ls offsets g f (b .0) in
     record {
       lines-fit = f;

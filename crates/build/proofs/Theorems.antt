@@ -6,12 +6,12 @@ use mathlib.Core.List.{List, _++_}
 use Prim.Native.Nat.{ℕ, suc, _+_, _-_, _≤_, _<_}
 use native.Mathlib.Omega.{arith}
 use lib.ListN.{length, replicate, length-append, length-replicate}
+use Rattle.refusals.specs.declared.Check.{Check}
+use Rattle.refusals.specs.declared.Check.the-variants.{Fine, Refused}
+use Rattle.refusals.specs.Refusals.{andThen}
+use Rattle.refusals.proofs.Checks.{each-says, andThen-right}
 use Rattle.grid.specs.declared.Grid.{Grid}
-use Rattle.grid.specs.declared.Check.{Check}
-use Rattle.grid.specs.declared.Check.the-variants.{Fine, Refused}
-use Rattle.grid.specs.Refusals.{andThen}
 use Rattle.grid.specs.Domain.{Lines, count, scratchCheck, linesCheck}
-use Rattle.grid.proofs.Fine.{each-says, then-right}
 use Rattle.grid.proofs.Shapes.{fit-shape}
 use Rattle.walk.specs.Pushes.{Outcome, refused, found}
 use Rattle.tables.specs.Tables.{tables, listIn}
@@ -80,7 +80,7 @@ checks-fine (Refused r) e g h = let z : _≡_ {A = ℕ} 0 1 = cc in absurd (omeg
 made-passed : (ls : Lines) (offsets items globals scratch : ℕ) (g : Grid) → endOf ls offsets items globals scratch ≡ made g → linesCheck ls ≡ Fine
 unfolding endOf
 made-passed ls offsets items globals scratch g h =
-    then-right (scratchCheck scratch) (linesCheck ls)
+    andThen-right (scratchCheck scratch) (linesCheck ls)
     (checks-fine (andThen (scratchCheck scratch) (linesCheck ls)) (endBy (choice ls offsets) ls items globals) g h)
 
 length-globe : (xs : List ℕ) (n : ℕ) → length xs ≤ n → length (xs ++ replicate (n - length xs) 0) ≡ n

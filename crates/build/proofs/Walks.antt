@@ -9,8 +9,8 @@ use lib.Dec.{leb}
 use lib.Ieee.{Float, nan}
 use lib.ListN.{length, getD, take}
 use Rattle.slices.specs.Lists.{Rising, Below}
+use Rattle.refusals.specs.declared.Refusal.{Refusal}
 use Rattle.grid.specs.declared.Grid.{Grid}
-use Rattle.grid.specs.declared.Refusal.{Refusal}
 use Rattle.grid.specs.Domain.{Lines, count, shape}
 use Rattle.grid.proofs.Shapes.{shape-says}
 use Rattle.walk.specs.declared.Cells.{Cells}

@@ -16,7 +16,7 @@ use crate::Tried;
 use crate::offsets::is_skewed;
 use crate::passes::count_cells;
 use grid::Grid;
-use grid::Refusal;
+use refusals::Refusal;
 use sizing::Extent;
 
 // The number of cells of a grid.

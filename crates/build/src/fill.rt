@@ -10,7 +10,7 @@ use crate::offsets::running_sums;
 use crate::offsets::shift_back;
 use crate::passes::place_lines;
 use grid::Grid;
-use grid::Refusal;
+use refusals::Refusal;
 
 // Clears what a build that stops was lent to write. Nothing was written yet to the items and the global lines.
 pub(crate) fn stop(number: u32, value: u64, offsets: &mut [u32], scratch: &mut [u32]) -> Built

@@ -6,7 +6,7 @@ mod passes;
 
 ghost use mathlib.Core.Path.{_≡_};
 ghost use lib.ListN.{length};
-ghost use Rattle.grid.specs.Refusals.{andThen};
+ghost use Rattle.refusals.specs.Refusals.{andThen};
 ghost use Rattle.grid.specs.Domain.{lines, scratchCheck, linesCheck};
 ghost use Rattle.build.specs.Choice.{choice};
 ghost use Rattle.build.specs.Build.{endBy, endOf, BuildIs};
@@ -14,9 +14,9 @@ ghost use Rattle.build.specs.Passes.{Checked};
 use crate::choose::choose_any;
 use crate::fill::fill;
 use crate::fill::stop;
-use grid::Check;
 use grid::Grid;
-use grid::Refusal;
+use refusals::Check;
+use refusals::Refusal;
 
 // The tables that stand after a build: their grid, and how many items and global lines there are.
 pub struct Standing {

@@ -3,8 +3,8 @@ use Prim.Native.Nat.{ℕ, _-_}
 use mathlib.Core.Bool.{cond}
 use mathlib.Core.List.{[], _∷_}
 use lib.Ieee.{binary64, toBits}
-use Rattle.grid.specs.declared.Check.{Check}
-use Rattle.grid.specs.declared.Check.the-variants as check
+use Rattle.refusals.specs.declared.Check.{Check}
+use Rattle.refusals.specs.declared.Check.the-variants as check
 use Rattle.snap.specs.declared.Snapped.{Snapped}
 use Rattle.snap.specs.declared.Snapped.the-variants as snapped
 use Rattle.own.specs.declared.Owned.{Owned}
@@ -19,8 +19,8 @@ use Rattle.build.specs.declared.Built.{Built}
 use Rattle.build.specs.declared.Built.the-variants as built
 use Rattle.visit.specs.declared.Place.{Place}
 use Rattle.visit.specs.declared.Place.the-variants as place
-use Rattle.visit.specs.declared.Answer.{Answer}
-use Rattle.visit.specs.declared.Answer.the-variants as answer
+use Rattle.visit.specs.declared.TestAnswer.{TestAnswer}
+use Rattle.visit.specs.declared.TestAnswer.the-variants as answer
 use Rattle.visit.specs.declared.BatchAnswer.{BatchAnswer}
 use Rattle.visit.specs.declared.BatchAnswer.the-variants as batch
 use Rattle.capi.specs.Replies.{Reply, success, refusal}
@@ -90,7 +90,7 @@ unfoldable pub ofPlace : Place → ℕ → ℕ → ℕ → Reply
 ofPlace (place.Cell row col) first second overlap = success (0 ∷ row ∷ col ∷ first ∷ second ∷ overlap ∷ [])
 ofPlace (place.Global position) first second overlap = success (1 ∷ position ∷ 0 ∷ first ∷ second ∷ overlap ∷ [])
 
-unfoldable pub ofTest : Answer → Reply
+unfoldable pub ofTest : TestAnswer → Reply
 ofTest (answer.Made t) = ofPlace (t .place) (t .first) (t .second) (cond (t .overlap) 1 0)
 ofTest answer.End = success (2 ∷ 0 ∷ 0 ∷ 0 ∷ 0 ∷ 0 ∷ [])
 ofTest (answer.Refused r) = refusal (r .number) (r .value)

@@ -1,7 +1,7 @@
 // The check of standing tables.
 use crate::reply;
-use grid::Check;
 use grid::Grid;
+use refusals::Check;
 ghost use Prim.Native.Nat.{_≤_};
 ghost use lib.ListN.{length};
 ghost use Rattle.tables.specs.Tables.{tables};

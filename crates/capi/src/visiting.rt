@@ -1,11 +1,11 @@
 // Visits of standing tables: lists by their place, one test by its bookmark, and a batch of tests.
 use crate::reply;
-use grid::Check;
 use grid::Grid;
-use visit::Answer;
+use refusals::Check;
 use visit::BatchAnswer;
 use visit::Place;
 use visit::Test;
+use visit::TestAnswer;
 ghost use mathlib.Core.Path.{_≡_};
 ghost use mathlib.Core.Bool.{cond};
 ghost use Prim.Native.Nat.{suc, _+_, _*_, _-_, _≤_};
@@ -181,17 +181,17 @@ fn made(place: Place, first: u32, second: u32, overlap: u64, out: &mut [u64]) ->
     }
 }
 
-fn test(answer: Answer, out: &mut [u64]) -> u32
+fn test(answer: TestAnswer, out: &mut [u64]) -> u32
     requires { ⌜ 6 ≤ length (now out) ⌝ }
     ensures { λ r. ⌜ Handed (ofTest answer) (now (out .entry)) r (now (out .exit)) ⌝ }
 {
     match answer {
-        Answer::Made(t) => {
+        TestAnswer::Made(t) => {
             let place = t.place;
             made(place, t.first, t.second, flag(t.overlap), out)
         },
-        Answer::End => reply::six(2, 0, 0, 0, 0, 0, out),
-        Answer::Refused(r) => reply::refused(r.number, r.value, out),
+        TestAnswer::End => reply::six(2, 0, 0, 0, 0, 0, out),
+        TestAnswer::Refused(r) => reply::refused(r.number, r.value, out),
     }
 }
 

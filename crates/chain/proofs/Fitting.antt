@@ -9,12 +9,12 @@ use lib.Dec.{leb}
 use lib.Ieee.{Float, binary64, toBits}
 use lib.ListN.{length, getD, take, length-append, length-take, length-replicate}
 use lib.Seq.{length-slice}
+use Rattle.refusals.specs.declared.Check.{Check}
+use Rattle.refusals.specs.declared.Check.the-variants.{Fine, Refused}
+use Rattle.refusals.specs.Refusals.{unless, andThen}
+use Rattle.refusals.proofs.Checks.{unless-fine, andThen-left, andThen-right}
 use Rattle.grid.specs.declared.Grid.{Grid}
-use Rattle.grid.specs.declared.Check.{Check}
-use Rattle.grid.specs.declared.Check.the-variants.{Fine, Refused}
 use Rattle.grid.specs.Domain.{Lines, count, scratchCheck, linesCheck}
-use Rattle.grid.specs.Refusals.{unless, andThen}
-use Rattle.grid.proofs.Fine.{unless-fine, then-left, then-right}
 use Rattle.tables.specs.Lists.{concat, sum, start, itemsOf, offsetsOf}
 use Rattle.sizing.specs.declared.Extent.{Extent}
 use Rattle.sizing.specs.Bounds.{extentOf}
@@ -77,7 +77,7 @@ roomy : (g h : Grid) (ls : Lines) (room : ℕ) (k : Check) → triedCheck h ls r
 unfolding triedCheck roomCheck
 roomy g h ls room k e s =
     let q : h ≡ g = cc in
-    let r : leb (on.cells h + 1) room ≡ true = unless-fine (leb (on.cells h + 1) room) 4 (on.cells h + 1) (then-left (roomCheck h room) (turnsCheck h ls) e) in
+    let r : leb (on.cells h + 1) room ≡ true = unless-fine (leb (on.cells h + 1) room) 4 (on.cells h + 1) (andThen-left (roomCheck h room) (turnsCheck h ls) e) in
     let w = leb-true (on.cells h + 1) room r in
     rw q at w
 
@@ -117,8 +117,8 @@ unfolding endOn spaceCheck
 on-made g h ls offsets items globals (Refused r) c s e = absurd (let z : _≡_ {A = ℕ} 0 1 = cc in omega arith)
 on-made g h ls offsets items globals Fine c s e =
     let q : h ≡ g = cc in
-    let a = unless-fine (leb (total h ls) items) 5 (total h ls) (then-left _ _ s) in
-    let b = unless-fine (leb (length (on.globalsOn h ls)) globals) 6 (length (on.globalsOn h ls)) (then-right _ _ s) in
+    let a = unless-fine (leb (total h ls) items) 5 (total h ls) (andThen-left _ _ s) in
+    let b = unless-fine (leb (length (on.globalsOn h ls)) globals) 6 (length (on.globalsOn h ls)) (andThen-right _ _ s) in
     rw (← q)
     (record {
       in-offsets = choice-room ls offsets h c;

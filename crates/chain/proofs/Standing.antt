@@ -4,8 +4,8 @@ use mathlib.Core.Bool.{Bool, true, false, _&&_, _||_}
 use Prim.Native.Nat.{ℕ, suc, _+_, _*_, _≤_, _<_, _^_}
 use native.Mathlib.Omega.{arith}
 use lib.Ieee.{Float, nan, inf, fin, isNan, binary64, round, le, lt, eq}
+use Rattle.refusals.specs.declared.Check.the-variants.{Fine}
 use Rattle.grid.specs.declared.Grid.{Grid}
-use Rattle.grid.specs.declared.Check.the-variants.{Fine}
 use Rattle.grid.specs.Domain.{Lines, count, sizeFits}
 use Rattle.grid.proofs.Bools.{and-left, and-right}
 use Rattle.tables.specs.Tables.{Tables, tables, cells}

@@ -8,12 +8,12 @@ use borrow.Author.Tests.{le-leb, eq-eqb}
 use lib.Dec.{leb, eqb}
 use lib.ListN.{length, drop, length-append, length-drop, drop-of-length-le}
 use lib.Seq.{drop-drop}
+use Rattle.refusals.specs.declared.Refusal.{Refusal}
+use Rattle.refusals.specs.declared.Check.{Check}
+use Rattle.refusals.specs.declared.Check.the-variants.{Fine, Refused}
+use Rattle.refusals.specs.Refusals.{unless, andThen}
 use Rattle.grid.specs.declared.Grid.{Grid}
-use Rattle.grid.specs.declared.Refusal.{Refusal}
-use Rattle.grid.specs.declared.Check.{Check}
-use Rattle.grid.specs.declared.Check.the-variants.{Fine, Refused}
 use Rattle.grid.specs.Domain.{Lines}
-use Rattle.grid.specs.Refusals.{unless, andThen}
 use Rattle.tables.specs.Tables.{Tables}
 use Rattle.visit.specs.declared.Tally.{Tally}
 use Rattle.visit.specs.declared.BatchAnswer.{BatchAnswer}

@@ -6,9 +6,9 @@ use lib.Ieee.{Float, binary64, ofBits, toBits}
 use lib.ListN.{length, take, drop, replicate}
 use Rattle.wkb.specs.Bytes.{Point}
 use Rattle.wkb.specs.Reading.{Found, points, refused, found}
+use Rattle.refusals.specs.declared.Check.{Check}
+use Rattle.refusals.specs.declared.Check.the-variants.{Fine, Refused}
 use Rattle.grid.specs.declared.Grid.{Grid}
-use Rattle.grid.specs.declared.Check.{Check}
-use Rattle.grid.specs.declared.Check.the-variants.{Fine, Refused}
 use Rattle.grid.specs.Domain.{Lines, lines}
 use Rattle.tables.specs.Lists.{itemsOf, offsetsOf}
 use Rattle.build.specs.OnGrid.{listOn, globalsOn}

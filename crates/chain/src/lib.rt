@@ -8,7 +8,7 @@ ghost use Rattle.report.specs.Pages.{page, Puts};
 ghost use Rattle.chain.specs.Printed.{printedTables, printedLines, chainOf, printed, Prints};
 use build::Built;
 use grid::Grid;
-use grid::Refusal;
+use refusals::Refusal;
 use wkb::Read;
 
 mod show;

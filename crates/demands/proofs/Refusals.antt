@@ -7,10 +7,10 @@ use native.Mathlib.Omega.{arith}
 use borrow.Author.Tests.{le-leb, eq-eqb}
 use lib.ListN.{length, getD, drop, drop-of-length-le}
 use lib.Seq.{drop-cons}
+use Rattle.refusals.specs.declared.Check.{Check}
+use Rattle.refusals.specs.declared.Check.the-variants.{Fine, Refused}
+use Rattle.refusals.specs.Refusals.{unless, andThen}
 use Rattle.grid.specs.declared.Grid.{Grid}
-use Rattle.grid.specs.declared.Check.{Check}
-use Rattle.grid.specs.declared.Check.the-variants.{Fine, Refused}
-use Rattle.grid.specs.Refusals.{unless, andThen}
 use Rattle.grid.specs.Domain.{Lines, count, countCheck, linesCheck, gridCheck}
 use Rattle.tables.specs.Tables.{Tables}
 use Rattle.tables.specs.Fit.{tablesCheck}
@@ -18,7 +18,7 @@ use Rattle.tables.specs.Stands.{Stands}
 use Rattle.tables.proofs.Facts.{facts-check}
 use Rattle.tables.proofs.Standing.{lines-are}
 use Rattle.visit.specs.declared.Place.{Place}
-use Rattle.visit.specs.declared.Answer.the-variants as answer
+use Rattle.visit.specs.declared.TestAnswer.the-variants as answer
 use Rattle.visit.specs.declared.BatchAnswer.{BatchAnswer}
 use Rattle.visit.specs.declared.BatchAnswer.the-variants as batch
 use Rattle.visit.specs.Tests.{Pair, testsOf}

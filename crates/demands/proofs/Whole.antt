@@ -2,8 +2,8 @@
 use mathlib.Core.Path.{_≡_}
 use mathlib.Core.List.{List}
 use Prim.Native.Nat.{ℕ}
+use Rattle.refusals.specs.declared.Check.the-variants.{Fine}
 use Rattle.grid.specs.declared.Grid.{Grid}
-use Rattle.grid.specs.declared.Check.the-variants.{Fine}
 use Rattle.grid.specs.Domain.{Lines, count, linesCheck}
 use Rattle.tables.specs.Tables.{Tables}
 use Rattle.tables.specs.Stands.{Stands}

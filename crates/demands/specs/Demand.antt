@@ -9,7 +9,7 @@ use Rattle.slices.specs.Lists.{elem, Rising}
 use Rattle.grid.specs.declared.Grid.{Grid}
 use Rattle.grid.specs.Domain.{Lines, count}
 use Rattle.tables.specs.Tables.{Tables, cells, listOf, globalsOf}
-use Rattle.visit.specs.declared.Answer.the-variants as answer
+use Rattle.visit.specs.declared.TestAnswer.the-variants as answer
 use Rattle.visit.specs.Tests.{Pair, testsOf}
 use Rattle.visit.specs.Overlap.{overlap}
 use Rattle.visit.specs.Batches.{overlapping, firsts, seconds}

@@ -7,9 +7,9 @@ use lib.ListN.{length, getD}
 use lib.Dec.{leb, ltb, eqb}
 use lib.Ieee.{Float, nan, binary64, round, le, eq}
 use Rattle.numbers.specs.Order.{magnitudeOf}
+use Rattle.refusals.specs.declared.Check.{Check}
+use Rattle.refusals.specs.Refusals.{unless, andThen, eachFrom}
 use Rattle.grid.specs.declared.Grid.{Grid}
-use Rattle.grid.specs.declared.Check.{Check}
-use Rattle.grid.specs.Refusals.{unless, andThen, eachFrom}
 
 -- ---- coordinates
 

@@ -1,14 +1,14 @@
 // The checks of document 01's domain: each answers `Fine`, or the refusal that is due.
-use crate::Check;
 use crate::Grid;
-use crate::Refusal;
+use refusals::Check;
+use refusals::Refusal;
 ghost use mathlib.Core.Path.{_≡_};
 ghost use mathlib.Core.Bool.{false, _&&_};
 ghost use Prim.Native.Nat.{_≤_};
 ghost use lib.Dec.{leb, ltb, eqb};
 ghost use lib.Ieee.{binary64, round, le};
 ghost use lib.ListN.{length};
-ghost use Rattle.grid.specs.Refusals.{unless, refusal};
+ghost use Rattle.refusals.specs.Refusals.{unless, refusal};
 ghost use Rattle.grid.specs.Domain.{coordinate, point, segment, lines, Alike, lineFits, counts, shape, sizeFits, fit, lengthsCheck, scratchCheck, countCheck, coordinatesCheck, pointCheck, segmentCheck, gridCheck, snapSize, snapCheck, cellCheck, linesCheck};
 
 // Refuses, with a number and a value, where the test fails.

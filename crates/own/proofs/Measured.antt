@@ -5,9 +5,9 @@ use mathlib.Core.List.{List, [], _∷_, _++_}
 use Prim.Native.Nat.{ℕ}
 use lib.Ieee.{Float, binary64, round, ofInt, add, mul, lt, le, eq}
 use Rattle.numbers.specs.Order.{magnitudeOf}
+use Rattle.refusals.specs.Refusals.{unless, andThen}
 use Rattle.grid.specs.declared.Grid.{Grid}
 use Rattle.grid.specs.Axes.{lowOn, highOn}
-use Rattle.grid.specs.Refusals.{unless, andThen}
 use Rattle.grid.specs.Domain.{coordinate, point, sizeFits, shape, fit, pointCheck, gridCheck, cellCheck}
 use Rattle.snap.specs.Answer.{unlessRefused}
 use Rattle.snap.proofs.Measured.{Row, Hold, joined, p9·10, p9·10-hold}

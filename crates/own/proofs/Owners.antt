@@ -3,13 +3,13 @@ use mathlib.Core.Path.{_≡_, sym, ap, ap₂, _∙_}
 use mathlib.Core.Bool.{Bool, _&&_}
 use Prim.Native.Nat.{ℕ, _+_, _*_, _/_, _%_}
 use lib.Ieee.{Float}
+use Rattle.refusals.specs.declared.Check.the-variants.{Fine}
+use Rattle.refusals.proofs.Checks.{unless-fine, andThen-left, andThen-right}
 use Rattle.grid.specs.declared.Grid.{Grid}
 use Rattle.grid.specs.declared.Axis.{Axis}
-use Rattle.grid.specs.declared.Check.the-variants.{Fine}
 use Rattle.grid.specs.Axes.{xAxis, yAxis}
 use Rattle.grid.specs.Domain.{coordinate, point, fit, pointCheck, gridCheck}
 use Rattle.grid.proofs.Bools.{and-left, and-right}
-use Rattle.grid.proofs.Fine.{unless-fine, then-left, then-right}
 use Rattle.grid.proofs.Shapes.{fit-says}
 use Rattle.own.specs.declared.Found.{Found}
 use Rattle.own.specs.declared.Found.the-variants.{At, Nowhere}
@@ -57,8 +57,8 @@ module _ (g : Grid) (x y : Float) where
 pub searchable : (g : Grid) (x y : Float) → placeCheck g x y ≡ Fine → Searchable (xAxis g) x × Searchable (yAxis g) y
 unfolding placeCheck pointCheck gridCheck point
 searchable g x y h =
-    let xy = unless-fine (coordinate x && coordinate y) 1 0 (then-left _ _ h) in
-    let fits = fit-says g (unless-fine (fit g) 8 0 (then-right _ _ h)) in (
+    let xy = unless-fine (coordinate x && coordinate y) 1 0 (andThen-left _ _ h) in
+    let fits = fit-says g (unless-fine (fit g) 8 0 (andThen-right _ _ h)) in (
       record { low = fits .«min-x»; size = fits .size; few = fits .counts .wide; point = and-left (coordinate x) (coordinate y) xy },
       record { low = fits .«min-y»; size = fits .size; few = fits .counts .high; point = and-right (coordinate x) (coordinate y) xy },
     )

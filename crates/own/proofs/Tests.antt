@@ -6,13 +6,13 @@ use native.Mathlib.Numerals.{add-one}
 use borrow.Author.Tests.{eq-eqb, ne-eqb}
 use lib.Dec.{eqb}
 use lib.Ieee.{Float, lt, le, eq}
+use Rattle.refusals.specs.declared.Refusal.{Refusal}
+use Rattle.refusals.specs.declared.Check.the-variants.{Fine, Refused}
+use Rattle.refusals.specs.Refusals.{andThen}
+use Rattle.refusals.proofs.Checks.{andThen-left}
 use Rattle.grid.specs.declared.Grid.{Grid}
 use Rattle.grid.specs.declared.Axis.{Axis}
-use Rattle.grid.specs.declared.Refusal.{Refusal}
-use Rattle.grid.specs.declared.Check.the-variants.{Fine, Refused}
-use Rattle.grid.specs.Refusals.{andThen}
 use Rattle.grid.specs.Domain.{pointCheck, gridCheck}
-use Rattle.grid.proofs.Fine.{then-left}
 use Rattle.grid.specs.Axes.{lowOn, highOn}
 use Rattle.own.specs.Own.{ownsOn, holdsOn, placeCheck}
 
@@ -102,4 +102,4 @@ module _ (g : Grid) (x y : Float) where
 
   pub place-point : placeCheck g x y ≡ Fine → pointCheck x y ≡ Fine
   unfolding placeCheck
-  place-point h = then-left (pointCheck x y) (gridCheck g) h
+  place-point h = andThen-left (pointCheck x y) (gridCheck g) h

@@ -4,11 +4,11 @@ use Prim.Native.Nat.{ℕ, suc}
 use mathlib.Core.Bool.{Bool, true, false, _&&_, _||_}
 use lib.Dec.{eqb}
 use lib.Ieee.{Float, lt, le, eq}
+use Rattle.refusals.specs.declared.Check.{Check}
+use Rattle.refusals.specs.Refusals.{andThen}
 use Rattle.grid.specs.declared.Grid.{Grid}
 use Rattle.grid.specs.declared.Axis.{Axis}
-use Rattle.grid.specs.declared.Check.{Check}
 use Rattle.grid.specs.Axes.{xAxis, yAxis, lowOn, highOn}
-use Rattle.grid.specs.Refusals.{andThen}
 use Rattle.grid.specs.Domain.{pointCheck, gridCheck, snapCheck, cellCheck}
 use Rattle.snap.specs.Answer.{unlessRefused}
 use Rattle.snap.specs.Snap.{snapOf}

@@ -2,9 +2,9 @@
 // cell that owns a point.
 mod axis;
 
-use grid::Check;
 use grid::Grid;
-use grid::Refusal;
+use refusals::Check;
+use refusals::Refusal;
 use snap::Snapped;
 ghost use mathlib.Core.Path.{_≡_};
 ghost use mathlib.Core.Bool.{_&&_};

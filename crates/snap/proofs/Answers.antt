@@ -1,9 +1,9 @@
 -- How the answer of a checked entry follows its checks, taken in order: the first that refuses gives it. Assumes nothing.
 use mathlib.Core.Path.{_≡_}
-use Rattle.grid.specs.declared.Refusal.{Refusal}
-use Rattle.grid.specs.declared.Check.{Check}
-use Rattle.grid.specs.declared.Check.the-variants.{Fine, Refused}
-use Rattle.grid.specs.Refusals.{andThen}
+use Rattle.refusals.specs.declared.Refusal.{Refusal}
+use Rattle.refusals.specs.declared.Check.{Check}
+use Rattle.refusals.specs.declared.Check.the-variants.{Fine, Refused}
+use Rattle.refusals.specs.Refusals.{andThen}
 use Rattle.snap.specs.Answer.{unlessRefused}
 
 -- a check with others after it

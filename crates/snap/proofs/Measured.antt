@@ -8,7 +8,7 @@ use lib.Ieee.{Float, binary64, round, add, mul, div, lt, le, eq}
 use Rattle.numbers.specs.Away.{roundAway}
 use Rattle.numbers.specs.Floor.{floorOf}
 use Rattle.numbers.specs.Order.{magnitudeOf}
-use Rattle.grid.specs.Refusals.{unless, andThen}
+use Rattle.refusals.specs.Refusals.{unless, andThen}
 use Rattle.grid.specs.Domain.{coordinate, point, pointCheck, snapSize, snapCheck}
 use Rattle.snap.specs.declared.Snapped.{Snapped}
 use Rattle.snap.specs.declared.Snapped.the-variants.{Point}

@@ -1,7 +1,7 @@
 -- How a checked entry answers: by the refusal that its checks find, else by its result. Definitions only.
-use Rattle.grid.specs.declared.Refusal.{Refusal}
-use Rattle.grid.specs.declared.Check.{Check}
-use Rattle.grid.specs.declared.Check.the-variants.{Fine, Refused}
+use Rattle.refusals.specs.declared.Refusal.{Refusal}
+use Rattle.refusals.specs.declared.Check.{Check}
+use Rattle.refusals.specs.declared.Check.the-variants.{Fine, Refused}
 
 -- `refused` makes an answer of a refusal
 unfoldable pub unlessRefused : {A : Type 0} → Check → (Refusal → A) → A → A

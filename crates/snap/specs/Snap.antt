@@ -6,7 +6,7 @@ use lib.Ieee.{Float, nan, inf, fin, binary64, round, add, mul, div, eq}
 use Rattle.numbers.specs.Away.{roundAway}
 use Rattle.numbers.specs.Floor.{floorOf}
 use Rattle.numbers.specs.Order.{magnitudeOf}
-use Rattle.grid.specs.Refusals.{andThen}
+use Rattle.refusals.specs.Refusals.{andThen}
 use Rattle.grid.specs.Domain.{pointCheck, snapCheck}
 use Rattle.snap.specs.declared.Snapped.{Snapped}
 use Rattle.snap.specs.declared.Snapped.the-variants.{Point, Refused}

@@ -1,6 +1,6 @@
 // Snap rounding of a point, by either strategy: the Rust's `SnapNoder::snap`.
-use grid::Check;
-use grid::Refusal;
+use refusals::Check;
+use refusals::Refusal;
 ghost use mathlib.Core.Path.{_≡_};
 ghost use Rattle.snap.specs.Snap.{gridSnap, signOf, geosSnap, snapOf, snapAnswer};
 

@@ -11,9 +11,9 @@ use lib.ListN.{length, getD, take, drop}
 use lib.Seq.{slice, take-nil, drop-nil}
 use lib.Dec.{leb, ltb, eqb}
 use borrow.Author.Tests.{leb-true, ltb-true, eqb-true, le-leb, lt-ltb, eq-eqb}
-use Rattle.grid.specs.declared.Check.the-variants.{Fine}
+use Rattle.refusals.specs.declared.Check.the-variants.{Fine}
+use Rattle.refusals.proofs.Checks.{unless-fine}
 use Rattle.grid.proofs.Bools.{and-left, and-right, and-both}
-use Rattle.grid.proofs.Fine.{unless-fine}
 use Rattle.slices.specs.Lists.{Below, Rising}
 use Rattle.tables.specs.Tables.{Tables, cells, listIn, listOf, globalsOf}
 use Rattle.tables.specs.Fit.{Increasing, ListsFit, TablesFit, increases, every, listsFit, tablesFit, tablesCheck}
@@ -160,7 +160,7 @@ module _ (t : Tables) where
   check-facts h = fit-facts (unless-fine (tablesFit t) 10 0 h)
 
   pub facts-check : TablesFit t → tablesCheck t ≡ Fine
-  unfolding tablesCheck Rattle.grid.specs.Refusals.unless
+  unfolding tablesCheck Rattle.refusals.specs.Refusals.unless
   facts-check f = rw (facts-fit f)
 
 -- a part that is lent is the slice

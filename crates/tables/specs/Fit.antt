@@ -8,8 +8,8 @@ use mathlib.Core.Bool.{Bool, true, _&&_}
 use mathlib.Core.List.{List, [], _∷_}
 use lib.ListN.{length, getD}
 use lib.Dec.{leb, ltb, eqb}
-use Rattle.grid.specs.declared.Check.{Check}
-use Rattle.grid.specs.Refusals.{unless}
+use Rattle.refusals.specs.declared.Check.{Check}
+use Rattle.refusals.specs.Refusals.{unless}
 use Rattle.slices.specs.Lists.{Below, Rising}
 use Rattle.tables.specs.Tables.{Tables, cells, listIn, globalsOf}
 

@@ -1,6 +1,6 @@
 // Standing tables, and the check that they fit.
-use grid::Check;
 use grid::Grid;
+use refusals::Check;
 ghost use mathlib.Core.Path.{_≡_};
 ghost use Prim.Native.Nat.{_<_, _≤_};
 ghost use mathlib.Core.Bool.{_&&_};
@@ -104,7 +104,7 @@ pub fn check_tables(
 ) -> Check
     ensures { λ r. ⌜ r ≡ tablesCheck (tables grid lines (now (offsets .entry)) (now (items .entry)) (now (globals .entry)) «global_count») ⌝ }
 {
-    grid::checks::refuse_unless(
+    refusals::refuse_unless(
         is_fit(grid, lines, offsets, items, globals, global_count),
         10,
         0,

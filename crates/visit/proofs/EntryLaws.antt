@@ -8,16 +8,16 @@ use lib.ListN.{length, take, drop, replicate, length-drop, length-map}
 use lib.Dec.{leb, eqb}
 use borrow.Author.Tests.{le-leb, lt-leb, eq-eqb, ne-eqb}
 use Rattle.slices.specs.Slices.{clearedFrom}
+use Rattle.refusals.specs.declared.Refusal.{Refusal}
+use Rattle.refusals.specs.declared.Check.{Check}
+use Rattle.refusals.specs.declared.Check.the-variants.{Fine, Refused}
+use Rattle.refusals.specs.Refusals.{refusal, unless, andThen}
 use Rattle.grid.specs.declared.Grid.{Grid}
-use Rattle.grid.specs.declared.Refusal.{Refusal}
-use Rattle.grid.specs.declared.Check.{Check}
-use Rattle.grid.specs.declared.Check.the-variants.{Fine, Refused}
-use Rattle.grid.specs.Refusals.{refusal, unless, andThen}
 use Rattle.grid.specs.Domain.{Lines, count, linesCheck, gridCheck}
 use Rattle.tables.specs.Tables.{Tables}
 use Rattle.tables.specs.Fit.{tablesCheck}
 use Rattle.visit.specs.declared.Test.{Test}
-use Rattle.visit.specs.declared.Answer.the-variants as answer
+use Rattle.visit.specs.declared.TestAnswer.the-variants as answer
 use Rattle.visit.specs.declared.BatchAnswer.the-variants as batch
 use Rattle.visit.specs.declared.cursor.Cursor.{Cursor}
 use Rattle.visit.specs.declared.seek.Sought.{Sought}

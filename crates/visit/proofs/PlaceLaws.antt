@@ -10,14 +10,14 @@ use lib.ListN.{length, getD, take, drop}
 use lib.Seq.{slice}
 use lib.Dec.{ltb}
 use borrow.Author.Tests.{ltb-true}
+use Rattle.refusals.specs.declared.Refusal.{Refusal}
+use Rattle.refusals.specs.declared.Check.{Check}
+use Rattle.refusals.specs.declared.Check.the-variants.{Fine, Refused}
+use Rattle.refusals.specs.Refusals.{unless, andThen}
+use Rattle.refusals.proofs.Checks.{unless-fine, andThen-left, andThen-right, andThen-refused, andThen-fine}
 use Rattle.grid.specs.declared.Grid.{Grid}
-use Rattle.grid.specs.declared.Refusal.{Refusal}
-use Rattle.grid.specs.declared.Check.{Check}
-use Rattle.grid.specs.declared.Check.the-variants.{Fine, Refused}
-use Rattle.grid.specs.Refusals.{unless, andThen}
 use Rattle.grid.specs.Domain.{countCheck, gridCheck, cellCheck, fit}
 use Rattle.grid.proofs.Bools.{and-left, and-right}
-use Rattle.grid.proofs.Fine.{unless-fine, then-left, then-right}
 use Rattle.grid.proofs.Shapes.{Fit, fit-says}
 use Rattle.tables.specs.Tables.{Tables, cells, listOf}
 use Rattle.tables.specs.Fit.{TablesFit, tablesCheck}
@@ -27,28 +27,27 @@ use Rattle.visit.specs.declared.Place.the-variants.{Cell, Global}
 use Rattle.visit.specs.Inside.{CellsFit}
 use Rattle.visit.specs.Places.{placeCheck, listCheck, listAt, partOf}
 use Rattle.visit.proofs.Standing.{cells-fit}
-use Rattle.visit.proofs.EntryLaws.{then-refused, then-fine}
 
 -- ---- the checks
 
 module _ (g : Grid) (t : Tables) (pl : Place) where
   pub list-many : (r : Refusal) → countCheck (t .lines) ≡ Refused r → Refused r ≡ listCheck g t pl
   unfolding listCheck
-  list-many r e = sym (then-refused _ _ r e)
+  list-many r e = sym (andThen-refused _ _ r e)
 
   module _ (a : countCheck (t .lines) ≡ Fine) where
     pub list-grid : (r : Refusal) → gridCheck g ≡ Refused r → Refused r ≡ listCheck g t pl
     unfolding listCheck
-    list-grid r e = sym (then-fine _ _ a ∙ then-refused _ _ r e)
+    list-grid r e = sym (andThen-fine _ _ a ∙ andThen-refused _ _ r e)
 
     module _ (b : gridCheck g ≡ Fine) where
       pub list-tables : (r : Refusal) → tablesCheck t ≡ Refused r → Refused r ≡ listCheck g t pl
       unfolding listCheck
-      list-tables r e = sym (then-fine _ _ a ∙ then-fine _ _ b ∙ then-refused _ _ r e)
+      list-tables r e = sym (andThen-fine _ _ a ∙ andThen-fine _ _ b ∙ andThen-refused _ _ r e)
 
       pub list-place : tablesCheck t ≡ Fine → placeCheck g (t .«global_count») pl ≡ listCheck g t pl
       unfolding listCheck
-      list-place e = sym (then-fine _ _ a ∙ then-fine _ _ b ∙ then-fine _ _ e)
+      list-place e = sym (andThen-fine _ _ a ∙ andThen-fine _ _ b ∙ andThen-fine _ _ e)
 
 -- ---- what they say
 
@@ -61,14 +60,14 @@ pub record CellPlace (g : Grid) (t : Tables) (row col : ℕ) : Type 0 where
 pub cell-place : (g : Grid) (t : Tables) (row col : ℕ) → listCheck g t (Cell row col) ≡ Fine → CellPlace g t row col
 unfolding listCheck placeCheck cellCheck gridCheck
 cell-place g t row col h =
-    let b = then-right _ _ h in
-    let d = then-right _ _ b in
-    let e : (ltb row (g .rows) && ltb col (g .cols)) ≡ true = unless-fine (ltb row (g .rows) && ltb col (g .cols)) 9 row (then-right _ _ d) in
+    let b = andThen-right _ _ h in
+    let d = andThen-right _ _ b in
+    let e : (ltb row (g .rows) && ltb col (g .cols)) ≡ true = unless-fine (ltb row (g .rows) && ltb col (g .cols)) 9 row (andThen-right _ _ d) in
     record {
-      table = check-facts t (then-left _ _ d);
+      table = check-facts t (andThen-left _ _ d);
       rows = ltb-true row (g .rows) (and-left (ltb row (g .rows)) (ltb col (g .cols)) e);
       cols = ltb-true col (g .cols) (and-right (ltb row (g .rows)) (ltb col (g .cols)) e);
-      few = fit-says g (unless-fine (fit g) 8 0 (then-left _ _ b)) .counts .cells;
+      few = fit-says g (unless-fine (fit g) 8 0 (andThen-left _ _ b)) .counts .cells;
     }
 
 pub record GlobalPlace (t : Tables) (p : ℕ) : Type 0 where
@@ -78,8 +77,8 @@ pub record GlobalPlace (t : Tables) (p : ℕ) : Type 0 where
 pub global-place : (g : Grid) (t : Tables) (p : ℕ) → listCheck g t (Global p) ≡ Fine → GlobalPlace t p
 unfolding listCheck placeCheck
 global-place g t p h =
-    let d = then-right _ _ (then-right _ _ h) in
-    record { table = check-facts t (then-left _ _ d); inside = ltb-true p (t .«global_count») (unless-fine (ltb p (t .«global_count»)) 9 p (then-right _ _ d)) }
+    let d = andThen-right _ _ (andThen-right _ _ h) in
+    record { table = check-facts t (andThen-left _ _ d); inside = ltb-true p (t .«global_count») (unless-fine (ltb p (t .«global_count»)) 9 p (andThen-right _ _ d)) }
 
 -- a cell of the grid has a number below the number of cells
 pub cell-inside : (rows cols row col : ℕ) → row < rows → col < cols → row * cols + col < rows * cols

@@ -6,7 +6,7 @@ use native.Mathlib.Numerals.{add-one}
 use native.Mathlib.Omega.{arith}
 use lib.ListN.{length, getD, take, drop, length-append}
 use lib.Seq.{slice}
-use Rattle.grid.specs.declared.Check.the-variants.{Fine}
+use Rattle.refusals.specs.declared.Check.the-variants.{Fine}
 use Rattle.grid.specs.Domain.{Lines, count, linesCheck}
 use Rattle.slices.specs.Lists.{Below}
 use Rattle.slices.proofs.Members.{below-at}

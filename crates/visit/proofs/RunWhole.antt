@@ -10,8 +10,8 @@ use lib.ListN.{length, getD, take, drop, length-append, length-map, length-drop}
 use lib.Seq.{length-take-le, drop-cons}
 use Rattle.slices.specs.Lists.{Below}
 use Rattle.slices.proofs.Members.{below-at}
+use Rattle.refusals.specs.declared.Check.the-variants.{Fine}
 use Rattle.grid.specs.declared.Grid.{Grid}
-use Rattle.grid.specs.declared.Check.the-variants.{Fine}
 use Rattle.grid.specs.Domain.{Lines, count}
 use Rattle.tables.specs.Tables.{Tables, cells, listIn}
 use Rattle.visit.specs.declared.Place.the-variants.{Global}

@@ -9,11 +9,12 @@ use lib.Seq.{getD-take, length-take-le}
 use Rattle.slices.specs.Lists.{Below}
 use Rattle.slices.proofs.Distinct.{rising-at}
 use Rattle.slices.proofs.Members.{below-at}
+use Rattle.refusals.specs.declared.Check.the-variants.{Fine}
+use Rattle.refusals.specs.Refusals.{unless}
+use Rattle.refusals.proofs.Checks.{unless-fine, andThen-left, andThen-right}
 use Rattle.grid.specs.declared.Grid.{Grid}
-use Rattle.grid.specs.declared.Check.the-variants.{Fine}
-use Rattle.grid.specs.Refusals.{unless}
 use Rattle.grid.specs.Domain.{Lines, count, linesCheck, gridCheck, fit}
-use Rattle.grid.proofs.Fine.{unless-fine, then-left, then-right, LinesFit, lines-fine}
+use Rattle.grid.proofs.Fine.{LinesFit, lines-fine}
 use Rattle.grid.proofs.Shapes.{Fit, fit-says}
 use Rattle.tables.specs.Tables.{Tables, cells, listIn, globalsOf}
 use Rattle.tables.specs.Fit.{TablesFit, ListsFit, Increasing, tablesCheck}
@@ -57,13 +58,13 @@ pub record Stands (ls : Lines) (g : Grid) (t : Tables) : Type 0 where
 pub stands : (ls : Lines) (g : Grid) (t : Tables) → visitCheck ls g t ≡ Fine → Stands ls g t
 unfolding visitCheck gridCheck
 stands ls g t h =
-    let a : linesCheck ls ≡ Fine = then-left _ _ h in
-    let b = then-right _ _ h in
+    let a : linesCheck ls ≡ Fine = andThen-left _ _ h in
+    let b = andThen-right _ _ h in
     record {
       lines-fine = a;
       lines = lines-fine ls a;
-      grid = fit-says g (unless-fine (fit g) 8 0 (then-left _ _ b));
-      tables = check-facts t (then-right _ _ b);
+      grid = fit-says g (unless-fine (fit g) 8 0 (andThen-left _ _ b));
+      tables = check-facts t (andThen-right _ _ b);
     }
 
 -- a grid that has cells has columns

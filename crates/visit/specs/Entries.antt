@@ -5,16 +5,16 @@ use mathlib.Core.Path.{_≡_}
 use mathlib.Core.List.{List, [], _∷_, _++_}
 use lib.ListN.{length, drop, replicate}
 use lib.Dec.{leb, eqb}
+use Rattle.refusals.specs.declared.Check.{Check}
+use Rattle.refusals.specs.declared.Check.the-variants.{Fine, Refused}
+use Rattle.refusals.specs.Refusals.{unless, andThen}
 use Rattle.grid.specs.declared.Grid.{Grid}
-use Rattle.grid.specs.declared.Check.{Check}
-use Rattle.grid.specs.declared.Check.the-variants.{Fine, Refused}
-use Rattle.grid.specs.Refusals.{unless, andThen}
 use Rattle.grid.specs.Domain.{Lines, count, linesCheck, gridCheck}
 use Rattle.tables.specs.Tables.{Tables, tables}
 use Rattle.tables.specs.Fit.{tablesCheck}
 use Rattle.visit.specs.declared.Test.{Test}
-use Rattle.visit.specs.declared.Answer.{Answer}
-use Rattle.visit.specs.declared.Answer.the-variants as answer
+use Rattle.visit.specs.declared.TestAnswer.{TestAnswer}
+use Rattle.visit.specs.declared.TestAnswer.the-variants as answer
 use Rattle.visit.specs.declared.Tally.{Tally}
 use Rattle.visit.specs.declared.BatchAnswer.{BatchAnswer}
 use Rattle.visit.specs.declared.BatchAnswer.the-variants as batch
@@ -47,15 +47,15 @@ abbrev pub testOf : Lines → Pair → Test
 testOf ls p = record { place = p .place; first = p .first; second = p .second; overlap = overlap ls (p .first) (p .second) }
 
 -- the first of the tests that are left, or the end mark
-unfoldable pub nextTest : Lines → List Pair → Answer
+unfoldable pub nextTest : Lines → List Pair → TestAnswer
 nextTest ls [] = answer.End
 nextTest ls (p ∷ ps) = answer.Made (testOf ls p)
 
-unfoldable pub answerOf : Check → Answer → Answer
+unfoldable pub answerOf : Check → TestAnswer → TestAnswer
 answerOf Fine a = a
 answerOf (Refused r) a = answer.Refused r
 
-unfoldable pub testAt : Lines → Grid → Tables → ℕ → Answer
+unfoldable pub testAt : Lines → Grid → Tables → ℕ → TestAnswer
 testAt ls g t b = answerOf (andThen (visitCheck ls g t) (bookmarkCheck t b)) (nextTest ls (drop b (testsOf t)))
 
 -- ---- a batch

@@ -8,7 +8,7 @@ use lib.ListN.{length, getD, take, drop}
 use lib.Dec.{leb}
 use lib.Ieee.{le}
 use Rattle.slices.specs.Lists.{Below}
-use Rattle.grid.specs.declared.Check.the-variants.{Fine}
+use Rattle.refusals.specs.declared.Check.the-variants.{Fine}
 use Rattle.grid.specs.declared.Grid.{Grid}
 use Rattle.grid.specs.Domain.{Lines, count, linesCheck}
 use Rattle.tables.specs.Tables.{Tables, cells, listIn}

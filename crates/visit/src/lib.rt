@@ -1,5 +1,5 @@
 // A visit of standing tables: a list by its place, one test by its bookmark, and batches of tests from a bookmark.
-use grid::Refusal;
+use refusals::Refusal;
 
 mod boxes;
 mod cursor;
@@ -23,7 +23,7 @@ pub struct Test {
 }
 
 // What a bookmark stands at: a test, the end mark, or a refusal.
-pub enum Answer {
+pub enum TestAnswer {
     Made(Test),
     End,
     Refused(Refusal),

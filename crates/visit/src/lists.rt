@@ -1,8 +1,8 @@
 // A list by its place: a part of the items or a part of the globals.
 use crate::Place;
 use crate::cursor::wide;
-use grid::Check;
 use grid::Grid;
+use refusals::Check;
 ghost use mathlib.Core.Path.{_≡_};
 ghost use Rattle.tables.specs.Tables.{tables};
 ghost use Rattle.visit.specs.Places.{placeCheck, listCheck, listAt, partOf};
@@ -13,7 +13,7 @@ fn check_place(grid: Grid, global_count: usize, place: Place) -> Check
 {
     match place {
         Place::Cell { row, col } => grid::checks::check_cell(grid, row, col),
-        Place::Global(p) => grid::checks::refuse_unless(p < global_count, 9, p as u64),
+        Place::Global(p) => refusals::refuse_unless(p < global_count, 9, p as u64),
     }
 }
 

@@ -4,7 +4,7 @@ use crate::cursor::wide;
 use grid::Grid;
 ghost use mathlib.Core.Path.{_≡_};
 ghost use Prim.Native.Nat.{_<_};
-ghost use Rattle.grid.specs.declared.Check.the-variants.{Fine};
+ghost use Rattle.refusals.specs.declared.Check.the-variants.{Fine};
 ghost use Rattle.grid.specs.Domain.{lines};
 ghost use Rattle.visit.specs.Entries.{beside, visitCheck};
 ghost use Rattle.visit.specs.Inside.{tri, CellsFit, CellSought, RowSought, GlobalsFit, GlobalSought, SoughtAsks, LineSought, SeekIs};

@@ -1,15 +1,15 @@
 // The two entries of a visit: one test by its bookmark, and a batch from a bookmark. Each checks all that it is lent, once, and refuses
 // before it writes.
-use crate::Answer;
 use crate::BatchAnswer;
 use crate::Tally;
+use crate::TestAnswer;
 use crate::scan;
 use crate::scan::Step;
 use crate::seek;
 use crate::seek::Sought;
-use grid::Check;
 use grid::Grid;
-use grid::Refusal;
+use refusals::Check;
+use refusals::Refusal;
 ghost use mathlib.Core.Path.{_≡_};
 ghost use Rattle.grid.specs.Domain.{lines};
 ghost use Rattle.visit.specs.Entries.{beside, visitCheck, testAt, BatchIs};
@@ -51,7 +51,7 @@ pub fn test_at(
     globals: &[u32],
     global_count: usize,
     bookmark: u64,
-) -> Answer
+) -> TestAnswer
     ensures { λ r. ⌜ r ≡ testAt (lines (now («start_x» .entry)) (now («start_y» .entry)) (now («end_x» .entry)) (now («end_y» .entry))) grid (beside (lines (now («start_x» .entry)) (now («start_y» .entry)) (now («end_x» .entry)) (now («end_y» .entry))) grid (now (offsets .entry)) (now (items .entry)) (now (globals .entry)) «global_count») bookmark ⌝ }
 {
     let check = check_visit(
@@ -66,7 +66,7 @@ pub fn test_at(
         global_count,
     );
     if let Check::Refused(r) = check {
-        return Answer::Refused(r);
+        return TestAnswer::Refused(r);
     }
     let sought = seek::seek(
         bookmark,
@@ -81,7 +81,7 @@ pub fn test_at(
         global_count,
     );
     let Sought::At(cursor) = sought else {
-        return Answer::Refused(Refusal {
+        return TestAnswer::Refused(Refusal {
             number: 9,
             value: bookmark,
         });
@@ -99,9 +99,9 @@ pub fn test_at(
         global_count,
     );
     let Step::Made(test) = step else {
-        return Answer::End;
+        return TestAnswer::End;
     };
-    Answer::Made(test)
+    TestAnswer::Made(test)
 }
 
 // The tests from a bookmark on, until the outputs are full or the end comes: the pairs that overlap, with zero beyond them.

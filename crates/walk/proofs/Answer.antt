@@ -11,11 +11,11 @@ use lib.Dec.{leb, eqb}
 use lib.Ieee.{Float, inf, binary64, sub, eq}
 use borrow.Author.Tests.{le-leb, lt-leb}
 use Rattle.slices.specs.Slices.{sorted, distinctOf, OneOfEach}
+use Rattle.refusals.specs.declared.Refusal.{Refusal}
+use Rattle.refusals.specs.Refusals.{refusal, unless}
 use Rattle.grid.specs.declared.Axis.{Axis}
 use Rattle.grid.specs.declared.Grid.{Grid}
-use Rattle.grid.specs.declared.Refusal.{Refusal}
 use Rattle.grid.specs.Axes.{xAxis, yAxis, indexOn, boundaryOn}
-use Rattle.grid.specs.Refusals.{refusal, unless}
 use Rattle.grid.specs.Domain.{shape, scratchCheck}
 use Rattle.grid.proofs.Bools.{and-left}
 use Rattle.grid.proofs.Shapes.{Shape}

@@ -8,9 +8,9 @@ use lib.ListN.{length, take}
 use lib.Ieee.{Float}
 use borrow.Author.Tests.{le-leb, lt-leb}
 use Rattle.slices.specs.Slices.{clearedFrom}
+use Rattle.refusals.specs.declared.Refusal.{Refusal}
+use Rattle.refusals.specs.Refusals.{refusal, unless}
 use Rattle.grid.specs.declared.Grid.{Grid}
-use Rattle.grid.specs.declared.Refusal.{Refusal}
-use Rattle.grid.specs.Refusals.{refusal, unless}
 use Rattle.grid.specs.Domain.{point, segment, shape, sizeFits, fit, scratchCheck, segmentCheck, gridCheck}
 use Rattle.grid.proofs.Bools.{and-right}
 use Rattle.walk.specs.declared.Cells.{Cells}

@@ -9,8 +9,8 @@ use lib.ListN.{length, take, length-append}
 use lib.Ieee.{Float, inf, binary64, add, sub, lt, le}
 use Rattle.numbers.specs.Order.{leastOf, magnitudeOf}
 use Rattle.slices.specs.Lists.{any}
-use Rattle.grid.specs.Refusals.{refusal}
-use Rattle.grid.specs.declared.Refusal.{Refusal}
+use Rattle.refusals.specs.Refusals.{refusal}
+use Rattle.refusals.specs.declared.Refusal.{Refusal}
 use Rattle.walk.specs.declared.Course.{Course}
 use Rattle.walk.specs.declared.Position.{Position}
 use Rattle.walk.specs.declared.Turn.{Turn}

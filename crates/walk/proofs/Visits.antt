@@ -13,10 +13,10 @@ use Rattle.slices.specs.Slices.{sorted, distinctOf}
 use Rattle.slices.specs.Lists.{elem, Below, Rising}
 use Rattle.slices.proofs.Members.{elem-one-of-each, below-append, below-one-of-each}
 use Rattle.slices.proofs.Distinct.{one-of-each-rising, length-one-of-each}
+use Rattle.refusals.specs.declared.Refusal.{Refusal}
+use Rattle.refusals.specs.Refusals.{refusal}
 use Rattle.grid.specs.declared.Grid.{Grid}
-use Rattle.grid.specs.declared.Refusal.{Refusal}
 use Rattle.grid.specs.Axes.{xAxis, yAxis, indexOn, boundaryOn}
-use Rattle.grid.specs.Refusals.{refusal}
 use Rattle.grid.specs.Domain.{shape}
 use Rattle.grid.proofs.Bools.{and-left, and-right}
 use Rattle.grid.proofs.Shapes.{Shape, shape-says}

@@ -8,9 +8,9 @@ use lib.ListN.{length, take}
 use lib.Dec.{eqb}
 use lib.Ieee.{Float}
 use Rattle.slices.specs.Lists.{any}
+use Rattle.refusals.specs.Refusals.{refusal}
 use Rattle.grid.specs.declared.Grid.{Grid}
 use Rattle.grid.specs.Axes.{xAxis, yAxis}
-use Rattle.grid.specs.Refusals.{refusal}
 use Rattle.walk.specs.declared.Course.{Course}
 use Rattle.walk.specs.declared.Position.{Position}
 use Rattle.walk.specs.declared.Walk.{Walk}

@@ -7,13 +7,13 @@ use lib.ListN.{length, take, replicate}
 use lib.Dec.{leb, ltb, eqb}
 use lib.Ieee.{Float, binary64, sub, eq}
 use Rattle.slices.specs.Slices.{sorted, distinctOf}
+use Rattle.refusals.specs.declared.Refusal.{Refusal}
+use Rattle.refusals.specs.declared.Check.{Check}
+use Rattle.refusals.specs.declared.Check.the-variants.{Fine, Refused as Due}
+use Rattle.refusals.specs.Refusals.{unless}
 use Rattle.grid.specs.declared.Axis.{Axis}
 use Rattle.grid.specs.declared.Grid.{Grid}
-use Rattle.grid.specs.declared.Refusal.{Refusal}
-use Rattle.grid.specs.declared.Check.{Check}
-use Rattle.grid.specs.declared.Check.the-variants.{Fine, Refused as Due}
 use Rattle.grid.specs.Axes.{xAxis, yAxis, indexOn, boundaryOn}
-use Rattle.grid.specs.Refusals.{unless}
 use Rattle.grid.specs.Domain.{shape, scratchCheck, segmentCheck, gridCheck}
 use Rattle.walk.specs.declared.Cells.{Cells}
 use Rattle.walk.specs.declared.Cells.the-variants.{Found, Refused}

@@ -5,8 +5,8 @@ mod turns;
 
 use beside::completed;
 use grid::Grid;
-use grid::Refusal;
 use pushes::walked;
+use refusals::Refusal;
 use turns::started;
 use turns::way_of;
 ghost use mathlib.Core.Path.{_≡_};

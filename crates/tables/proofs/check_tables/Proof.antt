@@ -2,14 +2,14 @@
 use mathlib.Core.Path.{_≡_, ap, _∙_}
 use Prim.Native.Nat.{ℕ}
 use mathlib.Core.Bool.{Bool}
-use Rattle.grid.specs.Refusals.{unless}
+use Rattle.refusals.specs.Refusals.{unless}
 use Rattle.tables.specs.Fit.{tablesCheck}
 use borrow.Author.Needs.{needs}
 use Rattle.tables.proofs.check_tables.Statement.{statement}
 use Rattle.tables.proofs.check_tables.Tie as tie
 use Rattle.tables.proofs.check_tables.Reads as reads
 use Rattle.tables.proofs.check_tables.Lts as lts
-use Rattle.grid.proofs.checks.refuse_unless.Reads as refuse-unless-reads
+use Rattle.refusals.proofs.refuse_unless.Reads as refuse-unless-reads
 use Rattle.tables.proofs.is_fit.Reads as is-fit-reads
 
 -- src/lib.rt:108:9

@@ -3,7 +3,7 @@ use Prim.Native.Nat.{ℕ, suc}
 use mathlib.Core.Path.{_≡_}
 use mathlib.Core.List.{List}
 use lib.ListN.{getD}
-use Rattle.grid.specs.declared.Check.{Check}
+use Rattle.refusals.specs.declared.Check.{Check}
 use Rattle.capi.specs.Answers.{ofPart}
 use Rattle.capi.proofs.Handing.{short-replies, handed-replies}
 use borrow.Author.Needs.{needs}

@@ -1,6 +1,6 @@
 -- `capi::visiting::mt_global_list` meets its contract: an `out` that is short, or the entry's answer handed over. Assumes nothing.
 use mathlib.Core.Path.{ap}
-use Rattle.grid.specs.declared.Check.{Check}
+use Rattle.refusals.specs.declared.Check.{Check}
 use Rattle.capi.specs.Answers.{ofPart}
 use Rattle.capi.proofs.Handing.{short-replies, handed-replies}
 use borrow.Author.Needs.{needs}

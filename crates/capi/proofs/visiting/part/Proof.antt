@@ -3,7 +3,7 @@ use Prim.Native.Nat.{ℕ, _-_}
 use mathlib.Core.Path.{_≡_, sym, ap, _∙_}
 use mathlib.Core.List.{[], _∷_}
 use native.Mathlib.Omega.{arith}
-use Rattle.grid.specs.declared.Check.{Check}
+use Rattle.refusals.specs.declared.Check.{Check}
 use Rattle.capi.specs.Replies.{success}
 use Rattle.capi.specs.Answers.{ofPart}
 use Rattle.capi.proofs.Handing.{answered}

@@ -1,6 +1,6 @@
 -- `grid::checks::refuse_unless` meets its contract. Assumes nothing.
 use mathlib.Core.Path.{refl}
-use Rattle.grid.specs.Refusals.{unless}
+use Rattle.refusals.specs.Refusals.{unless}
 use Rattle.grid.proofs.checks.refuse_unless.Statement.{statement}
 use Rattle.grid.proofs.checks.refuse_unless.Tie as tie
 

@@ -6,8 +6,8 @@ use Rattle.visit.proofs.lists.check_place.Statement.{statement}
 use Rattle.visit.proofs.lists.check_place.Tie as tie
 use Rattle.visit.proofs.lists.check_place.Reads as reads
 use Rattle.visit.proofs.lists.check_place.Lts as lts
+use Rattle.refusals.proofs.refuse_unless.Reads as refuse-unless-reads
 use Rattle.grid.proofs.checks.check_cell.Reads as check-cell-reads
-use Rattle.grid.proofs.checks.refuse_unless.Reads as refuse-unless-reads
 
 enum-known-place : tie.Need-enum-known-place
 enum-known-place c = search needs

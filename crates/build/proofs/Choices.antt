@@ -20,8 +20,8 @@ use Rattle.sizing.specs.declared.Extent.{Extent}
 use Rattle.sizing.specs.Bounds.{extentOf}
 use Rattle.sizing.specs.Size.{firstSize, halfOf}
 use Rattle.sizing.specs.Counts.{gridOf}
-use Rattle.csr.specs.Tables.{linesAt}
-use Rattle.csr.proofs.Laws.{counted-none}
+use Rattle.tables.specs.Lists.{linesAt}
+use Rattle.tables.proofs.Laws.{counted-none}
 use Rattle.build.specs.declared.Tried.the-variants as tried
 use Rattle.build.specs.declared.Chosen.{Chosen}
 use Rattle.build.specs.declared.Chosen.the-variants as chosen

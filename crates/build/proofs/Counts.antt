@@ -13,7 +13,7 @@ use Rattle.refusals.specs.Refusals.{refusal, eachFrom}
 use Rattle.refusals.proofs.Checks.{each-good, each-bad, each-over, each-says}
 use Rattle.grid.specs.declared.Grid.{Grid}
 use Rattle.grid.specs.Domain.{Lines, count}
-use Rattle.csr.specs.Tables.{long, only, globalLines}
+use Rattle.tables.specs.Lists.{long, only, globalLines}
 use Rattle.build.specs.OnGrid.{walkOn, ends, cellsOn, globalsOn}
 use Rattle.build.specs.Choice.{turnsCheck}
 use Rattle.build.specs.Passes.{Walkable, CountedTo, oneIf}

@@ -21,7 +21,7 @@ use Rattle.sizing.specs.Bounds.{extentOf}
 use Rattle.sizing.specs.Size.{firstSize, halfOf}
 use Rattle.sizing.specs.Counts.{gridOf, emptyGrid}
 use Rattle.sizing.proofs.FitLaws.{Within, Tried, lines-within, first-tried, again-tried}
-use Rattle.csr.specs.Tables.{itemsOf, offsetsOf}
+use Rattle.tables.specs.Lists.{itemsOf, offsetsOf}
 use Rattle.build.specs.declared.Built.{Built}
 use Rattle.build.specs.declared.Built.the-variants as built
 use Rattle.build.specs.declared.Tried.the-variants as tried

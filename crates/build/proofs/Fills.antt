@@ -11,9 +11,9 @@ use Rattle.refusals.specs.declared.Check.the-variants.{Fine, Refused}
 use Rattle.refusals.specs.Refusals.{refusal, unless, andThen}
 use Rattle.grid.specs.declared.Grid.{Grid}
 use Rattle.grid.specs.Domain.{Lines, count, shape}
-use Rattle.csr.specs.Tables.{linesAt, sum, start, itemsOf, offsetsOf}
-use Rattle.csr.specs.States.{Placed, Table}
-use Rattle.csr.proofs.Laws.{counts-sum, placed-none, table-of}
+use Rattle.tables.specs.Lists.{linesAt, sum, start, itemsOf, offsetsOf}
+use Rattle.tables.specs.States.{Placed, Table}
+use Rattle.tables.proofs.Laws.{counts-sum, placed-none, table-of}
 use Rattle.build.specs.declared.Standing.{Standing}
 use Rattle.build.specs.declared.Built.{Built}
 use Rattle.build.specs.declared.Built.the-variants as built

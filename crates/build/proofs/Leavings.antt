@@ -20,7 +20,7 @@ use Rattle.sizing.specs.Bounds.{extentOf}
 use Rattle.sizing.specs.Size.{firstSize, halfOf}
 use Rattle.sizing.specs.Counts.{gridOf, emptyGrid}
 use Rattle.walk.specs.Segment.{leftBy}
-use Rattle.csr.specs.Tables.{offsetsOf, itemsOf}
+use Rattle.tables.specs.Lists.{offsetsOf, itemsOf}
 use Rattle.build.specs.declared.Built.{Built}
 use Rattle.build.specs.declared.Built.the-variants as built
 use Rattle.build.specs.OnGrid.{cells, walkOn, ends, listOn, globalsOn}

@@ -8,10 +8,10 @@ use native.Mathlib.Omega.{arith}
 use lib.ListN.{length, getD, take}
 use Rattle.grid.specs.declared.Grid.{Grid}
 use Rattle.grid.specs.Domain.{Lines, count, shape}
-use Rattle.csr.specs.Tables.{long, local, linesAt, start, globalLines}
-use Rattle.csr.specs.States.{Counted, Placed, CanCount, CanPlace}
-use Rattle.csr.proofs.Laws.{total-few}
-use Rattle.csr.proofs.Lists.{local-long, local-few, list-none}
+use Rattle.tables.specs.Lists.{long, local, linesAt, start, globalLines}
+use Rattle.tables.specs.States.{Counted, Placed, CanCount, CanPlace}
+use Rattle.tables.proofs.Laws.{total-few}
+use Rattle.tables.proofs.Lists.{local-long, local-few, list-none}
 use Rattle.build.specs.declared.Walked.the-variants as walked
 use Rattle.build.specs.OnGrid.{cells, walkOn, ends, cellsOn, listOn}
 use Rattle.build.specs.Build.{total}

@@ -11,7 +11,7 @@ use mir.Syntax.{w64}
 use lib.ListN.{length, getD, set, replicate, length-append, length-set, length-replicate}
 use Rattle.grid.specs.declared.Grid.{Grid}
 use Rattle.grid.specs.Domain.{Lines, count}
-use Rattle.csr.specs.Tables.{long, only, globalLines}
+use Rattle.tables.specs.Lists.{long, only, globalLines}
 use Rattle.build.specs.OnGrid.{walkOn, ends, cellsOn, globalsOn}
 use Rattle.build.specs.Passes.{Walkable, oneIf, PlacedTo, LinePlaced, listed, PlaceAsks, AllPlaced}
 use Rattle.build.proofs.Counts.{globals-count, walkable-again, turns-all}

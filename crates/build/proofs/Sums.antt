@@ -10,8 +10,8 @@ use borrow.Author.Tests.{lt-ltb, le-ltb}
 use lib.Dec.{ltb}
 use lib.ListN.{length, getD, set, length-set}
 use lib.Seq.{getD-set-same, getD-set-other}
-use Rattle.csr.specs.Tables.{sum}
-use Rattle.csr.proofs.Laws.{sum-below}
+use Rattle.tables.specs.Lists.{sum}
+use Rattle.tables.proofs.Laws.{sum-below}
 use Rattle.build.specs.Choice.{skewed}
 use Rattle.build.specs.Passes.{Summed, ShiftedBack}
 

@@ -1,34 +1,31 @@
--- What follows from the promise of the entry alone, for whoever calls it: the grid of a successful build is fit, its lists are as demand 3 says,
--- its tables fit; and the promise settles everything. Assumes nothing.
+-- What follows from the promise of the entry alone, for whoever calls it: what a successful build leaves stands, on a fit grid, for the walks
+-- of its lines, which all end; and the promise settles everything. Assumes nothing.
 use mathlib.Core.Path.{_≡_, refl, sym, ap, _∙_}
-use mathlib.Core.Bool.{Bool, true, false, not, _&&_}
+use mathlib.Core.Bool.{true}
 use mathlib.Core.List.{List, _++_}
 use Prim.Native.Nat.{ℕ, suc, _+_, _-_, _≤_, _<_}
 use native.Mathlib.Omega.{arith}
-use lib.Dec.{leb, ltb}
-use lib.ListN.{length, getD, take, drop, replicate, length-append, length-replicate}
-use lib.Seq.{take-append-seam}
-use Rattle.slices.specs.Lists.{elem, Rising}
-use Rattle.refusals.specs.declared.Refusal.{Refusal}
-use Rattle.refusals.specs.declared.Check.the-variants.{Fine}
-use Rattle.refusals.proofs.Checks.{each-says}
+use lib.ListN.{length, replicate, length-append, length-replicate}
+use Rattle.refusals.specs.declared.Check.{Check}
+use Rattle.refusals.specs.declared.Check.the-variants.{Fine, Refused}
+use Rattle.refusals.specs.Refusals.{andThen}
+use Rattle.refusals.proofs.Checks.{each-says, andThen-right}
 use Rattle.grid.specs.declared.Grid.{Grid}
-use Rattle.grid.specs.Domain.{Lines, count, fit}
+use Rattle.grid.specs.Domain.{Lines, count, scratchCheck, linesCheck}
+use Rattle.grid.proofs.Shapes.{fit-shape}
 use Rattle.walk.specs.Pushes.{Outcome, refused, found}
-use Rattle.csr.specs.Tables.{long, only, sum, start, offsetsOf, itemsOf}
-use Rattle.csr.specs.States.{Table}
-use Rattle.csr.proofs.Laws.{sum-mono, sum-same, table-made, table-offset, table-list, length-offsets, length-items}
-use Rattle.csr.proofs.Lists.{short-is, lines-rising, lines-below, globals-rising, globals-below, globals-hold, list-holds, lists-few}
 use Rattle.tables.specs.Tables.{tables, listIn}
-use Rattle.tables.specs.Fit.{Increasing, ListsFit, TablesFit, tablesCheck}
-use Rattle.tables.proofs.Facts.{facts-check, part-slice}
+use Rattle.tables.specs.Lists.{sum, offsetsOf, itemsOf}
+use Rattle.tables.specs.Stands.{Stands}
+use Rattle.tables.proofs.Laws.{sum-same, table-made, length-offsets, length-items}
+use Rattle.tables.proofs.Standing.{Laid, laid-stands}
 use Rattle.build.specs.declared.Standing.{Standing}
 use Rattle.build.specs.declared.Built.{Built}
 use Rattle.build.specs.declared.Built.the-variants as built
 use Rattle.build.specs.OnGrid.{cells, walkOn, ends, visited, cellsOn, listOn, globalsOn}
-use Rattle.build.specs.Choice.{turnsCheck}
-use Rattle.build.specs.Build.{total, End, untouched, cleared, made, endOf, answerOf, leftOf, BuildIs}
-use Rattle.build.specs.Passes.{localOn, oneIf}
+use Rattle.build.specs.Choice.{turnsCheck, choice}
+use Rattle.build.specs.Build.{total, End, untouched, cleared, made, endBy, endAfter, endOf, answerOf, leftOf, BuildIs}
+use Rattle.build.proofs.Walks.{cells-walk}
 use Rattle.build.proofs.Settled.{Made, made-says}
 
 -- ---- the promise settles everything
@@ -55,11 +52,10 @@ one-outcome h k =
 -- ---- a successful build: the answer is tables
 
 record Success (ls : Lines) (st : Standing) (o t gs : List ℕ) : Type 0 where
-  is : Made ls (length o) (length t) (length gs) (st .grid)
+  passed : linesCheck ls ≡ Fine
+  turns : turnsCheck (st .grid) ls ≡ Fine
   items-are : st .items ≡ total (st .grid) ls
-  found-are : st .globals ≡ length (globalsOn (st .grid) ls)
-  table : Table (listOn (st .grid) ls) (cells (st .grid)) o t
-  globe : gs ≡ globalsOn (st .grid) ls ++ replicate (length gs - length (globalsOn (st .grid) ls)) 0
+  laid : Laid (cellsOn (st .grid) ls) (count ls) (st .grid) o t gs (st .globals)
 
 answer-made : (e : End) (ls : Lines) (st : Standing) → answerOf e ls ≡ built.Tables st
     → (e ≡ made (st .grid)) × (st .items ≡ total (st .grid) ls) × (st .globals ≡ length (globalsOn (st .grid) ls))
@@ -75,12 +71,24 @@ left-made : (e : End) (g : Grid) (was : List ℕ) (on : Grid → List ℕ) → e
 unfolding leftOf
 left-made e g was on h = rw h
 
+-- an end on a grid: the checks before it found nothing
+checks-fine : (c : Check) (e : End) (g : Grid) → endAfter c e ≡ made g → c ≡ Fine
+unfolding endAfter
+checks-fine Fine e g h = refl
+checks-fine (Refused r) e g h = let z : _≡_ {A = ℕ} 0 1 = cc in absurd (omega arith)
+
+made-passed : (ls : Lines) (offsets items globals scratch : ℕ) (g : Grid) → endOf ls offsets items globals scratch ≡ made g → linesCheck ls ≡ Fine
+unfolding endOf
+made-passed ls offsets items globals scratch g h =
+    andThen-right (scratchCheck scratch) (linesCheck ls)
+    (checks-fine (andThen (scratchCheck scratch) (linesCheck ls)) (endBy (choice ls offsets) ls items globals) g h)
+
 length-globe : (xs : List ℕ) (n : ℕ) → length xs ≤ n → length (xs ++ replicate (n - length xs) 0) ≡ n
 length-globe xs n l = rw (length-append, length-replicate) (omega arith)
 
 success : {ls : Lines} {o t gs s : List ℕ} {r : Built} {o′ t′ gs′ s′ : List ℕ} {st : Standing}
     → BuildIs ls o t gs s r o′ t′ gs′ s′ (endOf ls (length o) (length t) (length gs) (length s)) → r ≡ built.Tables st → Success ls st o′ t′ gs′
-unfolding total
+unfolding total listOn globalsOn
 success {ls} {o} {t} {gs} {s} {r} {o′} {t′} {gs′} {s′} {st} h ok =
     let g : Grid = st .grid in
     let e = endOf ls (length o) (length t) (length gs) (length s) in
@@ -95,121 +103,46 @@ success {ls} {o} {t} {gs} {s} {r} {o′} {t′} {gs′} {s′} {st} h ok =
     let q : length t′ ≡ length t = ap length y ∙ length-items (listOn g ls) (cells g) (length t) (m .space) in
     let v : length gs′ ≡ length gs = ap length z ∙ length-globe (globalsOn g ls) (length gs) (m .listed) in
     record {
-      is = rw (p, q, v) m;
+      passed = made-passed ls (length o) (length t) (length gs) (length s) g (a .0);
+      turns = m .turns;
       items-are = a .1;
-      found-are = a .2;
-      table = table-made l (m .space) x y;
-      globe = rw v z;
+      laid =
+          record {
+            grid-fit = m .fits;
+            few = m .lines-fit .few;
+            walks = cells-walk g ls (fit-shape g (m .fits));
+            room = rw p (m .room);
+            space = rw q (m .space);
+            table = table-made l (m .space) x y;
+            found-is = a .2;
+            globe = rw v z;
+          };
     }
-
--- ---- what the slices hold
-
--- the walk of line k visits at most 2,048 distinct cells, and visits the cell c
-abbrev pub few : Grid → Lines → ℕ → Bool
-few g ls k = leb (length (cellsOn g ls k)) 2048
-
-abbrev pub visits : Grid → Lines → ℕ → ℕ → Bool
-visits g ls k c = elem c (cellsOn g ls k)
-
--- Demand 3: "on its final grid, a cell lists, increasing, exactly the lines whose walk visits it and visits at most 2,048 distinct cells; the
--- global list holds exactly the others." The list of a cell is the part of the items between its offset and the next.
-pub record ListsAre (g : Grid) (ls : Lines) (offsets items globals : List ℕ) : Type 0 where
-  pub walks : (k : ℕ) → k < count ls → walkOn g ls k ≡ found (cellsOn g ls k)
-  pub increasing : (c : ℕ) → c < cells g → Rising 0 (listIn offsets items c)
-  pub exactly : (c : ℕ) → c < cells g → (k : ℕ) → elem k (listIn offsets items c) ≡ (ltb k (count ls) && (few g ls k && visits g ls k c))
-  pub globals-increasing : Rising 0 globals
-  pub the-others : (k : ℕ) → elem k globals ≡ (ltb k (count ls) && not (few g ls k))
 
 ended-found : (o : Outcome) → ends o ≡ true → o ≡ found (visited o)
 ended-found (refused why) h = let z : _≡_ {A = ℕ} 0 1 = cc in absurd (omega arith)
 ended-found (found xs) h = refl
 
-not-not : (b c : Bool) → not b ≡ c → b ≡ not c
-not-not true c h = rw (← h)
-not-not false c h = rw (← h)
-
-module _ {ls : Lines} {st : Standing} {o t gs : List ℕ} (u : Success ls st o t gs) where
-  -- the part of the items is the list of the cell
-  list-is : (c : ℕ) → c < cells (st .grid) → listIn o t c ≡ listOn (st .grid) ls c
-  unfolding sum
-  list-is c l =
-      let F = listOn (st .grid) ls in
-      let a : getD o c 0 ≡ start F c = table-offset (u .table) c (omega arith) in
-      let b : getD o (suc c) 0 ≡ start F (suc c) = table-offset (u .table) (suc c) l in
-      let d : getD o (suc c) 0 - getD o c 0 ≡ length (F c) = omega arith in
-      sym (part-slice (getD o c 0) (getD o (suc c) 0) t) ∙ rw (d, a) (table-list (u .table) c l)
-
-  globe-is : take (st .globals) gs ≡ globalsOn (st .grid) ls
-  globe-is =
-      ap (λ (x : List ℕ). take (st .globals) x) (u .globe)
-      ∙ rw (u .found-are) (take-append-seam (globalsOn (st .grid) ls) (replicate (length gs - length (globalsOn (st .grid) ls)) 0))
-
-  lists-are : ListsAre (st .grid) ls o t (take (st .globals) gs)
-  unfolding turnsCheck cellsOn listOn globalsOn
-  lists-are =
-      let W : ℕ → List ℕ = cellsOn (st .grid) ls in
-      record {
-        walks = λ k l. ended-found (walkOn (st .grid) ls k) (each-says (λ i. ends (walkOn (st .grid) ls i)) 7 (count ls) 0 k (u .is .turns) (omega arith) (omega arith));
-        increasing = λ c l. rw (list-is c l) (lines-rising (localOn (st .grid) ls) (count ls) c);
-        exactly = λ c l k. rw (list-is c l, ← short-is (W k)) (list-holds W (count ls) k c);
-        globals-increasing = rw globe-is (globals-rising W (count ls));
-        the-others = λ k. rw (globe-is, ← not-not (long (W k)) (leb (length (W k)) 2048) (short-is (W k))) (globals-hold W (count ls) k);
-      }
-
-  tables-fit : TablesFit (tables (st .grid) (count ls) o t gs (st .globals))
-  unfolding listOn globalsOn total sum
-  tables-fit =
-      let F = listOn (st .grid) ls in
-      record {
-        long = u .is .room;
-        lists =
-            record {
-              first = table-offset (u .table) 0 (omega arith);
-              rises = λ c l. omega (arith, table-offset (u .table) c (omega arith), table-offset (u .table) (suc c) l, sum-mono (λ c. length (F c)) c (suc c) (omega arith));
-              within = omega (arith, table-offset (u .table) (cells (st .grid)) (omega arith), u .is .space);
-              lists = λ c l. rw (list-is c l) (record { rises = lines-rising (localOn (st .grid) ls) (count ls) c; below = lines-below (localOn (st .grid) ls) (count ls) c });
-            };
-        globals = rw globe-is (record { rises = globals-rising (cellsOn (st .grid) ls) (count ls); below = globals-below (cellsOn (st .grid) ls) (count ls) });
-        counted = omega (arith, u .found-are, u .is .listed);
-      }
-
-one-only : (b : Bool) (k : ℕ) → oneIf b ≡ length (only b k)
-one-only true k = refl
-one-only false k = refl
-
 -- ---- THE THEOREMS
 
 module _ {ls : Lines} {o t gs s : List ℕ} {r : Built} {o′ t′ gs′ s′ : List ℕ} {st : Standing} (h : BuildIs ls o t gs s r o′ t′ gs′ s′ (endOf ls (length o) (length t) (length gs) (length s))) (ok : r ≡ built.Tables st) where
-  -- DEMAND 3, FIRST HALF
-  pub first-half : ListsAre (st .grid) ls o′ t′ (take (st .globals) gs′)
-  first-half = lists-are (success h ok)
+  -- WHAT A BUILD LEAVES STANDS, on its final grid, for the walks of its lines
+  pub build-stands : Stands (cellsOn (st .grid) ls) (count ls) (st .grid) (tables (st .grid) (count ls) o′ t′ gs′ (st .globals))
+  build-stands = laid-stands (success h ok .laid)
 
-  -- the same lists, as the definitions of the build name them
-  pub list-of : (c : ℕ) → c < cells (st .grid) → listIn o′ t′ c ≡ listOn (st .grid) ls c
-  list-of = list-is (success h ok)
+  -- EVERY WALK ENDS within its turns, so that these cells are what it visits
+  pub walks-end : (k : ℕ) → k < count ls → walkOn (st .grid) ls k ≡ found (cellsOn (st .grid) ls k)
+  unfolding turnsCheck cellsOn
+  walks-end k l =
+      ended-found (walkOn (st .grid) ls k) (each-says (λ i. ends (walkOn (st .grid) ls i)) 7 (count ls) 0 k (success h ok .turns) (omega arith) (omega arith))
 
-  pub globals-of : take (st .globals) gs′ ≡ globalsOn (st .grid) ls
-  globals-of = globe-is (success h ok)
-
-  -- "The grid record .. is fit": nobody who is handed the grid of a build meets refusal 8
-  pub grid-fit : fit (st .grid) ≡ true
-  grid-fit = success h ok .is .fits
-
-  -- "Tables fit if ..": nobody who is handed the tables of a build meets refusal 10
-  pub no-misfit : tablesCheck (tables (st .grid) (count ls) o′ t′ gs′ (st .globals)) ≡ Fine
-  no-misfit = facts-check _ (tables-fit (success h ok))
+  -- the lines passed the checks 3, 2 and 1
+  pub lines-passed : linesCheck ls ≡ Fine
+  lines-passed = success h ok .passed
 
   -- "invented .. item counts": the number of items is the sum of the lengths of the lists
   pub items-counted : st .items ≡ sum (λ c. length (listIn o′ t′ c)) (cells (st .grid))
-  unfolding total
+  unfolding total listOn
   items-counted =
       success h ok .items-are
-      ∙ sym (sum-same (λ c. length (listIn o′ t′ c)) (λ c. length (listOn (st .grid) ls c)) (cells (st .grid)) (λ c l. ap length (list-of c l)))
-
-  -- "a pair without a global is tested at most 2,048 times": at most so many cells list a line
-  pub few-lists : (k : ℕ) → sum (λ c. oneIf (elem k (listIn o′ t′ c))) (cells (st .grid)) ≤ 2048
-  unfolding listOn
-  few-lists k =
-      let n : ℕ = cells (st .grid) in
-      let e = sum-same (λ c. oneIf (elem k (listIn o′ t′ c))) (λ c. length (only (elem k (listOn (st .grid) ls c)) k)) n (λ c l. rw (list-of c l) (one-only (elem k (listOn (st .grid) ls c)) k)) in
-      omega (arith, lists-few (cellsOn (st .grid) ls) (count ls) k n)
+      ∙ sym (sum-same (λ c. length (listIn o′ t′ c)) (λ c. length (listOn (st .grid) ls c)) (cells (st .grid)) (λ c l. ap length (build-stands .lists c l)))

@@ -4,9 +4,9 @@ use mathlib.Core.List.{List}
 use Prim.Native.Nat.{ℕ, suc, _+_, _-_, _≤_, _<_, _^_}
 use native.Mathlib.Omega.{arith}
 use lib.ListN.{length, getD, set, length-set}
-use Rattle.csr.specs.Tables.{linesAt, start}
-use Rattle.csr.specs.States.{Line, Counted, Placed, CanCount, CanPlace}
-use Rattle.csr.proofs.Laws.{soFar, so-far-none, Turn, turn, line-done, count-step, count-fits, place-step, place-inside}
+use Rattle.tables.specs.Lists.{linesAt, start}
+use Rattle.tables.specs.States.{Line, Counted, Placed, CanCount, CanPlace}
+use Rattle.tables.proofs.Laws.{soFar, so-far-none, Turn, turn, line-done, count-step, count-fits, place-step, place-inside}
 
 -- ---- the first pass: j of the n cells at the front of s are counted
 

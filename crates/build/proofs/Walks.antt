@@ -19,9 +19,9 @@ use Rattle.walk.specs.Pushes.{Outcome, refused, found}
 use Rattle.walk.specs.Segment as walk
 use Rattle.walk.proofs.Visits.{segment-visits}
 use Rattle.walk.proofs.Answer.{inner-is}
-use Rattle.csr.specs.Tables.{long, local}
-use Rattle.csr.specs.States.{Walks, Line}
-use Rattle.csr.proofs.Lists.{local-walks, local-short}
+use Rattle.tables.specs.Lists.{Walks, long, local}
+use Rattle.tables.specs.States.{Line}
+use Rattle.tables.proofs.Lists.{local-walks, local-short}
 use Rattle.build.specs.declared.Walked.{Walked}
 use Rattle.build.specs.declared.Walked.the-variants as walked
 use Rattle.build.specs.OnGrid.{cells, walkOn, ends, visited, cellsOn}
@@ -97,10 +97,12 @@ module _ (g : Grid) (ls : Lines) (i : ℕ) where
     unfolding long
     is-short l = lt-leb 2049 (length (cellsOn g ls i)) (omega (arith, k .size))
 
--- the walks of all lines
+-- the walks of all lines, and of those that are counted
+pub cells-walk : (g : Grid) (ls : Lines) → shape (g .cols) (g .rows) ≡ true → Walks (cellsOn g ls) (count ls) (cells g)
+cells-walk g ls h = record { rises = λ i _. visits g ls i h .0; below = λ i _. visits g ls i h .1 }
+
 pub all-walks : (g : Grid) (ls : Lines) → shape (g .cols) (g .rows) ≡ true → Walks (localOn g ls) (count ls) (cells g)
-all-walks g ls h =
-    local-walks (cellsOn g ls) (count ls) (cells g) (record { rises = λ i _. visits g ls i h .0; below = λ i _. visits g ls i h .1 })
+all-walks g ls h = local-walks (cellsOn g ls) (count ls) (cells g) (cells-walk g ls h)
 
 -- the cells of a line that is not global stand at the front of the scratch
 pub line-at : {g : Grid} {ls : Lines} {s₀ s : List ℕ} {i n : ℕ} → Walkable g ls s₀ → i < count ls → Cellular g ls i n s → n ≤ 2048 → Line (localOn g ls) (count ls) (cells g) i s n

@@ -10,7 +10,7 @@ use Rattle.refusals.specs.declared.Check.the-variants.{Fine, Refused}
 use Rattle.refusals.specs.Refusals.{unless, andThen}
 use Rattle.grid.specs.declared.Grid.{Grid}
 use Rattle.grid.specs.Domain.{Lines, count, scratchCheck, linesCheck}
-use Rattle.csr.specs.Tables.{start, itemsOf, offsetsOf}
+use Rattle.tables.specs.Lists.{start, itemsOf, offsetsOf}
 use Rattle.build.specs.declared.Standing.{Standing}
 use Rattle.build.specs.declared.Built.{Built}
 use Rattle.build.specs.declared.Built.the-variants as built

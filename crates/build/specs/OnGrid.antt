@@ -8,7 +8,7 @@ use Rattle.grid.specs.declared.Grid.{Grid}
 use Rattle.grid.specs.Domain.{Lines, count}
 use Rattle.walk.specs.Pushes.{Outcome, refused, found}
 use Rattle.walk.specs.Segment.{segmentOf}
-use Rattle.csr.specs.Tables.{listAt, globalLines}
+use Rattle.tables.specs.Lists.{localLines, globalLines}
 
 -- the number of cells of a grid
 abbrev pub cells : Grid → ℕ
@@ -34,7 +34,7 @@ cellsOn g ls i = visited (walkOn g ls i)
 
 -- the list of the cell c, and the global lines, of all lines
 unfoldable pub listOn : Grid → Lines → ℕ → List ℕ
-listOn g ls = listAt (cellsOn g ls) (count ls)
+listOn g ls = localLines (cellsOn g ls) (count ls)
 
 unfoldable pub globalsOn : Grid → Lines → List ℕ
 globalsOn g ls = globalLines (cellsOn g ls) (count ls)

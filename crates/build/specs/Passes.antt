@@ -15,8 +15,8 @@ use Rattle.sizing.specs.Bounds.{extentOf}
 use Rattle.sizing.specs.Size.{firstSize, halfOf}
 use Rattle.sizing.specs.Counts.{gridOf}
 use Rattle.walk.specs.Pushes.{Outcome, refused, found}
-use Rattle.csr.specs.Tables.{long, local, linesAt, sum}
-use Rattle.csr.specs.States.{Counted, Placed}
+use Rattle.tables.specs.Lists.{long, local, linesAt, sum}
+use Rattle.tables.specs.States.{Counted, Placed}
 use Rattle.build.specs.declared.Walked.{Walked}
 use Rattle.build.specs.declared.Walked.the-variants as walked
 use Rattle.build.specs.declared.Kind.{Kind}

@@ -2,7 +2,7 @@
 ghost use mathlib.Core.Path.{_≡_};
 ghost use Prim.Native.Nat.{_≤_, _<_, _^_};
 ghost use lib.ListN.{length, getD};
-ghost use Rattle.csr.specs.Tables.{sum};
+ghost use Rattle.tables.specs.Lists.{sum};
 ghost use Rattle.build.specs.Choice.{skewed};
 ghost use Rattle.build.specs.Passes.{Summed, ShiftedBack};
 

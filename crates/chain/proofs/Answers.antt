@@ -10,7 +10,7 @@ use Rattle.refusals.specs.declared.Check.{Check}
 use Rattle.refusals.specs.declared.Check.the-variants.{Fine, Refused}
 use Rattle.grid.specs.declared.Grid.{Grid}
 use Rattle.grid.specs.Domain.{Lines}
-use Rattle.csr.specs.Tables.{itemsOf, offsetsOf}
+use Rattle.tables.specs.Lists.{itemsOf, offsetsOf}
 use Rattle.build.specs.OnGrid.{listOn, globalsOn}
 use Rattle.build.specs.Build.{End, untouched, cleared, made, total, answerOf, leftOf, endOf, BuildIs}
 use Rattle.build.specs.declared.Standing.{Standing}

@@ -15,7 +15,7 @@ use Rattle.refusals.specs.Refusals.{unless, andThen, Answer, refused, gives, an
 use Rattle.refusals.proofs.Checks.{unless-fine, andThen-left, andThen-right}
 use Rattle.grid.specs.declared.Grid.{Grid}
 use Rattle.grid.specs.Domain.{Lines, count, scratchCheck, linesCheck}
-use Rattle.csr.specs.Tables.{concat, sum, start, itemsOf, offsetsOf}
+use Rattle.tables.specs.Lists.{concat, sum, start, itemsOf, offsetsOf}
 use Rattle.sizing.specs.declared.Extent.{Extent}
 use Rattle.sizing.specs.Bounds.{extentOf}
 use Rattle.sizing.specs.Size.{firstSize, halfOf}

@@ -12,7 +12,7 @@ use Rattle.refusals.specs.declared.Check.the-variants.{Fine, Refused}
 use Rattle.refusals.specs.Refusals.{answerBy}
 use Rattle.grid.specs.declared.Grid.{Grid}
 use Rattle.grid.specs.Domain.{Lines, lines}
-use Rattle.csr.specs.Tables.{itemsOf, offsetsOf}
+use Rattle.tables.specs.Lists.{itemsOf, offsetsOf}
 use Rattle.build.specs.OnGrid.{listOn, globalsOn}
 use Rattle.build.specs.Build.{End, untouched, cleared, made, endOf, total}
 use Rattle.tables.specs.Tables.{Tables, cells, listOf, globalsOf}

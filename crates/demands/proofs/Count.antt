@@ -1,26 +1,27 @@
--- The number of tests of a full visit of a build's tables: the sum of k (k - 1) / 2 over list lengths k, plus G (n - 1) - G (G - 1) / 2 for the
+-- The number of tests of a full visit of standing tables: the sum of k (k - 1) / 2 over list lengths k, plus G (n - 1) - G (G - 1) / 2 for the
 -- G globals among n lines. Assumes nothing.
-use mathlib.Core.Path.{_≡_, ap, _∙_}
+use mathlib.Core.Path.{_≡_, sym, ap, _∙_}
+use mathlib.Core.List.{List}
 use Prim.Native.Nat.{ℕ, _+_, _-_, _*_}
 use lib.ListN.{length}
-use Rattle.grid.specs.Domain.{Lines, count}
-use Rattle.tables.specs.Tables.{cells, listOf, globalsOf}
+use lib.Seq.{length-take-le}
+use Rattle.grid.specs.declared.Grid.{Grid}
+use Rattle.tables.specs.Tables.{Tables, cells, listOf, globalsOf}
+use Rattle.tables.specs.Stands.{Stands}
+use Rattle.tables.proofs.Standing.{lines-are}
 use Rattle.visit.specs.Tests.{testsOf}
 use Rattle.visit_laws.specs.Words.{half, sumBelow}
 use Rattle.visit_laws.proofs.Number.{tests-number}
-use Rattle.demands.specs.Words.{Success, tablesLeft}
-use Rattle.demands.proofs.After.{fits, globals-counted}
 
-module _ {ls : Lines} (s : Success ls) where
-  -- G is the number of globals that the build answers
-  pub number-answered : length (testsOf (tablesLeft s))
-      ≡ sumBelow (cells (tablesLeft s)) (λ c. half (length (listOf (tablesLeft s) c))) + (s .standing .globals * (count ls - 1) - half (s .standing .globals))
-  number-answered = tests-number (tablesLeft s) (fits s)
+module _ {W : ℕ → List ℕ} {n : ℕ} {g : Grid} {t : Tables} (s : Stands W n g t) where
+  -- G is the number of globals that is lent with the tables
+  pub number-lent : length (testsOf t) ≡ sumBelow (cells t) (λ c. half (length (listOf t c))) + (t .«global_count» * (n - 1) - half (t .«global_count»))
+  number-lent =
+      tests-number t (s .tables-fit)
+      ∙ ap (λ (x : ℕ). sumBelow (cells t) (λ c. half (length (listOf t c))) + (t .«global_count» * (x - 1) - half (t .«global_count»))) (lines-are s)
 
   -- and that is the length of the global list
-  pub number : length (testsOf (tablesLeft s))
-      ≡ sumBelow (cells (tablesLeft s)) (λ c. half (length (listOf (tablesLeft s) c)))
-      + (length (globalsOf (tablesLeft s)) * (count ls - 1) - half (length (globalsOf (tablesLeft s))))
+  pub number : length (testsOf t) ≡ sumBelow (cells t) (λ c. half (length (listOf t c))) + (length (globalsOf t) * (n - 1) - half (length (globalsOf t)))
   number =
-      number-answered
-      ∙ ap (λ (G : ℕ). sumBelow (cells (tablesLeft s)) (λ c. half (length (listOf (tablesLeft s) c))) + (G * (count ls - 1) - half G)) (globals-counted s)
+      number-lent
+      ∙ ap (λ (G : ℕ). sumBelow (cells t) (λ c. half (length (listOf t c))) + (G * (n - 1) - half G)) (sym (length-take-le (t .«global_count») (t .globals) (s .tables-fit .counted)))

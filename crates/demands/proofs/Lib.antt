@@ -1,9 +1,11 @@
--- DEMAND 3 after a build. `After` has what stands, `Refusals` that no visit of it is refused, `Often` how often two lines are tested, `Count`
--- how many tests there are, `Calls` what the calls of a full visit hand out, `Handed` how often that is two lines, `Whole` the demand itself.
-pub mod After
+-- DEMAND 3 of standing tables of any walk. `Listed` has what stands, `Refusals` that no visit of it is refused, `Often` how often two lines are
+-- tested, `Count` how many tests there are, `Calls` what the calls of a full visit hand out, `Handed` how often that is two lines, `Whole` the
+-- demand itself. `Build` has the demand after a build; it alone speaks of one.
+pub mod Listed
 pub mod Refusals
 pub mod Often
 pub mod Count
 pub mod Calls
 pub mod Handed
 pub mod Whole
+pub mod Build

@@ -1,70 +1,93 @@
--- Nobody who visits the tables of a build, beside its lines, is refused: neither by 8 or 10, nor by anything else while the bookmark is within
--- the total. Assumes nothing.
-use mathlib.Core.Path.{_≡_, refl, _∙_}
+-- Nobody who visits standing tables, beside lines that pass their checks, is refused: neither by 8 or 10, nor by anything else while the
+-- bookmark is within the total. Of any walk. Assumes nothing.
+use mathlib.Core.Path.{_≡_, refl, sym, ap, _∙_}
 use mathlib.Core.List.{List}
-use Prim.Native.Nat.{ℕ, _≤_}
+use Prim.Native.Nat.{ℕ, _≤_, _<_}
+use native.Mathlib.Omega.{arith}
 use borrow.Author.Tests.{le-leb, eq-eqb}
-use lib.ListN.{length, drop}
+use lib.ListN.{length, getD, drop, drop-of-length-le}
+use lib.Seq.{drop-cons}
 use Rattle.refusals.specs.declared.Check.{Check}
 use Rattle.refusals.specs.declared.Check.the-variants.{Fine, Refused}
 use Rattle.refusals.specs.Refusals.{unless, andThen}
+use Rattle.grid.specs.declared.Grid.{Grid}
 use Rattle.grid.specs.Domain.{Lines, count, countCheck, linesCheck, gridCheck}
-use Rattle.grid.proofs.Fine.{lines-fine}
+use Rattle.tables.specs.Tables.{Tables}
 use Rattle.tables.specs.Fit.{tablesCheck, standingCheck}
-use Rattle.build.proofs.Theorems.{grid-fit, no-misfit}
+use Rattle.tables.specs.Stands.{Stands}
+use Rattle.tables.proofs.Facts.{facts-check}
+use Rattle.tables.proofs.Standing.{lines-are}
 use Rattle.visit.specs.declared.Place.{Place}
+use Rattle.visit.specs.declared.TestAnswer.the-variants as answer
 use Rattle.visit.specs.declared.BatchAnswer.{BatchAnswer}
 use Rattle.visit.specs.declared.BatchAnswer.the-variants as batch
-use Rattle.visit.specs.Tests.{testsOf}
-use Rattle.visit.specs.Entries.{beside, visitCheck, bookmarkCheck, outputsCheck, nextTest, answerOf, testAt, batchCheck, batchOf, tallyOf, BatchIs}
+use Rattle.visit.specs.Tests.{Pair, testsOf}
+use Rattle.visit.specs.Entries.{beside, visitCheck, bookmarkCheck, outputsCheck, testOf, nextTest, answerOf, testAt, batchCheck, batchOf, tallyOf, BatchIs}
 use Rattle.visit.specs.Places.{placeCheck, listCheck}
-use Rattle.demands.specs.Words.{Success, gridLeft, tablesLeft}
-use Rattle.demands.proofs.After.{lines-passed}
 
 then-fine : (c : Check) → andThen c (andThen Fine Fine) ≡ c
 unfolding andThen
 then-fine Fine = refl
 then-fine (Refused r) = refl
 
-module _ {ls : Lines} (s : Success ls) where
+module _ {W : ℕ → List ℕ} {n : ℕ} {g : Grid} {t : Tables} (s : Stands W n g t) where
   -- NEVER 8
-  pub never-unfit : gridCheck (gridLeft s) ≡ Fine
+  pub never-unfit : gridCheck g ≡ Fine
   unfolding gridCheck unless
-  never-unfit = rw (grid-fit (s .promise) refl)
+  never-unfit = rw (s .grid-fit)
 
   -- NEVER 10
-  pub never-misfit : tablesCheck (tablesLeft s) ≡ Fine
-  never-misfit = no-misfit (s .promise) refl
+  pub never-misfit : tablesCheck t ≡ Fine
+  never-misfit = facts-check t (s .tables-fit)
 
-  -- beside any lines, as many as were built, only the lines themselves can be refused: by 3, 2 or 1
-  pub only-lines : (ls₁ : Lines) → count ls₁ ≡ count ls → visitCheck ls₁ (gridLeft s) (beside ls₁ (gridLeft s) (s .offsets) (s .items) (s .globals) (s .standing .globals)) ≡ linesCheck ls₁
+  -- beside any lines only the lines themselves can be refused: by 3, 2 or 1
+  pub lines-alone : (ls : Lines) → visitCheck ls g t ≡ linesCheck ls
   unfolding visitCheck
-  only-lines ls₁ e =
-      let k : tablesCheck (beside ls₁ (gridLeft s) (s .offsets) (s .items) (s .globals) (s .standing .globals)) ≡ Fine = rw e never-misfit in
-      rw (never-unfit, k) (then-fine (linesCheck ls₁))
+  lines-alone ls = rw (never-unfit, never-misfit) (then-fine (linesCheck ls))
 
-  -- beside the lines that were built, nothing is
-  pub visit-fine : visitCheck ls (gridLeft s) (tablesLeft s) ≡ Fine
-  visit-fine = only-lines ls refl ∙ lines-passed s
+  -- the same of a call that is lent the slices, beside as many lines as stand in them
+  pub only-lines : (ls : Lines) → count ls ≡ n → visitCheck ls g (beside ls g (t .offsets) (t .items) (t .globals) (t .«global_count»)) ≡ linesCheck ls
+  only-lines ls e =
+      let k : t ≡ beside ls g (t .offsets) (t .items) (t .globals) (t .«global_count») = rw e (s .on-grid) in
+      ap (visitCheck ls g) (sym k) ∙ lines-alone ls
 
-  within-fine : (b : ℕ) → b ≤ length (testsOf (tablesLeft s)) → andThen (visitCheck ls (gridLeft s) (tablesLeft s)) (bookmarkCheck (tablesLeft s) b) ≡ Fine
+  -- the list of a place within its end is given
+  pub list-given : (pl : Place) → placeCheck g (t .«global_count») pl ≡ Fine → listCheck g t pl ≡ Fine
+  unfolding listCheck standingCheck countCheck unless andThen
+  list-given pl h =
+      let k : t .lines ≤ 65536 = omega (arith, lines-are s, s .few) in
+      rw (le-leb (t .lines) 65536 k, never-unfit, never-misfit) h
+
+-- beside lines that pass 3, 2 and 1
+module _ {W : ℕ → List ℕ} {n : ℕ} {g : Grid} {t : Tables} (s : Stands W n g t) (ls : Lines) (passed : linesCheck ls ≡ Fine) where
+  -- nothing is refused
+  pub visit-fine : visitCheck ls g t ≡ Fine
+  visit-fine = lines-alone s ls ∙ passed
+
+  within-fine : (b : ℕ) → b ≤ length (testsOf t) → andThen (visitCheck ls g t) (bookmarkCheck t b) ≡ Fine
   unfolding andThen bookmarkCheck unless
-  within-fine b l = rw (visit-fine, le-leb b (length (testsOf (tablesLeft s))) l)
+  within-fine b l = rw (visit-fine, le-leb b (length (testsOf t)) l)
 
   -- `test_at`, with a bookmark within the total, answers the test that stands there, or at the total the end mark
-  pub test-given : (b : ℕ) → b ≤ length (testsOf (tablesLeft s))
-      → testAt ls (gridLeft s) (tablesLeft s) b ≡ nextTest ls (drop b (testsOf (tablesLeft s)))
+  pub test-given : (b : ℕ) → b ≤ length (testsOf t) → testAt ls g t b ≡ nextTest ls (drop b (testsOf t))
   unfolding testAt answerOf
   test-given b l = rw (within-fine b l)
 
+  -- BELOW THE TOTAL that is the test of this number
+  pub answered : (b : ℕ) (p : Pair) → b < length (testsOf t) → testAt ls g t b ≡ answer.Made (testOf ls (getD (testsOf t) b p))
+  unfolding nextTest
+  answered b p l = test-given b (omega arith) ∙ rw (drop-cons (testsOf t) b p l)
+
+  -- AT THE TOTAL it is the end mark
+  pub ended : testAt ls g t (length (testsOf t)) ≡ answer.End
+  unfolding nextTest
+  ended =
+      test-given (length (testsOf t)) (omega arith)
+      ∙ rw (drop-of-length-le (testsOf t) {i = length (testsOf t)} (omega arith))
+
   -- a batch into two outputs of one length, from a bookmark within the total, is made
-  pub batch-made : {b : ℕ} {first second first′ second′ : List ℕ} {r : BatchAnswer} → BatchIs ls (gridLeft s) (tablesLeft s) b first second first′ second′ r
-      → length first ≡ length second → b ≤ length (testsOf (tablesLeft s))
-      → r ≡ batch.Done (tallyOf ls (drop b (testsOf (tablesLeft s))) b (length first))
+  pub batch-made : {b : ℕ} {first second first′ second′ : List ℕ} {r : BatchAnswer} → BatchIs ls g t b first second first′ second′ r
+      → length first ≡ length second → b ≤ length (testsOf t)
+      → r ≡ batch.Done (tallyOf ls (drop b (testsOf t)) b (length first))
   unfolding batchCheck outputsCheck unless andThen batchOf
   batch-made {b} {first} {second} h e l = h .answers ∙ rw (eq-eqb (length first) (length second) e, within-fine b l)
-
-  -- the list of a place within its end is given
-  pub list-given : (pl : Place) → placeCheck (gridLeft s) (s .standing .globals) pl ≡ Fine → listCheck (gridLeft s) (tablesLeft s) pl ≡ Fine
-  unfolding listCheck standingCheck countCheck unless andThen
-  list-given pl h = rw (le-leb (count ls) 65536 (lines-fine ls (lines-passed s) .few), never-unfit, never-misfit) h

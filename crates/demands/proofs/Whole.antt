@@ -1,40 +1,33 @@
--- Demand 3 whole: it holds of the lines, the grid and the tables of every build that succeeds. Assumes nothing.
+-- Demand 3 whole: it holds of standing tables of any walk, beside lines that pass their checks. Assumes nothing.
+use mathlib.Core.Path.{_≡_}
 use mathlib.Core.List.{List}
 use Prim.Native.Nat.{ℕ}
-use mathlib.Core.Path.{_≡_}
-use lib.ListN.{length}
-use Rattle.grid.specs.Domain.{Lines}
-use Rattle.build.specs.declared.Standing.{Standing}
-use Rattle.build.specs.declared.Built.{Built}
-use Rattle.build.specs.declared.Built.the-variants as built
-use Rattle.build.specs.Build.{endOf, BuildIs}
-use Rattle.visit.specs.Entries.{beside}
-use Rattle.demands.specs.Words.{Success, gridLeft, tablesLeft}
+use Rattle.refusals.specs.declared.Check.the-variants.{Fine}
+use Rattle.grid.specs.declared.Grid.{Grid}
+use Rattle.grid.specs.Domain.{Lines, count, linesCheck}
+use Rattle.tables.specs.Tables.{Tables}
+use Rattle.tables.specs.Stands.{Stands}
+use Rattle.tables.proofs.Standing as standing
 use Rattle.demands.specs.Demand.{Demand3}
-use Rattle.demands.proofs.After.{lists, listed, globals-are}
+use Rattle.demands.proofs.Refusals as refusals
+use Rattle.demands.proofs.Calls as calls
 use Rattle.demands.proofs.Often as often
 use Rattle.demands.proofs.Handed as handed
 
-module _ {ls : Lines} (s : Success ls) where
-  pub demand-3 : Demand3 ls (gridLeft s) (tablesLeft s)
-  demand-3 =
-      record {
-        walks = lists s .walks;
-        increasing = lists s .increasing;
-        lists = listed s;
-        globals-increasing = lists s .globals-increasing;
-        globals = globals-are s;
-        tested = often.tested s;
-        only = often.only s;
-        handed = handed.handed-out s;
-        number = handed.tests-made s;
-        at-most = often.at-most s;
-      }
-
--- the same, straight from what `build::build` ensures
-pub after-build : {ls : Lines} {o t gs s : List ℕ} {r : Built} {o′ t′ gs′ s′ : List ℕ} {st : Standing}
-    → BuildIs ls o t gs s r o′ t′ gs′ s′ (endOf ls (length o) (length t) (length gs) (length s)) → r ≡ built.Tables st
-    → Demand3 ls (st .grid) (beside ls (st .grid) o′ t′ gs′ (st .globals))
-after-build {ls} {o} {t} {gs} {s} {r} {o′} {t′} {gs′} {s′} {st} h ok =
-    let b : Success ls = record { «lent-offsets» = o; «lent-items» = t; «lent-globals» = gs; «lent-scratch» = s; standing = st; offsets = o′; items = t′; globals = gs′; scratch = s′; promise = rw ok at h } in
-    demand-3 b
+pub demand-3 : {W : ℕ → List ℕ} {ls : Lines} {g : Grid} {t : Tables} → Stands W (count ls) g t → linesCheck ls ≡ Fine → Demand3 ls g W t
+demand-3 {W} {ls} {g} {t} s passed =
+    record {
+      increasing = standing.list-rises s;
+      lists = standing.listed s;
+      globals-increasing = standing.globals-rise s;
+      globals = standing.global s;
+      answered = refusals.answered s ls passed;
+      ended = refusals.ended s ls passed;
+      firsts-are = calls.visit-firsts ls g t;
+      seconds-are = calls.visit-seconds ls g t;
+      tested = often.tested s;
+      only = often.only s;
+      handed = handed.handed-out s ls;
+      number = handed.tests-made s ls;
+      at-most = often.at-most s;
+    }

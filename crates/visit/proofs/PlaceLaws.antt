@@ -21,7 +21,7 @@ use Rattle.grid.proofs.Bools.{and-left, and-right}
 use Rattle.tables.specs.Tables.{Tables, cells, listOf}
 use Rattle.tables.specs.Fit.{TablesFit, standingCheck}
 use Rattle.tables.proofs.Facts.{part-slice}
-use Rattle.tables.proofs.Standing.{standing-says}
+use Rattle.tables.proofs.Checking.{standing-says}
 use Rattle.visit.specs.declared.Place.{Place}
 use Rattle.visit.specs.declared.Place.the-variants.{Cell, Global}
 use Rattle.visit.specs.Inside.{CellsFit}

@@ -1,4 +1,4 @@
--- Laws of compressed tables.
+-- Laws of compressed tables (compressed sparse row), over any walk.
 --     turn                      the next cell of a line, in either pass
 --     count-step, count-fits    a turn of the first pass
 --     place-step, place-inside  a turn of the second
@@ -9,7 +9,7 @@ use mathlib.Core.Path.{_≡_, refl, sym, ap, _∙_, fun-ext}
 use mathlib.Core.Logic.{_≢_}
 use mathlib.Core.Bool.{Bool, true, false, _||_}
 use mathlib.Core.List.{List, [], _∷_, _++_, append-assoc, append-nil}
-use Prim.Native.Nat.{ℕ, zero, suc, _+_, _≤_, _<_, _-_, _*_, _^_, min}
+use Prim.Native.Nat.{ℕ, zero, suc, _+_, _≤_, _<_, _-_, _*_, _^_}
 use native.Mathlib.Nat.{zero-add, le-refl, suc-mul}
 use native.Mathlib.Decide.{ℕ-discrete, le-ind, decLt}
 use native.Mathlib.Numerals.{add-one}
@@ -34,8 +34,8 @@ use lib.ListN.{
 use lib.Seq.{getD-set-same, getD-set-other, getD-at, getD-take, getD-drop, take-add, ext-getD, take-suc, take-length, drop-at, take-append-seam}
 use Rattle.slices.specs.Lists.{elem, Below, Rising}
 use Rattle.slices.proofs.Members.{below-at}
-use Rattle.csr.specs.Tables.{only, linesAt, sum, concat, start, tabulate, itemsOf, offsetsOf}
-use Rattle.csr.specs.States.{Walks, Line, Table, Counted, runAt, Placed}
+use Rattle.tables.specs.Lists.{Walks, only, linesAt, sum, concat, start, tabulate, itemsOf, offsetsOf}
+use Rattle.tables.specs.States.{Line, Table, Counted, runAt, Placed}
 
 -- ---- sums
 
@@ -192,7 +192,7 @@ so-far-more W i j l c =
 lines-mono : (W : ℕ → List ℕ) (c i n : ℕ) → i ≤ n → length (linesAt W i c) ≤ length (linesAt W n c)
 unfolding linesAt
 lines-mono W c i n h =
-    le-ind (λ m. length (linesAt W i c) ≤ length (linesAt W m c)) (le-refl (length (linesAt W i c))) (λ m k ih. rw length-append (omega arith)) n h
+    le-ind (λ m. length (linesAt W i c) ≤ length (linesAt W m c)) (le-refl (length (linesAt W i c))) (λ m (k : i ≤ m) ih. rw length-append (omega arith)) n h
 
 so-far-within : (W : ℕ → List ℕ) (i n j : ℕ) → Rising 0 (W i) → i < n → (c : ℕ) → length (soFar W i j c) ≤ length (linesAt W n c)
 unfolding soFar linesAt

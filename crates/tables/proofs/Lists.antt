@@ -1,6 +1,6 @@
 -- What the lists hold: the list of a cell is increasing, and has exactly the lines that visit it and are not global; the global lines are the
 -- others. Over any walk. Assumes nothing.
-use mathlib.Core.Path.{_≡_, refl, sym, ap, _∙_, fun-ext}
+use mathlib.Core.Path.{_≡_, refl, _∙_, fun-ext}
 use mathlib.Core.Bool.{Bool, true, false, not, _&&_, _||_}
 use mathlib.Core.List.{List, [], _∷_, _++_, append-nil}
 use Prim.Native.Nat.{ℕ, zero, suc, _+_, _≤_, _<_}
@@ -10,12 +10,11 @@ use native.Mathlib.Numerals.{add-one}
 use native.Mathlib.Omega.{arith}
 use borrow.Author.Tests.{leb-true, leb-false, le-leb, lt-leb, lt-ltb, le-ltb, eq-eqb, ne-eqb}
 use lib.Dec.{eqb, ltb, leb}
-use lib.ListN.{length, length-append}
-use Rattle.slices.specs.Lists.{elem, any, Below, Rising}
+use lib.ListN.{length}
+use Rattle.slices.specs.Lists.{elem, Below, Rising}
 use Rattle.slices.proofs.Members.{any-append, below-append}
-use Rattle.csr.specs.Tables.{long, noneIf, local, only, linesAt, listAt, globalLines, sum}
-use Rattle.csr.specs.States.{Walks}
-use Rattle.csr.proofs.Laws.{sum-most, cells-few}
+use Rattle.tables.specs.Lists.{Walks, long, local, only, linesAt, localLines, globalLines, sum}
+use Rattle.tables.proofs.Laws.{sum-most, cells-few}
 
 -- ---- a line is global, or its cells count
 
@@ -175,17 +174,17 @@ module _ (W : ℕ → List ℕ) (n : ℕ) where
       go false e = rw (local-short W k e)
 
   -- a cell lists exactly the lines whose walk visits it and visits at most 2,048 cells
-  pub list-holds : (k c : ℕ) → elem k (listAt W n c) ≡ (ltb k n && (not (long (W k)) && elem c (W k)))
+  pub list-holds : (k c : ℕ) → elem k (localLines W n c) ≡ (ltb k n && (not (long (W k)) && elem c (W k)))
   list-holds k c = rw (list-grown (local W) n c) (grown-elem (λ i. elem c (local W i)) n k ∙ rw (elem-local k c))
 
   -- at most 2,048 cells list a line: each such cell counts one
-  pub lists-few : (k cells : ℕ) → sum (λ c. length (only (elem k (listAt W n c)) k)) cells ≤ 2048
+  pub lists-few : (k cells : ℕ) → sum (λ c. length (only (elem k (localLines W n c)) k)) cells ≤ 2048
   lists-few k cells =
       omega (
         arith,
         local-few W k,
         cells-few (local W k) k cells,
-        sum-most (λ c. length (only (elem k (listAt W n c)) k)) (λ c. length (only (elem c (local W k)) k)) cells (λ c l. rw (list-grown (local W) n c, grown-elem (λ i. elem c (local W i)) n k) (only-less (ltb k n) (elem c (local W k)) k)),
+        sum-most (λ c. length (only (elem k (localLines W n c)) k)) (λ c. length (only (elem c (local W k)) k)) cells (λ c l. rw (list-grown (local W) n c, grown-elem (λ i. elem c (local W i)) n k) (only-less (ltb k n) (elem c (local W k)) k)),
       )
     where
       only-less : (a b : Bool) (k : ℕ) → length (only (a && b) k) ≤ length (only b k)

@@ -1,17 +1,12 @@
--- The states of the two passes that fill a table, when the lists have grown to f on their way to F. Definitions only.
+-- The states of the two passes that fill a table, when the lists have grown to f on their way to F. For who fills tables; a reader of tables needs
+-- none of it. Definitions only.
 use mathlib.Core.Path.{_≡_}
 use mathlib.Core.Bool.{cond}
 use mathlib.Core.List.{List}
-use Prim.Native.Nat.{ℕ, suc, _+_, _-_, _≤_, _<_, _^_}
+use Prim.Native.Nat.{ℕ, _+_, _≤_, _<_, _^_}
 use lib.Dec.{leb}
 use lib.ListN.{length, getD, take}
-use Rattle.slices.specs.Lists.{Rising, Below}
-use Rattle.csr.specs.Tables.{linesAt, sum, start, itemsOf, offsetsOf}
-
--- each line's cells are below the number of cells, and increase
-pub record Walks (W : ℕ → List ℕ) (n cells : ℕ) : Type 0 where
-  pub rises : (i : ℕ) → i < n → Rising 0 (W i)
-  pub below : (i : ℕ) → i < n → Below cells (W i)
+use Rattle.tables.specs.Lists.{Walks, linesAt, sum, start, itemsOf, offsetsOf}
 
 -- the scratch s holds the r cells of the line i, of n lines
 pub record Line (W : ℕ → List ℕ) (n cells i : ℕ) (s : List ℕ) (r : ℕ) : Type 0 where

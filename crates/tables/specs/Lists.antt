@@ -1,14 +1,18 @@
 -- Document 01, "The build": the lists of the cells, the global lines, and how both are laid out. `W i` is the list of the distinct cells that
 -- line i visits, for any walk; n is the number of lines. Definitions only.
-use mathlib.Core.Path.{_≡_}
 use mathlib.Core.Bool.{Bool, true, false}
 use mathlib.Core.List.{List, [], _∷_, _++_}
-use Prim.Native.Nat.{ℕ, zero, suc, _+_, _-_}
+use Prim.Native.Nat.{ℕ, zero, suc, _+_, _-_, _<_}
 use lib.Dec.{leb}
 use lib.ListN.{length, replicate}
-use Rattle.slices.specs.Lists.{elem}
+use Rattle.slices.specs.Lists.{elem, Below, Rising}
 
 -- ---- which lines a cell lists
+
+-- each line's cells are below the number of cells, and increase
+pub record Walks (W : ℕ → List ℕ) (n cells : ℕ) : Type 0 where
+  pub rises : (i : ℕ) → i < n → Rising 0 (W i)
+  pub below : (i : ℕ) → i < n → Below cells (W i)
 
 -- a line with more than 2,048 distinct cells is global
 unfoldable pub long : List ℕ → Bool
@@ -34,8 +38,8 @@ linesAt W zero c = []
 linesAt W (suc i) c = linesAt W i c ++ only (elem c (W i)) i
 
 -- the list of the cell c: the lines below n whose walk visits it and has at most 2,048 distinct cells, increasing
-abbrev pub listAt : (ℕ → List ℕ) → ℕ → ℕ → List ℕ
-listAt W n = linesAt (local W) n
+abbrev pub localLines : (ℕ → List ℕ) → ℕ → ℕ → List ℕ
+localLines W n = linesAt (local W) n
 
 -- the global lines below n, increasing
 unfoldable pub globalLines : (ℕ → List ℕ) → ℕ → List ℕ

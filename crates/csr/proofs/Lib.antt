@@ -1,3 +1,0 @@
--- Laws of compressed tables, over any walk.
-pub mod Laws
-pub mod Lists

@@ -1,0 +1,19 @@
+-- Demand 3 after a build, straight from what `build::build` ensures: what it leaves stands. Assumes nothing.
+use mathlib.Core.Path.{_≡_}
+use mathlib.Core.List.{List}
+use Prim.Native.Nat.{ℕ}
+use lib.ListN.{length}
+use Rattle.grid.specs.Domain.{Lines}
+use Rattle.build.specs.declared.Standing.{Standing}
+use Rattle.build.specs.declared.Built.{Built}
+use Rattle.build.specs.declared.Built.the-variants as built
+use Rattle.build.specs.Build.{endOf, BuildIs}
+use Rattle.build.proofs.Theorems.{build-stands, walks-end, lines-passed}
+use Rattle.visit.specs.Entries.{beside}
+use Rattle.demands.specs.Build.{AfterBuild}
+use Rattle.demands.proofs.Whole.{demand-3}
+
+pub after-build : {ls : Lines} {o t gs s : List ℕ} {r : Built} {o′ t′ gs′ s′ : List ℕ} {st : Standing}
+    → BuildIs ls o t gs s r o′ t′ gs′ s′ (endOf ls (length o) (length t) (length gs) (length s)) → r ≡ built.Tables st
+    → AfterBuild ls (st .grid) (beside ls (st .grid) o′ t′ gs′ (st .globals))
+after-build h ok = record { walks = walks-end h ok; demand = demand-3 (build-stands h ok) (lines-passed h ok) }

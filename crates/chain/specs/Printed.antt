@@ -7,16 +7,14 @@ use lib.ListN.{length, take, drop, replicate}
 use Rattle.wkb.specs.Bytes.{Point}
 use Rattle.wkb.specs.Reading.{found}
 use Rattle.refusals.specs.declared.Refusal.{Refusal}
-use Rattle.refusals.specs.declared.Check.{Check}
-use Rattle.refusals.specs.declared.Check.the-variants.{Fine, Refused}
-use Rattle.refusals.specs.Refusals.{answerBy}
+use Rattle.refusals.specs.Refusals.{Answer, gives, _then_, answerBy}
 use Rattle.grid.specs.declared.Grid.{Grid}
 use Rattle.grid.specs.Domain.{Lines, lines}
 use Rattle.tables.specs.Lists.{itemsOf, offsetsOf}
 use Rattle.build.specs.OnGrid.{listOn, globalsOn}
 use Rattle.build.specs.Build.{End, untouched, cleared, made, endOf, total}
 use Rattle.tables.specs.Tables.{Tables, cells, listOf, globalsOf}
-use Rattle.visit.specs.Tests.{testsOf}
+use Rattle.visit.specs.Tests.{Pair, testsOf}
 use Rattle.visit.specs.Batches.{overlapping}
 use Rattle.visit.specs.Entries.{beside, visitCheck}
 use Rattle.report.specs.Lines.{gridLine, cellLine, globalLine, visitLine, refusedLine}
@@ -38,13 +36,13 @@ reportOf g t items tests overlaps =
     gridLine (g .cols) (g .rows) (toBits binary64 (g .«cell_size»)) items (t .«global_count»)
     ++ (cellLines t (cells t) ++ (globalLine (globalsOf t) ++ visitLine tests overlaps))
 
--- with all tests of a full visit and those of them that overlap, unless the visit is refused
-unfoldable pub reportBy : Check → Lines → Grid → Tables → ℕ → List ℕ
-reportBy Fine ls g t items = reportOf g t items (length (testsOf t)) (length (overlapping ls (testsOf t)))
-reportBy (Refused r) ls g t items = refusedLine (r .number)
+-- a full visit: all tests
+unfoldable pub allTests : Lines → Grid → Tables → Answer (List Pair)
+allTests ls g t = visitCheck ls g t then gives (testsOf t)
 
-abbrev pub printedTables : Lines → Grid → Tables → ℕ → List ℕ
-printedTables ls g t items = reportBy (visitCheck ls g t) ls g t items
+-- with the number of tests and of those that overlap
+unfoldable pub printedTables : Lines → Grid → Tables → ℕ → List ℕ
+printedTables ls g t items = answerBy refusedText (λ ps. reportOf g t items (length ps) (length (overlapping ls ps))) (allTests ls g t)
 
 -- ---- lines
 

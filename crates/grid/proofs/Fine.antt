@@ -1,5 +1,5 @@
 -- What lent lines say that pass the checks 3, 2 and 1, and the steps of the search for the first bad line. Assumes nothing.
-use mathlib.Core.Path.{_≡_, sym, _∙_}
+use mathlib.Core.Path.{_≡_, refl, sym, _∙_}
 use mathlib.Core.Bool.{Bool, true, false, _&&_}
 use Prim.Native.Nat.{ℕ, _+_, _-_, _≤_, _<_}
 use native.Mathlib.Omega.{arith}
@@ -7,9 +7,11 @@ use borrow.Author.Tests.{eqb-true, leb-true}
 use lib.Dec.{leb, eqb}
 use lib.ListN.{length}
 use Rattle.refusals.specs.declared.Check.the-variants.{Fine, Refused}
-use Rattle.refusals.specs.Refusals.{refusal, eachFrom}
+use Rattle.refusals.specs.Refusals.{refusal, unless, eachFrom, clears}
 use Rattle.refusals.proofs.Checks.{unless-fine, andThen-left, andThen-right, each-good, each-bad, each-over, each-says}
-use Rattle.grid.specs.Domain.{Lines, count, Alike, lineFits, lengthsCheck, countCheck, coordinatesCheck, linesCheck}
+use Rattle.refusals.proofs.Leaving.{Clearing, clearing-unless, clearing-then, clearing-each}
+use Rattle.grid.specs.declared.Grid.{Grid}
+use Rattle.grid.specs.Domain.{Lines, count, Alike, lineFits, lengthsCheck, scratchCheck, countCheck, coordinatesCheck, gridCheck, linesCheck}
 use Rattle.grid.proofs.Bools.{and-left, and-right}
 
 -- ---- the slices have one length
@@ -81,3 +83,17 @@ lines-fine ls h =
 pub lines-counted : (ls : Lines) → linesCheck ls ≡ Fine → countCheck (count ls) ≡ Fine
 unfolding linesCheck
 lines-counted ls h = andThen-left _ _ (andThen-right _ _ h)
+
+-- ---- none of these refuses by 4 to 7
+
+pub scratch-spares : (n : ℕ) → Clearing false (scratchCheck n)
+unfolding scratchCheck clears
+scratch-spares n = clearing-unless _ 3 0 refl
+
+pub lines-spare : (ls : Lines) → Clearing false (linesCheck ls)
+unfolding linesCheck lengthsCheck countCheck coordinatesCheck clears
+lines-spare ls = clearing-then (clearing-unless _ 3 0 refl) (clearing-then (clearing-unless _ 2 (count ls) refl) (clearing-each (lineFits ls) 1 (count ls) 0 refl))
+
+pub grid-spares : (g : Grid) → Clearing false (gridCheck g)
+unfolding gridCheck clears
+grid-spares g = clearing-unless _ 8 0 refl

@@ -13,7 +13,8 @@ use borrow.Author.Tests.{ltb-true}
 use Rattle.refusals.specs.declared.Refusal.{Refusal}
 use Rattle.refusals.specs.declared.Check.{Check}
 use Rattle.refusals.specs.declared.Check.the-variants.{Fine, Refused}
-use Rattle.refusals.specs.Refusals.{unless, andThen}
+use Rattle.refusals.specs.Refusals.{unless, andThen, gives, answerBy}
+use Rattle.refusals.proofs.Answers.{refused-by, past}
 use Rattle.refusals.proofs.Checks.{unless-fine, andThen-refused, andThen-fine, andThen-left, andThen-right}
 use Rattle.grid.specs.declared.Grid.{Grid}
 use Rattle.grid.specs.Domain.{cellCheck}
@@ -25,7 +26,7 @@ use Rattle.tables.proofs.Checking.{standing-says}
 use Rattle.visit.specs.declared.Place.{Place}
 use Rattle.visit.specs.declared.Place.the-variants.{Cell, Global}
 use Rattle.visit.specs.Inside.{CellsFit}
-use Rattle.visit.specs.Places.{placeCheck, listCheck, listAt, partOf}
+use Rattle.visit.specs.Places.{placeCheck, listCheck, listAt, partAt}
 use Rattle.visit.proofs.Standing.{cells-fit}
 
 -- ---- the checks
@@ -79,13 +80,14 @@ cell-inside rows cols row col h k =
 
 -- ---- the part
 
-pub part-refused : (check : Check) (r : Refusal) (xs : List ℕ) → check ≡ Refused r → [] ≡ partOf check xs
-unfolding partOf
-part-refused check r xs e = rw e
+module _ (g : Grid) (t : Tables) (pl : Place) where
+  pub part-refused : (r : Refusal) → listCheck g t pl ≡ Refused r → [] ≡ partAt g t pl
+  unfolding partAt
+  part-refused r e = refused-by (λ (q : Refusal). []) (listAt t) (listCheck g t pl) (gives pl) r e
 
-part-fine : (check : Check) (xs : List ℕ) → check ≡ Fine → xs ≡ partOf check xs
-unfolding partOf
-part-fine check xs e = rw e
+  part-fine : listCheck g t pl ≡ Fine → listAt t pl ≡ partAt g t pl
+  unfolding partAt answerBy
+  part-fine e = past (λ (q : Refusal). []) (listAt t) (listCheck g t pl) (gives pl) e
 
 -- a cell's list: r, k and l are the row, the columns and the column, as the code has them
 module _ (g : Grid) (t : Tables) (rows : t .rows ≡ g .rows) (cols : t .cols ≡ g .cols) (pl : Place) (h : listCheck g t pl ≡ Fine)
@@ -118,12 +120,12 @@ module _ (g : Grid) (t : Tables) (rows : t .rows ≡ g .rows) (cols : t .cols �
     pub cell-to : to ≤ length (t .items)
     cell-to = omega (arith, to-is, (cells-fit t (facts .table)) .within (suc (r * k + l)) number-in)
 
-    pub part-cell : take (to - from) (drop from (t .items)) ≡ partOf (listCheck g t pl) (listAt t pl)
+    pub part-cell : take (to - from) (drop from (t .items)) ≡ partAt g t pl
     unfolding listAt
     part-cell =
         let n : r * k + l ≡ row * t .cols + col = rw (er, ek, el, cols) in
         part-slice from to (t .items)
-        ∙ rw (ef, to-is, n, e) (part-fine (listCheck g t (Cell row col)) (listOf t (row * t .cols + col)) at-cell)
+        ∙ rw (ef, to-is, n, e) (part-fine g t (Cell row col) at-cell)
 
 -- the globals from a position on
 module _ (g : Grid) (t : Tables) (pl : Place) (h : listCheck g t pl ≡ Fine) (p : ℕ) (e : pl ≡ Global p) where
@@ -136,6 +138,6 @@ module _ (g : Grid) (t : Tables) (pl : Place) (h : listCheck g t pl ≡ Fine) (p
   pub global-to : t .«global_count» ≤ length (t .globals)
   global-to = (global-place g t p at-global) .table .counted
 
-  pub part-global : take (t .«global_count» - p) (drop p (t .globals)) ≡ partOf (listCheck g t pl) (listAt t pl)
+  pub part-global : take (t .«global_count» - p) (drop p (t .globals)) ≡ partAt g t pl
   unfolding listAt
-  part-global = part-slice p (t .«global_count») (t .globals) ∙ rw e (part-fine (listCheck g t (Global p)) (slice p (t .«global_count») (t .globals)) at-global)
+  part-global = part-slice p (t .«global_count») (t .globals) ∙ rw e (part-fine g t (Global p) at-global)

@@ -17,7 +17,7 @@ use Rattle.tables.specs.Tables.{tables, listIn}
 use Rattle.tables.specs.Lists.{sum, offsetsOf, itemsOf}
 use Rattle.tables.specs.Stands.{Stands}
 use Rattle.tables.proofs.Laws.{sum-same, table-made, length-offsets, length-items}
-use Rattle.tables.proofs.Stands.{Laid, laid-stands}
+use Rattle.tables.proofs.Standing.{Laid, laid-stands}
 use Rattle.build.specs.declared.Standing.{Standing}
 use Rattle.build.specs.declared.Built.{Built}
 use Rattle.build.specs.declared.Built.the-variants as built

@@ -12,8 +12,7 @@ use borrow.Author.Tests.{le-leb, lt-leb}
 use Rattle.refusals.specs.declared.Check.{Check}
 use Rattle.refusals.specs.declared.Check.the-variants.{Fine, Refused}
 use Rattle.refusals.specs.declared.Refusal.{Refusal}
-use Rattle.visit.specs.Places.{partOf}
-use Rattle.visit.proofs.PlaceLaws.{part-some, part-whole}
+use Rattle.visit.proofs.PlaceLaws.{given, part-some, part-whole}
 use Rattle.capi.specs.Replies.{Reply, success, refusal, Handed, unlessShort, Replies}
 use Rattle.capi.specs.Answers.{ofPart}
 
@@ -90,7 +89,7 @@ answered {a} {b} {out} {r} {out′} e d = subst (λ (a : Reply). Handed a out r 
 
 -- ---- a list by its place: `list` is what was returned for it, and xs the list at the place
 
-module _ (check : Check) (from : ℕ) (xs list : List ℕ) (e : list ≡ partOf check xs) where
+module _ (check : Check) (from : ℕ) (xs list : List ℕ) (e : list ≡ given check xs) where
   -- one that has lines was not refused
   pub list-some : 0 < length list → success (from ∷ length list ∷ []) ≡ ofPart check from (from + length xs)
   unfolding ofPart

@@ -4,7 +4,7 @@ use Prim.Native.Nat.{ℕ, _≤_, _<_}
 use mathlib.Core.Path.{_≡_}
 use mathlib.Core.List.{List}
 use lib.Ieee.{Float}
-use lib.ListN.{length, drop}
+use lib.ListN.{length}
 use Rattle.grid.specs.Domain.{Lines}
 use Rattle.grid.specs.declared.Grid.{Grid}
 use Rattle.tables.specs.Tables.{Tables}
@@ -13,15 +13,13 @@ use Rattle.wkb.specs.Reading as wkb
 use Rattle.walk.specs.Pushes.{Outcome}
 use Rattle.walk.specs.Segment.{cellsOf, Entered}
 use Rattle.build.specs.Build as build
-use Rattle.visit.specs.declared.BatchAnswer.{BatchAnswer}
-use Rattle.visit.specs.Tests.{testsOf}
-use Rattle.visit.specs.Entries.{batchCheck, batchOf, tallyOf, BatchIs}
+use Rattle.visit.specs.Entries.{batchAnswer, BatchIs}
 use Rattle.capi.specs.Replies.{Replies}
 use Rattle.capi.specs.Answers.{ofRead, ofCells, ofBuilt, ofBatch}
 
 -- what the reader answers
 abbrev pub readAnswer : List ℕ → List Float → List Float → Read
-readAnswer bytes x y = wkb.answerOf (wkb.outcome (length x) (length y) bytes)
+readAnswer bytes x y = wkb.readOf (wkb.outcome (length x) (length y) bytes)
 
 pub record ReadReplies (bytes : List ℕ) (x y : List Float) (out : List ℕ) (r : ℕ) (x′ y′ : List Float) (out′ : List ℕ) : Type 0 where
   pub replies : Replies 1 (ofRead (readAnswer bytes x y)) out r out′
@@ -39,10 +37,6 @@ pub record BuildReplies (ls : Lines) (offsets items globals scratch out : List �
   pub replies : Replies 7 (ofBuilt (build.answerOf e ls)) out r out′
   pub called : 7 ≤ length out → build.BuildIs ls offsets items globals scratch (build.answerOf e ls) offsets′ items′ globals′ scratch′ e
   pub short : length out < 7 → (offsets′ ≡ offsets) × (items′ ≡ items) × (globals′ ≡ globals) × (scratch′ ≡ scratch)
-
--- what a batch answers, by its outputs before
-abbrev pub batchAnswer : Lines → Grid → Tables → ℕ → List ℕ → List ℕ → BatchAnswer
-batchAnswer ls g t b first second = batchOf (batchCheck ls g t b first second) (tallyOf ls (drop b (testsOf t)) b (length first))
 
 -- a batch from the bookmark b
 pub record BatchReplies (ls : Lines) (g : Grid) (t : Tables) (b : ℕ) (first second out : List ℕ) (r : ℕ) (first′ second′ out′ : List ℕ) : Type 0 where

@@ -6,8 +6,9 @@ use native.Mathlib.Omega.{arith}
 use lib.ListN.{length, take, drop, replicate, length-take, length-drop, drop-of-length-le}
 use lib.Seq.{length-take-le, take-at}
 use Rattle.refusals.specs.declared.Refusal.{Refusal}
-use Rattle.refusals.specs.declared.Check.{Check}
-use Rattle.refusals.specs.declared.Check.the-variants.{Fine, Refused}
+use Rattle.refusals.specs.declared.Check.the-variants.{Fine}
+use Rattle.refusals.specs.Refusals.{Answer, refused, gives, answerBy}
+use Rattle.refusals.proofs.Answers.{then-passed}
 use Rattle.grid.specs.declared.Grid.{Grid}
 use Rattle.grid.specs.Domain.{Lines}
 use Rattle.tables.specs.Lists.{itemsOf, offsetsOf}
@@ -17,48 +18,52 @@ use Rattle.build.specs.declared.Standing.{Standing}
 use Rattle.build.specs.declared.Built.{Built}
 use Rattle.build.specs.declared.Built.the-variants as built
 use Rattle.tables.specs.Tables.{Tables}
+use Rattle.visit.specs.Tests.{Pair}
+use Rattle.visit.specs.Batches.{overlapping}
 use Rattle.visit.specs.Entries.{beside, visitCheck}
 use Rattle.report.specs.Pages.{page, Puts}
 use Rattle.report.specs.Lines.{refusedLine}
 use Rattle.report.proofs.Written.{Written, written}
 use Rattle.chain.specs.declared.Visited.{Visited}
 use Rattle.chain.specs.declared.Visited.the-variants as visited
-use Rattle.chain.specs.Inside.{visitedBy}
-use Rattle.chain.specs.Printed.{reportOf, reportBy, printedTables, tablesOn, printedEnd, printedLines, Prints}
+use Rattle.chain.specs.Inside.{fullVisit}
+use Rattle.chain.specs.Printed.{refusedText, reportOf, allTests, printedTables, tablesOn, printedEnd, printedLines, Prints}
 
 -- ---- the visit
 
-by-refused : (k : Check) (ls : Lines) (g : Grid) (t : Tables) (items : ℕ) (r : Refusal) → visited.Refused r ≡ visitedBy k ls t → refusedLine (r .number) ≡ reportBy k ls g t items
-unfolding visitedBy reportBy
-by-refused Fine ls g t items r e = absurd (let z : _≡_ {A = ℕ} 0 1 = cc in omega arith)
-by-refused (Refused q) ls g t items r e = let s : r ≡ q = cc in ap (λ (x : Refusal). refusedLine (x .number)) s
-
-pub tables-refused : (ls : Lines) (g : Grid) (t : Tables) (items : ℕ) {x : Visited} {r : Refusal} → x ≡ visitedBy (visitCheck ls g t) ls t → x ≡ visited.Refused r → refusedLine (r .number) ≡ printedTables ls g t items
-tables-refused ls g t items {x} {r} v e = by-refused (visitCheck ls g t) ls g t items r (sym e ∙ v)
+pub tables-refused : (ls : Lines) (g : Grid) (t : Tables) (items : ℕ) {x : Visited} {r : Refusal} → x ≡ fullVisit ls g t → x ≡ visited.Refused r → refusedLine (r .number) ≡ printedTables ls g t items
+unfolding fullVisit printedTables answerBy
+tables-refused ls g t items {x} {r} v e = go (allTests ls g t) (sym e ∙ v)
+  where
+    go : (o : Answer (List Pair)) → visited.Refused r ≡ answerBy visited.Refused (λ ps. visited.Counted (length ps) (length (overlapping ls ps))) o
+        → refusedLine (r .number) ≡ answerBy refusedText (λ ps. reportOf g t items (length ps) (length (overlapping ls ps))) o
+    go (refused q) d = let s : r ≡ q = cc in ap refusedText s
+    go (gives ps) d = absurd (let z : _≡_ {A = ℕ} 0 1 = cc in omega arith)
 
 -- the visit was made: the checks were passed, and the counts are those of a full visit
 pub record Shown (ls : Lines) (g : Grid) (t : Tables) (items tests overlaps : ℕ) : Type 0 where
   pub fine : visitCheck ls g t ≡ Fine
   pub text : reportOf g t items tests overlaps ≡ printedTables ls g t items
 
-by-counted : (k : Check) (ls : Lines) (g : Grid) (t : Tables) (items tests overlaps : ℕ) → visitCheck ls g t ≡ k → visited.Counted tests overlaps ≡ visitedBy k ls t → Shown ls g t items tests overlaps
-unfolding visitedBy reportBy
-by-counted (Refused q) ls g t items tests overlaps h e = absurd (let z : _≡_ {A = ℕ} 0 1 = cc in omega arith)
-by-counted Fine ls g t items tests overlaps h e =
-    let a : tests ≡ _ = ap testsIn e in
-    let b : overlaps ≡ _ = ap overlapsIn e in
-    record { fine = h; text = rw (h, a, b) }
+testsIn : Visited → ℕ
+testsIn (visited.Counted m n) = m
+testsIn (visited.Refused r) = 0
+
+overlapsIn : Visited → ℕ
+overlapsIn (visited.Counted m n) = n
+overlapsIn (visited.Refused r) = 0
+
+pub tables-counted : (ls : Lines) (g : Grid) (t : Tables) (items : ℕ) {x : Visited} {tests overlaps : ℕ} → x ≡ fullVisit ls g t → x ≡ visited.Counted tests overlaps → Shown ls g t items tests overlaps
+unfolding fullVisit printedTables allTests answerBy testsIn overlapsIn
+tables-counted ls g t items {x} {tests} {overlaps} v e = go (allTests ls g t) refl (sym e ∙ v)
   where
-    testsIn : Visited → ℕ
-    testsIn (visited.Counted m n) = m
-    testsIn (visited.Refused r) = 0
-
-    overlapsIn : Visited → ℕ
-    overlapsIn (visited.Counted m n) = n
-    overlapsIn (visited.Refused r) = 0
-
-pub tables-counted : (ls : Lines) (g : Grid) (t : Tables) (items : ℕ) {x : Visited} {tests overlaps : ℕ} → x ≡ visitedBy (visitCheck ls g t) ls t → x ≡ visited.Counted tests overlaps → Shown ls g t items tests overlaps
-tables-counted ls g t items {x} {tests} {overlaps} v e = by-counted (visitCheck ls g t) ls g t items tests overlaps refl (sym e ∙ v)
+    go : (o : Answer (List Pair)) → allTests ls g t ≡ o → visited.Counted tests overlaps ≡ answerBy visited.Refused (λ ps. visited.Counted (length ps) (length (overlapping ls ps))) o
+        → Shown ls g t items tests overlaps
+    go (refused q) h d = absurd (let z : _≡_ {A = ℕ} 0 1 = cc in omega arith)
+    go (gives ps) h d =
+        let a : tests ≡ length ps = ap testsIn d in
+        let b : overlaps ≡ length (overlapping ls ps) = ap overlapsIn d in
+        record { fine = then-passed (visitCheck ls g t) _ h .0; text = rw (h, a, b) }
 
 -- ---- the build
 

@@ -6,14 +6,15 @@ use native.Mathlib.Omega.{arith}
 use lib.Ieee.{Float, binary64, ofBits}
 use lib.ListN.{length, take, drop, replicate, length-append, length-map, length-replicate}
 use lib.Seq.{take-take, length-take-le, take-at}
+use Rattle.refusals.specs.declared.Refusal.{Refusal}
+use Rattle.refusals.specs.Refusals.{unless, Answer, refused, gives, _then_, answerBy, leftIn, zeroBeyond}
 use Rattle.grid.specs.Domain.{Lines, lines}
 use Rattle.wkb.specs.Bytes.{Point, LineString}
-use Rattle.wkb.specs.Reading.{Found, points, refused, refuseUnless, outcome, found, answerOf, leftIn, nought, ReadAs}
-use Rattle.wkb.specs.declared.Refusal.{Refusal}
+use Rattle.wkb.specs.Reading.{outcome, found, slicesCheck, readOf, pointsLeft, nought, ReadAs}
 use Rattle.wkb.specs.declared.Read.{Read}
 use Rattle.wkb.specs.declared.Read.the-variants.{Points, Refused}
 use Rattle.report.specs.Lines.{refusedLine}
-use Rattle.chain.specs.Printed.{chainOf, printedLines, printedFound, printed}
+use Rattle.chain.specs.Printed.{chainOf, printedLines, refusedText, printedPoints, printed}
 
 -- ---- lines as parts of the points
 
@@ -36,18 +37,18 @@ chain-parts n xs ys h k l = rw (starts n xs k, starts n ys l, ends n xs h, ends 
 -- ---- what the reader found
 
 found-is : (bs : List ℕ) → outcome 1024 1024 bs ≡ found bs
-unfolding outcome refuseUnless
+unfolding outcome slicesCheck unless _then_
 found-is bs = refl
 
 coordinates : (Point → ℕ) → List Point → List Float
 coordinates f ps = map (λ (p : Point). ofBits binary64 (f p)) ps
 
-left-points : (f : Point → ℕ) (ps : List Point) (s : List Float) → take (length ps) (leftIn f (points ps) s) ≡ coordinates f ps
-unfolding leftIn coordinates
-left-points f ps s = take-at (coordinates f ps) (replicate (length s - length ps) nought) (length ps) (length-map ps (λ (p : Point). ofBits binary64 (f p)))
+left-points : (f : Point → ℕ) (ps : List Point) (s : List Float) → take (length ps) (pointsLeft f (gives ps) s) ≡ coordinates f ps
+unfolding pointsLeft leftIn zeroBeyond coordinates
+left-points f ps s = take-at (coordinates f ps) (replicate (length s - length (coordinates f ps)) nought) (length ps) (length-map ps (λ (p : Point). ofBits binary64 (f p)))
 
-left-long : (f : Point → ℕ) (ps : List Point) (s : List Float) → length ps ≤ length (leftIn f (points ps) s)
-unfolding leftIn
+left-long : (f : Point → ℕ) (ps : List Point) (s : List Float) → length ps ≤ length (pointsLeft f (gives ps) s)
+unfolding pointsLeft leftIn zeroBeyond
 left-long f ps s =
     let e = length-map ps (λ (p : Point). ofBits binary64 (f p)) in
     simp length-append (omega arith)
@@ -60,25 +61,25 @@ pub record PointsRead (bs : List ℕ) (n : ℕ) (x y : List Float) : Type 0 wher
   pub text : printedLines (chainOf (take n x) (take n y)) ≡ printed bs
 
 module _ (bs : List ℕ) where
-  printed-points : (ps : List Point) → found bs ≡ points ps → printedLines (chainOf (coordinates (λ p. p .x) ps) (coordinates (λ p. p .y) ps)) ≡ printed bs
-  unfolding printed printedFound coordinates
-  printed-points ps e = sym (ap printedFound e)
+  printed-points : (ps : List Point) → found bs ≡ gives ps → printedLines (chainOf (coordinates (λ p. p .x) ps) (coordinates (λ p. p .y) ps)) ≡ printed bs
+  unfolding printed printedPoints answerBy coordinates
+  printed-points ps e = rw e
 
-  printed-refused : (k v : ℕ) → found bs ≡ refused k v → refusedLine k ≡ printed bs
-  unfolding printed printedFound
-  printed-refused k v e = sym (ap printedFound e)
+  printed-refused : (r : Refusal) → found bs ≡ refused r → refusedLine (r .number) ≡ printed bs
+  unfolding printed answerBy
+  printed-refused r e = rw e
 
 module _ (bs : List ℕ) (x₀ y₀ x y : List Float) (lx : length x₀ ≡ 1024) (ly : length y₀ ≡ 1024) where
   read-is : {r : Read} → ReadAs bs x₀ y₀ r x y → outcome (length x₀) (length y₀) bs ≡ found bs
   read-is a = rw (lx, ly) (found-is bs)
 
   pub points-read : (n : ℕ) → ReadAs bs x₀ y₀ (Points n) x y → PointsRead bs n x y
-  unfolding answerOf
-  points-read n a = go (found bs) refl (a .answer ∙ ap answerOf (read-is a)) (a .in-x ∙ ap (λ (f : Found). leftIn (λ p. p .x) f x₀) (read-is a)) (a .in-y ∙ ap (λ (f : Found). leftIn (λ p. p .y) f y₀) (read-is a)) (a .only)
+  unfolding readOf answerBy
+  points-read n a = go (found bs) refl (a .answer ∙ ap readOf (read-is a)) (a .in-x ∙ ap (λ (f : Answer (List Point)). pointsLeft (λ p. p .x) f x₀) (read-is a)) (a .in-y ∙ ap (λ (f : Answer (List Point)). pointsLeft (λ p. p .y) f y₀) (read-is a)) (a .only)
     where
-      go : (f : Found) → found bs ≡ f → Points n ≡ answerOf f → x ≡ leftIn (λ p. p .x) f x₀ → y ≡ leftIn (λ p. p .y) f y₀ → ((ps : List Point) → found bs ≡ points ps → LineString bs ps) → PointsRead bs n x y
-      go (refused k v) e r ex ey only = absurd (let z : _≡_ {A = ℕ} 0 1 = cc in omega arith)
-      go (points ps) e r ex ey only =
+      go : (f : Answer (List Point)) → found bs ≡ f → Points n ≡ readOf f → x ≡ pointsLeft (λ p. p .x) f x₀ → y ≡ pointsLeft (λ p. p .y) f y₀ → ((ps : List Point) → found bs ≡ gives ps → LineString bs ps) → PointsRead bs n x y
+      go (refused q) e r ex ey only = absurd (let z : _≡_ {A = ℕ} 0 1 = cc in omega arith)
+      go (gives ps) e r ex ey only =
           let n-is : n ≡ length ps = cc in
           let s = only ps e in
           record {
@@ -90,11 +91,9 @@ module _ (bs : List ℕ) (x₀ y₀ x y : List Float) (lx : length x₀ ≡ 1024
           }
 
   pub refused-read : (q : Refusal) → ReadAs bs x₀ y₀ (Refused q) x y → refusedLine (q .number) ≡ printed bs
-  unfolding answerOf
-  refused-read q a = go (found bs) refl (a .answer ∙ ap answerOf (read-is a))
+  unfolding readOf answerBy
+  refused-read q a = go (found bs) refl (a .answer ∙ ap readOf (read-is a))
     where
-      go : (f : Found) → found bs ≡ f → Refused q ≡ answerOf f → refusedLine (q .number) ≡ printed bs
-      go (points ps) e r = absurd (let z : _≡_ {A = ℕ} 0 1 = cc in omega arith)
-      go (refused k v) e r =
-          let n-is : q .number ≡ k = ap (λ (x : Refusal). x .number) (let w : q ≡ record { number = k; value = v } = cc in w) in
-          ap refusedLine n-is ∙ printed-refused bs k v e
+      go : (f : Answer (List Point)) → found bs ≡ f → Refused q ≡ readOf f → refusedLine (q .number) ≡ printed bs
+      go (gives ps) e r = absurd (let z : _≡_ {A = ℕ} 0 1 = cc in omega arith)
+      go (refused p) e r = let w : q ≡ p = cc in rw w (printed-refused bs p e)

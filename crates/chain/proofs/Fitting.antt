@@ -11,8 +11,9 @@ use lib.ListN.{length, getD, take, length-append, length-take, length-replicate}
 use lib.Seq.{length-slice}
 use Rattle.refusals.specs.declared.Check.{Check}
 use Rattle.refusals.specs.declared.Check.the-variants.{Fine, Refused}
-use Rattle.refusals.specs.Refusals.{unless, andThen}
+use Rattle.refusals.specs.Refusals.{unless, andThen, Answer, refused, gives, answerBy}
 use Rattle.refusals.proofs.Checks.{unless-fine, andThen-left, andThen-right}
+use Rattle.refusals.proofs.Answers.{then-passed}
 use Rattle.grid.specs.declared.Grid.{Grid}
 use Rattle.grid.specs.Domain.{Lines, count, scratchCheck, linesCheck}
 use Rattle.tables.specs.Lists.{concat, sum, start, itemsOf, offsetsOf}
@@ -30,13 +31,14 @@ use Rattle.tables.specs.Tables.{Tables, cells, listOf, globalsOf}
 use Rattle.tables.specs.Fit.{TablesFit}
 use Rattle.tables.proofs.Facts.{all-within}
 use Rattle.visit.specs.Entries.{visitCheck, beside}
-use Rattle.visit.specs.Tests.{testsOf}
+use Rattle.visit.specs.Tests.{Pair}
 use Rattle.visit.specs.Batches.{overlapping}
 use Rattle.visit.proofs.Standing.{stands}
-use Rattle.wkb.specs.Reading.{Found, points, refused, found}
+use Rattle.wkb.specs.Bytes.{Point}
+use Rattle.wkb.specs.Reading.{found}
 use Rattle.report.specs.Lines.{gridLine, cellLine, globalLine, visitLine, refusedLine}
 use Rattle.report.proofs.Sizes.{grid-size, cell-size, global-size, visit-size, refused-size}
-use Rattle.chain.specs.Printed.{cellLines, reportOf, reportBy, printedTables, tablesOn, printedEnd, printedLines, printedFound, printed}
+use Rattle.chain.specs.Printed.{cellLines, reportOf, allTests, printedTables, tablesOn, printedEnd, printedLines, refusedText, printedPoints, printed}
 
 -- ---- tables that fit
 
@@ -62,11 +64,13 @@ report-size g t items tests overlaps f c i m =
     let v = visit-size tests overlaps in
     simp length-append (omega arith)
 
-by-size : (k : Check) (ls : Lines) (g : Grid) (t : Tables) (items : ℕ) → visitCheck ls g t ≡ k → cells t ≤ 4095 → length (t .items) ≤ 4096 → t .«global_count» ≤ 64 → length (reportBy k ls g t items) ≤ 280000
-unfolding reportBy
-by-size Fine ls g t items e c i m =
-    report-size g t items (length (testsOf t)) (length (overlapping ls (testsOf t))) (stands ls g t e .tables) c i m
-by-size (Refused r) ls g t items e c i m = let s = refused-size (r .number) in omega arith
+tables-size : (ls : Lines) (g : Grid) (t : Tables) (items : ℕ) → cells t ≤ 4095 → length (t .items) ≤ 4096 → t .«global_count» ≤ 64 → length (printedTables ls g t items) ≤ 280000
+unfolding printedTables allTests answerBy
+tables-size ls g t items c i m = go (allTests ls g t) refl
+  where
+    go : (o : Answer (List Pair)) → allTests ls g t ≡ o → length (answerBy refusedText (λ ps. reportOf g t items (length ps) (length (overlapping ls ps))) o) ≤ 280000
+    go (refused r) e = let s = refused-size (r .number) in omega arith
+    go (gives ps) e = report-size g t items (length ps) (length (overlapping ls ps)) (stands ls g t (then-passed (visitCheck ls g t) _ e .0) .tables) c i m
 
 -- ---- tables of a build
 
@@ -161,12 +165,12 @@ end-size (untouched r) ls h = let s = refused-size (r .number) in omega arith
 end-size (cleared r) ls h = let s = refused-size (r .number) in omega arith
 end-size (made g) ls h =
     let r = made-room g ls 4096 4096 64 16384 h in
-    by-size (visitCheck ls g (tablesOn ls g)) ls g (tablesOn ls g) (total g ls) refl (let o = r .in-offsets in omega arith) (items-size (on.listOn g ls) (g .rows * g .cols) (r .in-items)) (r .in-globals)
+    tables-size ls g (tablesOn ls g) (total g ls) (let o = r .in-offsets in omega arith) (items-size (on.listOn g ls) (g .rows * g .cols) (r .in-items)) (r .in-globals)
 
-found-size : (f : Found) → length (printedFound f) ≤ 280000
-unfolding printedFound printedLines
-found-size (points ps) = end-size _ _ refl
-found-size (refused k v) = let s = refused-size k in omega arith
+found-size : (f : Answer (List Point)) → length (answerBy refusedText printedPoints f) ≤ 280000
+unfolding answerBy printedPoints printedLines
+found-size (gives ps) = end-size _ _ refl
+found-size (refused r) = let s = refused-size (r .number) in omega arith
 
 -- 280,000 bytes hold every text
 pub printed-fits : (bs : List ℕ) → length (printed bs) ≤ 280000

@@ -10,10 +10,13 @@ use borrow.Author.Tests.{le-leb, lt-leb, leb-true}
 use lib.Dec.{leb}
 use lib.ListN.{length, getD, take, drop}
 use lib.Seq.{take-all, take-take, getD-take, length-take-le, take-nil, drop-nil}
+use Rattle.refusals.specs.declared.Check.{Check}
+use Rattle.refusals.specs.declared.Check.the-variants.{Fine, Refused}
+use Rattle.refusals.specs.Refusals.{refusal, unless, andThen, Answer, refused, _then_}
 use Rattle.grid.proofs.Bools.{and-right}
 use Rattle.wkb.specs.declared.Order.{Order}
-use Rattle.wkb.specs.Bytes.{numberAt, number}
-use Rattle.wkb.specs.Reading.{Found, points, refused, refuseUnless, field, orderOf, pointsField, countField, typeField, found}
+use Rattle.wkb.specs.Bytes.{Point, numberAt, number}
+use Rattle.wkb.specs.Reading.{fieldCheck, orderOf, pointsField, countField, typeField, found}
 
 -- a part of the first n is a part of the whole
 part-front : (k at n : ℕ) (bs : List ℕ) → at + k ≤ n → take k (drop at (take n bs)) ≡ take k (drop at bs)
@@ -26,19 +29,19 @@ number-front : (o : Order) (k at n : ℕ) (bs : List ℕ) → at + k ≤ n → n
 unfolding numberAt
 number-front o k at n bs h = ap (number o) (part-front k at n bs h)
 
-unless-same : (b : Bool) (k v : ℕ) (x y : Found) → (b ≡ true → x ≡ y) → refuseUnless b k v x ≡ refuseUnless b k v y
-unfolding refuseUnless
+unless-same : (b : Bool) (k v : ℕ) (x y : Answer (List Point)) → (b ≡ true → x ≡ y) → (unless b k v then x) ≡ (unless b k v then y)
+unfolding unless _then_
 unless-same true k v x y e = e refl
 unless-same false k v x y e = refl
 
 -- a field that both inputs hold whole
-field-same : (cs bs : List ℕ) (start end : ℕ) (right : Bool) (x y : Found) → end ≤ length cs → end ≤ length bs → (right ≡ true → x ≡ y) → field cs start end right x ≡ field bs start end right y
-unfolding field refuseUnless
+field-same : (cs bs : List ℕ) (start end : ℕ) (right : Bool) (x y : Answer (List Point)) → end ≤ length cs → end ≤ length bs → (right ≡ true → x ≡ y) → (fieldCheck cs start end right then x) ≡ (fieldCheck bs start end right then y)
+unfolding fieldCheck unless andThen
 field-same cs bs start end right x y h k e = rw (le-leb end (length cs) h, le-leb end (length bs) k) (unless-same right 11 start x y e)
 
 -- points that end before the input does
-points-long : (o : Order) (n : ℕ) (bs : List ℕ) → n ≤ 1024 → 16394 ≤ length bs → pointsField o n bs ≡ refused 11 (9 + 16 * n)
-unfolding pointsField field refuseUnless
+points-long : (o : Order) (n : ℕ) (bs : List ℕ) → n ≤ 1024 → 16394 ≤ length bs → pointsField o n bs ≡ refused (refusal 11 (9 + 16 * n))
+unfolding pointsField fieldCheck unless andThen _then_
 points-long o n bs h k = rw (le-leb (9 + 16 * n) (length bs) (omega arith), lt-leb (length bs) (9 + 16 * n) (omega arith))
 
 module _ (cs bs : List ℕ) (a : 16394 ≤ length cs) (b : 16394 ≤ length bs) where

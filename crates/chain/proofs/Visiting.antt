@@ -4,14 +4,14 @@ use mathlib.Core.Bool.{Bool, true, false}
 use mathlib.Core.List.{List, [], _∷_, _++_}
 use Prim.Native.Nat.{ℕ, zero, suc, _+_, _-_, _≤_, _<_}
 use native.Mathlib.Omega.{arith}
-use borrow.Author.Tests.{le-leb, eq-eqb}
-use lib.Dec.{leb, eqb}
+use borrow.Author.Tests.{eq-eqb}
 use lib.ListN.{length, drop, length-append, length-drop, drop-of-length-le}
 use lib.Seq.{drop-drop}
 use Rattle.refusals.specs.declared.Refusal.{Refusal}
 use Rattle.refusals.specs.declared.Check.{Check}
 use Rattle.refusals.specs.declared.Check.the-variants.{Fine, Refused}
-use Rattle.refusals.specs.Refusals.{unless, andThen}
+use Rattle.refusals.specs.Refusals.{unless, Answer, gives, _then_, answerBy}
+use Rattle.refusals.proofs.Answers.{then-fine, refused-by, past}
 use Rattle.grid.specs.declared.Grid.{Grid}
 use Rattle.grid.specs.Domain.{Lines}
 use Rattle.tables.specs.Tables.{Tables}
@@ -21,10 +21,12 @@ use Rattle.visit.specs.declared.BatchAnswer.the-variants as batch
 use Rattle.visit.specs.Tests.{Pair, testsOf}
 use Rattle.visit.specs.Overlap.{overlap}
 use Rattle.visit.specs.Batches.{made, roomAfter, keepIf, overlapping, handed}
-use Rattle.visit.specs.Entries.{visitCheck, bookmarkCheck, outputsCheck, batchCheck, batchOf, tallyOf, BatchIs}
+use Rattle.visit.specs.Entries.{visitCheck, outputsCheck, testsFrom, tallyOf, batchTests, batchOf, batchAnswer, BatchIs}
+use Rattle.visit.proofs.EntryLaws.{book-in}
 use Rattle.chain.specs.declared.Visited.{Visited}
 use Rattle.chain.specs.declared.Visited.the-variants as visited
-use Rattle.chain.specs.Inside.{batchFrom, visitedBy}
+use Rattle.chain.specs.Printed.{allTests}
+use Rattle.chain.specs.Inside.{batchFrom, fullVisit}
 
 -- ---- what a batch makes
 
@@ -151,52 +153,54 @@ module _ (ls : Lines) (t : Tables) (b o : ℕ) (a : Tally) (is : a ≡ tallyOf l
       let r = v .rest in
       (x, omega arith)
 
--- ---- the checks of a batch
-
-then-last : (c d : Check) → d ≡ Fine → andThen c d ≡ c
-unfolding andThen
-then-last Fine d e = e
-then-last (Refused r) d e = refl
-
--- within the tests a bookmark is not refused
-pub bookmark-fine : (ls : Lines) (g : Grid) (t : Tables) (b : ℕ) → b ≤ length (testsOf t) → andThen (visitCheck ls g t) (bookmarkCheck t b) ≡ visitCheck ls g t
-unfolding bookmarkCheck unless
-bookmark-fine ls g t b h = then-last (visitCheck ls g t) (bookmarkCheck t b) (rw (le-leb b (length (testsOf t)) h))
-
-pub done-says : (c : Check) (a x : Tally) → batchOf c a ≡ batch.Done x → (c ≡ Fine) × (x ≡ a)
-unfolding batchOf
-done-says Fine a x e = (refl, cc)
-done-says (Refused r) a x e = absurd (let z : _≡_ {A = ℕ} 0 1 = cc in omega arith)
-
-pub refused-says : (c : Check) (a : Tally) (r : Refusal) → batchOf c a ≡ batch.Refused r → c ≡ Refused r
-unfolding batchOf
-refused-says Fine a r e = absurd (let z : _≡_ {A = ℕ} 0 1 = cc in omega arith)
-refused-says (Refused q) a r e = cc
+-- ---- what a batch answers
 
 -- outputs of one length are not refused
 pub batch-is : {ls : Lines} {g : Grid} {t : Tables} {b : ℕ} {fs ss fs′ ss′ : List ℕ} {r : BatchAnswer} → BatchIs ls g t b fs ss fs′ ss′ r → length fs ≡ 1024 → length ss ≡ 1024 → r ≡ batchFrom ls g t b
-unfolding batchCheck outputsCheck unless andThen
+unfolding batchAnswer batchTests outputsCheck unless _then_
 batch-is {ls} {g} {t} {b} {fs} {ss} i e f = i .answers ∙ rw (eq-eqb (length fs) (length ss) (e ∙ sym f), e)
+
+-- within the tests a bookmark is not refused
+module _ (ls : Lines) (g : Grid) (t : Tables) (b : ℕ) (h : b ≤ length (testsOf t)) where
+  left : Answer (List Pair)
+  left = gives (drop b (testsOf t))
+
+  from-is : testsFrom ls g t b ≡ (visitCheck ls g t then left)
+  unfolding testsFrom left
+  from-is = ap (λ (o : Answer (List Pair)). visitCheck ls g t then o) (then-fine _ _ (book-in t b h))
+
+  by-check : (k : Check) (x : BatchAnswer) → visitCheck ls g t ≡ k → x ≡ batchFrom ls g t b → x ≡ batchOf ls b 1024 (k then left)
+  by-check k x c e = e ∙ ap (batchOf ls b 1024) (from-is ∙ ap (λ (q : Check). q then left) c)
+
+  pub done-says : (x : BatchAnswer) (a : Tally) → x ≡ batchFrom ls g t b → x ≡ batch.Done a → (visitCheck ls g t ≡ Fine) × (a ≡ tallyOf ls (drop b (testsOf t)) b 1024)
+  unfolding batchOf answerBy left _then_
+  done-says x a is e = go (visitCheck ls g t) refl
+    where
+      go : (k : Check) → visitCheck ls g t ≡ k → (visitCheck ls g t ≡ Fine) × (a ≡ tallyOf ls (drop b (testsOf t)) b 1024)
+      go Fine c = (c, let d = sym e ∙ by-check Fine x c is in cc)
+      go (Refused r) c = absurd (let d = sym e ∙ by-check (Refused r) x c is in let z : _≡_ {A = ℕ} 0 1 = cc in omega arith)
+
+  pub refused-says : (x : BatchAnswer) (r : Refusal) → x ≡ batchFrom ls g t b → x ≡ batch.Refused r → visitCheck ls g t ≡ Refused r
+  unfolding batchOf answerBy left _then_
+  refused-says x r is e = go (visitCheck ls g t) refl
+    where
+      go : (k : Check) → visitCheck ls g t ≡ k → visitCheck ls g t ≡ Refused r
+      go Fine c = absurd (let d = sym e ∙ by-check Fine x c is in let z : _≡_ {A = ℕ} 0 1 = cc in omega arith)
+      go (Refused q) c = let d = sym e ∙ by-check (Refused q) x c is in let s : q ≡ r = cc in c ∙ ap Refused s
 
 -- ---- the answer
 
 module _ (ls : Lines) (g : Grid) (t : Tables) (b o : ℕ) (x : BatchAnswer) (is : x ≡ batchFrom ls g t b) (v : Visiting ls t b o) where
-  checked : andThen (visitCheck ls g t) (bookmarkCheck t b) ≡ visitCheck ls g t
-  checked = bookmark-fine ls g t b (v .at-most)
-
-  pub visit-refused : (r : Refusal) → x ≡ batch.Refused r → visited.Refused r ≡ visitedBy (visitCheck ls g t) ls t
-  unfolding visitedBy
-  visit-refused r e =
-      let c : visitCheck ls g t ≡ Refused r = sym checked ∙ refused-says _ _ r (sym is ∙ e) in
-      rw c
+  pub visit-refused : (r : Refusal) → x ≡ batch.Refused r → visited.Refused r ≡ fullVisit ls g t
+  unfolding fullVisit allTests
+  visit-refused r e = refused-by _ _ _ _ r (refused-says ls g t b (v .at-most) x r is e)
 
   module _ (a : Tally) (e : x ≡ batch.Done a) where
     pub visit-tally : a ≡ tallyOf ls (drop b (testsOf t)) b 1024
-    visit-tally = done-says _ _ a (sym is ∙ e) .1
+    visit-tally = done-says ls g t b (v .at-most) x a is e .1
 
-    pub visit-counted : a .tests ≡ 0 → visited.Counted b o ≡ visitedBy (visitCheck ls g t) ls t
-    unfolding visitedBy
+    pub visit-counted : a .tests ≡ 0 → visited.Counted b o ≡ fullVisit ls g t
+    unfolding fullVisit allTests answerBy
     visit-counted z =
-        let c : visitCheck ls g t ≡ Fine = sym checked ∙ done-says _ _ a (sym is ∙ e) .0 in
         let q = visiting-end ls t b o a visit-tally v z in
-        rw (c, ← q .0, ← q .1)
+        rw (q .0, q .1) (past _ _ _ _ (done-says ls g t b (v .at-most) x a is e .0))

@@ -2,17 +2,15 @@
 use mathlib.Core.Path.{_≡_}
 use Prim.Native.Nat.{ℕ, suc, _*_, _+_, _^_, _≤_, _<_}
 use mathlib.Core.List.{List}
-use lib.ListN.{length, getD, drop}
-use Rattle.refusals.specs.declared.Check.{Check}
-use Rattle.refusals.specs.declared.Check.the-variants.{Fine, Refused}
-use Rattle.refusals.specs.Refusals.{andThen}
+use lib.ListN.{length, getD}
+use Rattle.refusals.specs.Refusals.{answerBy}
 use Rattle.grid.specs.declared.Grid.{Grid}
 use Rattle.grid.specs.Domain.{Lines}
 use Rattle.tables.specs.Tables.{Tables, cells}
-use Rattle.visit.specs.Tests.{testsOf}
 use Rattle.visit.specs.Batches.{overlapping}
-use Rattle.visit.specs.Entries.{visitCheck, bookmarkCheck, batchOf, tallyOf}
+use Rattle.visit.specs.Entries.{testsFrom, batchOf}
 use Rattle.visit.specs.declared.BatchAnswer.{BatchAnswer}
+use Rattle.chain.specs.Printed.{allTests}
 use Rattle.chain.specs.declared.Visited.{Visited}
 use Rattle.chain.specs.declared.Visited.the-variants as visited
 
@@ -35,9 +33,8 @@ pub record TablesAsk (t : Tables) : Type 0 where
 
 -- a batch of a visit from a bookmark, into outputs of 1,024
 abbrev pub batchFrom : Lines → Grid → Tables → ℕ → BatchAnswer
-batchFrom ls g t b = batchOf (andThen (visitCheck ls g t) (bookmarkCheck t b)) (tallyOf ls (drop b (testsOf t)) b 1024)
+batchFrom ls g t b = batchOf ls b 1024 (testsFrom ls g t b)
 
 -- a full visit: all tests, and those of them that overlap
-unfoldable pub visitedBy : Check → Lines → Tables → Visited
-visitedBy Fine ls t = visited.Counted (length (testsOf t)) (length (overlapping ls (testsOf t)))
-visitedBy (Refused r) ls t = visited.Refused r
+unfoldable pub fullVisit : Lines → Grid → Tables → Visited
+fullVisit ls g t = answerBy visited.Refused (λ ps. visited.Counted (length ps) (length (overlapping ls ps))) (allTests ls g t)

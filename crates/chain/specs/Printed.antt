@@ -5,19 +5,23 @@ use mathlib.Core.List.{List, [], _++_, map}
 use lib.Ieee.{Float, binary64, ofBits, toBits}
 use lib.ListN.{length, take, drop, replicate}
 use Rattle.wkb.specs.Bytes.{Point}
-use Rattle.wkb.specs.Reading.{Found, points, refused, found}
-use Rattle.refusals.specs.declared.Check.{Check}
-use Rattle.refusals.specs.declared.Check.the-variants.{Fine, Refused}
+use Rattle.wkb.specs.Reading.{found}
+use Rattle.refusals.specs.declared.Refusal.{Refusal}
+use Rattle.refusals.specs.Refusals.{Answer, gives, _then_, answerBy}
 use Rattle.grid.specs.declared.Grid.{Grid}
 use Rattle.grid.specs.Domain.{Lines, lines}
 use Rattle.tables.specs.Lists.{itemsOf, offsetsOf}
 use Rattle.fill.specs.OnGrid.{listOn, globalsOn, total}
 use Rattle.build.specs.Build.{End, untouched, cleared, made, endOf}
 use Rattle.tables.specs.Tables.{Tables, cells, listOf, globalsOf}
-use Rattle.visit.specs.Tests.{testsOf}
+use Rattle.visit.specs.Tests.{Pair, testsOf}
 use Rattle.visit.specs.Batches.{overlapping}
 use Rattle.visit.specs.Entries.{beside, visitCheck}
 use Rattle.report.specs.Lines.{gridLine, cellLine, globalLine, visitLine, refusedLine}
+
+-- a refusal prints `refused` and the number
+abbrev pub refusedText : Refusal → List ℕ
+refusedText r = refusedLine (r .number)
 
 -- ---- standing tables
 
@@ -32,13 +36,13 @@ reportOf g t items tests overlaps =
     gridLine (g .cols) (g .rows) (toBits binary64 (g .«cell_size»)) items (t .«global_count»)
     ++ (cellLines t (cells t) ++ (globalLine (globalsOf t) ++ visitLine tests overlaps))
 
--- with all tests of a full visit and those of them that overlap, unless the visit is refused
-unfoldable pub reportBy : Check → Lines → Grid → Tables → ℕ → List ℕ
-reportBy Fine ls g t items = reportOf g t items (length (testsOf t)) (length (overlapping ls (testsOf t)))
-reportBy (Refused r) ls g t items = refusedLine (r .number)
+-- a full visit: all tests
+unfoldable pub allTests : Lines → Grid → Tables → Answer (List Pair)
+allTests ls g t = visitCheck ls g t then gives (testsOf t)
 
-abbrev pub printedTables : Lines → Grid → Tables → ℕ → List ℕ
-printedTables ls g t items = reportBy (visitCheck ls g t) ls g t items
+-- with the number of tests and of those that overlap
+unfoldable pub printedTables : Lines → Grid → Tables → ℕ → List ℕ
+printedTables ls g t items = answerBy refusedText (λ ps. reportOf g t items (length ps) (length (overlapping ls ps))) (allTests ls g t)
 
 -- ---- lines
 
@@ -63,13 +67,12 @@ printedLines ls = printedEnd (endOf ls 4096 4096 64 16384) ls
 unfoldable pub chainOf : List Float → List Float → Lines
 chainOf xs ys = lines (take (length xs - 1) xs) (take (length ys - 1) ys) (drop 1 xs) (drop 1 ys)
 
-unfoldable pub printedFound : Found → List ℕ
-printedFound (points ps) = printedLines (chainOf (map (λ (p : Point). ofBits binary64 (p .x)) ps) (map (λ (p : Point). ofBits binary64 (p .y)) ps))
-printedFound (refused number value) = refusedLine number
+unfoldable pub printedPoints : List Point → List ℕ
+printedPoints ps = printedLines (chainOf (map (λ (p : Point). ofBits binary64 (p .x)) ps) (map (λ (p : Point). ofBits binary64 (p .y)) ps))
 
 -- WHAT THE PROGRAM PRINTS for the bytes of its input
 unfoldable pub printed : List ℕ → List ℕ
-printed bs = printedFound (found bs)
+printed bs = answerBy refusedText printedPoints (found bs)
 
 -- the promise: as much of the text as there is room for, its end, and zero beyond (`printed-fits`: 280,000 bytes hold every text)
 pub record Prints (text out out′ : List ℕ) (r : ℕ) : Type 0 where

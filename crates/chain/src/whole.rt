@@ -1,8 +1,8 @@
 // A full visit, in batches.
 ghost use mathlib.Core.Path.{_≡_};
 ghost use Rattle.grid.specs.Domain.{lines};
-ghost use Rattle.visit.specs.Entries.{beside, visitCheck};
-ghost use Rattle.chain.specs.Inside.{batchFrom, visitedBy};
+ghost use Rattle.visit.specs.Entries.{beside};
+ghost use Rattle.chain.specs.Inside.{batchFrom, fullVisit};
 use crate::Visited;
 use grid::Grid;
 use visit::BatchAnswer;
@@ -52,7 +52,7 @@ pub(crate) fn visit(
     globals: &[u32],
     global_count: usize,
 ) -> Visited
-    ensures { λ r. ⌜ r ≡ visitedBy (visitCheck (lines (now («start_x» .entry)) (now («start_y» .entry)) (now («end_x» .entry)) (now («end_y» .entry))) grid (beside (lines (now («start_x» .entry)) (now («start_y» .entry)) (now («end_x» .entry)) (now («end_y» .entry))) grid (now (offsets .entry)) (now (items .entry)) (now (globals .entry)) «global_count»)) (lines (now («start_x» .entry)) (now («start_y» .entry)) (now («end_x» .entry)) (now («end_y» .entry))) (beside (lines (now («start_x» .entry)) (now («start_y» .entry)) (now («end_x» .entry)) (now («end_y» .entry))) grid (now (offsets .entry)) (now (items .entry)) (now (globals .entry)) «global_count») ⌝ }
+    ensures { λ r. ⌜ r ≡ fullVisit (lines (now («start_x» .entry)) (now («start_y» .entry)) (now («end_x» .entry)) (now («end_y» .entry))) grid (beside (lines (now («start_x» .entry)) (now («start_y» .entry)) (now («end_x» .entry)) (now («end_y» .entry))) grid (now (offsets .entry)) (now (items .entry)) (now (globals .entry)) «global_count») ⌝ }
 {
     let mut tests = 0;
     let mut overlaps = 0;

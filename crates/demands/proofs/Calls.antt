@@ -8,8 +8,7 @@ use native.Mathlib.Nat.{zero-add}
 use native.Mathlib.Omega.{arith}
 use lib.ListN.{length, take, drop, replicate, length-map, length-drop}
 use lib.Seq.{take-append-seam}
-use Rattle.refusals.specs.declared.Check.{Check}
-use Rattle.refusals.specs.declared.Check.the-variants.{Fine, Refused}
+use Rattle.refusals.specs.Refusals.{Answer, gives, leftIn, zeroBeyond}
 use Rattle.grid.specs.declared.Grid.{Grid}
 use Rattle.grid.specs.Domain.{Lines}
 use Rattle.tables.specs.Tables.{Tables}
@@ -18,7 +17,8 @@ use Rattle.visit.specs.declared.BatchAnswer.the-variants as batch
 use Rattle.visit.specs.Tests.{Pair, testsOf}
 use Rattle.visit.specs.Overlap.{overlap}
 use Rattle.visit.specs.Batches.{made, overlapping, handed, firsts, seconds}
-use Rattle.visit.specs.Entries.{batchCheck, batchOf, leftIn, tallyOf, BatchIs}
+use Rattle.visit.specs.Entries.{batchTests, tallyOf, pairsLeft, BatchIs}
+use Rattle.visit.proofs.EntryLaws.{batch-given, tally-given}
 use Rattle.visit.proofs.Clauses.{made-none, made-hit, made-miss, over-hit, over-miss}
 use Rattle.visit_laws.specs.Words.{laid, bookmarkAfter, testsSum}
 use Rattle.visit_laws.proofs.EndToEnd.{laid-whole, tests-add}
@@ -34,15 +34,12 @@ seconds-append : (ps qs : List Pair) → seconds (ps ++ qs) ≡ seconds ps ++ se
 seconds-append [] qs = refl
 seconds-append (p ∷ ps) qs = ap (λ (l : List ℕ). p .second ∷ l) (seconds-append ps qs)
 
-done-says : (c : Check) (x y : Tally) → batch.Done x ≡ batchOf c y → (c ≡ Fine) × (x ≡ y)
-unfolding batchOf
-done-says Fine x y h = (refl, cc)
-done-says (Refused r) x y h = let z : _≡_ {A = ℕ} 0 1 = cc in absurd (omega arith)
-
 -- the front of an output is what was written
-written : (c : Check) (xs was now : List ℕ) (k : ℕ) → c ≡ Fine → now ≡ leftIn c xs was → k ≡ length xs → take k now ≡ xs
-unfolding leftIn
-written c xs was now k e h n = rw (n, h, e) (take-append-seam xs (replicate (length was - length xs) 0))
+written : (ls : Lines) (room : ℕ) (side : List Pair → List ℕ) (o : Answer (List Pair)) (ps : List Pair) (was now : List ℕ) (k : ℕ)
+    → o ≡ gives ps → now ≡ pairsLeft ls room side o was → k ≡ length (side (handed ls ps room)) → take k now ≡ side (handed ls ps room)
+unfolding pairsLeft leftIn zeroBeyond
+written ls room side o ps was now k e h n =
+    rw (n, h, e) (take-append-seam (side (handed ls ps room)) (replicate (length was - length (side (handed ls ps room))) 0))
 
 module _ (ls : Lines) (g : Grid) (t : Tables) where
   record CallSays (b : ℕ) (c : Call) : Type 0 where
@@ -54,13 +51,12 @@ module _ (ls : Lines) (g : Grid) (t : Tables) where
   call-says b c h =
       let room : ℕ = length (c .«lent-first») in
       let ps : List Pair = handed ls (drop b (testsOf t)) room in
-      let k : Check = batchCheck ls g t b (c .«lent-first») (c .«lent-second») in
-      let u = done-says k (c .tally) (tallyOf ls (drop b (testsOf t)) b room) (h .answers) in
-      let n : c .tally .overlaps ≡ length ps = ap (λ (x : Tally). x .overlaps) (u .1) in
+      let o : Answer (List Pair) = batchTests ls g t b (c .«lent-first») (c .«lent-second») in
+      let n : c .tally .overlaps ≡ length ps = ap (λ (x : Tally). x .overlaps) (tally-given h) in
       record {
-        tally-is = u .1;
-        first-is = written k (firsts ps) (c .«lent-first») (c .first) (c .tally .overlaps) (u .0) (h .first-is) (n ∙ sym (length-map ps (λ (p : Pair). p .first)));
-        second-is = written k (seconds ps) (c .«lent-second») (c .second) (c .tally .overlaps) (u .0) (h .second-is) (n ∙ sym (length-map ps (λ (p : Pair). p .second)));
+        tally-is = tally-given h;
+        first-is = written ls room firsts o (drop b (testsOf t)) (c .«lent-first») (c .first) (c .tally .overlaps) (batch-given h) (h .first-is) (n ∙ sym (length-map ps (λ (p : Pair). p .first)));
+        second-is = written ls room seconds o (drop b (testsOf t)) (c .«lent-second») (c .second) (c .tally .overlaps) (batch-given h) (h .second-is) (n ∙ sym (length-map ps (λ (p : Pair). p .second)));
       }
 
   -- ---- calls laid end to end

@@ -8,7 +8,7 @@ use lib.Seq.{length-take-le}
 use Rattle.grid.specs.declared.Grid.{Grid}
 use Rattle.tables.specs.Tables.{Tables, cells, listOf, globalsOf}
 use Rattle.tables.specs.Stands.{Stands}
-use Rattle.tables.proofs.Stands.{lines-are}
+use Rattle.tables.proofs.Standing.{lines-are}
 use Rattle.visit.specs.Tests.{testsOf}
 use Rattle.visit_laws.specs.Words.{half, sumBelow}
 use Rattle.visit_laws.proofs.Number.{tests-number}

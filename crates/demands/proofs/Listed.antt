@@ -12,7 +12,7 @@ use Rattle.grid.specs.declared.Grid.{Grid}
 use Rattle.tables.specs.Tables.{Tables, cells, listOf, globalsOf}
 use Rattle.tables.specs.Lists.{only, sum}
 use Rattle.tables.specs.Stands.{Stands}
-use Rattle.tables.proofs.Stands.{listed, global, few-lists}
+use Rattle.tables.proofs.Standing.{listed, global, few-lists}
 use Rattle.visit_laws.specs.Words.{one, countBelow, Apart}
 use Rattle.visit_laws.proofs.Number.{sum-zero, sum-suc}
 use Rattle.demands.specs.Words.{isGlobal, visits}

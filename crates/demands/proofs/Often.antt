@@ -9,7 +9,7 @@ use Rattle.slices.specs.Lists.{elem}
 use Rattle.grid.specs.declared.Grid.{Grid}
 use Rattle.tables.specs.Tables.{Tables, cells, listOf}
 use Rattle.tables.specs.Stands.{Stands}
-use Rattle.tables.proofs.Stands.{lines-are}
+use Rattle.tables.proofs.Standing.{lines-are}
 use Rattle.visit.specs.Tests.{testsOf}
 use Rattle.visit_laws.specs.Words.{one, countBelow, times, Different}
 use Rattle.visit_laws.proofs.Number.{sum-zero, sum-suc}

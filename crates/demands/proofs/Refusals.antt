@@ -9,26 +9,28 @@ use lib.ListN.{length, getD, drop, drop-of-length-le}
 use lib.Seq.{drop-cons}
 use Rattle.refusals.specs.declared.Check.{Check}
 use Rattle.refusals.specs.declared.Check.the-variants.{Fine, Refused}
-use Rattle.refusals.specs.Refusals.{unless, andThen}
+use Rattle.refusals.specs.Refusals.{unless, andThen, gives, _then_, answerBy}
+use Rattle.refusals.proofs.Answers.{then-fine}
 use Rattle.grid.specs.declared.Grid.{Grid}
 use Rattle.grid.specs.Domain.{Lines, count, countCheck, linesCheck, gridCheck}
 use Rattle.tables.specs.Tables.{Tables}
 use Rattle.tables.specs.Fit.{tablesCheck, standingCheck}
 use Rattle.tables.specs.Stands.{Stands}
 use Rattle.tables.proofs.Facts.{facts-check}
-use Rattle.tables.proofs.Stands.{lines-are}
+use Rattle.tables.proofs.Standing.{lines-are}
 use Rattle.visit.specs.declared.Place.{Place}
 use Rattle.visit.specs.declared.TestAnswer.the-variants as answer
 use Rattle.visit.specs.declared.BatchAnswer.{BatchAnswer}
 use Rattle.visit.specs.declared.BatchAnswer.the-variants as batch
 use Rattle.visit.specs.Tests.{Pair, testsOf}
-use Rattle.visit.specs.Entries.{beside, visitCheck, bookmarkCheck, outputsCheck, testOf, nextTest, answerOf, testAt, batchCheck, batchOf, tallyOf, BatchIs}
+use Rattle.visit.specs.Entries.{beside, visitCheck, bookmarkCheck, outputsCheck, testOf, testsFrom, nextTest, testAt, batchTests, batchOf, batchAnswer, tallyOf, BatchIs}
+use Rattle.visit.proofs.EntryLaws.{book-in}
 use Rattle.visit.specs.Places.{placeCheck, listCheck}
 
-then-fine : (c : Check) → andThen c (andThen Fine Fine) ≡ c
+alone : (c : Check) → andThen c (andThen Fine Fine) ≡ c
 unfolding andThen
-then-fine Fine = refl
-then-fine (Refused r) = refl
+alone Fine = refl
+alone (Refused r) = refl
 
 module _ {W : ℕ → List ℕ} {n : ℕ} {g : Grid} {t : Tables} (s : Stands W n g t) where
   -- NEVER 8
@@ -43,7 +45,7 @@ module _ {W : ℕ → List ℕ} {n : ℕ} {g : Grid} {t : Tables} (s : Stands W 
   -- beside any lines only the lines themselves can be refused: by 3, 2 or 1
   pub lines-alone : (ls : Lines) → visitCheck ls g t ≡ linesCheck ls
   unfolding visitCheck
-  lines-alone ls = rw (never-unfit, never-misfit) (then-fine (linesCheck ls))
+  lines-alone ls = rw (never-unfit, never-misfit) (alone (linesCheck ls))
 
   -- the same of a call that is lent the slices, beside as many lines as stand in them
   pub only-lines : (ls : Lines) → count ls ≡ n → visitCheck ls g (beside ls g (t .offsets) (t .items) (t .globals) (t .«global_count»)) ≡ linesCheck ls
@@ -64,14 +66,14 @@ module _ {W : ℕ → List ℕ} {n : ℕ} {g : Grid} {t : Tables} (s : Stands W 
   pub visit-fine : visitCheck ls g t ≡ Fine
   visit-fine = lines-alone s ls ∙ passed
 
-  within-fine : (b : ℕ) → b ≤ length (testsOf t) → andThen (visitCheck ls g t) (bookmarkCheck t b) ≡ Fine
-  unfolding andThen bookmarkCheck unless
-  within-fine b l = rw (visit-fine, le-leb b (length (testsOf t)) l)
+  tests-given : (b : ℕ) → b ≤ length (testsOf t) → testsFrom ls g t b ≡ gives (drop b (testsOf t))
+  unfolding testsFrom
+  tests-given b l = then-fine _ _ visit-fine ∙ then-fine _ _ (book-in t b l)
 
   -- `test_at`, with a bookmark within the total, answers the test that stands there, or at the total the end mark
   pub test-given : (b : ℕ) → b ≤ length (testsOf t) → testAt ls g t b ≡ nextTest ls (drop b (testsOf t))
-  unfolding testAt answerOf
-  test-given b l = rw (within-fine b l)
+  unfolding testAt answerBy
+  test-given b l = rw (tests-given b l)
 
   -- BELOW THE TOTAL that is the test of this number
   pub answered : (b : ℕ) (p : Pair) → b < length (testsOf t) → testAt ls g t b ≡ answer.Made (testOf ls (getD (testsOf t) b p))
@@ -89,5 +91,5 @@ module _ {W : ℕ → List ℕ} {n : ℕ} {g : Grid} {t : Tables} (s : Stands W 
   pub batch-made : {b : ℕ} {first second first′ second′ : List ℕ} {r : BatchAnswer} → BatchIs ls g t b first second first′ second′ r
       → length first ≡ length second → b ≤ length (testsOf t)
       → r ≡ batch.Done (tallyOf ls (drop b (testsOf t)) b (length first))
-  unfolding batchCheck outputsCheck unless andThen batchOf
-  batch-made {b} {first} {second} h e l = h .answers ∙ rw (eq-eqb (length first) (length second) e, within-fine b l)
+  unfolding batchAnswer batchOf answerBy batchTests outputsCheck unless _then_
+  batch-made {b} {first} {second} h e l = h .answers ∙ rw (eq-eqb (length first) (length second) e, tests-given b l)

@@ -7,7 +7,7 @@ use Rattle.grid.specs.declared.Grid.{Grid}
 use Rattle.grid.specs.Domain.{Lines, count, linesCheck}
 use Rattle.tables.specs.Tables.{Tables}
 use Rattle.tables.specs.Stands.{Stands}
-use Rattle.tables.proofs.Stands as standing
+use Rattle.tables.proofs.Standing as standing
 use Rattle.demands.specs.Demand.{Demand3}
 use Rattle.demands.proofs.Refusals as refusals
 use Rattle.demands.proofs.Calls as calls

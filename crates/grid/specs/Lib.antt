@@ -1,5 +1,4 @@
 -- The definitions that the contracts of `grid` cite, and that every crate above rests on.
-pub mod Refusals
 pub mod Domain
 pub mod Boxes
 pub mod Axes

@@ -4,24 +4,19 @@ use crate::Segment;
 use crate::segments::segment_at;
 use refusals::Check;
 use refusals::Refusal;
+use refusals::refuse_unless;
 ghost use mathlib.Core.Path.{_≡_};
 ghost use mathlib.Core.Bool.{false, _&&_};
 ghost use Prim.Native.Nat.{_≤_};
 ghost use lib.Dec.{leb, ltb, eqb};
 ghost use lib.Ieee.{binary64, round, le};
 ghost use lib.ListN.{length};
-ghost use Rattle.refusals.specs.Refusals.{unless, refusal};
 ghost use Rattle.grid.specs.Domain.{coordinate, point, segment, lines, Alike, lineFits, counts, shape, sizeFits, fit, lengthsCheck, scratchCheck, countCheck, coordinatesCheck, pointCheck, segmentCheck, gridCheck, snapSize, snapCheck, cellCheck, linesCheck};
 
-// Refuses, with a number and a value, where the test fails.
-pub fn refuse_unless(ok: bool, number: u32, value: u64) -> Check
-    ensures { λ r. ⌜ r ≡ unless ok number value ⌝ }
-{
-    if ok {
-        return Check::Fine;
-    }
-    Check::Refused(Refusal { number, value })
-}
+// The most lines of a call, and the least scratch.
+pub const MOST_LINES: usize = 65536;
+
+pub const LEAST_SCRATCH: usize = 16384;
 
 // Finite, of magnitude at most 1e9.
 pub fn is_coordinate(v: f64) -> bool
@@ -116,13 +111,13 @@ pub fn check_grid(grid: Grid) -> Check
 pub fn check_scratch(n: usize) -> Check
     ensures { λ r. ⌜ r ≡ scratchCheck n ⌝ }
 {
-    refuse_unless(16384 <= n, 3, 0)
+    refuse_unless(LEAST_SCRATCH <= n, 3, 0)
 }
 
 pub fn check_count(n: usize) -> Check
     ensures { λ r. ⌜ r ≡ countCheck n ⌝ }
 {
-    refuse_unless(n <= 65536, 2, n as u64)
+    refuse_unless(n <= MOST_LINES, 2, n as u64)
 }
 
 // A snap size is 0, or 1e-6 to 1e6; a strategy is 0 (Grid) or 1 (GeosCompat).
@@ -213,18 +208,13 @@ fn check_coordinates(start_x: &[f64], start_y: &[f64], end_x: &[f64], end_y: &[f
 pub fn check_lines(start_x: &[f64], start_y: &[f64], end_x: &[f64], end_y: &[f64]) -> Check
     ensures { λ r. ⌜ r ≡ linesCheck (lines (now («start_x» .entry)) (now («start_y» .entry)) (now («end_x» .entry)) (now («end_y» .entry))) ⌝ }
 {
-    let n = start_x.len();
-    if !all_are(n, start_y.len(), end_x.len(), end_y.len()) {
-        return Check::Refused(Refusal {
-            number: 3,
-            value: 0,
-        });
+    let alike = check_lengths(start_x, start_y, end_x, end_y);
+    if let Check::Refused(r) = alike {
+        return Check::Refused(r);
     }
-    if 65536 < n {
-        return Check::Refused(Refusal {
-            number: 2,
-            value: n as u64,
-        });
+    let few = check_count(start_x.len());
+    if let Check::Refused(r) = few {
+        return Check::Refused(r);
     }
     check_coordinates(start_x, start_y, end_x, end_y)
 }

@@ -34,15 +34,3 @@ pub struct Box {
     pub max_x: f64,
     pub max_y: f64,
 }
-
-// A refusal by document 01's number, with its value.
-pub struct Refusal {
-    pub number: u32,
-    pub value: u64,
-}
-
-// What a check finds.
-pub enum Check {
-    Fine,
-    Refused(Refusal),
-}

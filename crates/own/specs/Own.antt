@@ -5,12 +5,11 @@ use mathlib.Core.Bool.{Bool, true, false, _&&_, _||_}
 use lib.Dec.{eqb}
 use lib.Ieee.{Float, lt, le, eq}
 use Rattle.refusals.specs.declared.Check.{Check}
-use Rattle.refusals.specs.Refusals.{andThen}
+use Rattle.refusals.specs.Refusals.{andThen, gives, _then_, answerBy}
 use Rattle.grid.specs.declared.Grid.{Grid}
 use Rattle.grid.specs.declared.Axis.{Axis}
 use Rattle.grid.specs.Axes.{xAxis, yAxis, lowOn, highOn}
 use Rattle.grid.specs.Domain.{pointCheck, gridCheck, snapCheck, cellCheck}
-use Rattle.snap.specs.Answer.{unlessRefused}
 use Rattle.snap.specs.Snap.{snapOf}
 use Rattle.own.specs.declared.Owned.{Owned}
 use Rattle.own.specs.declared.Owned.the-variants.{Yes, No, Refused}
@@ -48,11 +47,13 @@ placeCheck g x y = andThen (pointCheck x y) (gridCheck g)
 -- after refusals 1, 8 and 9
 unfoldable pub pointAnswer : Grid → ℕ → ℕ → Float → Float → Owned
 pointAnswer g row col x y =
-    unlessRefused (andThen (placeCheck g x y) (cellCheck g row col)) Refused
-    (owned (ownsPoint g row col x y))
+    answerBy Refused owned (placeCheck g x y then cellCheck g row col then gives (ownsPoint g row col x y))
 
 -- after refusals 1, 8, 12 and 9
 unfoldable pub overlapAnswer : Grid → ℕ → ℕ → Float → Float → Float → ℕ → Owned
 overlapAnswer g row col x y size strategy =
-    unlessRefused (andThen (placeCheck g x y) (andThen (snapCheck size strategy) (cellCheck g row col))) Refused
-    (owned (ownsOverlap g row col (snapOf size strategy x) (snapOf size strategy y)))
+    answerBy Refused owned
+    (placeCheck g x y
+    then snapCheck size strategy
+    then cellCheck g row col
+    then gives (ownsOverlap g row col (snapOf size strategy x) (snapOf size strategy y)))

@@ -4,10 +4,10 @@ use mathlib.Core.Path.{_≡_}
 use Prim.Native.Nat.{ℕ, zero, suc, _*_, _/_, _%_, _≤_}
 use mathlib.Core.Bool.{Bool, true, false}
 use lib.Ieee.{Float}
+use Rattle.refusals.specs.Refusals.{gives, _then_, answerBy}
 use Rattle.grid.specs.declared.Grid.{Grid}
 use Rattle.grid.specs.declared.Axis.{Axis}
 use Rattle.grid.specs.Domain.{coordinate, sizeFits}
-use Rattle.snap.specs.Answer.{unlessRefused}
 use Rattle.own.specs.declared.Found.{Found}
 use Rattle.own.specs.declared.Found.the-variants.{At, Nowhere}
 use Rattle.own.specs.declared.Owner.{Owner}
@@ -47,4 +47,4 @@ ownerOf g x y = cellOf (g .cols) (firstFrom (λ k. ownsPoint g (k / g .cols) (k 
 
 -- after refusals 1 and 8
 unfoldable pub ownerAnswer : Grid → Float → Float → Owner
-ownerAnswer g x y = unlessRefused (placeCheck g x y) Refused (ownerOf g x y)
+ownerAnswer g x y = answerBy Refused (λ owner. owner) (placeCheck g x y then gives (ownerOf g x y))

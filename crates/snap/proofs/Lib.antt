@@ -1,3 +1,2 @@
 pub mod SignBit
-pub mod Answers
 pub mod Snapping

@@ -1,3 +1,2 @@
 -- The definitions that the contracts of `snap` cite.
-pub mod Answer
 pub mod Snap

@@ -6,11 +6,10 @@ use lib.Ieee.{Float, nan, inf, fin, binary64, round, add, mul, div, eq}
 use Rattle.numbers.specs.Away.{roundAway}
 use Rattle.numbers.specs.Floor.{floorOf}
 use Rattle.numbers.specs.Order.{magnitudeOf}
-use Rattle.refusals.specs.Refusals.{andThen}
+use Rattle.refusals.specs.Refusals.{gives, _then_, answerBy}
 use Rattle.grid.specs.Domain.{pointCheck, snapCheck}
 use Rattle.snap.specs.declared.Snapped.{Snapped}
 use Rattle.snap.specs.declared.Snapped.the-variants.{Point, Refused}
-use Rattle.snap.specs.Answer.{unlessRefused}
 
 -- Grid: round half away of v / size, a zero signed as v / size, times size. (`roundAway` keeps the sign of what it rounds.)
 unfoldable pub gridSnap : Float → Float → Float
@@ -35,5 +34,5 @@ snapOf size strategy v = cond (eq size (round binary64 false 0 1)) v (cond (eqb 
 -- a point, after refusals 1 and 12
 unfoldable pub snapAnswer : Float → Float → Float → ℕ → Snapped
 snapAnswer x y size strategy =
-    unlessRefused (andThen (pointCheck x y) (snapCheck size strategy)) Refused
-    (Point (snapOf size strategy x) (snapOf size strategy y))
+    answerBy Refused (λ snapped. snapped)
+    (pointCheck x y then snapCheck size strategy then gives (Point (snapOf size strategy x) (snapOf size strategy y)))

@@ -6,20 +6,23 @@ use Prim.Native.Nat.{ℕ, _+_, _-_, _≤_, _<_, _^_}
 use native.Mathlib.Omega.{arith}
 use lib.ListN.{length, take, drop, replicate, length-drop, length-map}
 use lib.Dec.{leb, eqb}
-use borrow.Author.Tests.{le-leb, lt-leb, eq-eqb, ne-eqb}
+use borrow.Author.Tests.{eqb-true, le-leb, lt-leb}
 use Rattle.slices.specs.Slices.{clearedFrom}
 use Rattle.refusals.specs.declared.Refusal.{Refusal}
 use Rattle.refusals.specs.declared.Check.{Check}
 use Rattle.refusals.specs.declared.Check.the-variants.{Fine, Refused}
-use Rattle.refusals.specs.Refusals.{refusal, unless, andThen}
-use Rattle.refusals.proofs.Checks.{andThen-refused, andThen-fine}
+use Rattle.refusals.specs.Refusals.{refusal, unless, andThen, Answer, refused, gives, clears, answerBy, leftIn, zeroBeyond}
+use Rattle.refusals.proofs.Checks.{unless-fine, andThen-refused, andThen-fine}
+use Rattle.refusals.proofs.Answers.{then-refused, then-fine, then-passed, refused-by, past}
+use Rattle.refusals.proofs.Leaving.{left-same, Clearing, clearing-unless, clearing-then}
 use Rattle.grid.specs.declared.Grid.{Grid}
 use Rattle.grid.specs.Domain.{Lines, count, linesCheck, gridCheck}
-use Rattle.grid.proofs.Fine.{lines-counted}
+use Rattle.grid.proofs.Fine.{lines-counted, lines-spare, grid-spares}
 use Rattle.tables.specs.Tables.{Tables}
 use Rattle.tables.specs.Fit.{tablesCheck, standingCheck}
 use Rattle.visit.specs.declared.Test.{Test}
 use Rattle.visit.specs.declared.TestAnswer.the-variants as answer
+use Rattle.visit.specs.declared.Tally.{Tally}
 use Rattle.visit.specs.declared.BatchAnswer.the-variants as batch
 use Rattle.visit.specs.declared.cursor.Cursor.{Cursor}
 use Rattle.visit.specs.declared.seek.Sought.{Sought}
@@ -29,7 +32,7 @@ use Rattle.visit.specs.declared.scan.Step.{Step}
 use Rattle.visit.specs.declared.scan.Step.the-variants as step
 use Rattle.visit.specs.Tests.{Pair, testsOf}
 use Rattle.visit.specs.Batches.{made, handed, firsts, seconds}
-use Rattle.visit.specs.Entries.{beside, visitCheck, bookmarkCheck, outputsCheck, nextTest, answerOf, testAt, batchCheck, batchOf, leftIn, BatchIs}
+use Rattle.visit.specs.Entries.{beside, visitCheck, bookmarkCheck, outputsCheck, testsFrom, nextTest, testAt, tallyOf, batchTests, batchOf, batchAnswer, pairsLeft, BatchIs}
 use Rattle.visit.specs.Inside.{nextStep, restOf, Ready, CursorIs, SeekIs, RunAsks, RanAll}
 use Rattle.visit.proofs.Lengths.{total-fits}
 use Rattle.visit.proofs.RunWhole.{here}
@@ -57,7 +60,7 @@ module _ (ls : Lines) (g : Grid) (t : Tables) (b : ℕ) (s : Sought) (f : SeekIs
 
 -- ---- a bookmark within its end, and beyond
 
-book-in : (t : Tables) (b : ℕ) → b ≤ length (testsOf t) → bookmarkCheck t b ≡ Fine
+pub book-in : (t : Tables) (b : ℕ) → b ≤ length (testsOf t) → bookmarkCheck t b ≡ Fine
 unfolding bookmarkCheck unless
 book-in t b h = rw (le-leb b (length (testsOf t)) h)
 
@@ -79,18 +82,18 @@ steps-end ls (p ∷ ps) e = let z : _≡_ {A = ℕ} 0 1 = cc in absurd (omega ar
 
 module _ (ls : Lines) (g : Grid) (t : Tables) (b : ℕ) where
   pub test-refused : (r : Refusal) → visitCheck ls g t ≡ Refused r → answer.Refused r ≡ testAt ls g t b
-  unfolding testAt answerOf
-  test-refused r e = rw (andThen-refused (visitCheck ls g t) (bookmarkCheck t b) r e)
+  unfolding testAt testsFrom
+  test-refused r e = refused-by _ _ _ _ r e
 
   module _ (f : visitCheck ls g t ≡ Fine) where
     pub test-beyond : length (testsOf t) < b → answer.Refused (refusal 9 b) ≡ testAt ls g t b
-    unfolding testAt answerOf
-    test-beyond h = rw (andThen-fine (visitCheck ls g t) (bookmarkCheck t b) f, book-out t b h)
+    unfolding testAt testsFrom
+    test-beyond h = refused-by _ _ _ _ _ (book-out t b h) ∙ past _ _ _ _ f
 
     module _ (c : Cursor) (k : CursorIs ls g t b c) where
       test-is : nextTest ls (drop b (testsOf t)) ≡ testAt ls g t b
-      unfolding testAt answerOf
-      test-is = rw (andThen-fine (visitCheck ls g t) (bookmarkCheck t b) f, book-in t b (k .at-most))
+      unfolding testAt testsFrom answerBy
+      test-is = past _ _ _ _ (book-in t b (k .at-most)) ∙ past _ _ _ _ f
 
       pub test-made : (x : Test) → step.Made x ≡ nextStep ls (restOf t c) → answer.Made x ≡ testAt ls g t b
       test-made x e = steps-same ls (drop b (testsOf t)) x (e ∙ ap (nextStep ls) (k .rest)) ∙ test-is
@@ -100,33 +103,66 @@ module _ (ls : Lines) (g : Grid) (t : Tables) (b : ℕ) where
 
 -- ---- a batch
 
+-- a batch that was made: its tests are those from the bookmark on
+module _ {ls : Lines} {g : Grid} {t : Tables} {b : ℕ} {fs ss fs′ ss′ : List ℕ} {a : Tally} (h : BatchIs ls g t b fs ss fs′ ss′ (batch.Done a)) where
+  rest-is : (ps : List Pair) → batchTests ls g t b fs ss ≡ gives ps → batchTests ls g t b fs ss ≡ gives (drop b (testsOf t))
+  unfolding batchTests testsFrom
+  rest-is ps e =
+      let u = then-passed (outputsCheck fs ss) _ e in
+      let v = then-passed (visitCheck ls g t) _ (u .1) in
+      let w = then-passed (bookmarkCheck t b) _ (v .1) in
+      e ∙ sym (w .1)
+
+  pub batch-given : batchTests ls g t b fs ss ≡ gives (drop b (testsOf t))
+  unfolding batchAnswer batchOf answerBy
+  batch-given = go (batchTests ls g t b fs ss) refl (h .answers)
+    where
+      go : (o : Answer (List Pair)) → batchTests ls g t b fs ss ≡ o → batch.Done a ≡ batchOf ls b (length fs) o → batchTests ls g t b fs ss ≡ gives (drop b (testsOf t))
+      go (refused r) e d = absurd (let z : _≡_ {A = ℕ} 0 1 = cc in omega arith)
+      go (gives ps) e d = rest-is ps e
+
+  pub tally-given : a ≡ tallyOf ls (drop b (testsOf t)) b (length fs)
+  unfolding batchAnswer batchOf answerBy
+  tally-given = same (h .answers ∙ rw batch-given)
+    where
+      same : {x y : Tally} → batch.Done x ≡ batch.Done y → x ≡ y
+      same e = cc
+
+-- no check of a visit refuses by 4 to 7
+visit-spares : (ls : Lines) (g : Grid) (t : Tables) → Clearing false (visitCheck ls g t)
+unfolding visitCheck tablesCheck clears
+visit-spares ls g t = clearing-then (lines-spare ls) (clearing-then (grid-spares g) (clearing-unless _ 10 0 refl))
+
 module _ (ls : Lines) (g : Grid) (t : Tables) (b : ℕ) (fs ss : List ℕ) where
-  refused : (r : Refusal) → batchCheck ls g t b fs ss ≡ Refused r → BatchIs ls g t b fs ss fs ss (batch.Refused r)
-  unfolding batchOf leftIn
-  refused r e = record { answers = rw e; first-is = rw e; second-is = rw e }
+  none : (r : Refusal) → batchTests ls g t b fs ss ≡ refused r → clears (r .number) ≡ false → BatchIs ls g t b fs ss fs ss (batch.Refused r)
+  unfolding batchAnswer batchOf pairsLeft answerBy leftIn
+  none r e k = record { answers = rw e; first-is = rw e (sym (left-same 0 r fs k)); second-is = rw e (sym (left-same 0 r ss k)) }
 
-  pub batch-unlike : (length fs ≡ length ss → ⊥) → BatchIs ls g t b fs ss fs ss (batch.Refused (refusal 3 0))
-  unfolding batchCheck outputsCheck unless andThen
-  batch-unlike h = refused (refusal 3 0) (rw (ne-eqb (length fs) (length ss) h))
+  pub batch-unlike : (r : Refusal) → outputsCheck fs ss ≡ Refused r → BatchIs ls g t b fs ss fs ss (batch.Refused r)
+  unfolding batchTests outputsCheck clears
+  batch-unlike r e = none r (then-refused _ _ r e) (clearing-unless _ 3 0 refl .says r e)
 
-  module _ (same : length fs ≡ length ss) where
-    checks : batchCheck ls g t b fs ss ≡ andThen (visitCheck ls g t) (bookmarkCheck t b)
-    unfolding batchCheck outputsCheck unless andThen
-    checks = rw (eq-eqb (length fs) (length ss) same)
+  module _ (same : outputsCheck fs ss ≡ Fine) where
+    tests : batchTests ls g t b fs ss ≡ testsFrom ls g t b
+    unfolding batchTests
+    tests = then-fine _ _ same
 
     pub batch-refused : (r : Refusal) → visitCheck ls g t ≡ Refused r → BatchIs ls g t b fs ss fs ss (batch.Refused r)
-    batch-refused r e = refused r (checks ∙ andThen-refused (visitCheck ls g t) (bookmarkCheck t b) r e)
+    unfolding testsFrom
+    batch-refused r e = none r (tests ∙ then-refused _ _ r e) (visit-spares ls g t .says r e)
 
     module _ (f : visitCheck ls g t ≡ Fine) where
       pub batch-beyond : length (testsOf t) < b → BatchIs ls g t b fs ss fs ss (batch.Refused (refusal 9 b))
-      batch-beyond h = refused (refusal 9 b) (checks ∙ andThen-fine (visitCheck ls g t) (bookmarkCheck t b) f ∙ book-out t b h)
+      unfolding testsFrom clears
+      batch-beyond h = none (refusal 9 b) (tests ∙ then-fine _ _ f ∙ then-refused _ _ _ (book-out t b h)) refl
 
       module _ (c : Cursor) (k : CursorIs ls g t b c) (fs₁ ss₁ : List ℕ) (r : Ran) (w : RanAll ls t c fs ss fs₁ ss₁ r) where
-        fine : batchCheck ls g t b fs ss ≡ Fine
-        fine = checks ∙ andThen-fine (visitCheck ls g t) (bookmarkCheck t b) f ∙ book-in t b (k .at-most)
-
         rest : List Pair
         rest = drop b (testsOf t)
+
+        given : batchTests ls g t b fs ss ≡ gives rest
+        unfolding testsFrom rest
+        given = tests ∙ then-fine _ _ f ∙ then-fine _ _ (book-in t b (k .at-most))
 
         tests-is : r .tests ≡ length (made ls rest (length fs))
         unfolding rest
@@ -146,18 +182,18 @@ module _ (ls : Lines) (g : Grid) (t : Tables) (b : ℕ) (fs ss : List ℕ) where
 
         -- an output that is cleared from the hits on holds what is written, and zero beyond
         cleared : (xs ys out : List ℕ) (n : ℕ) → ys ≡ clearedFrom (r .hits) xs → take (r .hits) xs ≡ out → length xs ≡ n → length out ≡ r .hits
-            → ys ≡ out ++ replicate {A = ℕ} (n - length out) 0
-        unfolding clearedFrom
+            → ys ≡ zeroBeyond 0 n out
+        unfolding clearedFrom zeroBeyond
         cleared xs ys out n e p l h = e ∙ rw (p, l, h)
 
         pub batch-done : (fs₂ ss₂ : List ℕ) → fs₂ ≡ clearedFrom (r .hits) fs₁ → ss₂ ≡ clearedFrom (r .hits) ss₁
             → BatchIs ls g t b fs ss fs₂ ss₂ (batch.Done (record { tests = r .tests; overlaps = r .hits; bookmark = b + r .tests }))
-        unfolding batchOf leftIn rest
+        unfolding batchAnswer batchOf pairsLeft answerBy leftIn rest
         batch-done fs₂ ss₂ p q =
             record {
-              answers = rw (fine, tests-is, hits-is);
-              first-is = rw fine (cleared fs₁ fs₂ (firsts (handed ls rest (length fs))) (length fs) p first-is (w .first-long) (length-map (handed ls rest (length fs)) (λ (x : Pair). x .first) ∙ sym hits-is));
-              second-is = rw fine (cleared ss₁ ss₂ (seconds (handed ls rest (length fs))) (length ss) q second-is (w .second-long) (length-map (handed ls rest (length fs)) (λ (x : Pair). x .second) ∙ sym hits-is));
+              answers = rw (given, tests-is, hits-is);
+              first-is = rw given (cleared fs₁ fs₂ (firsts (handed ls rest (length fs))) (length fs) p first-is (w .first-long) (length-map (handed ls rest (length fs)) (λ (x : Pair). x .first) ∙ sym hits-is));
+              second-is = rw given (cleared ss₁ ss₂ (seconds (handed ls rest (length fs))) (length ss) q second-is (w .second-long) (length-map (handed ls rest (length fs)) (λ (x : Pair). x .second) ∙ sym hits-is));
             }
 
 module _ (ls : Lines) (g : Grid) (offsets items globals : List ℕ) (m : ℕ) (f : visitCheck ls g (beside ls g offsets items globals m) ≡ Fine) (b : ℕ) (c : Cursor)
@@ -168,8 +204,9 @@ module _ (ls : Lines) (g : Grid) (offsets items globals : List ℕ) (m : ℕ) (f
   left : length (restOf (beside ls g offsets items globals m) c) ≡ length (testsOf (beside ls g offsets items globals m)) - b
   left = ap length (k .rest) ∙ length-drop b (testsOf (beside ls g offsets items globals m))
 
-  pub run-asks : length fs ≡ length ss → RunAsks ls g (beside ls g offsets items globals m) c fs ss
-  run-asks e = record { ready = k .ready; same = sym e; small = omega (arith, left, total) }
+  pub run-asks : outputsCheck fs ss ≡ Fine → RunAsks ls g (beside ls g offsets items globals m) c fs ss
+  unfolding outputsCheck
+  run-asks e = record { ready = k .ready; same = sym (eqb-true (length fs) (length ss) (unless-fine _ _ _ e)); small = omega (arith, left, total) }
 
   pub bookmark-fits : (fs₁ ss₁ : List ℕ) (r : Ran) → RanAll ls (beside ls g offsets items globals m) c fs ss fs₁ ss₁ r → b + r .tests < 2 ^ 64
   bookmark-fits fs₁ ss₁ r w = omega (arith, w .most, left, total, k .at-most)

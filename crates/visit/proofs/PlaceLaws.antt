@@ -13,7 +13,8 @@ use borrow.Author.Tests.{ltb-true}
 use Rattle.refusals.specs.declared.Refusal.{Refusal}
 use Rattle.refusals.specs.declared.Check.{Check}
 use Rattle.refusals.specs.declared.Check.the-variants.{Fine, Refused}
-use Rattle.refusals.specs.Refusals.{unless, andThen}
+use Rattle.refusals.specs.Refusals.{unless, andThen, gives, _then_, answerBy}
+use Rattle.refusals.proofs.Answers.{refused-by, past}
 use Rattle.refusals.proofs.Checks.{unless-fine, andThen-refused, andThen-fine, andThen-left, andThen-right}
 use Rattle.grid.specs.declared.Grid.{Grid}
 use Rattle.grid.specs.Domain.{cellCheck}
@@ -21,11 +22,11 @@ use Rattle.grid.proofs.Bools.{and-left, and-right}
 use Rattle.tables.specs.Tables.{Tables, cells, listOf}
 use Rattle.tables.specs.Fit.{TablesFit, standingCheck}
 use Rattle.tables.proofs.Facts.{part-slice}
-use Rattle.tables.proofs.Standing.{standing-says}
+use Rattle.tables.proofs.Checking.{standing-says}
 use Rattle.visit.specs.declared.Place.{Place}
 use Rattle.visit.specs.declared.Place.the-variants.{Cell, Global}
 use Rattle.visit.specs.Inside.{CellsFit}
-use Rattle.visit.specs.Places.{placeCheck, listCheck, listAt, partOf}
+use Rattle.visit.specs.Places.{placeCheck, listCheck, listAt, partAt}
 use Rattle.visit.proofs.Standing.{cells-fit}
 
 -- ---- the checks
@@ -79,13 +80,14 @@ cell-inside rows cols row col h k =
 
 -- ---- the part
 
-pub part-refused : (check : Check) (r : Refusal) (xs : List ℕ) → check ≡ Refused r → [] ≡ partOf check xs
-unfolding partOf
-part-refused check r xs e = rw e
+module _ (g : Grid) (t : Tables) (pl : Place) where
+  pub part-refused : (r : Refusal) → listCheck g t pl ≡ Refused r → [] ≡ partAt g t pl
+  unfolding partAt
+  part-refused r e = refused-by (λ (q : Refusal). []) (listAt t) (listCheck g t pl) (gives pl) r e
 
-part-fine : (check : Check) (xs : List ℕ) → check ≡ Fine → xs ≡ partOf check xs
-unfolding partOf
-part-fine check xs e = rw e
+  part-fine : listCheck g t pl ≡ Fine → listAt t pl ≡ partAt g t pl
+  unfolding partAt answerBy
+  part-fine e = past (λ (q : Refusal). []) (listAt t) (listCheck g t pl) (gives pl) e
 
 -- a cell's list: r, k and l are the row, the columns and the column, as the code has them
 module _ (g : Grid) (t : Tables) (rows : t .rows ≡ g .rows) (cols : t .cols ≡ g .cols) (pl : Place) (h : listCheck g t pl ≡ Fine)
@@ -118,12 +120,12 @@ module _ (g : Grid) (t : Tables) (rows : t .rows ≡ g .rows) (cols : t .cols �
     pub cell-to : to ≤ length (t .items)
     cell-to = omega (arith, to-is, (cells-fit t (facts .table)) .within (suc (r * k + l)) number-in)
 
-    pub part-cell : take (to - from) (drop from (t .items)) ≡ partOf (listCheck g t pl) (listAt t pl)
+    pub part-cell : take (to - from) (drop from (t .items)) ≡ partAt g t pl
     unfolding listAt
     part-cell =
         let n : r * k + l ≡ row * t .cols + col = rw (er, ek, el, cols) in
         part-slice from to (t .items)
-        ∙ rw (ef, to-is, n, e) (part-fine (listCheck g t (Cell row col)) (listOf t (row * t .cols + col)) at-cell)
+        ∙ rw (ef, to-is, n, e) (part-fine g t (Cell row col) at-cell)
 
 -- the globals from a position on
 module _ (g : Grid) (t : Tables) (pl : Place) (h : listCheck g t pl ≡ Fine) (p : ℕ) (e : pl ≡ Global p) where
@@ -136,19 +138,33 @@ module _ (g : Grid) (t : Tables) (pl : Place) (h : listCheck g t pl ≡ Fine) (p
   pub global-to : t .«global_count» ≤ length (t .globals)
   global-to = (global-place g t p at-global) .table .counted
 
-  pub part-global : take (t .«global_count» - p) (drop p (t .globals)) ≡ partOf (listCheck g t pl) (listAt t pl)
+  pub part-global : take (t .«global_count» - p) (drop p (t .globals)) ≡ partAt g t pl
   unfolding listAt
-  part-global = part-slice p (t .«global_count») (t .globals) ∙ rw e (part-fine (listCheck g t (Global p)) (slice p (t .«global_count») (t .globals)) at-global)
+  part-global = part-slice p (t .«global_count») (t .globals) ∙ rw e (part-fine g t (Global p) at-global)
 
 -- ---- a part that is given: it has lines, or the check found nothing
 
-pub part-some : (check : Check) (xs ys : List ℕ) → ys ≡ partOf check xs → 0 < length ys → check ≡ Fine
-unfolding partOf
+-- a list, unless its check refuses
+unfoldable pub given : Check → List ℕ → List ℕ
+given Fine xs = xs
+given (Refused r) xs = []
+
+pub part-is : (g : Grid) (t : Tables) (pl : Place) → partAt g t pl ≡ given (listCheck g t pl) (listAt t pl)
+unfolding partAt answerBy _then_ given
+part-is g t pl = go (listCheck g t pl)
+  where
+    go : (k : Check) → answerBy (λ (r : Refusal). []) (listAt t) (k then gives pl) ≡ given k (listAt t pl)
+    go Fine = refl
+    go (Refused r) = refl
+
+pub part-some : (check : Check) (xs ys : List ℕ) → ys ≡ given check xs → 0 < length ys → check ≡ Fine
+unfolding given
 part-some Fine xs ys e h = refl
 part-some (Refused r) xs ys e h = absurd (omega (arith, ap length e))
 
-pub part-whole : (check : Check) (xs ys : List ℕ) → ys ≡ partOf check xs → check ≡ Fine → ys ≡ xs
-part-whole check xs ys e h = e ∙ sym (part-fine check xs h)
+pub part-whole : (check : Check) (xs ys : List ℕ) → ys ≡ given check xs → check ≡ Fine → ys ≡ xs
+unfolding given
+part-whole check xs ys e h = e ∙ rw h
 
 -- ---- where it ends: it starts at its offset, or at its position
 

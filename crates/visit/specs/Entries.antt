@@ -1,13 +1,11 @@
--- What the two entries of a visit answer: one test by its bookmark, and a batch from a bookmark. Each is the first refusal in document 01's
--- order that applies, or else the result. Definitions only.
-use Prim.Native.Nat.{ℕ, _+_, _-_}
+-- What the two entries of a visit answer: one test by its bookmark, and a batch from a bookmark. Definitions only.
+use Prim.Native.Nat.{ℕ, _+_}
 use mathlib.Core.Path.{_≡_}
-use mathlib.Core.List.{List, [], _∷_, _++_}
-use lib.ListN.{length, drop, replicate}
+use mathlib.Core.List.{List, [], _∷_}
+use lib.ListN.{length, drop}
 use lib.Dec.{leb, eqb}
 use Rattle.refusals.specs.declared.Check.{Check}
-use Rattle.refusals.specs.declared.Check.the-variants.{Fine, Refused}
-use Rattle.refusals.specs.Refusals.{unless, andThen}
+use Rattle.refusals.specs.Refusals.{unless, andThen, Answer, gives, _then_, answerBy, leftIn, zeroBeyond}
 use Rattle.grid.specs.declared.Grid.{Grid}
 use Rattle.grid.specs.Domain.{Lines, count, linesCheck, gridCheck}
 use Rattle.tables.specs.Tables.{Tables, tables}
@@ -40,6 +38,11 @@ bookmarkCheck t b = unless (leb b (length (testsOf t))) 9 b
 unfoldable pub outputsCheck : List ℕ → List ℕ → Check
 outputsCheck first second = unless (eqb (length first) (length second)) 3 0
 
+-- ---- the tests that are left at a bookmark
+
+unfoldable pub testsFrom : Lines → Grid → Tables → ℕ → Answer (List Pair)
+testsFrom ls g t b = visitCheck ls g t then bookmarkCheck t b then gives (drop b (testsOf t))
+
 -- ---- one test by bookmark
 
 -- a test with its overlap
@@ -51,26 +54,13 @@ unfoldable pub nextTest : Lines → List Pair → TestAnswer
 nextTest ls [] = answer.End
 nextTest ls (p ∷ ps) = answer.Made (testOf ls p)
 
-unfoldable pub answerOf : Check → TestAnswer → TestAnswer
-answerOf Fine a = a
-answerOf (Refused r) a = answer.Refused r
-
 unfoldable pub testAt : Lines → Grid → Tables → ℕ → TestAnswer
-testAt ls g t b = answerOf (andThen (visitCheck ls g t) (bookmarkCheck t b)) (nextTest ls (drop b (testsOf t)))
+testAt ls g t b = answerBy answer.Refused (nextTest ls) (testsFrom ls g t b)
 
 -- ---- a batch
 
-unfoldable pub batchCheck : Lines → Grid → Tables → ℕ → List ℕ → List ℕ → Check
-batchCheck ls g t b first second = andThen (outputsCheck first second) (andThen (visitCheck ls g t) (bookmarkCheck t b))
-
-unfoldable pub batchOf : Check → Tally → BatchAnswer
-batchOf Fine a = batch.Done a
-batchOf (Refused r) a = batch.Refused r
-
--- what an output holds afterwards: on success what is written and zero beyond it, and on a refusal what it held
-unfoldable pub leftIn : Check → List ℕ → List ℕ → List ℕ
-leftIn Fine written out = written ++ replicate (length out - length written) 0
-leftIn (Refused r) written out = out
+unfoldable pub batchTests : Lines → Grid → Tables → ℕ → List ℕ → List ℕ → Answer (List Pair)
+batchTests ls g t b first second = outputsCheck first second then testsFrom ls g t b
 
 -- of the tests that are left at a bookmark, with room for as many pairs as the outputs are long: how many are made, how many overlap, and
 -- the bookmark after them
@@ -78,8 +68,18 @@ abbrev pub tallyOf : Lines → List Pair → ℕ → ℕ → Tally
 tallyOf ls rest b room =
     record { tests = length (made ls rest room); overlaps = length (handed ls rest room); bookmark = b + length (made ls rest room) }
 
+unfoldable pub batchOf : Lines → ℕ → ℕ → Answer (List Pair) → BatchAnswer
+batchOf ls b room rest = answerBy batch.Refused (λ ps. batch.Done (tallyOf ls ps b room)) rest
+
+unfoldable pub batchAnswer : Lines → Grid → Tables → ℕ → List ℕ → List ℕ → BatchAnswer
+batchAnswer ls g t b first second = batchOf ls b (length first) (batchTests ls g t b first second)
+
+-- what an output holds afterwards: one side of the pairs that overlap
+unfoldable pub pairsLeft : Lines → ℕ → (List Pair → List ℕ) → Answer (List Pair) → List ℕ → List ℕ
+pairsLeft ls room side rest was = leftIn 0 was rest (λ ps. zeroBeyond 0 (length was) (side (handed ls ps room)))
+
 -- the answer r, and the two outputs before and after
 pub record BatchIs (ls : Lines) (g : Grid) (t : Tables) (b : ℕ) (first second first′ second′ : List ℕ) (r : BatchAnswer) : Type 0 where
-  pub answers : r ≡ batchOf (batchCheck ls g t b first second) (tallyOf ls (drop b (testsOf t)) b (length first))
-  pub first-is : first′ ≡ leftIn (batchCheck ls g t b first second) (firsts (handed ls (drop b (testsOf t)) (length first))) first
-  pub second-is : second′ ≡ leftIn (batchCheck ls g t b first second) (seconds (handed ls (drop b (testsOf t)) (length first))) second
+  pub answers : r ≡ batchAnswer ls g t b first second
+  pub first-is : first′ ≡ pairsLeft ls (length first) firsts (batchTests ls g t b first second) first
+  pub second-is : second′ ≡ pairsLeft ls (length first) seconds (batchTests ls g t b first second) second

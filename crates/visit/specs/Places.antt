@@ -4,8 +4,7 @@ use mathlib.Core.List.{List, []}
 use lib.Seq.{slice}
 use lib.Dec.{ltb}
 use Rattle.refusals.specs.declared.Check.{Check}
-use Rattle.refusals.specs.declared.Check.the-variants.{Fine, Refused}
-use Rattle.refusals.specs.Refusals.{unless, andThen}
+use Rattle.refusals.specs.Refusals.{unless, andThen, gives, _then_, answerBy}
 use Rattle.grid.specs.declared.Grid.{Grid}
 use Rattle.grid.specs.Domain.{cellCheck}
 use Rattle.tables.specs.Tables.{Tables, listOf}
@@ -28,6 +27,5 @@ listAt t (Cell row col) = listOf t (row * t .cols + col)
 listAt t (Global p) = slice p (t .«global_count») (t .globals)
 
 -- a refusal returns an empty part
-unfoldable pub partOf : Check → List ℕ → List ℕ
-partOf Fine xs = xs
-partOf (Refused r) xs = []
+unfoldable pub partAt : Grid → Tables → Place → List ℕ
+partAt g t pl = answerBy (λ r. []) (listAt t) (listCheck g t pl then gives pl)

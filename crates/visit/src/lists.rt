@@ -5,7 +5,7 @@ use grid::Grid;
 use refusals::Check;
 ghost use mathlib.Core.Path.{_≡_};
 ghost use Rattle.tables.specs.Tables.{tables};
-ghost use Rattle.visit.specs.Places.{placeCheck, listCheck, listAt, partOf};
+ghost use Rattle.visit.specs.Places.{placeCheck, listCheck, partAt};
 
 // Refusal 9, of a place beyond its end.
 fn check_place(grid: Grid, global_count: usize, place: Place) -> Check
@@ -46,7 +46,7 @@ pub fn list_at<'a>(
     global_count: usize,
     place: Place,
 ) -> &'a [u32]
-    ensures { λ r. ⌜ now r ≡ partOf (listCheck grid (tables grid lines (now (offsets .entry)) (now (items .entry)) (now (globals .entry)) «global_count») place) (listAt (tables grid lines (now (offsets .entry)) (now (items .entry)) (now (globals .entry)) «global_count») place) ⌝ }
+    ensures { λ r. ⌜ now r ≡ partAt grid (tables grid lines (now (offsets .entry)) (now (items .entry)) (now (globals .entry)) «global_count») place ⌝ }
 {
     let check = list_check(lines, grid, offsets, items, globals, global_count, place);
     if let Check::Refused(_) = check {

@@ -117,11 +117,9 @@ pub fn batch(
 ) -> BatchAnswer
     ensures { λ r. ⌜ BatchIs (lines (now («start_x» .entry)) (now («start_y» .entry)) (now («end_x» .entry)) (now («end_y» .entry))) grid (beside (lines (now («start_x» .entry)) (now («start_y» .entry)) (now («end_x» .entry)) (now («end_y» .entry))) grid (now (offsets .entry)) (now (items .entry)) (now (globals .entry)) «global_count») bookmark (now (first .entry)) (now (second .entry)) (now (first .exit)) (now (second .exit)) r ⌝ }
 {
-    if first.len() != second.len() {
-        return BatchAnswer::Refused(Refusal {
-            number: 3,
-            value: 0,
-        });
+    let lent = refusals::refuse_unless(first.len() == second.len(), 3, 0);
+    if let Check::Refused(r) = lent {
+        return BatchAnswer::Refused(r);
     }
     let check = check_visit(
         start_x,

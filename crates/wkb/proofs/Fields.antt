@@ -7,33 +7,36 @@ use native.Mathlib.Omega.{arith}
 use lib.ListN.{length, getD}
 use lib.Dec.{T, leb, eqb}
 use borrow.Author.Tests.{le-leb, lt-leb, eq-eqb, ne-eqb, leb-true, eqb-true}
+use Rattle.refusals.specs.Refusals.{refusal, unless, andThen, Answer, refused, gives, _then_}
+use Rattle.refusals.proofs.Checks.{unless-fine, andThen-left, andThen-right}
+use Rattle.refusals.proofs.Answers.{then-passed}
 use Rattle.wkb.specs.Bytes.{Point, numberAt, pointsAt}
-use Rattle.wkb.specs.Reading.{Found, points, refused, refuseUnless, field, orderOf, pointsField, countField, typeField, found}
+use Rattle.wkb.specs.Reading.{fieldCheck, orderOf, pointsField, countField, typeField, found}
 use Rattle.wkb.specs.declared.Order.{Order}
 
 -- ---- one field
 
-module _ (bs : List ℕ) (start end : ℕ) (right : Bool) (next : Found) where
-  field-cut : length bs < end → field bs start end right next ≡ refused 11 (length bs)
-  unfolding field refuseUnless
+module _ (bs : List ℕ) (start end : ℕ) (right : Bool) (next : Answer (List Point)) where
+  field-cut : length bs < end → (fieldCheck bs start end right then next) ≡ refused (refusal 11 (length bs))
+  unfolding fieldCheck unless andThen _then_
   field-cut h = rw (lt-leb end (length bs) h)
 
-  field-wrong : end ≤ length bs → right ≡ false → field bs start end right next ≡ refused 11 start
-  unfolding field refuseUnless
+  field-wrong : end ≤ length bs → right ≡ false → (fieldCheck bs start end right then next) ≡ refused (refusal 11 start)
+  unfolding fieldCheck unless andThen _then_
   field-wrong h e = rw (le-leb end (length bs) h, e)
 
-  field-right : end ≤ length bs → right ≡ true → field bs start end right next ≡ next
-  unfolding field refuseUnless
+  field-right : end ≤ length bs → right ≡ true → (fieldCheck bs start end right then next) ≡ next
+  unfolding fieldCheck unless andThen _then_
   field-right h e = rw (le-leb end (length bs) h, e)
 
 -- ---- the order, named by the first byte
 
 module _ (bs : List ℕ) where
-  pub order-cut : length bs < 1 → found bs ≡ refused 11 (length bs)
+  pub order-cut : length bs < 1 → found bs ≡ refused (refusal 11 (length bs))
   unfolding found
   order-cut h = field-cut bs 0 1 _ _ h
 
-  pub order-wrong : 1 ≤ length bs → 1 < getD bs 0 0 → found bs ≡ refused 11 0
+  pub order-wrong : 1 ≤ length bs → 1 < getD bs 0 0 → found bs ≡ refused (refusal 11 0)
   unfolding found
   order-wrong h k = field-wrong bs 0 1 _ _ h (lt-leb (getD bs 0 0) 1 k)
 
@@ -50,11 +53,11 @@ module _ {bs : List ℕ} {o : Order} (h : Ordered bs o) where
   unfolding found
   to-type = field-right bs 0 1 _ _ (h .long) (le-leb (getD bs 0 0) 1 (h .names)) ∙ ap (λ (p : Order). typeField p bs) (sym (h .is))
 
-  pub type-cut : length bs < 5 → found bs ≡ refused 11 (length bs)
+  pub type-cut : length bs < 5 → found bs ≡ refused (refusal 11 (length bs))
   unfolding typeField
   type-cut k = to-type ∙ field-cut bs 1 5 _ _ k
 
-  pub type-wrong : 5 ≤ length bs → (numberAt o 4 1 bs ≡ 2 → ⊥) → found bs ≡ refused 11 1
+  pub type-wrong : 5 ≤ length bs → (numberAt o 4 1 bs ≡ 2 → ⊥) → found bs ≡ refused (refusal 11 1)
   unfolding typeField
   type-wrong k w = to-type ∙ field-wrong bs 1 5 _ _ k (ne-eqb (numberAt o 4 1 bs) 2 w)
 
@@ -80,15 +83,15 @@ module _ {bs : List ℕ} {o : Order} (h : Typed bs o) where
   unfolding typeField
   to-count = to-type (h .order) ∙ field-right bs 1 5 _ _ (h .long) (eq-eqb (numberAt o 4 1 bs) 2 (h .is))
 
-  pub count-cut : length bs < 9 → found bs ≡ refused 11 (length bs)
+  pub count-cut : length bs < 9 → found bs ≡ refused (refusal 11 (length bs))
   unfolding countField
   count-cut k = to-count ∙ field-cut bs 5 9 _ _ k
 
-  pub count-none : 9 ≤ length bs → numberAt o 4 5 bs < 1 → found bs ≡ refused 11 5
+  pub count-none : 9 ≤ length bs → numberAt o 4 5 bs < 1 → found bs ≡ refused (refusal 11 5)
   unfolding countField
   count-none k w = to-count ∙ field-wrong bs 5 9 _ _ k (few-false (numberAt o 4 5 bs) w)
 
-  pub count-many : 9 ≤ length bs → 1024 < numberAt o 4 5 bs → found bs ≡ refused 11 5
+  pub count-many : 9 ≤ length bs → 1024 < numberAt o 4 5 bs → found bs ≡ refused (refusal 11 5)
   unfolding countField
   count-many k w =
       to-count ∙ field-wrong bs 5 9 _ _ k (many-false (numberAt o 4 5 bs) w)
@@ -110,40 +113,34 @@ module _ {bs : List ℕ} {o : Order} {n : ℕ} (h : Counted bs o n) where
       to-count (h .type) ∙ ap (λ (k : ℕ). countField o k bs) (sym (h .is))
       ∙ field-right bs 5 9 _ _ (h .long) (range-true n (h .some) (h .most))
 
-  pub points-cut : length bs < 9 + 16 * n → found bs ≡ refused 11 (length bs)
+  pub points-cut : length bs < 9 + 16 * n → found bs ≡ refused (refusal 11 (length bs))
   unfolding pointsField
   points-cut k = to-points ∙ field-cut bs 9 (9 + 16 * n) _ _ k
 
-  pub points-more : 9 + 16 * n < length bs → found bs ≡ refused 11 (9 + 16 * n)
-  unfolding pointsField refuseUnless
+  pub points-more : 9 + 16 * n < length bs → found bs ≡ refused (refusal 11 (9 + 16 * n))
+  unfolding pointsField unless _then_
   points-more k = to-points ∙ field-right bs 9 (9 + 16 * n) _ _ (omega arith) refl ∙ rw (lt-leb (length bs) (9 + 16 * n) k)
 
-  pub points-right : length bs ≡ 9 + 16 * n → found bs ≡ points (pointsAt o n 9 bs)
-  unfolding pointsField refuseUnless
+  pub points-right : length bs ≡ 9 + 16 * n → found bs ≡ gives (pointsAt o n 9 bs)
+  unfolding pointsField unless _then_
   points-right k =
       to-points ∙ field-right bs 9 (9 + 16 * n) _ _ (omega arith) refl ∙ rw (le-leb (length bs) (9 + 16 * n) (omega arith))
 
 -- ---- back: where points are found, every field is right
 
--- points are no refusal
-pub apart : {A : Type 0} {f : Found} {k v : ℕ} {ps : List Point} → f ≡ refused k v → f ≡ points ps → A
-apart e d = let z : _≡_ {A = ℕ} 0 1 = cc in absurd (omega arith)
-
-passed : (t : Bool) (k v : ℕ) (next : Found) {ps : List Point} → refuseUnless t k v next ≡ points ps → (t ≡ true) × (next ≡ points ps)
-unfolding refuseUnless
-passed true k v next h = (refl, h)
-passed false k v next h = apart refl h
-
-both : (s t : Bool) → (s && t) ≡ true → (s ≡ true) × (t ≡ true)
+pub both : (s t : Bool) → (s && t) ≡ true → (s ≡ true) × (t ≡ true)
 both true t h = (refl, h)
 both false t h = let z : _≡_ {A = Bool} false true = h in absurd (subst T (sym z) tt)
 
-field-passed : (bs : List ℕ) (start end : ℕ) (right : Bool) (next : Found) {ps : List Point} → field bs start end right next ≡ points ps → (end ≤ length bs) × (right ≡ true) × (next ≡ points ps)
-unfolding field
-field-passed bs start end right next h =
-    let a = passed (leb end (length bs)) 11 (length bs) (refuseUnless right 11 start next) h in
-    let b = passed right 11 start next (a .1) in
-    (leb-true end (length bs) (a .0), b .0, b .1)
+module _ (bs : List ℕ) (start end : ℕ) (right : Bool) (next : Answer (List Point)) where
+  field-passed : {ps : List Point} → (fieldCheck bs start end right then next) ≡ gives ps → (end ≤ length bs) × (right ≡ true) × (next ≡ gives ps)
+  unfolding fieldCheck
+  field-passed h =
+      let a = then-passed (andThen (unless (leb end (length bs)) 11 (length bs)) (unless right 11 start)) next h in (
+        leb-true end (length bs) (unless-fine _ _ _ (andThen-left _ _ (a .0))),
+        unless-fine _ _ _ (andThen-right (unless (leb end (length bs)) 11 (length bs)) _ (a .0)),
+        a .1,
+      )
 
 -- every field is right, and the points, n of them in the order o, are ps
 pub record AllRight (bs : List ℕ) (o : Order) (n : ℕ) (ps : List Point) : Type 0 where
@@ -151,7 +148,7 @@ pub record AllRight (bs : List ℕ) (o : Order) (n : ℕ) (ps : List Point) : Ty
   pub whole : length bs ≡ 9 + 16 * n
   pub are : pointsAt o n 9 bs ≡ ps
 
-pub found-points : (bs : List ℕ) (ps : List Point) → found bs ≡ points ps → AllRight bs (orderOf (getD bs 0 0)) (numberAt (orderOf (getD bs 0 0)) 4 5 bs) ps
+pub found-points : (bs : List ℕ) (ps : List Point) → found bs ≡ gives ps → AllRight bs (orderOf (getD bs 0 0)) (numberAt (orderOf (getD bs 0 0)) 4 5 bs) ps
 unfolding found typeField countField pointsField
 found-points bs ps h =
     let b = getD bs 0 0 in
@@ -160,8 +157,8 @@ found-points bs ps h =
     let f1 = field-passed bs 0 1 (leb b 1) (typeField o bs) h in
     let f2 = field-passed bs 1 5 (eqb (numberAt o 4 1 bs) 2) (countField o n bs) (f1 .2) in
     let f3 = field-passed bs 5 9 (leb 1 n && leb n 1024) (pointsField o n bs) (f2 .2) in
-    let f4 = field-passed bs 9 (9 + 16 * n) true (refuseUnless (leb (length bs) (9 + 16 * n)) 11 (9 + 16 * n) (points (pointsAt o n 9 bs))) (f3 .2) in
-    let f5 = passed (leb (length bs) (9 + 16 * n)) 11 (9 + 16 * n) (points (pointsAt o n 9 bs)) (f4 .2) in
+    let f4 = field-passed bs 9 (9 + 16 * n) true (unless (leb (length bs) (9 + 16 * n)) 11 (9 + 16 * n) then gives (pointsAt o n 9 bs)) (f3 .2) in
+    let f5 = then-passed (unless (leb (length bs) (9 + 16 * n)) 11 (9 + 16 * n)) (gives (pointsAt o n 9 bs)) (f4 .2) in
     let range = both (leb 1 n) (leb n 1024) (f3 .1) in
     record {
       counted = record {
@@ -175,9 +172,9 @@ found-points bs ps h =
         some = leb-true 1 n (range .0);
         most = leb-true n 1024 (range .1);
       };
-      whole = omega (arith, f4 .0, leb-true (length bs) (9 + 16 * n) (f5 .0));
+      whole = omega (arith, f4 .0, leb-true (length bs) (9 + 16 * n) (unless-fine _ _ _ (f5 .0)));
       are = same-points (f5 .1);
     }
   where
-    same-points : {ps qs : List Point} → points ps ≡ points qs → ps ≡ qs
+    same-points : {ps qs : List Point} → gives ps ≡ gives qs → ps ≡ qs
     same-points e = cc

@@ -6,8 +6,9 @@ use Prim.Native.Nat.{ℕ, zero, suc, _+_, _*_, _^_, _≤_, _<_}
 use native.Mathlib.Omega.{arith}
 use lib.ListN.{length, take, drop, getD, length-append, length-drop, take-append-drop, drop-of-length-le}
 use lib.Seq.{drop-cons, drop-drop, length-take-le, take-at, drop-at}
+use Rattle.refusals.specs.Refusals.{gives}
 use Rattle.wkb.specs.Bytes.{orderByte, wordBytes, Point, pointBytes, pointsBytes, lineBytes, Patterns, LineString, number, numberAt, pointsAt}
-use Rattle.wkb.specs.Reading.{points, orderOf, found}
+use Rattle.wkb.specs.Reading.{orderOf, found}
 use Rattle.wkb.specs.declared.Order.{Order}
 use Rattle.wkb.specs.declared.Order.the-variants.{Big, Little}
 use Rattle.wkb.proofs.Words.{Small, small-take, small-drop, length-word, number-word, word-number, at-below}
@@ -121,11 +122,11 @@ whole-line o n bs s h e =
     }
 
 -- where points are found, the bytes are those of their LineString
-pub sound : (bs : List ℕ) (ps : List Point) → Small bs → found bs ≡ points ps → LineString bs ps
+pub sound : (bs : List ℕ) (ps : List Point) → Small bs → found bs ≡ gives ps → LineString bs ps
 sound bs ps s h = let f = found-points bs ps h in subst (LineString bs) (f .are) (whole-line _ _ bs s (f .counted) (f .whole))
 
 -- in the bytes of a LineString its points are found
-pub complete : (bs : List ℕ) (ps : List Point) → LineString bs ps → found bs ≡ points ps
+pub complete : (bs : List ℕ) (ps : List Point) → LineString bs ps → found bs ≡ gives ps
 unfolding lineBytes
 complete bs ps l =
     let o = l .order in
@@ -149,4 +150,4 @@ complete bs ps l =
       some = l .some;
       most = l .most;
     } in
-    points-right whole long ∙ ap points (points-read o bs [] ps (l .patterns) 9 (many .after ∙ sym (append-nil P)))
+    points-right whole long ∙ ap gives (points-read o bs [] ps (l .patterns) 9 (many .after ∙ sym (append-nil P)))

@@ -1,24 +1,20 @@
 // The reader of one LineString in well-known binary (OGC 06-103r4): a byte that names the byte
 // order, the type 2, the number of points, the points.
+use refusals::Check;
+use refusals::Refusal;
 ghost use mathlib.Core.Path.{_≡_};
 ghost use Prim.Native.Nat.{_+_, _*_, _-_, _^_, _≤_, _<_};
 ghost use mathlib.Core.List.{[], _∷_, _++_, map};
 ghost use lib.ListN.{length, take, replicate};
 ghost use lib.Ieee.{binary64, ofBits};
 ghost use Rattle.wkb.specs.Bytes.{littleNumber, numberAt};
-ghost use Rattle.wkb.specs.Reading.{orderOf, nought, ReadAs};
+ghost use Rattle.wkb.specs.Reading.{orderOf, slicesCheck, nought, ReadAs};
 ghost use Rattle.wkb.specs.Steps.{numbersAt, CheckedAs};
 
 // Which byte of a number comes first: the most significant one, or the least significant one.
 pub enum Order {
     Big,
     Little,
-}
-
-// A refusal's number in document 01, and what it returns.
-pub struct Refusal {
-    pub number: u32,
-    pub value: u64,
 }
 
 // What the reader answers: how many points it read, or why it read none.
@@ -153,22 +149,21 @@ fn read_axis(bytes: &[u8], at: usize, order: Order, n: usize, s: &mut [f64])
     zero_from(s, n);
 }
 
+// The point slices have one length, and room for 1,024 points.
+fn check_slices(m: usize, n: usize) -> Check
+    ensures { λ r. ⌜ r ≡ slicesCheck m n ⌝ }
+{
+    refusals::refuse_unless((m == n) & (1024 <= m), 3, 0)
+}
+
 // Reads one LineString of 1 to 1,024 points, with no bytes after it, into x and y; zero beyond. A
 // refusal changes nothing.
 pub fn read_line_string(bytes: &[u8], x: &mut [f64], y: &mut [f64]) -> Read
     ensures { λ r. ⌜ ReadAs (now (bytes .entry)) (now (x .entry)) (now (y .entry)) r (now (x .exit)) (now (y .exit)) ⌝ }
 {
-    if x.len() != y.len() {
-        return Read::Refused(Refusal {
-            number: 3,
-            value: 0,
-        });
-    }
-    if x.len() < 1024 {
-        return Read::Refused(Refusal {
-            number: 3,
-            value: 0,
-        });
+    let lent = check_slices(x.len(), y.len());
+    if let Check::Refused(r) = lent {
+        return Read::Refused(r);
     }
     match check(bytes) {
         Checked::Line { order, count } => {

@@ -1,7 +1,8 @@
 -- `own::overlap_owned` meets its contract: the first check that refuses gives the answer, else the test of the snapped end does.
 -- Assumes nothing.
 use mathlib.Core.Path.{sym, ap, ap₂, _∙_}
-use Rattle.snap.proofs.Answers.{refused-first, fine-first, refused-last, fine-last}
+use Rattle.refusals.specs.Refusals.{answerBy}
+use Rattle.refusals.proofs.Answers.{refused-by, past}
 use Rattle.snap.proofs.Snapping.{snapped, not-snapped}
 use Rattle.own.specs.Own.{owned, ownsOverlap, overlapAnswer}
 use Rattle.own.proofs.Tests.{place-point}
@@ -17,7 +18,7 @@ enum-known-place c = search needs
 
 returns : tie.Need-returns
 unfolding overlapAnswer
-returns c = sym (refused-first _ _ _ _ _ (sym (c .before .before .before .check-place .ensures) ∙ c .before .place .given .1))
+returns c = refused-by _ _ _ _ _ (sym (c .before .before .before .check-place .ensures) ∙ c .before .place .given .1)
 
 enum-told : tie.Need-enum-told
 enum-told c = search needs
@@ -42,7 +43,7 @@ unfolding overlapAnswer
 returns-2 c =
     let p = sym (c .before .before .before .before .before .before .before .before .before .before .check-place .ensures) ∙ c .before .before .before .before .before .before .before .before .enum-told .given .1 in
     let s = snapped _ _ _ _ (place-point _ _ _ p) _ _ (sym (c .before .before .before .before .before .before .before .snap-point .ensures) ∙ c .before .before .before .before .before .end2 .given .1) in
-    sym (fine-first _ _ _ _ p ∙ fine-first _ _ _ _ (s .0) ∙ refused-last _ _ _ _ (sym (c .before .before .before .check-cell .ensures) ∙ c .before .cell .given .1))
+    refused-by _ _ _ _ _ (sym (c .before .before .before .check-cell .ensures) ∙ c .before .cell .given .1) ∙ past _ _ _ _ (s .0) ∙ past _ _ _ _ p
 
 enum-told-2 : tie.Need-enum-told-2
 enum-told-2 c = search needs
@@ -57,15 +58,15 @@ returns-3 : tie.Need-returns-3
 unfolding overlapAnswer
 returns-3 c =
     let p = sym (c .before .before .before .before .before .before .check-place .ensures) ∙ c .before .before .before .before .enum-told .given .1 in
-    sym (fine-first _ _ _ _ p ∙ refused-first _ _ _ _ _ (not-snapped _ _ _ _ (place-point _ _ _ p) _ (sym (c .before .before .before .snap-point .ensures) ∙ c .before .end .given .1)))
+    refused-by _ _ _ _ _ (not-snapped _ _ _ _ (place-point _ _ _ p) _ (sym (c .before .before .before .snap-point .ensures) ∙ c .before .end .given .1)) ∙ past _ _ _ _ p
 
 returns-4 : tie.Need-returns-4
-unfolding overlapAnswer
+unfolding overlapAnswer answerBy
 returns-4 c =
     let p = sym (c .before .before .before .before .before .before .before .before .before .before .before .check-place .ensures) ∙ c .before .before .before .before .before .before .before .before .before .enum-told .given .1 in
     let s = snapped _ _ _ _ (place-point _ _ _ p) _ _ (sym (c .before .before .before .before .before .before .before .before .snap-point .ensures) ∙ c .before .before .before .before .before .before .end2 .given .1) in
     let q = sym (c .before .before .before .before .check-cell .ensures) ∙ c .before .before .enum-told2 .given .1 in
-    c .answer .ensures ∙ ap owned (c .before .owns-overlap .ensures ∙ ap₂ (ownsOverlap _ _ _) (s .1) (s .2)) ∙ sym (fine-first _ _ _ _ p ∙ fine-first _ _ _ _ (s .0) ∙ fine-last _ _ _ q)
+    c .answer .ensures ∙ ap owned (c .before .owns-overlap .ensures ∙ ap₂ (ownsOverlap _ _ _) (s .1) (s .2)) ∙ past _ _ _ _ q ∙ past _ _ _ _ (s .0) ∙ past _ _ _ _ p
 
 pub overlap-owned-spec : {M : Type 1} → statement M
 overlap-owned-spec =

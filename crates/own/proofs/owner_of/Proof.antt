@@ -1,6 +1,7 @@
 -- `own::owner_of` meets its contract: the check that refuses gives the answer, else the search does. Assumes nothing.
 use mathlib.Core.Path.{sym, _∙_}
-use Rattle.snap.proofs.Answers.{refused-last, fine-last}
+use Rattle.refusals.specs.Refusals.{answerBy}
+use Rattle.refusals.proofs.Answers.{refused-by, past}
 use Rattle.own.specs.Owner.{ownerAnswer}
 use Rattle.own.proofs.Owners.{searchable}
 use borrow.Author.Needs.{needs}
@@ -15,7 +16,7 @@ enum-known-place c = search needs
 
 returns : tie.Need-returns
 unfolding ownerAnswer
-returns c = sym (refused-last _ _ _ _ (sym (c .before .before .before .check-place .ensures) ∙ c .before .place .given .1))
+returns c = refused-by _ _ _ _ _ (sym (c .before .before .before .check-place .ensures) ∙ c .before .place .given .1)
 
 enum-told : tie.Need-enum-told
 enum-told c = search needs
@@ -24,8 +25,8 @@ first-cell-requires : tie.Need-first-cell-requires
 first-cell-requires c κs = searchable _ _ _ (sym (c .before .before .check-place .ensures) ∙ c .enum-told .given .1)
 
 returns-2 : tie.Need-returns-2
-unfolding ownerAnswer
-returns-2 c = c .first-cell .ensures ∙ sym (fine-last _ _ _ (sym (c .before .before .before .check-place .ensures) ∙ c .before .enum-told .given .1))
+unfolding ownerAnswer answerBy
+returns-2 c = c .first-cell .ensures ∙ past _ _ _ _ (sym (c .before .before .before .check-place .ensures) ∙ c .before .enum-told .given .1)
 
 pub owner-of-spec : {M : Type 1} → statement M
 owner-of-spec =

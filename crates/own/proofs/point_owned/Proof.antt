@@ -1,6 +1,7 @@
 -- `own::point_owned` meets its contract: the first check that refuses gives the answer, else the test does. Assumes nothing.
 use mathlib.Core.Path.{sym, ap, _∙_}
-use Rattle.snap.proofs.Answers.{refused-first, fine-first, refused-last, fine-last}
+use Rattle.refusals.specs.Refusals.{answerBy}
+use Rattle.refusals.proofs.Answers.{refused-by, past}
 use Rattle.own.specs.Own.{owned, pointAnswer}
 use borrow.Author.Needs.{needs}
 use Rattle.own.proofs.point_owned.Statement.{statement}
@@ -14,7 +15,7 @@ enum-known-place c = search needs
 
 returns : tie.Need-returns
 unfolding pointAnswer
-returns c = sym (refused-first _ _ _ _ _ (sym (c .before .before .before .check-place .ensures) ∙ c .before .place .given .1))
+returns c = refused-by _ _ _ _ _ (sym (c .before .before .before .check-place .ensures) ∙ c .before .place .given .1)
 
 enum-told : tie.Need-enum-told
 enum-told c = search needs
@@ -29,7 +30,7 @@ returns-2 : tie.Need-returns-2
 unfolding pointAnswer
 returns-2 c =
     let p = sym (c .before .before .before .before .before .before .check-place .ensures) ∙ c .before .before .before .before .enum-told .given .1 in
-    sym (fine-first _ _ _ _ p ∙ refused-last _ _ _ _ (sym (c .before .before .before .check-cell .ensures) ∙ c .before .cell .given .1))
+    refused-by _ _ _ _ _ (sym (c .before .before .before .check-cell .ensures) ∙ c .before .cell .given .1) ∙ past _ _ _ _ p
 
 enum-told-2 : tie.Need-enum-told-2
 enum-told-2 c = search needs
@@ -41,11 +42,11 @@ answer-requires : tie.Need-answer-requires
 answer-requires c κs = search needs
 
 returns-3 : tie.Need-returns-3
-unfolding pointAnswer
+unfolding pointAnswer answerBy
 returns-3 c =
     let p = sym (c .before .before .before .before .before .before .before .check-place .ensures) ∙ c .before .before .before .before .before .enum-told .given .1 in
     let q = sym (c .before .before .before .before .check-cell .ensures) ∙ c .before .before .enum-told2 .given .1 in
-    c .answer .ensures ∙ ap owned (c .before .owns-point .ensures) ∙ sym (fine-first _ _ _ _ p ∙ fine-last _ _ _ q)
+    c .answer .ensures ∙ ap owned (c .before .owns-point .ensures) ∙ past _ _ _ _ q ∙ past _ _ _ _ p
 
 pub point-owned-spec : {M : Type 1} → statement M
 point-owned-spec =

@@ -1,7 +1,7 @@
 -- `tables::check_tables` meets its contract. Assumes nothing.
 use mathlib.Core.Path.{_≡_, sym, _∙_}
 use Rattle.tables.specs.Tables.{tables}
-use Rattle.tables.proofs.Standing.{unfit-refused, standing-many, standing-grid, standing-tables}
+use Rattle.tables.proofs.Checking.{unfit-refused, standing-many, standing-grid, standing-tables}
 use borrow.Author.Needs.{needs}
 use Rattle.tables.proofs.check_tables.Statement.{statement}
 use Rattle.tables.proofs.check_tables.Tie as tie

@@ -2,6 +2,7 @@
 use mathlib.Core.Path.{sym, _∙_}
 use Rattle.tables.specs.Tables.{tables}
 use Rattle.visit.specs.Places.{listCheck, listAt}
+use Rattle.visit.proofs.PlaceLaws.{part-is}
 use Rattle.capi.proofs.Handing.{answered, list-some, list-none, list-refused}
 use borrow.Author.Needs.{needs}
 use Rattle.capi.proofs.visiting.listed.Statement.{statement}
@@ -21,7 +22,7 @@ returns c =
     let a = c .before .before .before .before .before .before .before .before .before .before .args in
     let t = tables (a .grid) (a .lines) (a .offsets .now) (a .items .now) (a .globals .now) (a .global-count) in
     let k = listCheck (a .grid) t (a .place) in
-    answered (list-some k (a .from) (listAt t (a .place)) _ (c .before .before .before .before .before .list-at .ensures) (c .before .before .before .before .if1 .taken)) (c .before .before .two .ensures)
+    answered (list-some k (a .from) (listAt t (a .place)) _ (c .before .before .before .before .before .list-at .ensures ∙ part-is (a .grid) t (a .place)) (c .before .before .before .before .if1 .taken)) (c .before .before .two .ensures)
 
 list-check-requires : tie.Need-list-check-requires
 list-check-requires c κs = search needs
@@ -46,7 +47,7 @@ returns-2 c =
     let a = c .before .before .before .before .before .before .before .before .before .before .before .before .before .args in
     let t = tables (a .grid) (a .lines) (a .offsets .now) (a .items .now) (a .globals .now) (a .global-count) in
     let k = listCheck (a .grid) t (a .place) in
-    answered (list-none k (a .from) (listAt t (a .place)) _ (c .before .before .before .before .before .before .before .before .list-at .ensures) (sym (c .before .before .before .before .before .before .list-check .ensures) ∙ c .before .before .before .before .enum-told .given .1) (c .before .before .before .before .before .before .before .if1 .left)) (c .before .before .two2 .ensures)
+    answered (list-none k (a .from) (listAt t (a .place)) _ (c .before .before .before .before .before .before .before .before .list-at .ensures ∙ part-is (a .grid) t (a .place)) (sym (c .before .before .before .before .before .before .list-check .ensures) ∙ c .before .before .before .before .enum-told .given .1) (c .before .before .before .before .before .before .before .if1 .left)) (c .before .before .two2 .ensures)
 
 same-length-3 : tie.Need-same-length-3
 same-length-3 c = search needs
@@ -56,7 +57,7 @@ returns-3 c =
     let a = c .before .before .before .before .before .before .before .before .before .before .before .before .before .before .args in
     let t = tables (a .grid) (a .lines) (a .offsets .now) (a .items .now) (a .globals .now) (a .global-count) in
     let k = listCheck (a .grid) t (a .place) in
-    answered (list-refused k (a .from) (listAt t (a .place)) _ (c .before .before .before .before .before .before .before .before .before .list-at .ensures) _ (sym (c .before .before .before .before .before .before .before .list-check .ensures) ∙ c .before .before .before .before .before .check .given .1)) (c .before .before .refused .ensures)
+    answered (list-refused k (a .from) (listAt t (a .place)) _ (c .before .before .before .before .before .before .before .before .before .list-at .ensures ∙ part-is (a .grid) t (a .place)) _ (sym (c .before .before .before .before .before .before .before .list-check .ensures) ∙ c .before .before .before .before .before .check .given .1)) (c .before .before .refused .ensures)
 
 pub listed-spec : {M : Type 1} → statement M
 listed-spec =

@@ -1,28 +1,43 @@
--- `grid::checks::check_lines` meets its contract. Assumes nothing.
+-- `grid::checks::check_lines` meets its contract: the first check that refuses, or the search. Assumes nothing.
 use mathlib.Core.Path.{sym, _∙_}
-use borrow.Author.Tests.{not-true, not-false}
-use Rattle.grid.proofs.Fine.{alike-says, lines-unlike, lines-many, lines-each}
+use Rattle.refusals.proofs.Checks.{andThen-refused, andThen-fine}
+use Rattle.grid.specs.Domain.{linesCheck}
+use Rattle.grid.proofs.Fine.{lengths-fine}
 use borrow.Author.Needs.{needs}
 use Rattle.grid.proofs.checks.check_lines.Statement.{statement}
 use Rattle.grid.proofs.checks.check_lines.Tie as tie
 
-all-are-requires : tie.Need-all-are-requires
-all-are-requires c κs = search needs
-
 returns : tie.Need-returns
-returns c = lines-unlike _ (sym (c .before .all-are .ensures) ∙ not-true _ (c .if1 .taken))
+unfolding linesCheck
+returns c = sym (andThen-refused _ _ _ (sym (c .before .before .before .check-lengths .ensures) ∙ c .before .alike .given .1))
 
 returns-2 : tie.Need-returns-2
-returns-2 c = lines-many _ (sym (c .before .before .all-are .ensures) ∙ not-false _ (c .before .if1 .left)) (c .if2 .taken)
+unfolding linesCheck
+returns-2 c =
+    let p = sym (c .before .before .before .before .before .before .check-lengths .ensures) ∙ c .before .before .before .before .enum-told .given .1 in
+    sym (andThen-fine _ _ p ∙ andThen-refused _ _ _ (sym (c .before .before .before .check-count .ensures) ∙ c .before .few .given .1))
 
 check-coordinates-requires : tie.Need-check-coordinates-requires
-check-coordinates-requires c κs = alike-says _ (sym (c .before .before .all-are .ensures) ∙ not-false _ (c .before .if1 .left))
+check-coordinates-requires c κs = lengths-fine _ (sym (c .before .before .before .before .before .check-lengths .ensures) ∙ c .before .before .before .enum-told .given .1)
 
 returns-3 : tie.Need-returns-3
+unfolding linesCheck
 returns-3 c =
-    c .check-coordinates .ensures
-    ∙ lines-each _ (sym (c .before .before .before .all-are .ensures) ∙ not-false _ (c .before .before .if1 .left)) (c .before .if2 .left)
+    let p = sym (c .before .before .before .before .before .before .check-lengths .ensures) ∙ c .before .before .before .before .enum-told .given .1 in
+    let q = sym (c .before .before .before .check-count .ensures) ∙ c .before .enum-told2 .given .1 in
+    c .check-coordinates .ensures ∙ sym (andThen-fine _ _ p ∙ andThen-fine _ _ q)
 
 pub check-lines-spec : {M : Type 1} → statement M
 check-lines-spec =
-    tie.close (tie.spec all-are-requires returns returns-2 check-coordinates-requires returns-3)
+    tie.close
+    (tie.spec
+    (λ c κs. search needs)
+    (λ c. search needs)
+    returns
+    (λ c. search needs)
+    (λ c κs. search needs)
+    (λ c. search needs)
+    returns-2
+    (λ c. search needs)
+    check-coordinates-requires
+    returns-3)

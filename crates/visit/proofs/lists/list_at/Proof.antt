@@ -31,7 +31,7 @@ returns : tie.Need-returns
 returns c =
     let a = c .before .before .before .before .before .before .before .args in
     let t = tables (a .grid) (a .lines) (a .offsets .now) (a .items .now) (a .globals .now) (a .global-count) in
-    part-refused _ _ _ (sym (c .before .before .before .list-check .ensures) ∙ c .before .enum-told .given .1)
+    part-refused _ _ _ _ (sym (c .before .before .before .list-check .ensures) ∙ c .before .enum-told .given .1)
 
 enum-told-2 : tie.Need-enum-told-2
 enum-told-2 c = search needs

@@ -1,7 +1,8 @@
 -- `visit::visits::batch` meets its contract. Assumes nothing.
 use mathlib.Core.Path.{_≡_, refl, sym, ap, _∙_}
 use Rattle.grid.specs.Domain.{lines}
-use Rattle.visit.specs.Entries.{beside}
+use Rattle.refusals.specs.declared.Check.the-variants.{Fine}
+use Rattle.visit.specs.Entries.{beside, outputsCheck}
 use Rattle.visit.specs.Inside.{CursorIs}
 use Rattle.visit.proofs.EntryLaws.{seek-at, seek-beyond, batch-unlike, batch-refused, batch-beyond, batch-done, run-asks, bookmark-fits}
 use borrow.Author.Needs.{needs}
@@ -12,112 +13,95 @@ use Rattle.visit.proofs.visits.batch.Lts as lts
 use Rattle.slices.proofs.clear_from.Reads as clear-from-reads
 use Rattle.visit.proofs.scan.run.Reads as run-reads
 use Rattle.visit.proofs.seek.seek.Reads as seek-reads
+use Rattle.refusals.proofs.refuse_unless.Reads as refuse-unless-reads
 use Rattle.visit.proofs.visits.check_visit.Reads as check-visit-reads
 
+-- the outputs have one length
+same : (c : tie.After-enum-told) → let a = c .before .before .before .before .before .before .before .before .before .before .before .before .args in outputsCheck (a .first .now) (a .second .now) ≡ Fine
+unfolding outputsCheck
+same c = sym (c .before .before .refuse-unless .ensures) ∙ c .enum-told .given .1
+
 returns : tie.Need-returns
+unfolding outputsCheck
 returns c =
-    let a = c .before .before .before .before .before .before .before .before .before .before .args in
+    let a = c .before .before .before .before .before .before .before .before .before .before .before .before .before .args in
     let ls = lines (a .start-x .now) (a .start-y .now) (a .end-x .now) (a .end-y .now) in
     let t = beside ls (a .grid) (a .offsets .now) (a .items .now) (a .globals .now) (a .global-count) in
-    batch-unlike ls (a .grid) t (a .bookmark) (a .first .now) (a .second .now) (c .if1 .taken)
+    batch-unlike ls (a .grid) t (a .bookmark) (a .first .now) (a .second .now) _ (sym (c .before .before .before .refuse-unless .ensures) ∙ c .before .lent .given .1)
 
 -- the cursor that was found
 found : (c : tie.After-sought)
-    → let a = c .before .before .before .before .before .before .before .before .before .before .before .before .before .before .before .before .args in
+    → let a = c .before .before .before .before .before .before .before .before .before .before .before .before .before .before .before .before .before .before .args in
     let ls = lines (a .start-x .now) (a .start-y .now) (a .end-x .now) (a .end-y .now) in
     CursorIs ls (a .grid) (beside ls (a .grid) (a .offsets .now) (a .items .now) (a .globals .now) (a .global-count)) (a .bookmark) (c .sought .given .0 .0)
 found c =
-    let a = c .before .before .before .before .before .before .before .before .before .before .before .before .before .before .before .before .args in
+    let a = c .before .before .before .before .before .before .before .before .before .before .before .before .before .before .before .before .before .before .args in
     let ls = lines (a .start-x .now) (a .start-y .now) (a .end-x .now) (a .end-y .now) in
     let t = beside ls (a .grid) (a .offsets .now) (a .items .now) (a .globals .now) (a .global-count) in
     seek-at ls (a .grid) t (a .bookmark) _ (c .before .before .seek .ensures) (c .sought .given .0 .0) (c .sought .given .1)
 
-check-visit-requires : tie.Need-check-visit-requires
-check-visit-requires c κs = search needs
-
-enum-known-check : tie.Need-enum-known-check
-enum-known-check c = search needs
-
 returns-2 : tie.Need-returns-2
 returns-2 c =
-    let a = c .before .before .before .before .before .before .before .before .before .before .before .before .before .before .args in
-    let ls = lines (a .start-x .now) (a .start-y .now) (a .end-x .now) (a .end-y .now) in
-    let t = beside ls (a .grid) (a .offsets .now) (a .items .now) (a .globals .now) (a .global-count) in
-    batch-refused ls (a .grid) t (a .bookmark) (a .first .now) (a .second .now) (c .before .before .before .before .if1 .left) _ (sym (c .before .before .before .check-visit .ensures) ∙ c .before .check .given .1)
-
-enum-told : tie.Need-enum-told
-enum-told c = search needs
-
-seek-requires : tie.Need-seek-requires
-seek-requires c κs =
-    let a = c .before .before .before .before .before .before .before .before .before .before .before .before .before .args in
-    let ls = lines (a .start-x .now) (a .start-y .now) (a .end-x .now) (a .end-y .now) in
-    let t = beside ls (a .grid) (a .offsets .now) (a .items .now) (a .globals .now) (a .global-count) in
-    sym (c .before .before .check-visit .ensures) ∙ c .enum-told .given .1
-
-enum-known-sought : tie.Need-enum-known-sought
-enum-known-sought c = search needs
-
-enum-told-2 : tie.Need-enum-told-2
-enum-told-2 c = search needs
-
-returns-3 : tie.Need-returns-3
-returns-3 c =
     let a = c .before .before .before .before .before .before .before .before .before .before .before .before .before .before .before .before .args in
     let ls = lines (a .start-x .now) (a .start-y .now) (a .end-x .now) (a .end-y .now) in
     let t = beside ls (a .grid) (a .offsets .now) (a .items .now) (a .globals .now) (a .global-count) in
-    batch-beyond ls (a .grid) t (a .bookmark) (a .first .now) (a .second .now) (c .before .before .before .before .before .before .if1 .left) (sym (c .before .before .before .before .before .check-visit .ensures) ∙ c .before .before .before .enum-told .given .1) (seek-beyond ls (a .grid) t (a .bookmark) _ (c .before .before .seek .ensures) (c .enum-told2 .given .1))
+    batch-refused ls (a .grid) t (a .bookmark) (a .first .now) (a .second .now) (same (c .before .before .before .before)) _ (sym (c .before .before .before .check-visit .ensures) ∙ c .before .check .given .1)
+
+seek-requires : tie.Need-seek-requires
+seek-requires c κs =
+    let a = c .before .before .before .before .before .before .before .before .before .before .before .before .before .before .before .args in
+    let ls = lines (a .start-x .now) (a .start-y .now) (a .end-x .now) (a .end-y .now) in
+    let t = beside ls (a .grid) (a .offsets .now) (a .items .now) (a .globals .now) (a .global-count) in
+    sym (c .before .before .check-visit .ensures) ∙ c .enum-told2 .given .1
+
+returns-3 : tie.Need-returns-3
+returns-3 c =
+    let a = c .before .before .before .before .before .before .before .before .before .before .before .before .before .before .before .before .before .before .args in
+    let ls = lines (a .start-x .now) (a .start-y .now) (a .end-x .now) (a .end-y .now) in
+    let t = beside ls (a .grid) (a .offsets .now) (a .items .now) (a .globals .now) (a .global-count) in
+    batch-beyond ls (a .grid) t (a .bookmark) (a .first .now) (a .second .now) (same (c .before .before .before .before .before .before)) (sym (c .before .before .before .before .before .check-visit .ensures) ∙ c .before .before .before .enum-told2 .given .1) (seek-beyond ls (a .grid) t (a .bookmark) _ (c .before .before .seek .ensures) (c .enum-told3 .given .1))
 
 run-requires : tie.Need-run-requires
 run-requires c κs =
-    let a = c .before .before .before .before .before .before .before .before .before .before .before .before .before .before .before .before .before .before .before .args in
+    let a = c .before .before .before .before .before .before .before .before .before .before .before .before .before .before .before .before .before .before .before .before .before .args in
     let ls = lines (a .start-x .now) (a .start-y .now) (a .end-x .now) (a .end-y .now) in
     let t = beside ls (a .grid) (a .offsets .now) (a .items .now) (a .globals .now) (a .global-count) in
-    run-asks ls (a .grid) (a .offsets .now) (a .items .now) (a .globals .now) (a .global-count) (sym (c .before .before .before .before .before .before .before .before .check-visit .ensures) ∙ c .before .before .before .before .before .before .enum-told .given .1) (a .bookmark) (c .before .before .before .sought .given .0 .0) (found (c .before .before .before)) (a .first .now) (a .second .now) (c .before .before .before .before .before .before .before .before .before .if1 .left)
+    run-asks ls (a .grid) (a .offsets .now) (a .items .now) (a .globals .now) (a .global-count) (sym (c .before .before .before .before .before .before .before .before .check-visit .ensures) ∙ c .before .before .before .before .before .before .enum-told2 .given .1) (a .bookmark) (c .before .before .before .sought .given .0 .0) (found (c .before .before .before)) (a .first .now) (a .second .now) (same (c .before .before .before .before .before .before .before .before .before))
 
-clear-from-requires : tie.Need-clear-from-requires
-clear-from-requires c κs = search needs
-
-clear-from-requires-2 : tie.Need-clear-from-requires-2
-clear-from-requires-2 c κs = search needs
-
-add-t33 : tie.Need-add-t33
-add-t33 c =
-    let a = c .before .before .before .before .before .before .before .before .before .before .before .before .before .before .before .before .before .before .before .before .before .before .before .before .before .before .before .before .before .before .before .before .before .args in
+add-t34 : tie.Need-add-t34
+add-t34 c =
+    let a = c .before .before .before .before .before .before .before .before .before .before .before .before .before .before .before .before .before .before .before .before .before .before .before .before .before .before .before .before .before .before .before .before .before .before .before .args in
     let ls = lines (a .start-x .now) (a .start-y .now) (a .end-x .now) (a .end-y .now) in
     let t = beside ls (a .grid) (a .offsets .now) (a .items .now) (a .globals .now) (a .global-count) in
-    record { fits = bookmark-fits ls (a .grid) (a .offsets .now) (a .items .now) (a .globals .now) (a .global-count) (sym (c .before .before .before .before .before .before .before .before .before .before .before .before .before .before .before .before .before .before .before .before .before .before .check-visit .ensures) ∙ c .before .before .before .before .before .before .before .before .before .before .before .before .before .before .before .before .before .before .before .before .enum-told .given .1) (a .bookmark) (c .before .before .before .before .before .before .before .before .before .before .before .before .before .before .before .before .before .sought .given .0 .0) (found (c .before .before .before .before .before .before .before .before .before .before .before .before .before .before .before .before .before)) (a .first .now) (a .second .now) _ _ (c .before .before .before .before .before .before .before .before .before .before .before .before .before .run .result) (c .before .before .before .before .before .before .before .before .before .before .before .before .before .run .ensures) }
-
-same-length : tie.Need-same-length
-same-length c = search needs
-
-same-length-2 : tie.Need-same-length-2
-same-length-2 c = search needs
+    record { fits = bookmark-fits ls (a .grid) (a .offsets .now) (a .items .now) (a .globals .now) (a .global-count) (sym (c .before .before .before .before .before .before .before .before .before .before .before .before .before .before .before .before .before .before .before .before .before .before .check-visit .ensures) ∙ c .before .before .before .before .before .before .before .before .before .before .before .before .before .before .before .before .before .before .before .before .enum-told2 .given .1) (a .bookmark) (c .before .before .before .before .before .before .before .before .before .before .before .before .before .before .before .before .before .sought .given .0 .0) (found (c .before .before .before .before .before .before .before .before .before .before .before .before .before .before .before .before .before)) (a .first .now) (a .second .now) _ _ (c .before .before .before .before .before .before .before .before .before .before .before .before .before .run .result) (c .before .before .before .before .before .before .before .before .before .before .before .before .before .run .ensures) }
 
 returns-4 : tie.Need-returns-4
 returns-4 c =
-    let a = c .before .before .before .before .before .before .before .before .before .before .before .before .before .before .before .before .before .before .before .before .before .before .before .before .before .before .before .before .before .before .before .before .before .args in
+    let a = c .before .before .before .before .before .before .before .before .before .before .before .before .before .before .before .before .before .before .before .before .before .before .before .before .before .before .before .before .before .before .before .before .before .before .before .args in
     let ls = lines (a .start-x .now) (a .start-y .now) (a .end-x .now) (a .end-y .now) in
     let t = beside ls (a .grid) (a .offsets .now) (a .items .now) (a .globals .now) (a .global-count) in
-    batch-done ls (a .grid) t (a .bookmark) (a .first .now) (a .second .now) (c .before .before .before .before .before .before .before .before .before .before .before .before .before .before .before .before .before .before .before .before .before .before .before .if1 .left) (sym (c .before .before .before .before .before .before .before .before .before .before .before .before .before .before .before .before .before .before .before .before .before .before .check-visit .ensures) ∙ c .before .before .before .before .before .before .before .before .before .before .before .before .before .before .before .before .before .before .before .before .enum-told .given .1) (c .before .before .before .before .before .before .before .before .before .before .before .before .before .before .before .before .before .sought .given .0 .0) (found (c .before .before .before .before .before .before .before .before .before .before .before .before .before .before .before .before .before)) _ _ (c .before .before .before .before .before .before .before .before .before .before .before .before .before .run .result) (c .before .before .before .before .before .before .before .before .before .before .before .before .before .run .ensures) _ _ (c .before .before .before .before .before .before .before .clear-from .ensures) (c .before .before .before .clear-from2 .ensures)
+    batch-done ls (a .grid) t (a .bookmark) (a .first .now) (a .second .now) (same (c .before .before .before .before .before .before .before .before .before .before .before .before .before .before .before .before .before .before .before .before .before .before .before)) (sym (c .before .before .before .before .before .before .before .before .before .before .before .before .before .before .before .before .before .before .before .before .before .before .check-visit .ensures) ∙ c .before .before .before .before .before .before .before .before .before .before .before .before .before .before .before .before .before .before .before .before .enum-told2 .given .1) (c .before .before .before .before .before .before .before .before .before .before .before .before .before .before .before .before .before .sought .given .0 .0) (found (c .before .before .before .before .before .before .before .before .before .before .before .before .before .before .before .before .before)) _ _ (c .before .before .before .before .before .before .before .before .before .before .before .before .before .run .result) (c .before .before .before .before .before .before .before .before .before .before .before .before .before .run .ensures) _ _ (c .before .before .before .before .before .before .before .clear-from .ensures) (c .before .before .before .clear-from2 .ensures)
 
 pub batch-spec : {M : Type 1} → statement M
 batch-spec =
     tie.close
     (tie.spec
+    (λ c κs. search needs)
+    (λ c. search needs)
     returns
-    check-visit-requires
-    enum-known-check
+    (λ c. search needs)
+    (λ c κs. search needs)
+    (λ c. search needs)
     returns-2
-    enum-told
+    (λ c. search needs)
     seek-requires
-    enum-known-sought
-    enum-told-2
+    (λ c. search needs)
+    (λ c. search needs)
     returns-3
     run-requires
-    clear-from-requires
-    clear-from-requires-2
-    add-t33
-    same-length
-    same-length-2
+    (λ c κs. search needs)
+    (λ c κs. search needs)
+    add-t34
+    (λ c. search needs)
+    (λ c. search needs)
     returns-4)

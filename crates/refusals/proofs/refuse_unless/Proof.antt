@@ -1,8 +1,8 @@
--- `grid::checks::refuse_unless` meets its contract. Assumes nothing.
+-- `refusals::refuse_unless` meets its contract. Assumes nothing.
 use mathlib.Core.Path.{refl}
 use Rattle.refusals.specs.Refusals.{unless}
-use Rattle.grid.proofs.checks.refuse_unless.Statement.{statement}
-use Rattle.grid.proofs.checks.refuse_unless.Tie as tie
+use Rattle.refusals.proofs.refuse_unless.Statement.{statement}
+use Rattle.refusals.proofs.refuse_unless.Tie as tie
 
 returns : tie.Need-returns
 unfolding unless

@@ -1,0 +1,2 @@
+-- The definitions by which every entry refuses, answers and leaves what it is lent.
+pub mod Refusals

@@ -1,6 +1,6 @@
 -- One grid tried, and the choice that goes on from it. Assumes nothing.
 use mathlib.Core.Path.{_≡_, refl, sym, ap, _∙_, subst}
-use mathlib.Core.Bool.{Bool, true, false, _&&_}
+use mathlib.Core.Bool.{Bool, true, false, cond, _&&_}
 use mathlib.Core.List.{List, _++_}
 use Prim.Native.Nat.{ℕ, zero, suc, _+_, _-_, _*_, _^_, _≤_, _<_}
 use native.Mathlib.Nat.{le-trans, mul-le-mul-right}
@@ -11,12 +11,12 @@ use lib.ListN.{length, replicate}
 use Rattle.refusals.specs.declared.Refusal.{Refusal}
 use Rattle.refusals.specs.declared.Check.{Check}
 use Rattle.refusals.specs.declared.Check.the-variants.{Fine, Refused}
-use Rattle.refusals.specs.Refusals.{unless, andThen}
+use Rattle.refusals.specs.Refusals.{unless, andThen, Answer, refused, gives, _then_, _into_, answerBy, leftIn, zeroBeyond}
 use Rattle.refusals.proofs.Checks.{andThen-right}
+use Rattle.refusals.proofs.Leaving.{Clears, clears-gives, clears-then, clears-if, clears-into, in-alike}
 use Rattle.grid.specs.declared.Grid.{Grid}
 use Rattle.grid.specs.Domain.{Lines, count, fit, scratchCheck, linesCheck, gridCheck}
 use Rattle.grid.proofs.Fine.{LinesFit, lines-fine}
-use Rattle.walk.specs.Segment.{leftBy}
 use Rattle.tables.specs.Lists.{itemsOf, offsetsOf}
 use Rattle.tables.proofs.Laws.{lines-few}
 use Rattle.sizing.specs.declared.Extent.{Extent}
@@ -29,19 +29,18 @@ use Rattle.fill.specs.declared.Filled.{Filled}
 use Rattle.fill.specs.declared.Filled.the-variants as filled
 use Rattle.fill.specs.OnGrid.{cells, listOn, globalsOn, total}
 use Rattle.fill.specs.Checks.{lentCheck, triedCheck, countingCheck, spaceCheck}
-use Rattle.fill.specs.Fill.{above, fillingOf, filledOf, leftIn, FillIs, crowdedIf}
+use Rattle.fill.specs.Fill.{above, made, fillingOf, filledOf, writtenIn, FillIs}
 use Rattle.fill.specs.Fill as filling
 use Rattle.fill.specs.Inside.{localOn}
-use Rattle.fill.proofs.Leaves.{Within, left-zeros, left-low, tried-within, space-within}
+use Rattle.fill.proofs.Leaves.{tried-clears, space-clears}
 use Rattle.fill.proofs.Sums.{above-never}
 use Rattle.build.specs.declared.Built.{Built}
 use Rattle.build.specs.declared.Built.the-variants as built
 use Rattle.build.specs.declared.Attempt.{Attempt}
 use Rattle.build.specs.declared.Attempt.the-variants as attempt
-use Rattle.build.specs.Choice.{crowded, Choice, settled, refusedBy, unlessRefused, if, chosen, chosenFirst, chosenNone, choice}
-use Rattle.build.specs.Build.{End, untouched, cleared, made, endOn, endBy, endAfter, endOf, answerOf, leftOf, BuildIs}
+use Rattle.build.specs.Choice.{crowded, chosen, chosenFirst, chosenNone, choice}
+use Rattle.build.specs.Build.{roomOn, endOf, builtOn, answerOf, BuildIs}
 use Rattle.build.specs.Inside.{mostOn, attemptBy, lentOf, AttemptAsks, endFrom, Halved, AttemptIs}
-use Rattle.build.proofs.Leavings.{lent-within}
 
 -- ---- the checks, as `fill` has them
 
@@ -66,39 +65,23 @@ module _ (g : Grid) (ls : Lines) (offsets scratch : ℕ) where
 -- ---- how the tables of a grid end
 
 module _ {ls : Lines} {g : Grid} {o t gs s : List ℕ} {w : Filled} {o′ t′ gs′ s′ : List ℕ} where
-  -- a refusal that changes nothing
-  ends-untouched : (r : Refusal) → r .number < 4 → FillIs g ls o t gs s w o′ t′ gs′ s′ (filling.refused r)
-      → (attemptBy g w ≡ attempt.Ended (built.Refused r)) × BuildIs ls o t gs s (built.Refused r) o′ t′ gs′ s′ (untouched r)
-  unfolding filledOf leftIn answerOf leftOf
-  ends-untouched r l k = (
+  ends-refused : (r : Refusal) → FillIs g ls o t gs s w o′ t′ gs′ s′ (refused r)
+      → (attemptBy g w ≡ attempt.Ended (built.Refused r)) × BuildIs ls o t gs s (built.Refused r) o′ t′ gs′ s′ (refused r)
+  unfolding answerBy leftIn answerOf
+  ends-refused r k = (
     ap (attemptBy g) (k .answer),
     record {
       answer = refl;
-      «cell_offsets» = k .offsets-are ∙ sym (left-low r o l);
-      «cell_items» = k .items-are ∙ sym (left-low r t l);
-      «global_lines» = k .globals-are ∙ sym (left-low r gs l);
-      scratch-is = k .scratch-is ∙ sym (left-low r s l);
+      «cell_offsets» = k .offsets-are;
+      «cell_items» = k .items-are;
+      «global_lines» = k .globals-are;
+      scratch-is = k .scratch-is;
     },
   )
 
-  -- a refusal by which all is cleared
-  ends-cleared : (r : Refusal) → (4 ≤ r .number) × (r .number ≤ 7) → FillIs g ls o t gs s w o′ t′ gs′ s′ (filling.refused r)
-      → (attemptBy g w ≡ attempt.Ended (built.Refused r)) × BuildIs ls o t gs s (built.Refused r) o′ t′ gs′ s′ (cleared r)
-  unfolding filledOf leftIn answerOf leftOf
-  ends-cleared r l k = (
-    ap (attemptBy g) (k .answer),
-    record {
-      answer = refl;
-      «cell_offsets» = k .offsets-are ∙ left-zeros r o l;
-      «cell_items» = k .items-are ∙ left-zeros r t l;
-      «global_lines» = k .globals-are ∙ left-zeros r gs l;
-      scratch-is = k .scratch-is ∙ left-zeros r s l;
-    },
-  )
-
-  ends-made : FillIs g ls o t gs s w o′ t′ gs′ s′ filling.made
-      → (attemptBy g w ≡ attempt.Ended (answerOf (made g) ls)) × BuildIs ls o t gs s (answerOf (made g) ls) o′ t′ gs′ s′ (made g)
-  unfolding filledOf leftIn answerOf leftOf
+  ends-made : FillIs g ls o t gs s w o′ t′ gs′ s′ (gives made)
+      → (attemptBy g w ≡ attempt.Ended (builtOn ls g)) × BuildIs ls o t gs s (builtOn ls g) o′ t′ gs′ s′ (gives g)
+  unfolding answerBy leftIn filledOf writtenIn answerOf builtOn
   ends-made k = (
     ap (attemptBy g) (k .answer),
     record {
@@ -110,16 +93,21 @@ module _ {ls : Lines} {g : Grid} {o t gs s : List ℕ} {w : Filled} {o′ t′ g
     },
   )
 
--- what a grid tried comes to, where `next` is the choice that goes on from it: the end of the build, or a crowded cell
-data Tried (ls : Lines) (g : Grid) (most : ℕ) (next : Choice) (o t gs s : List ℕ) (w : Filled) (o′ t′ gs′ s′ : List ℕ) : Type 0 where
-  ended : (b : Built) → attemptBy g w ≡ attempt.Ended b
-      → BuildIs ls o t gs s b o′ t′ gs′ s′ (endAfter (lentOf ls (length s)) (endBy (unlessRefused (triedCheck g ls (length o)) next) ls (length t) (length gs))) → Tried ls g most next o t gs s w o′ t′ gs′ s′
-  halved : attemptBy g w ≡ attempt.Halve → lentOf ls (length s) ≡ Fine → triedCheck g ls (length o) ≡ Fine → above most (λ c. length (listOn g ls c)) (cells g) ≡ true → Tried ls g most next o t gs s w o′ t′ gs′ s′
+-- how a build ends where the grid g is tried, and `next` is the choice that goes on from it
+abbrev endOn : Lines → Grid → Answer Grid → ℕ → ℕ → ℕ → ℕ → Answer Grid
+endOn ls g next offsets items globals scratch = lentOf ls scratch then ((triedCheck g ls offsets then next) into roomOn ls items globals)
 
-module _ (ls : Lines) (g : Grid) (most : ℕ) (next : Choice) {o t gs s : List ℕ} {w : Filled} {o′ t′ gs′ s′ : List ℕ}
+-- what a grid tried comes to: the end of the build, or a crowded cell
+data Tried (ls : Lines) (g : Grid) (most : ℕ) (next : Answer Grid) (o t gs s : List ℕ) (w : Filled) (o′ t′ gs′ s′ : List ℕ) : Type 0 where
+  ended : (b : Built) → attemptBy g w ≡ attempt.Ended b → BuildIs ls o t gs s b o′ t′ gs′ s′ (endOn ls g next (length o) (length t) (length gs) (length s))
+      → Tried ls g most next o t gs s w o′ t′ gs′ s′
+  halved : attemptBy g w ≡ attempt.Halve → lentOf ls (length s) ≡ Fine → triedCheck g ls (length o) ≡ Fine → above most (λ c. length (listOn g ls c)) (cells g) ≡ true
+      → Tried ls g most next o t gs s w o′ t′ gs′ s′
+
+module _ (ls : Lines) (g : Grid) (most : ℕ) (next : Answer Grid) {o t gs s : List ℕ} {w : Filled} {o′ t′ gs′ s′ : List ℕ}
     (k : FillIs g ls o t gs s w o′ t′ gs′ s′ (fillingOf g ls most (length o) (length t) (length gs) (length s)))
     (fits : lentOf ls (length s) ≡ Fine → fit g ≡ true)
-    (stop : lentOf ls (length s) ≡ Fine → above most (λ c. length (listOn g ls c)) (cells g) ≡ false → next ≡ settled g) where
+    (stop : lentOf ls (length s) ≡ Fine → above most (λ c. length (listOn g ls c)) (cells g) ≡ false → next ≡ gives g) where
   abbrev Comes : Type 0
   Comes = Tried ls g most next o t gs s w o′ t′ gs′ s′
 
@@ -127,32 +115,32 @@ module _ (ls : Lines) (g : Grid) (most : ℕ) (next : Choice) {o t gs s : List �
     counting : countingCheck g ls (length o) (length s) ≡ Fine
     counting = counting-tried g ls (length o) (length s) lent (fits lent) ∙ tried
 
-    on-space : (c : Check) → Within 4 7 c → spaceCheck g ls (length t) (length gs) ≡ c → above most (λ c. length (listOn g ls c)) (cells g) ≡ false → Comes
-    unfolding fillingOf filling.unlessRefused crowdedIf endAfter unlessRefused endBy endOn
-    on-space (Refused r) n q b = let e = ends-cleared r n (rw (counting, b, q) at k) in ended (built.Refused r) (e .0) (rw (lent, tried, stop lent b, q) (e .1))
-    on-space Fine n q b = let e = ends-made (rw (counting, b, q) at k) in ended (answerOf (made g) ls) (e .0) (rw (lent, tried, stop lent b, q) (e .1))
+    on-space : (c : Check) → spaceCheck g ls (length t) (length gs) ≡ c → above most (λ c. length (listOn g ls c)) (cells g) ≡ false → Comes
+    unfolding fillingOf _then_ _into_ roomOn
+    on-space (Refused r) q b = let e = ends-refused r (rw (counting, b, q) at k) in ended (built.Refused r) (e .0) (rw (lent, tried, stop lent b, q) (e .1))
+    on-space Fine q b = let e = ends-made (rw (counting, b, q) at k) in ended (builtOn ls g) (e .0) (rw (lent, tried, stop lent b, q) (e .1))
 
     on-crowd : (b : Bool) → above most (λ c. length (listOn g ls c)) (cells g) ≡ b → Comes
-    unfolding fillingOf filling.unlessRefused crowdedIf filledOf
-    on-crowd true b = halved (let f : FillIs g ls o t gs s w o′ t′ gs′ s′ filling.crowded = rw (counting, b) at k in ap (attemptBy g) (f .answer)) lent tried b
-    on-crowd false b = on-space (spaceCheck g ls (length t) (length gs)) (space-within g ls (length t) (length gs)) refl b
+    unfolding fillingOf _then_ answerBy filledOf
+    on-crowd true b = halved (let f : FillIs g ls o t gs s w o′ t′ gs′ s′ (gives filling.crowded) = rw (counting, b) at k in ap (attemptBy g) (f .answer)) lent tried b
+    on-crowd false b = on-space (spaceCheck g ls (length t) (length gs)) refl b
 
-  on-tried : (c : Check) → Within 4 7 c → lentOf ls (length s) ≡ Fine → triedCheck g ls (length o) ≡ c → Comes
-  unfolding fillingOf filling.unlessRefused endAfter unlessRefused endBy
-  on-tried (Refused r) n h q =
-      let e = ends-cleared r n (rw (counting-tried g ls (length o) (length s) h (fits h), q) at k) in
+  on-tried : (c : Check) → lentOf ls (length s) ≡ Fine → triedCheck g ls (length o) ≡ c → Comes
+  unfolding fillingOf _then_ _into_
+  on-tried (Refused r) h q =
+      let e = ends-refused r (rw (counting-tried g ls (length o) (length s) h (fits h), q) at k) in
       ended (built.Refused r) (e .0) (rw (h, q) (e .1))
-  on-tried Fine n h q = on-crowd h q (above most (λ c. length (listOn g ls c)) (cells g)) refl
+  on-tried Fine h q = on-crowd h q (above most (λ c. length (listOn g ls c)) (cells g)) refl
 
-  on-lent : (c : Check) → Within 1 3 c → lentOf ls (length s) ≡ c → Comes
-  unfolding fillingOf filling.unlessRefused endAfter
-  on-lent (Refused r) n h =
-      let e = ends-untouched r (omega arith) (rw (counting-lent g ls (length o) (length s) r h) at k) in
+  on-lent : (c : Check) → lentOf ls (length s) ≡ c → Comes
+  unfolding fillingOf _then_
+  on-lent (Refused r) h =
+      let e = ends-refused r (rw (counting-lent g ls (length o) (length s) r h) at k) in
       ended (built.Refused r) (e .0) (rw h (e .1))
-  on-lent Fine n h = on-tried (triedCheck g ls (length o)) (tried-within g ls (length o)) h refl
+  on-lent Fine h = on-tried (triedCheck g ls (length o)) h refl
 
   comes : Comes
-  comes = on-lent (lentOf ls (length s)) (lent-within ls (length s)) refl
+  comes = on-lent (lentOf ls (length s)) refl
 
 -- ---- the limit: no cell lists more than all lines
 
@@ -187,11 +175,11 @@ cells-fit a b h k =
 
 module _ (e : Extent) (size : Size) (ls : Lines) (offsets scratch : ℕ) where
   -- what goes on where the grid of the size is not refused
-  next : ℕ → Choice
-  next zero = settled (gridOf e size)
-  next (suc left) = if (crowded (gridOf e size) ls) (chosen left e (halfOf size) ls offsets) (settled (gridOf e size))
+  next : ℕ → Answer Grid
+  next zero = gives (gridOf e size)
+  next (suc left) = cond (crowded (gridOf e size) ls) (chosen left e (halfOf size) ls offsets) (gives (gridOf e size))
 
-  chosen-is : (left : ℕ) → chosen left e size ls offsets ≡ unlessRefused (triedCheck (gridOf e size) ls offsets) (next left)
+  chosen-is : (left : ℕ) → chosen left e size ls offsets ≡ (triedCheck (gridOf e size) ls offsets then next left)
   unfolding chosen next
   chosen-is zero = refl
   chosen-is (suc left) = refl
@@ -201,8 +189,8 @@ module _ (e : Extent) (size : Size) (ls : Lines) (offsets scratch : ℕ) where
     limit b h = let z : _≡_ {A = Bool} true false = sym h ∙ lists-most (gridOf e size) ls scratch lent in let y : _≡_ {A = ℕ} 0 1 = cc in absurd (omega arith)
 
     -- no cell above the limit: the grid is settled on
-    next-stops : (left : ℕ) → above (mostOn (gridOf e size) left) (λ c. length (listOn (gridOf e size) ls c)) (cells (gridOf e size)) ≡ false → next left ≡ settled (gridOf e size)
-    unfolding next if crowded
+    next-stops : (left : ℕ) → above (mostOn (gridOf e size) left) (λ c. length (listOn (gridOf e size) ls c)) (cells (gridOf e size)) ≡ false → next left ≡ gives (gridOf e size)
+    unfolding next crowded
     next-stops zero h = refl
     next-stops (suc left) h = go (ltb (cells (gridOf e size) * 4) 1000000) refl
       where
@@ -210,13 +198,13 @@ module _ (e : Extent) (size : Size) (ls : Lines) (offsets scratch : ℕ) where
         and-false true = refl
         and-false false = refl
 
-        go : (b : Bool) → ltb (cells (gridOf e size) * 4) 1000000 ≡ b → next (suc left) ≡ settled (gridOf e size)
+        go : (b : Bool) → ltb (cells (gridOf e size) * 4) 1000000 ≡ b → next (suc left) ≡ gives (gridOf e size)
         go true q = let a = rw (lt-ltb 0 (suc left) (omega arith), q) at h in rw a
         go false q = rw (q, and-false (above 500 (λ c. length (listOn (gridOf e size) ls c)) (cells (gridOf e size))))
 
     -- some cell above it: the choice goes on from half the size
     next-halves : (left : ℕ) → triedCheck (gridOf e size) ls offsets ≡ Fine → above (mostOn (gridOf e size) left) (λ c. length (listOn (gridOf e size) ls c)) (cells (gridOf e size)) ≡ true → Halved left e size ls offsets scratch
-    unfolding next if crowded unlessRefused
+    unfolding next crowded _then_
     next-halves zero t h = let z : _≡_ {A = Bool} true false = limit true h in let y : _≡_ {A = ℕ} 0 1 = cc in absurd (omega arith)
     next-halves (suc left) t h = go (ltb (cells (gridOf e size) * 4) 1000000) refl
       where
@@ -251,18 +239,20 @@ module _ (left : ℕ) (e : Extent) (size : Size) {ls : Lines} {o t gs s : List �
 -- ---- the sizes tried, one after another
 
 -- what the end of the build leaves of a slice does not tell `was` from `now`
-abbrev Same : End → List ℕ → List ℕ → Type 0
-Same e was now = (on : ℕ → Grid → List ℕ) → leftOf e now (on (length now)) ≡ leftOf e was (on (length was))
+abbrev Same : Answer Grid → List ℕ → List ℕ → Type 0
+Same e was now = (on : ℕ → Grid → List ℕ) → leftIn 0 now e (on (length now)) ≡ leftIn 0 was e (on (length was))
 
--- an end after the checks asks of a slice only its length
-same-by : (e : End) (ch : Choice) (ls : Lines) (items globals : ℕ) (was now : List ℕ) → e ≡ endBy ch ls items globals → length now ≡ length was → Same e was now
-unfolding endBy endOn leftOf
-same-by e (refusedBy r) ls items globals was now h l on = rw (h, l)
-same-by e (settled g) ls items globals was now h l on = go (spaceCheck g ls items globals) h
-  where
-    go : (c : Check) → e ≡ endOn g c → leftOf e now (on (length now)) ≡ leftOf e was (on (length was))
-    go Fine q = rw (q, l)
-    go (Refused r) q = rw (q, l)
+-- a choice refuses by 4 and 7 alone, and the room after it by 5 and 6
+chosen-clears : (left : ℕ) (e : Extent) (size : Size) (ls : Lines) (room : ℕ) → Clears (chosen left e size ls room)
+unfolding chosen
+chosen-clears zero e size ls room = clears-then (tried-clears (gridOf e size) ls room) clears-gives
+chosen-clears (suc left) e size ls room =
+    clears-then (tried-clears (gridOf e size) ls room)
+    (clears-if (crowded (gridOf e size) ls) (chosen-clears left e (halfOf size) ls room) clears-gives)
+
+room-clears : (ls : Lines) (items globals : ℕ) (g : Grid) → Clears (roomOn ls items globals g)
+unfolding roomOn
+room-clears ls items globals g = clears-then (space-clears g ls items globals) clears-gives
 
 pub record Choosing (ls : Lines) (o₀ t₀ gs₀ s₀ : List ℕ) (e : Extent) (o t gs s : List ℕ) (size : Size) (left : ℕ) : Type 0 where
   pub is : endOf ls (length o₀) (length t₀) (length gs₀) (length s₀) ≡ endFrom left e size ls (length o₀) (length t₀) (length gs₀) (length s₀)
@@ -277,7 +267,7 @@ pub record Choosing (ls : Lines) (o₀ t₀ gs₀ s₀ : List ℕ) (e : Extent) 
   pub scratch : Same (endOf ls (length o₀) (length t₀) (length gs₀) (length s₀)) s₀ s
 
 pub choosing-first : {ls : Lines} {o t gs s : List ℕ} {e : Extent} {size : Size} → (count ls ≡ 0 → ⊥) → e ≡ extentOf ls → size ≡ firstSize e (count ls) → Choosing ls o t gs s e o t gs s size 2
-unfolding endOf choice if chosenFirst
+unfolding endOf choice chosenFirst
 choosing-first {ls} {o} {t} {gs} {s} {e} {size} n d z =
     let l : 1 ≤ count ls = omega arith in
     record {
@@ -299,12 +289,13 @@ module _ {ls : Lines} {o₀ t₀ gs₀ s₀ : List ℕ} {e : Extent} {o t gs s :
 
   pub choosing-next : {o′ t′ gs′ s′ : List ℕ} {half : Size} → Halved left e size ls (length o) (length s) → half ≡ halfOf size → length o′ ≡ length o → length t′ ≡ length t → length gs′ ≡ length gs → length s′ ≡ length s
       → Choosing ls o₀ t₀ gs₀ s₀ e o′ t′ gs′ s′ half (left - 1)
-  unfolding endAfter
+  unfolding _then_
   choosing-next {o′} {t′} {gs′} {s′} h z a b c d =
       let lent : lentOf ls (length s₀) ≡ Fine = rw (k .len-scratch) at (h .lent) in
       let again : chosen left e size ls (length o₀) ≡ chosen (left - 1) e (halfOf size) ls (length o₀) = rw (k .len) at (h .next) in
       let E = endOf ls (length o₀) (length t₀) (length gs₀) (length s₀) in
-      let by : E ≡ endBy (chosen left e size ls (length o₀)) ls (length t₀) (length gs₀) = k .is ∙ rw lent in
+      let by : E ≡ (chosen left e size ls (length o₀) into roomOn ls (length t₀) (length gs₀)) = k .is ∙ rw lent in
+      let clear : Clears E = rw by (clears-into (chosen-clears left e size ls (length o₀)) (room-clears ls (length t₀) (length gs₀))) in
       record {
         is = k .is ∙ rw (again, z);
         fits = λ q. rw z (fit-next left e size (h .some) (k .fits q) (h .few));
@@ -312,10 +303,10 @@ module _ {ls : Lines} {o₀ t₀ gs₀ s₀ : List ℕ} {e : Extent} {o t gs s :
         len-items = b ∙ k .len-items;
         len-globals = c ∙ k .len-globals;
         len-scratch = d ∙ k .len-scratch;
-        offsets = same-by E (chosen left e size ls (length o₀)) ls (length t₀) (length gs₀) o₀ o′ by (a ∙ k .len);
-        items = same-by E (chosen left e size ls (length o₀)) ls (length t₀) (length gs₀) t₀ t′ by (b ∙ k .len-items);
-        globals = same-by E (chosen left e size ls (length o₀)) ls (length t₀) (length gs₀) gs₀ gs′ by (c ∙ k .len-globals);
-        scratch = same-by E (chosen left e size ls (length o₀)) ls (length t₀) (length gs₀) s₀ s′ by (d ∙ k .len-scratch);
+        offsets = λ on. in-alike 0 E o₀ o′ on clear (a ∙ k .len);
+        items = λ on. in-alike 0 E t₀ t′ on clear (b ∙ k .len-items);
+        globals = λ on. in-alike 0 E gs₀ gs′ on clear (c ∙ k .len-globals);
+        scratch = λ on. in-alike 0 E s₀ s′ on clear (d ∙ k .len-scratch);
       }
 
   pub choosing-done : {b : Built} {o′ t′ gs′ s′ : List ℕ} → BuildIs ls o t gs s b o′ t′ gs′ s′ (endFrom left e size ls (length o) (length t) (length gs) (length s))
@@ -323,12 +314,12 @@ module _ {ls : Lines} {o₀ t₀ gs₀ s₀ : List ℕ} {e : Extent} {o t gs s :
   choosing-done {b} {o′} {t′} {gs′} {s′} h =
       let q : endFrom left e size ls (length o) (length t) (length gs) (length s) ≡ endOf ls (length o₀) (length t₀) (length gs₀) (length s₀) =
       rw (k .len, k .len-items, k .len-globals, k .len-scratch) (sym (k .is)) in
-      let d : BuildIs ls o t gs s b o′ t′ gs′ s′ (endOf ls (length o₀) (length t₀) (length gs₀) (length s₀)) = subst (λ (x : End). BuildIs ls o t gs s b o′ t′ gs′ s′ x) q h in
+      let d : BuildIs ls o t gs s b o′ t′ gs′ s′ (endOf ls (length o₀) (length t₀) (length gs₀) (length s₀)) = subst (λ (x : Answer Grid). BuildIs ls o t gs s b o′ t′ gs′ s′ x) q h in
       record {
         answer = d .answer;
         «cell_offsets» = d .«cell_offsets» ∙ k .offsets (λ n g. offsetsOf (listOn g ls) (cells g) n);
         «cell_items» = d .«cell_items» ∙ k .items (λ n g. itemsOf (listOn g ls) (cells g) n);
-        «global_lines» = d .«global_lines» ∙ k .globals (λ n g. globalsOn g ls ++ replicate (n - length (globalsOn g ls)) 0);
+        «global_lines» = d .«global_lines» ∙ k .globals (λ n g. zeroBeyond 0 n (globalsOn g ls));
         scratch-is = d .scratch-is ∙ k .scratch (λ n g. replicate {A = ℕ} n 0);
       }
 
@@ -336,14 +327,14 @@ module _ {ls : Lines} {o₀ t₀ gs₀ s₀ : List ℕ} {e : Extent} {o t gs s :
 
 module _ {ls : Lines} (none : count ls ≡ 0) {g : Grid} (is : g ≡ emptyGrid) {o t gs s : List ℕ} {w : Filled} {o′ t′ gs′ s′ : List ℕ}
     (k : FillIs g ls o t gs s w o′ t′ gs′ s′ (fillingOf g ls 65536 (length o) (length t) (length gs) (length s))) {r : Attempt} (p : r ≡ attemptBy g w) where
-  none-comes : Tried ls emptyGrid 65536 (settled emptyGrid) o t gs s w o′ t′ gs′ s′
-  none-comes = comes ls emptyGrid 65536 (settled emptyGrid) (rw is at k) (λ _. empty-fits) (λ _ _. refl)
+  none-comes : Tried ls emptyGrid 65536 (gives emptyGrid) o t gs s w o′ t′ gs′ s′
+  none-comes = comes ls emptyGrid 65536 (gives emptyGrid) (rw is at k) (λ _. empty-fits) (λ _ _. refl)
 
   pub none-ends : (b : Built) → r ≡ attempt.Ended b → BuildIs ls o t gs s b o′ t′ gs′ s′ (endOf ls (length o) (length t) (length gs) (length s))
-  unfolding endOf choice if chosenNone
+  unfolding endOf choice chosenNone
   none-ends b q = go none-comes
     where
-      go : Tried ls emptyGrid 65536 (settled emptyGrid) o t gs s w o′ t′ gs′ s′ → BuildIs ls o t gs s b o′ t′ gs′ s′ (endOf ls (length o) (length t) (length gs) (length s))
+      go : Tried ls emptyGrid 65536 (gives emptyGrid) o t gs s w o′ t′ gs′ s′ → BuildIs ls o t gs s b o′ t′ gs′ s′ (endOf ls (length o) (length t) (length gs) (length s))
       go (ended d e h) =
           let l : count ls < 1 = omega arith in
           let x : attempt.Ended b ≡ attempt.Ended d = sym q ∙ (rw is at p) ∙ e in
@@ -357,7 +348,7 @@ module _ {ls : Lines} (none : count ls ≡ 0) {g : Grid} (is : g ≡ emptyGrid) 
   pub none-halves : r ≡ attempt.Halve → ⊥
   none-halves q = go none-comes
     where
-      go : Tried ls emptyGrid 65536 (settled emptyGrid) o t gs s w o′ t′ gs′ s′ → ⊥
+      go : Tried ls emptyGrid 65536 (gives emptyGrid) o t gs s w o′ t′ gs′ s′ → ⊥
       go (ended d e h) =
           let x : attempt.Halve ≡ attempt.Ended d = sym q ∙ (rw is at p) ∙ e in
           let y : _≡_ {A = ℕ} 0 1 = cc in

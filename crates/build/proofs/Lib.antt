@@ -1,5 +1,4 @@
--- Laws for the proofs of `build`. For the crates above: `Settled`, `Theorems` and `Leavings`.
-pub mod Leavings
+-- Laws for the proofs of `build`. For the crates above: `Settled` and `Theorems`.
 pub mod Choices
 pub mod Settled
 pub mod Theorems

@@ -1,7 +1,7 @@
 -- What an end on a grid says: the lines passed the checks, the grid that was settled on is fit, every walk on it ends, and each slice has room.
 -- Assumes nothing.
 use mathlib.Core.Path.{_≡_, refl, sym, ap, _∙_}
-use mathlib.Core.Bool.{Bool, true, false, _&&_}
+use mathlib.Core.Bool.{Bool, true, false, cond, _&&_}
 use Prim.Native.Nat.{ℕ, zero, suc, _+_, _*_, _≤_, _<_}
 use native.Mathlib.Omega.{arith}
 use borrow.Author.Tests.{leb-true, ltb-true}
@@ -10,8 +10,9 @@ use lib.ListN.{length}
 use Rattle.refusals.specs.declared.Refusal.{Refusal}
 use Rattle.refusals.specs.declared.Check.{Check}
 use Rattle.refusals.specs.declared.Check.the-variants.{Fine, Refused}
-use Rattle.refusals.specs.Refusals.{unless, andThen}
+use Rattle.refusals.specs.Refusals.{unless, andThen, Answer, gives, _into_}
 use Rattle.refusals.proofs.Checks.{unless-fine, andThen-left, andThen-right}
+use Rattle.refusals.proofs.Answers.{then-passed, into-passed}
 use Rattle.grid.specs.declared.Grid.{Grid}
 use Rattle.grid.specs.Domain.{Lines, count, fit, scratchCheck, linesCheck}
 use Rattle.grid.proofs.Bools.{and-right}
@@ -25,19 +26,13 @@ use Rattle.sizing.proofs.FitLaws.{AllFit, all-fit, empty-fits}
 use Rattle.fill.specs.OnGrid.{cells, listOn, globalsOn, total}
 use Rattle.fill.specs.Checks.{roomCheck, turnsCheck, triedCheck, spaceCheck}
 use Rattle.fill.specs.Fill.{above}
-use Rattle.build.specs.Choice.{crowded, Choice, settled, refusedBy, unlessRefused, if, chosenFirst, chosenNone, choice}
+use Rattle.build.specs.Choice.{crowded, chosenFirst, chosenNone, choice}
 use Rattle.build.specs.Choice as choosing
-use Rattle.build.specs.Build.{End, untouched, cleared, made, endOn, endBy, endAfter, endOf}
+use Rattle.build.specs.Build.{roomOn, endOf}
 
 -- ---- a choice that settled on a grid
 
-tried-settled : (c : Check) (next : Choice) (g : Grid) → unlessRefused c next ≡ settled g → (c ≡ Fine) × (next ≡ settled g)
-unfolding unlessRefused
-tried-settled Fine next g h = (refl, h)
-tried-settled (Refused r) next g h = let z : _≡_ {A = ℕ} 0 1 = cc in absurd (omega arith)
-
-if-settled : (P : Type 0) (b : Bool) (x y : Choice) (g : Grid) → (b ≡ true → x ≡ settled g → P) → (y ≡ settled g → P) → if b x y ≡ settled g → P
-unfolding if
+if-settled : (P : Type 0) (b : Bool) (x y : Answer Grid) (g : Grid) → (b ≡ true → x ≡ gives g → P) → (y ≡ gives g → P) → cond b x y ≡ gives g → P
 if-settled P true x y g some none h = some refl h
 if-settled P false x y g some none h = none h
 
@@ -46,7 +41,7 @@ pub record SettledOn (g : Grid) (ls : Lines) (room : ℕ) : Type 0 where
   pub fits : fit g ≡ true
   pub tried : triedCheck g ls room ≡ Fine
 
-settled-here : (f g : Grid) (ls : Lines) (room : ℕ) → fit f ≡ true → triedCheck f ls room ≡ Fine → settled f ≡ settled g → SettledOn g ls room
+settled-here : (f g : Grid) (ls : Lines) (room : ℕ) → fit f ≡ true → triedCheck f ls room ≡ Fine → _≡_ {A = Answer Grid} (gives f) (gives g) → SettledOn g ls room
 settled-here f g ls room a b h = let e : f ≡ g = cc in record { fits = rw e at a; tried = rw e at b }
 
 crowded-few : (g : Grid) (ls : Lines) → crowded g ls ≡ true → cells g * 4 < 1000000
@@ -55,45 +50,28 @@ crowded-few g ls h =
     ltb-true (cells g * 4) 1000000 (and-right (above 500 (λ c. length (listOn g ls c)) (cells g)) (ltb (cells g * 4) 1000000) h)
 
 -- from a size on of which every grid that can be tried is fit
-chosen-settled : (e : Extent) (ls : Lines) (room : ℕ) (g : Grid) (left : ℕ) (s : Size) → AllFit left e s → choosing.chosen left e s ls room ≡ settled g → SettledOn g ls room
+chosen-settled : (e : Extent) (ls : Lines) (room : ℕ) (g : Grid) (left : ℕ) (s : Size) → AllFit left e s → choosing.chosen left e s ls room ≡ gives g → SettledOn g ls room
 unfolding choosing.chosen
 chosen-settled e ls room g zero s f h =
-    let u = tried-settled (triedCheck (gridOf e s) ls room) (settled (gridOf e s)) g h in
+    let u = then-passed (triedCheck (gridOf e s) ls room) (gives (gridOf e s)) h in
     settled-here (gridOf e s) g ls room f (u .0) (u .1)
 chosen-settled e ls room g (suc left) s f h =
     let next = choosing.chosen left e (halfOf s) ls room in
-    let u = tried-settled (triedCheck (gridOf e s) ls room) (if (crowded (gridOf e s) ls) next (settled (gridOf e s))) g h in
-    if-settled (SettledOn g ls room) (crowded (gridOf e s) ls) next (settled (gridOf e s)) g
+    let u = then-passed (triedCheck (gridOf e s) ls room) (cond (crowded (gridOf e s) ls) next (gives (gridOf e s))) h in
+    if-settled (SettledOn g ls room) (crowded (gridOf e s) ls) next (gives (gridOf e s)) g
     (λ c n. chosen-settled e ls room g left (halfOf s) (f .1 (crowded-few (gridOf e s) ls c)) n)
     (λ n. settled-here (gridOf e s) g ls room (f .0) (u .0) n) (u .1)
 
-choice-settled : (ls : Lines) (room : ℕ) (g : Grid) → LinesFit ls → choice ls room ≡ settled g → SettledOn g ls room
+choice-settled : (ls : Lines) (room : ℕ) (g : Grid) → LinesFit ls → choice ls room ≡ gives g → SettledOn g ls room
 unfolding choice chosenFirst chosenNone
 choice-settled ls room g f h =
     if-settled (SettledOn g ls room) (leb 1 (count ls)) (chosenFirst ls room) (chosenNone ls room) g
     (λ b n. chosen-settled (extentOf ls) ls room g 2 (firstSize (extentOf ls) (count ls)) (all-fit ls f (leb-true 1 (count ls) b)) n)
     (λ n.
-    let u = tried-settled (triedCheck emptyGrid ls room) (settled emptyGrid) g n in
+    let u = then-passed (triedCheck emptyGrid ls room) (gives emptyGrid) n in
     settled-here emptyGrid g ls room empty-fits (u .0) (u .1)) h
 
 -- ---- an end on a grid
-
-after-made : (c : Check) (e : End) (g : Grid) → endAfter c e ≡ made g → (c ≡ Fine) × (e ≡ made g)
-unfolding endAfter
-after-made Fine e g h = (refl, h)
-after-made (Refused r) e g h = let z : _≡_ {A = ℕ} 0 1 = cc in absurd (omega arith)
-
-on-made : (f : Grid) (c : Check) (g : Grid) → endOn f c ≡ made g → (c ≡ Fine) × (f ≡ g)
-unfolding endOn
-on-made f Fine g h = (refl, cc)
-on-made f (Refused r) g h = let z : _≡_ {A = ℕ} 0 1 = cc in absurd (omega arith)
-
-by-made : (ch : Choice) (ls : Lines) (items globals : ℕ) (g : Grid) → endBy ch ls items globals ≡ made g → (ch ≡ settled g) × (spaceCheck g ls items globals ≡ Fine)
-unfolding endBy
-by-made (refusedBy r) ls items globals g h = let z : _≡_ {A = ℕ} 0 1 = cc in absurd (omega arith)
-by-made (settled f) ls items globals g h =
-    let k = on-made f (spaceCheck f ls items globals) g h in
-    (ap settled (k .1), rw (k .1) at (k .0))
 
 turns-say : (g : Grid) (ls : Lines) (room : ℕ) → triedCheck g ls room ≡ Fine → turnsCheck g ls ≡ Fine
 unfolding triedCheck
@@ -123,18 +101,22 @@ pub record Made (ls : Lines) (offsets items globals : ℕ) (g : Grid) : Type 0 w
   pub space : total g ls ≤ items
   pub listed : length (globalsOn g ls) ≤ globals
 
-pub made-says : (ls : Lines) (offsets items globals scratch : ℕ) (g : Grid) → endOf ls offsets items globals scratch ≡ made g → Made ls offsets items globals g
-unfolding endOf
+pub made-says : (ls : Lines) (offsets items globals scratch : ℕ) (g : Grid) → endOf ls offsets items globals scratch ≡ gives g → Made ls offsets items globals g
+unfolding endOf roomOn
 made-says ls offsets items globals scratch g h =
-    let a = after-made (andThen (scratchCheck scratch) (linesCheck ls)) (endBy (choice ls offsets) ls items globals) g h in
-    let b = by-made (choice ls offsets) ls items globals g (a .1) in
+    let a = then-passed (andThen (scratchCheck scratch) (linesCheck ls)) (choice ls offsets into roomOn ls items globals) h in
     let f : LinesFit ls = lines-fine ls (andThen-right (scratchCheck scratch) (linesCheck ls) (a .0)) in
-    let s : SettledOn g ls offsets = choice-settled ls offsets g f (b .0) in
-    record {
+    into-passed (choice ls offsets) (roomOn ls items globals) (a .1)
+    (λ k c d.
+    let b = then-passed (spaceCheck k ls items globals) (gives k) d in
+    let e : k ≡ g = cc in
+    let s : SettledOn k ls offsets = choice-settled ls offsets k f c in
+    rw (← e)
+    (record {
       lines-fit = f;
       fits = s .fits;
-      turns = turns-say g ls offsets (s .tried);
-      room = room-says g ls offsets (s .tried);
-      space = space-items g ls items globals (b .1);
-      listed = space-globals g ls items globals (b .1);
-    }
+      turns = turns-say k ls offsets (s .tried);
+      room = room-says k ls offsets (s .tried);
+      space = space-items k ls items globals (b .0);
+      listed = space-globals k ls items globals (b .0);
+    }))

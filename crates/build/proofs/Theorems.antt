@@ -6,13 +6,13 @@ use mathlib.Core.List.{List, _++_}
 use Prim.Native.Nat.{ℕ, suc, _+_, _-_, _≤_, _<_}
 use native.Mathlib.Omega.{arith}
 use lib.ListN.{length, replicate, length-append, length-replicate}
-use Rattle.refusals.specs.declared.Check.{Check}
-use Rattle.refusals.specs.declared.Check.the-variants.{Fine, Refused}
-use Rattle.refusals.specs.Refusals.{andThen}
+use Rattle.refusals.specs.declared.Check.the-variants.{Fine}
+use Rattle.refusals.specs.Refusals.{andThen, Answer, refused, gives, _into_, answerBy, leftIn, zeroBeyond}
 use Rattle.refusals.proofs.Checks.{each-says, andThen-right}
+use Rattle.refusals.proofs.Answers.{then-passed}
 use Rattle.grid.specs.declared.Grid.{Grid}
 use Rattle.grid.specs.Domain.{Lines, count, scratchCheck, linesCheck}
-use Rattle.walk.specs.Pushes.{Outcome, refused, found}
+use Rattle.walk.specs.Pushes.{Outcome}
 use Rattle.tables.specs.Tables.{tables, listIn}
 use Rattle.tables.specs.Lists.{sum, offsetsOf, itemsOf}
 use Rattle.tables.specs.Stands.{Stands}
@@ -25,7 +25,7 @@ use Rattle.fill.specs.OnGrid.{cells, walkOn, ends, visited, cellsOn, listOn, gl
 use Rattle.fill.specs.Checks.{turnsCheck}
 use Rattle.fill.proofs.Walks.{cells-walk}
 use Rattle.build.specs.Choice.{choice}
-use Rattle.build.specs.Build.{End, untouched, cleared, made, endBy, endAfter, endOf, answerOf, leftOf, BuildIs}
+use Rattle.build.specs.Build.{roomOn, endOf, builtOn, answerOf, BuildIs}
 use Rattle.build.proofs.Settled.{Made, made-says}
 
 -- ---- the promise settles everything
@@ -38,7 +38,7 @@ pub record Identical (r r₁ : Built) (o o₁ t t₁ gs gs₁ s s₁ : List ℕ)
   pub globals : gs ≡ gs₁
   pub scratch : s ≡ s₁
 
-pub one-outcome : {ls : Lines} {o t gs s : List ℕ} {r r₁ : Built} {o′ o₁ t′ t₁ gs′ gs₁ s′ s₁ : List ℕ} {e : End}
+pub one-outcome : {ls : Lines} {o t gs s : List ℕ} {r r₁ : Built} {o′ o₁ t′ t₁ gs′ gs₁ s′ s₁ : List ℕ} {e : Answer Grid}
     → BuildIs ls o t gs s r o′ t′ gs′ s′ e → BuildIs ls o t gs s r₁ o₁ t₁ gs₁ s₁ e → Identical r r₁ o′ o₁ t′ t₁ gs′ gs₁ s′ s₁
 one-outcome h k =
     record {
@@ -57,38 +57,31 @@ record Success (ls : Lines) (st : Standing) (o t gs : List ℕ) : Type 0 where
   items-are : st .items ≡ total (st .grid) ls
   laid : Laid (cellsOn (st .grid) ls) (count ls) (st .grid) o t gs (st .globals)
 
-answer-made : (e : End) (ls : Lines) (st : Standing) → answerOf e ls ≡ built.Tables st
-    → (e ≡ made (st .grid)) × (st .items ≡ total (st .grid) ls) × (st .globals ≡ length (globalsOn (st .grid) ls))
-unfolding answerOf
-answer-made (untouched r) ls st h = let z : _≡_ {A = ℕ} 0 1 = cc in absurd (omega arith)
-answer-made (cleared r) ls st h = let z : _≡_ {A = ℕ} 0 1 = cc in absurd (omega arith)
-answer-made (made g) ls st h =
+answer-made : (e : Answer Grid) (ls : Lines) (st : Standing) → answerOf e ls ≡ built.Tables st
+    → (e ≡ gives (st .grid)) × (st .items ≡ total (st .grid) ls) × (st .globals ≡ length (globalsOn (st .grid) ls))
+unfolding answerOf answerBy builtOn
+answer-made (refused r) ls st h = let z : _≡_ {A = ℕ} 0 1 = cc in absurd (omega arith)
+answer-made (gives g) ls st h =
     let z : record { grid = g; items = total g ls; globals = length (globalsOn g ls) } ≡ st = cc in
     let e : g ≡ st .grid = ap (λ (x : Standing). x .grid) z in
-    (ap made e, sym (ap (λ (x : Standing). x .items) z) ∙ rw e, sym (ap (λ (x : Standing). x .globals) z) ∙ rw e)
+    (ap gives e, sym (ap (λ (x : Standing). x .items) z) ∙ rw e, sym (ap (λ (x : Standing). x .globals) z) ∙ rw e)
 
-left-made : (e : End) (g : Grid) (was : List ℕ) (on : Grid → List ℕ) → e ≡ made g → leftOf e was on ≡ on g
-unfolding leftOf
+left-made : (e : Answer Grid) (g : Grid) (was : List ℕ) (on : Grid → List ℕ) → e ≡ gives g → leftIn 0 was e on ≡ on g
+unfolding leftIn
 left-made e g was on h = rw h
 
--- an end on a grid: the checks before it found nothing
-checks-fine : (c : Check) (e : End) (g : Grid) → endAfter c e ≡ made g → c ≡ Fine
-unfolding endAfter
-checks-fine Fine e g h = refl
-checks-fine (Refused r) e g h = let z : _≡_ {A = ℕ} 0 1 = cc in absurd (omega arith)
-
-made-passed : (ls : Lines) (offsets items globals scratch : ℕ) (g : Grid) → endOf ls offsets items globals scratch ≡ made g → linesCheck ls ≡ Fine
+made-passed : (ls : Lines) (offsets items globals scratch : ℕ) (g : Grid) → endOf ls offsets items globals scratch ≡ gives g → linesCheck ls ≡ Fine
 unfolding endOf
 made-passed ls offsets items globals scratch g h =
     andThen-right (scratchCheck scratch) (linesCheck ls)
-    (checks-fine (andThen (scratchCheck scratch) (linesCheck ls)) (endBy (choice ls offsets) ls items globals) g h)
+    (then-passed (andThen (scratchCheck scratch) (linesCheck ls)) (choice ls offsets into roomOn ls items globals) h .0)
 
 length-globe : (xs : List ℕ) (n : ℕ) → length xs ≤ n → length (xs ++ replicate (n - length xs) 0) ≡ n
 length-globe xs n l = rw (length-append, length-replicate) (omega arith)
 
 success : {ls : Lines} {o t gs s : List ℕ} {r : Built} {o′ t′ gs′ s′ : List ℕ} {st : Standing}
     → BuildIs ls o t gs s r o′ t′ gs′ s′ (endOf ls (length o) (length t) (length gs) (length s)) → r ≡ built.Tables st → Success ls st o′ t′ gs′
-unfolding total listOn globalsOn
+unfolding total listOn globalsOn zeroBeyond
 success {ls} {o} {t} {gs} {s} {r} {o′} {t′} {gs′} {s′} {st} h ok =
     let g : Grid = st .grid in
     let e = endOf ls (length o) (length t) (length gs) (length s) in
@@ -97,7 +90,7 @@ success {ls} {o} {t} {gs} {s} {r} {o′} {t′} {gs′} {s′} {st} h ok =
     let x : o′ ≡ offsetsOf (listOn g ls) (cells g) (length o) = h .«cell_offsets» ∙ left-made e g o (λ g. offsetsOf (listOn g ls) (cells g) (length o)) (a .0) in
     let y : t′ ≡ itemsOf (listOn g ls) (cells g) (length t) = h .«cell_items» ∙ left-made e g t (λ g. itemsOf (listOn g ls) (cells g) (length t)) (a .0) in
     let z : gs′ ≡ globalsOn g ls ++ replicate (length gs - length (globalsOn g ls)) 0 =
-    h .«global_lines» ∙ left-made e g gs (λ g. globalsOn g ls ++ replicate (length gs - length (globalsOn g ls)) 0) (a .0) in
+    h .«global_lines» ∙ left-made e g gs (λ g. zeroBeyond 0 (length gs) (globalsOn g ls)) (a .0) in
     let l : suc (cells g) ≤ length o = omega (arith, m .room) in
     let p : length o′ ≡ length o = ap length x ∙ length-offsets (listOn g ls) (cells g) (length o) l in
     let q : length t′ ≡ length t = ap length y ∙ length-items (listOn g ls) (cells g) (length t) (m .space) in
@@ -119,9 +112,9 @@ success {ls} {o} {t} {gs} {s} {r} {o′} {t′} {gs′} {s′} {st} h ok =
           };
     }
 
-ended-found : (o : Outcome) → ends o ≡ true → o ≡ found (visited o)
+ended-found : (o : Outcome) → ends o ≡ true → o ≡ gives (visited o)
 ended-found (refused why) h = let z : _≡_ {A = ℕ} 0 1 = cc in absurd (omega arith)
-ended-found (found xs) h = refl
+ended-found (gives xs) h = refl
 
 -- ---- THE THEOREMS
 
@@ -131,7 +124,7 @@ module _ {ls : Lines} {o t gs s : List ℕ} {r : Built} {o′ t′ gs′ s′ : 
   build-stands = laid-stands (success h ok .laid)
 
   -- EVERY WALK ENDS within its turns, so that these cells are what it visits
-  pub walks-end : (k : ℕ) → k < count ls → walkOn (st .grid) ls k ≡ found (cellsOn (st .grid) ls k)
+  pub walks-end : (k : ℕ) → k < count ls → walkOn (st .grid) ls k ≡ gives (cellsOn (st .grid) ls k)
   unfolding turnsCheck cellsOn
   walks-end k l =
       ended-found (walkOn (st .grid) ls k) (each-says (λ i. ends (walkOn (st .grid) ls i)) 7 (count ls) 0 k (success h ok .turns) (omega arith) (omega arith))

@@ -7,7 +7,7 @@ use lib.Dec.{ltb}
 use lib.ListN.{length}
 use Rattle.refusals.specs.declared.Check.{Check}
 use Rattle.refusals.specs.declared.Check.the-variants.{Fine}
-use Rattle.refusals.specs.Refusals.{andThen}
+use Rattle.refusals.specs.Refusals.{Answer, andThen, _then_, _into_}
 use Rattle.grid.specs.declared.Grid.{Grid}
 use Rattle.grid.specs.Domain.{Lines, fit, scratchCheck, linesCheck}
 use Rattle.sizing.specs.declared.Extent.{Extent}
@@ -22,7 +22,7 @@ use Rattle.build.specs.declared.Built.the-variants as built
 use Rattle.build.specs.declared.Attempt.{Attempt}
 use Rattle.build.specs.declared.Attempt.the-variants as attempt
 use Rattle.build.specs.Choice.{chosen}
-use Rattle.build.specs.Build.{End, endBy, endAfter, BuildIs}
+use Rattle.build.specs.Build.{roomOn, BuildIs}
 
 -- 500 where the size can be halved, and else no limit: there are at most 65,536 lines
 abbrev pub mostOn : Grid → ℕ → ℕ
@@ -43,8 +43,8 @@ pub record AttemptAsks (ls : Lines) (e : Extent) (size : Size) (s : List ℕ) : 
   pub fits : lentOf ls (length s) ≡ Fine → fit (gridOf e size) ≡ true
 
 -- how a build ends from a size on, with so many halvings left
-abbrev pub endFrom : ℕ → Extent → Size → Lines → ℕ → ℕ → ℕ → ℕ → End
-endFrom left e size ls offsets items globals scratch = endAfter (lentOf ls scratch) (endBy (chosen left e size ls offsets) ls items globals)
+abbrev pub endFrom : ℕ → Extent → Size → Lines → ℕ → ℕ → ℕ → ℕ → Answer Grid
+endFrom left e size ls offsets items globals scratch = lentOf ls scratch then (chosen left e size ls offsets into roomOn ls items globals)
 
 -- the choice goes on from half the size
 pub record Halved (left : ℕ) (e : Extent) (size : Size) (ls : Lines) (offsets scratch : ℕ) : Type 0 where

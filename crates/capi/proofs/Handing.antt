@@ -13,7 +13,7 @@ use Rattle.refusals.specs.declared.Check.{Check}
 use Rattle.refusals.specs.declared.Check.the-variants.{Fine, Refused}
 use Rattle.refusals.specs.declared.Refusal.{Refusal}
 use Rattle.visit.proofs.PlaceLaws.{given, part-some, part-whole}
-use Rattle.capi.specs.Replies.{Reply, success, refusal, Handed, unlessShort, Replies}
+use Rattle.capi.specs.Replies.{Reply, success, refusing, Handed, unlessShort, Replies}
 use Rattle.capi.specs.Answers.{ofPart}
 
 -- ---- the pattern of a NaN, which alone differs from itself
@@ -105,7 +105,7 @@ module _ (check : Check) (from : ℕ) (xs list : List ℕ) (e : list ≡ given c
       let l : 0 ≡ from + length xs - from = omega (arith, ap length (part-whole check xs list e f)) in
       rw f (ap (λ (n : ℕ). success (from ∷ n ∷ [])) l)
 
-  pub list-refused : (r : Refusal) → check ≡ Refused r → refusal (r .number) (r .value) ≡ ofPart check from (from + length xs)
+  pub list-refused : (r : Refusal) → check ≡ Refused r → refusing r ≡ ofPart check from (from + length xs)
   unfolding ofPart
   list-refused r f = rw f
 

@@ -8,13 +8,13 @@ use lib.Dec.{leb}
 use lib.Ieee.{Float}
 use lib.ListN.{length}
 use borrow.Author.Tests.{leb-true, leb-false}
+use Rattle.refusals.specs.Refusals.{Answer}
 use Rattle.grid.specs.Domain.{Lines}
 use Rattle.grid.specs.declared.Grid.{Grid}
 use Rattle.tables.specs.Tables.{Tables}
 use Rattle.wkb.proofs.Outcomes as wkb
 use Rattle.walk.specs.Pushes.{Outcome}
 use Rattle.walk.proofs.Outcomes as walk
-use Rattle.build.specs.Build.{End}
 use Rattle.build.proofs.Theorems as build
 use Rattle.visit.proofs.Outcomes as visit
 use Rattle.capi.specs.Replies.{Reply, Replies}
@@ -53,7 +53,7 @@ walk-one-outcome {out = out} h k =
       by-room 1 out (λ l. walk.one-outcome (h .called l) (k .called l) .1) (λ l. h .short l ∙ sym (k .short l)),
     )
 
-pub build-one-outcome : {ls : Lines} {o o′ o₁ t t′ t₁ gs gs′ gs₁ s s′ s₁ out out′ out₁ : List ℕ} {r r₁ : ℕ} {e : End}
+pub build-one-outcome : {ls : Lines} {o o′ o₁ t t′ t₁ gs gs′ gs₁ s s′ s₁ out out′ out₁ : List ℕ} {r r₁ : ℕ} {e : Answer Grid}
     → BuildReplies ls o t gs s out r o′ t′ gs′ s′ out′ e → BuildReplies ls o t gs s out r₁ o₁ t₁ gs₁ s₁ out₁ e
     → (r ≡ r₁) × (out′ ≡ out₁) × (o′ ≡ o₁) × (t′ ≡ t₁) × (gs′ ≡ gs₁) × (s′ ≡ s₁)
 build-one-outcome {out = out} h k =

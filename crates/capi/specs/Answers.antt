@@ -23,43 +23,43 @@ use Rattle.visit.specs.declared.TestAnswer.{TestAnswer}
 use Rattle.visit.specs.declared.TestAnswer.the-variants as answer
 use Rattle.visit.specs.declared.BatchAnswer.{BatchAnswer}
 use Rattle.visit.specs.declared.BatchAnswer.the-variants as batch
-use Rattle.capi.specs.Replies.{Reply, success, refusal}
+use Rattle.capi.specs.Replies.{Reply, success, refusing}
 
 -- ---- a check: no value where it finds nothing
 
 unfoldable pub ofCheck : Check → Reply
 ofCheck check.Fine = success []
-ofCheck (check.Refused r) = refusal (r .number) (r .value)
+ofCheck (check.Refused r) = refusing r
 
 -- ---- snapping: the bits of the point
 
 unfoldable pub ofSnap : Snapped → Reply
 ofSnap (snapped.Point x y) = success (toBits binary64 x ∷ toBits binary64 y ∷ [])
-ofSnap (snapped.Refused r) = refusal (r .number) (r .value)
+ofSnap (snapped.Refused r) = refusing r
 
 -- ---- ownership: 1 where the cell owns it, else 0; the owner: 1 with its row and column, or three zeros outside the grid
 
 unfoldable pub ofOwned : Owned → Reply
 ofOwned owned.Yes = success (1 ∷ [])
 ofOwned owned.No = success (0 ∷ [])
-ofOwned (owned.Refused r) = refusal (r .number) (r .value)
+ofOwned (owned.Refused r) = refusing r
 
 unfoldable pub ofOwner : Owner → Reply
 ofOwner (owner.Cell row col) = success (1 ∷ row ∷ col ∷ [])
 ofOwner owner.Outside = success (0 ∷ 0 ∷ 0 ∷ [])
-ofOwner (owner.Refused r) = refusal (r .number) (r .value)
+ofOwner (owner.Refused r) = refusing r
 
 -- ---- the reader: the number of points; the points are in x and y
 
 unfoldable pub ofRead : Read → Reply
 ofRead (read.Points n) = success (n ∷ [])
-ofRead (read.Refused r) = refusal (r .number) (r .value)
+ofRead (read.Refused r) = refusing r
 
 -- ---- the walk: the number of cells; the cells are in the scratch
 
 unfoldable pub ofCells : Cells → Reply
 ofCells (cells.Found n) = success (n ∷ [])
-ofCells (cells.Refused r) = refusal (r .number) (r .value)
+ofCells (cells.Refused r) = refusing r
 
 -- ---- the build: the grid, the number of items and the number of globals; the tables are in their slices
 
@@ -74,14 +74,14 @@ ofBuilt (built.Tables t) =
     ∷ t .items
     ∷ t .globals
     ∷ [])
-ofBuilt (built.Refused r) = refusal (r .number) (r .value)
+ofBuilt (built.Refused r) = refusing r
 
 -- ---- a list by its place: where its part starts, and its length. A cell's list is the part of the items from its offset to the next, as
 -- `listAt` takes it, and a global's the part of the globals from its position to their end.
 
 unfoldable pub ofPart : Check → ℕ → ℕ → Reply
 ofPart check.Fine from to = success (from ∷ (to - from) ∷ [])
-ofPart (check.Refused r) from to = refusal (r .number) (r .value)
+ofPart (check.Refused r) from to = refusing r
 
 -- ---- one test: 0 for a cell with its row and column, 1 for a global line with its position, 2 for the end mark; the two lines; 1 where their
 -- boxes overlap, else 0
@@ -93,10 +93,10 @@ ofPlace (place.Global position) first second overlap = success (1 ∷ position �
 unfoldable pub ofTest : TestAnswer → Reply
 ofTest (answer.Made t) = ofPlace (t .place) (t .first) (t .second) (cond (t .overlap) 1 0)
 ofTest answer.End = success (2 ∷ 0 ∷ 0 ∷ 0 ∷ 0 ∷ 0 ∷ [])
-ofTest (answer.Refused r) = refusal (r .number) (r .value)
+ofTest (answer.Refused r) = refusing r
 
 -- ---- a batch: the tests made, the overlaps, the new bookmark; the pairs are in the outputs
 
 unfoldable pub ofBatch : BatchAnswer → Reply
 ofBatch (batch.Done t) = success (t .tests ∷ t .overlaps ∷ t .bookmark ∷ [])
-ofBatch (batch.Refused r) = refusal (r .number) (r .value)
+ofBatch (batch.Refused r) = refusing r

@@ -5,6 +5,7 @@ use mathlib.Core.Path.{_≡_}
 use mathlib.Core.List.{List}
 use lib.Ieee.{Float}
 use lib.ListN.{length}
+use Rattle.refusals.specs.Refusals.{Answer}
 use Rattle.grid.specs.Domain.{Lines}
 use Rattle.grid.specs.declared.Grid.{Grid}
 use Rattle.tables.specs.Tables.{Tables}
@@ -33,7 +34,7 @@ pub record WalkReplies (o : Outcome) (scratch out : List ℕ) (r : ℕ) (scratch
   pub short : length out < 1 → scratch′ ≡ scratch
 
 -- a build that ends in e
-pub record BuildReplies (ls : Lines) (offsets items globals scratch out : List ℕ) (r : ℕ) (offsets′ items′ globals′ scratch′ out′ : List ℕ) (e : build.End) : Type 0 where
+pub record BuildReplies (ls : Lines) (offsets items globals scratch out : List ℕ) (r : ℕ) (offsets′ items′ globals′ scratch′ out′ : List ℕ) (e : Answer Grid) : Type 0 where
   pub replies : Replies 7 (ofBuilt (build.answerOf e ls)) out r out′
   pub called : 7 ≤ length out → build.BuildIs ls offsets items globals scratch (build.answerOf e ls) offsets′ items′ globals′ scratch′ e
   pub short : length out < 7 → (offsets′ ≡ offsets) × (items′ ≡ items) × (globals′ ≡ globals) × (scratch′ ≡ scratch)

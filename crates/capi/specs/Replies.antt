@@ -6,6 +6,7 @@ use mathlib.Core.List.{List, [], _∷_, _++_}
 use lib.Dec.{leb}
 use lib.Ieee.{Float}
 use lib.ListN.{length, drop}
+use Rattle.refusals.specs.declared.Refusal.{Refusal}
 use Rattle.grid.specs.declared.Grid.{Grid}
 
 -- an answer by document 01's number, 0 for success, with its values
@@ -16,8 +17,8 @@ pub record Reply : Type 0 where
 abbrev pub success : List ℕ → Reply
 success values = record { number = 0; values = values }
 
-abbrev pub refusal : ℕ → ℕ → Reply
-refusal number value = record { number = number; values = value ∷ [] }
+abbrev pub refusing : Refusal → Reply
+refusing r = record { number = r .number; values = r .value ∷ [] }
 
 -- the number r is returned, the values stand at the start of `out`, and the rest of it is as it was
 pub record Handed (a : Reply) (out : List ℕ) (r : ℕ) (out′ : List ℕ) : Type 0 where

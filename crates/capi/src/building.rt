@@ -27,7 +27,7 @@ fn built(answer: Built, out: &mut [u64]) -> u32
                 out,
             )
         },
-        Built::Refused(r) => reply::refused(r.number, r.value, out),
+        Built::Refused(r) => reply::refused(r, out),
     }
 }
 

@@ -17,7 +17,7 @@ fn owned(answer: Owned, out: &mut [u64]) -> u32
     match answer {
         Owned::Yes => reply::one(1, out),
         Owned::No => reply::one(0, out),
-        Owned::Refused(r) => reply::refused(r.number, r.value, out),
+        Owned::Refused(r) => reply::refused(r, out),
     }
 }
 
@@ -91,7 +91,7 @@ fn owner(answer: Owner, out: &mut [u64]) -> u32
     match answer {
         Owner::Cell { row, col } => reply::three(1, row as u64, col as u64, out),
         Owner::Outside => reply::three(0, 0, 0, out),
-        Owner::Refused(r) => reply::refused(r.number, r.value, out),
+        Owner::Refused(r) => reply::refused(r, out),
     }
 }
 

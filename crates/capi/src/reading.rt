@@ -13,7 +13,7 @@ fn read(answer: Read, out: &mut [u64]) -> u32
 {
     match answer {
         Read::Points(n) => reply::one(n as u64, out),
-        Read::Refused(r) => reply::refused(r.number, r.value, out),
+        Read::Refused(r) => reply::refused(r, out),
     }
 }
 

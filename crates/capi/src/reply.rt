@@ -1,10 +1,11 @@
 // How an answer is handed back: its number is returned, and its values are stored at the start of `out`.
+use refusals::Refusal;
 ghost use mathlib.Core.Path.{_≡_};
 ghost use mathlib.Core.List.{[], _∷_};
 ghost use Prim.Native.Nat.{_≤_};
 ghost use lib.ListN.{length};
 ghost use lib.Ieee.{binary64, toBits};
-ghost use Rattle.capi.specs.Replies.{Handed, success, refusal};
+ghost use Rattle.capi.specs.Replies.{Handed, success, refusing};
 
 // The answer of every function whose `out` is short.
 pub(crate) const SHORT: u32 = 100;
@@ -19,12 +20,12 @@ pub(crate) fn bits(v: f64) -> u64
     f64::to_bits(v)
 }
 
-pub(crate) fn refused(number: u32, value: u64, out: &mut [u64]) -> u32
+pub(crate) fn refused(why: Refusal, out: &mut [u64]) -> u32
     requires { ⌜ 1 ≤ length (now out) ⌝ }
-    ensures { λ r. ⌜ Handed (refusal number value) (now (out .entry)) r (now (out .exit)) ⌝ }
+    ensures { λ r. ⌜ Handed (refusing why) (now (out .entry)) r (now (out .exit)) ⌝ }
 {
-    out[0] = value;
-    number
+    out[0] = why.value;
+    why.number
 }
 
 pub(crate) fn one(a: u64, out: &mut [u64]) -> u32

@@ -13,7 +13,7 @@ fn snapped(answer: Snapped, out: &mut [u64]) -> u32
 {
     match answer {
         Snapped::Point { x, y } => reply::two(reply::bits(x), reply::bits(y), out),
-        Snapped::Refused(r) => reply::refused(r.number, r.value, out),
+        Snapped::Refused(r) => reply::refused(r, out),
     }
 }
 

@@ -15,7 +15,7 @@ fn checked(answer: Check, out: &mut [u64]) -> u32
 {
     match answer {
         Check::Fine => 0,
-        Check::Refused(r) => reply::refused(r.number, r.value, out),
+        Check::Refused(r) => reply::refused(r, out),
     }
 }
 

@@ -60,7 +60,7 @@ fn listed<'a>(
     let check = visit::lists::list_check(lines, grid, offsets, items, globals, global_count, place);
     match check {
         Check::Fine => reply::two(from, 0, out),
-        Check::Refused(r) => reply::refused(r.number, r.value, out),
+        Check::Refused(r) => reply::refused(r, out),
     }
 }
 
@@ -195,7 +195,7 @@ fn test(answer: TestAnswer, out: &mut [u64]) -> u32
             made(place, t.first, t.second, flag(t.overlap), out)
         },
         TestAnswer::End => reply::six(2, 0, 0, 0, 0, 0, out),
-        TestAnswer::Refused(r) => reply::refused(r.number, r.value, out),
+        TestAnswer::Refused(r) => reply::refused(r, out),
     }
 }
 
@@ -255,7 +255,7 @@ fn batch(answer: BatchAnswer, out: &mut [u64]) -> u32
 {
     match answer {
         BatchAnswer::Done(t) => reply::three(t.tests, t.overlaps, t.bookmark, out),
-        BatchAnswer::Refused(r) => reply::refused(r.number, r.value, out),
+        BatchAnswer::Refused(r) => reply::refused(r, out),
     }
 }
 

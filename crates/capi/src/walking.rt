@@ -17,7 +17,7 @@ fn cells(answer: Cells, out: &mut [u64]) -> u32
 {
     match answer {
         Cells::Found(n) => reply::one(n as u64, out),
-        Cells::Refused(r) => reply::refused(r.number, r.value, out),
+        Cells::Refused(r) => reply::refused(r, out),
     }
 }
 

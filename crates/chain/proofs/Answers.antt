@@ -7,13 +7,13 @@ use lib.ListN.{length, take, drop, replicate, length-take, length-drop, drop-of-
 use lib.Seq.{length-take-le, take-at}
 use Rattle.refusals.specs.declared.Refusal.{Refusal}
 use Rattle.refusals.specs.declared.Check.the-variants.{Fine}
-use Rattle.refusals.specs.Refusals.{Answer, refused, gives, answerBy}
+use Rattle.refusals.specs.Refusals.{Answer, refused, gives, answerBy, leftIn}
 use Rattle.refusals.proofs.Answers.{then-passed}
 use Rattle.grid.specs.declared.Grid.{Grid}
 use Rattle.grid.specs.Domain.{Lines}
 use Rattle.tables.specs.Lists.{itemsOf, offsetsOf}
 use Rattle.fill.specs.OnGrid.{listOn, globalsOn, total}
-use Rattle.build.specs.Build.{End, untouched, cleared, made, answerOf, leftOf, endOf, BuildIs}
+use Rattle.build.specs.Build.{endOf, builtOn, answerOf, BuildIs}
 use Rattle.build.specs.declared.Standing.{Standing}
 use Rattle.build.specs.declared.Built.{Built}
 use Rattle.build.specs.declared.Built.the-variants as built
@@ -27,7 +27,7 @@ use Rattle.report.proofs.Written.{Written, written}
 use Rattle.chain.specs.declared.Visited.{Visited}
 use Rattle.chain.specs.declared.Visited.the-variants as visited
 use Rattle.chain.specs.Inside.{fullVisit}
-use Rattle.chain.specs.Printed.{refusedText, reportOf, allTests, printedTables, tablesOn, printedEnd, printedLines, Prints}
+use Rattle.chain.specs.Printed.{refusedText, reportOf, allTests, printedTables, tablesOn, printedOn, printedLines, Prints}
 
 -- ---- the visit
 
@@ -68,30 +68,28 @@ tables-counted ls g t items {x} {tests} {overlaps} v e = go (allTests ls g t) re
 -- ---- the build
 
 module _ (ls : Lines) {o i gs s o′ i′ gs′ s′ : List ℕ} {r : Built} (eo : length o ≡ 4096) (ei : length i ≡ 4096) (eg : length gs ≡ 64) (es : length s ≡ 16384) where
-  at-end : (e : End) → endOf ls 4096 4096 64 16384 ≡ e → BuildIs ls o i gs s r o′ i′ gs′ s′ (endOf ls (length o) (length i) (length gs) (length s)) → BuildIs ls o i gs s r o′ i′ gs′ s′ e
+  at-end : (e : Answer Grid) → endOf ls 4096 4096 64 16384 ≡ e → BuildIs ls o i gs s r o′ i′ gs′ s′ (endOf ls (length o) (length i) (length gs) (length s)) → BuildIs ls o i gs s r o′ i′ gs′ s′ e
   at-end e h b = rw (eo, ei, eg, es, h) at b
 
-  refused-end : (e : End) → endOf ls 4096 4096 64 16384 ≡ e → BuildIs ls o i gs s r o′ i′ gs′ s′ e → (q : Refusal) → r ≡ built.Refused q → refusedLine (q .number) ≡ printedEnd e ls
-  unfolding answerOf printedEnd
-  refused-end (untouched p) h b q x = let w : q ≡ p = cc (b .answer) in ap (λ (z : Refusal). refusedLine (z .number)) w
-  refused-end (cleared p) h b q x = let w : q ≡ p = cc (b .answer) in ap (λ (z : Refusal). refusedLine (z .number)) w
-  refused-end (made g) h b q x = absurd (let z : _≡_ {A = ℕ} 0 1 = cc (b .answer) in omega arith)
+  refused-end : (e : Answer Grid) → BuildIs ls o i gs s r o′ i′ gs′ s′ e → (q : Refusal) → r ≡ built.Refused q → refusedLine (q .number) ≡ answerBy refusedText (printedOn ls) e
+  unfolding answerOf answerBy builtOn
+  refused-end (refused p) b q x = let w : q ≡ p = cc (b .answer) in ap refusedText w
+  refused-end (gives g) b q x = absurd (let z : _≡_ {A = ℕ} 0 1 = cc (b .answer) in omega arith)
 
   pub lines-refused : BuildIs ls o i gs s r o′ i′ gs′ s′ (endOf ls (length o) (length i) (length gs) (length s)) → {q : Refusal} → r ≡ built.Refused q → refusedLine (q .number) ≡ printedLines ls
   unfolding printedLines
-  lines-refused b {q} x = refused-end _ refl (at-end _ refl b) q x
+  lines-refused b {q} x = refused-end _ (at-end _ refl b) q x
 
-  made-end : (e : End) → endOf ls 4096 4096 64 16384 ≡ e → BuildIs ls o i gs s r o′ i′ gs′ s′ e → (st : Standing) → r ≡ built.Tables st → printedTables ls (st .grid) (beside ls (st .grid) o′ i′ gs′ (st .globals)) (st .items) ≡ printedEnd e ls
-  unfolding answerOf printedEnd leftOf tablesOn
-  made-end (untouched p) h b st x = absurd (let z : _≡_ {A = ℕ} 0 1 = cc (b .answer) in omega arith)
-  made-end (cleared p) h b st x = absurd (let z : _≡_ {A = ℕ} 0 1 = cc (b .answer) in omega arith)
-  made-end (made g) h b st x =
+  made-end : (e : Answer Grid) → BuildIs ls o i gs s r o′ i′ gs′ s′ e → (st : Standing) → r ≡ built.Tables st → printedTables ls (st .grid) (beside ls (st .grid) o′ i′ gs′ (st .globals)) (st .items) ≡ answerBy refusedText (printedOn ls) e
+  unfolding answerOf answerBy builtOn leftIn printedOn tablesOn
+  made-end (refused p) b st x = absurd (let z : _≡_ {A = ℕ} 0 1 = cc (b .answer) in omega arith)
+  made-end (gives g) b st x =
       let w : st ≡ record { grid = g; items = total g ls; globals = length (globalsOn g ls) } = cc (b .answer) in
       rw (w, b .«cell_offsets», b .«cell_items», b .«global_lines», eo, ei, eg)
 
   pub lines-made : BuildIs ls o i gs s r o′ i′ gs′ s′ (endOf ls (length o) (length i) (length gs) (length s)) → {st : Standing} → r ≡ built.Tables st → printedTables ls (st .grid) (beside ls (st .grid) o′ i′ gs′ (st .globals)) (st .items) ≡ printedLines ls
   unfolding printedLines
-  lines-made b {st} x = made-end _ refl (at-end _ refl b) st x
+  lines-made b {st} x = made-end _ (at-end _ refl b) st x
 
 -- ---- the end of the text
 

@@ -7,12 +7,12 @@ use lib.ListN.{length, take, drop, replicate}
 use Rattle.wkb.specs.Bytes.{Point}
 use Rattle.wkb.specs.Reading.{found}
 use Rattle.refusals.specs.declared.Refusal.{Refusal}
-use Rattle.refusals.specs.Refusals.{Answer, gives, _then_, answerBy}
+use Rattle.refusals.specs.Refusals.{Answer, gives, _then_, answerBy, zeroBeyond}
 use Rattle.grid.specs.declared.Grid.{Grid}
 use Rattle.grid.specs.Domain.{Lines, lines}
 use Rattle.tables.specs.Lists.{itemsOf, offsetsOf}
 use Rattle.fill.specs.OnGrid.{listOn, globalsOn, total}
-use Rattle.build.specs.Build.{End, untouched, cleared, made, endOf}
+use Rattle.build.specs.Build.{endOf}
 use Rattle.tables.specs.Tables.{Tables, cells, listOf, globalsOf}
 use Rattle.visit.specs.Tests.{Pair, testsOf}
 use Rattle.visit.specs.Batches.{overlapping}
@@ -50,16 +50,13 @@ printedTables ls g t items = answerBy refusedText (λ ps. reportOf g t items (le
 unfoldable pub tablesOn : Lines → Grid → Tables
 tablesOn ls g =
     beside ls g (offsetsOf (listOn g ls) (g .rows * g .cols) 4096) (itemsOf (listOn g ls) (g .rows * g .cols) 4096)
-    (globalsOn g ls ++ replicate (64 - length (globalsOn g ls)) 0)
-    (length (globalsOn g ls))
+    (zeroBeyond 0 64 (globalsOn g ls)) (length (globalsOn g ls))
 
-unfoldable pub printedEnd : End → Lines → List ℕ
-printedEnd (untouched r) ls = refusedLine (r .number)
-printedEnd (cleared r) ls = refusedLine (r .number)
-printedEnd (made g) ls = printedTables ls g (tablesOn ls g) (total g ls)
+unfoldable pub printedOn : Lines → Grid → List ℕ
+printedOn ls g = printedTables ls g (tablesOn ls g) (total g ls)
 
 unfoldable pub printedLines : Lines → List ℕ
-printedLines ls = printedEnd (endOf ls 4096 4096 64 16384) ls
+printedLines ls = answerBy refusedText (printedOn ls) (endOf ls 4096 4096 64 16384)
 
 -- ---- the input
 

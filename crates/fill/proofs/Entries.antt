@@ -1,6 +1,6 @@
 -- The entries: the checks, and what each answer leaves. Assumes nothing.
 use mathlib.Core.Path.{_≡_, refl, sym, ap, ap₂, _∙_}
-use mathlib.Core.Bool.{Bool, true, false}
+use mathlib.Core.Bool.{Bool, true, false, cond}
 use mathlib.Core.List.{List, _++_}
 use Prim.Native.Nat.{ℕ, _+_, _-_, _≤_, _<_}
 use native.Mathlib.Omega.{arith}
@@ -9,12 +9,12 @@ use lib.ListN.{length, getD, take, drop, replicate, take-append-drop}
 use Rattle.refusals.specs.declared.Refusal.{Refusal}
 use Rattle.refusals.specs.declared.Check.{Check}
 use Rattle.refusals.specs.declared.Check.the-variants.{Fine, Refused}
-use Rattle.refusals.specs.Refusals.{refusal, unless, andThen}
+use Rattle.refusals.specs.Refusals.{refusal, unless, andThen, Answer, refused, gives, _then_, answerBy, leftBy, leftIn}
 use Rattle.refusals.proofs.Checks.{unless-fine, andThen-left, andThen-right}
+use Rattle.refusals.proofs.Leaving.{left-alike, Clears, clears-gives, clears-then, clears-if, in-alike}
 use Rattle.grid.specs.declared.Grid.{Grid}
 use Rattle.grid.specs.Domain.{Lines, count, fit, scratchCheck, linesCheck, gridCheck}
 use Rattle.grid.proofs.Fine.{LinesFit, lines-fine}
-use Rattle.walk.specs.Segment.{leftBy}
 use Rattle.tables.specs.Lists.{linesAt, tabulate, itemsOf, offsetsOf}
 use Rattle.tables.proofs.Laws.{take-tabulate, drop-zeros, beyond}
 use Rattle.fill.specs.declared.Count.{Count}
@@ -22,11 +22,11 @@ use Rattle.fill.specs.declared.Count.the-variants as counted
 use Rattle.fill.specs.declared.Filled.{Filled}
 use Rattle.fill.specs.OnGrid.{cells, listOn, globalsOn, countsOn}
 use Rattle.fill.specs.Checks.{lentCheck, turnsCheck, roomCheck, triedCheck, countingCheck, spaceCheck}
-use Rattle.fill.specs.Fill.{numberOr, leftOr, CountIs, above, Filling, refused, crowded, made, unlessRefused, crowdedIf, fillingOf, filledOf, leftIn, FillIs}
+use Rattle.fill.specs.Fill.{countOf, CountIs, above, Filling, crowded, made, fillingOf, writtenIn, FillIs}
 use Rattle.fill.specs.Inside.{CountAs, Walkable, localOn, CountedTo, AllCounted, CountLent, FillAsks}
 use Rattle.fill.proofs.Walks.{all-walks}
 use Rattle.fill.proofs.Counts.{walkable-again}
-use Rattle.fill.proofs.Leaves.{Within, left-zeros, tried-within, space-within}
+use Rattle.fill.proofs.Leaves.{tried-clears, space-clears}
 
 -- ---- one check after another
 
@@ -70,20 +70,6 @@ lent-walkable {g} {ls} {s} h =
 
 -- ---- the checks and the count
 
-same-zeros : (k : Check) (q : Refusal) (was was′ : List ℕ) → Within 4 7 k → k ≡ Refused q → length was′ ≡ length was → leftBy q was′ ≡ leftBy q was
-same-zeros Fine q was was′ w h e = let z : _≡_ {A = ℕ} 0 1 = cc in absurd (omega arith)
-same-zeros (Refused r) q was was′ w h e =
-    let d : r ≡ q = cc in
-    rw (← d) (left-zeros r was′ w ∙ ap (λ (n : ℕ). replicate {A = ℕ} n 0) e ∙ sym (left-zeros r was w))
-
--- of a slice, a crowded cell, refusals 5 and 6, and tables ask the length alone
-same-left : (b : Bool) (c : Check) → Within 4 7 c → (was was′ : List ℕ) (on : ℕ → List ℕ) → length was′ ≡ length was
-    → leftIn (crowdedIf b (unlessRefused c made)) was′ (on (length was′)) ≡ leftIn (crowdedIf b (unlessRefused c made)) was (on (length was))
-unfolding crowdedIf unlessRefused leftIn
-same-left true c w was was′ on e = ap (λ (n : ℕ). replicate {A = ℕ} n 0) e
-same-left false Fine w was was′ on e = ap on e
-same-left false (Refused r) w was was′ on e = same-zeros (Refused r) r was was′ w refl e
-
 module _ {g : Grid} {ls : Lines} {o s : List ℕ} where
   pub lent-refused : {r : Refusal} → lentCheck g ls (length s) ≡ Refused r → CountLent g ls o s (counted.Refused r) o s
   unfolding countingCheck
@@ -99,8 +85,8 @@ module _ {g : Grid} {ls : Lines} {o s : List ℕ} where
   lent-counted {r} {o′} {s′} h k a b =
       record {
         is = rw (← first-passes (lentCheck g ls (length s)) (triedCheck g ls (length o)) h) k;
-        offsets = λ q e. same-zeros (triedCheck g ls (length o)) q o o′ (tried-within g ls (length o)) (rw e at k) a;
-        scratch = λ q e. same-zeros (triedCheck g ls (length o)) q s s′ (tried-within g ls (length o)) (rw e at k) b;
+        offsets = λ q e. left-alike 0 q o o′ (tried-clears g ls (length o) .says q (rw e at k)) a;
+        scratch = λ q e. left-alike 0 q s s′ (tried-clears g ls (length o) .says q (rw e at k)) b;
       }
 
 -- ---- the count
@@ -126,8 +112,8 @@ module _ {g : Grid} {ls : Lines} {o s : List ℕ} {r : Count} {o₁ s₁ : List 
   counting-walkable n e = lent-walkable (andThen-left (lentCheck g ls (length s)) (triedCheck g ls (length o)) (counting-fine n e .0))
 
   pub count-done : (n : ℕ) {s₂ : List ℕ} {long : ℕ} → r ≡ counted.Of n → length o₁ ≡ length o → s₂ ≡ replicate long 0 → long ≡ length s
-      → CountIs g ls o s (counted.Of n) o₁ s₂ (countingCheck g ls (length o) (length s))
-  unfolding numberOr leftOr
+      → CountIs g ls o s (counted.Of n) o₁ s₂ (countOf g ls (length o) (length s))
+  unfolding countOf _then_ answerBy leftIn
   count-done n e a z b =
       let k = counting-fine n e in
       rw (k .0)
@@ -140,8 +126,8 @@ module _ {g : Grid} {ls : Lines} {o s : List ℕ} {r : Count} {o₁ s₁ : List 
   counting-refused : (q : Refusal) → r ≡ counted.Refused q → countingCheck g ls (length o) (length s) ≡ Refused q
   counting-refused q e = rw e at (h .is)
 
-  pub count-refused : (q : Refusal) {o₂ s₂ : List ℕ} → r ≡ counted.Refused q → o₂ ≡ leftBy q o₁ → s₂ ≡ leftBy q s₁ → CountIs g ls o s (counted.Refused q) o₂ s₂ (countingCheck g ls (length o) (length s))
-  unfolding numberOr leftOr
+  pub count-refused : (q : Refusal) {o₂ s₂ : List ℕ} → r ≡ counted.Refused q → o₂ ≡ leftBy 0 q o₁ → s₂ ≡ leftBy 0 q s₁ → CountIs g ls o s (counted.Refused q) o₂ s₂ (countOf g ls (length o) (length s))
+  unfolding countOf _then_ answerBy leftIn
   count-refused q e x y =
       rw (counting-refused q e) (record { answer = refl; counts-are = x ∙ h .offsets q e; scratch-is = y ∙ h .scratch q e })
 
@@ -159,7 +145,7 @@ module _ {g : Grid} {ls : Lines} {o s : List ℕ} {r : Count} {o₁ s₁ : List 
 
   pub fill-refused : (q : Refusal) {t gs : List ℕ} {w : Filled} {o₂ t₂ gs₂ s₂ : List ℕ} (most : ℕ) → r ≡ counted.Refused q → ((g : Grid) (ls : Lines) → FillIs g ls o₁ t gs s₁ w o₂ t₂ gs₂ s₂ (refused q))
       → FillIs g ls o t gs s w o₂ t₂ gs₂ s₂ (fillingOf g ls most (length o) (length t) (length gs) (length s))
-  unfolding fillingOf unlessRefused filledOf leftIn
+  unfolding fillingOf _then_ answerBy leftIn
   fill-refused q most e all =
       let k = all g ls in
       rw (counting-refused q e)
@@ -172,18 +158,18 @@ module _ {g : Grid} {ls : Lines} {o s : List ℕ} {r : Count} {o₁ s₁ : List 
       })
 
   pub fill-done : (n : ℕ) {t gs : List ℕ} {w : Filled} {o₂ t₂ gs₂ s₂ : List ℕ} (most : ℕ) → r ≡ counted.Of n
-      → FillIs g ls o₁ t gs s₁ w o₂ t₂ gs₂ s₂ (crowdedIf (above most (λ c. length (listOn g ls c)) (cells g)) (unlessRefused (spaceCheck g ls (length t) (length gs)) made))
+      → FillIs g ls o₁ t gs s₁ w o₂ t₂ gs₂ s₂ (cond (above most (λ c. length (listOn g ls c)) (cells g)) (gives crowded) (spaceCheck g ls (length t) (length gs) then gives made))
       → length o₁ ≡ length o → length s₁ ≡ length s → FillIs g ls o t gs s w o₂ t₂ gs₂ s₂ (fillingOf g ls most (length o) (length t) (length gs) (length s))
-  unfolding fillingOf unlessRefused
+  unfolding fillingOf _then_
   fill-done n {t} {gs} most e k a b =
       let crowd = above most (λ c. length (listOn g ls c)) (cells g) in
-      let room = spaceCheck g ls (length t) (length gs) in
-      let w = space-within g ls (length t) (length gs) in
+      let rest : Answer Filling = cond crowd (gives crowded) (spaceCheck g ls (length t) (length gs) then gives made) in
+      let d : Clears rest = clears-if crowd clears-gives (clears-then (space-clears g ls (length t) (length gs)) clears-gives) in
       rw (counting-fine n e .0)
       (record {
         answer = k .answer;
-        offsets-are = k .offsets-are ∙ same-left crowd room w o o₁ (λ n. offsetsOf (listOn g ls) (cells g) n) a;
+        offsets-are = k .offsets-are ∙ in-alike 0 rest o o₁ (λ n. writtenIn n (offsetsOf (listOn g ls) (cells g) n)) d a;
         items-are = k .items-are;
         globals-are = k .globals-are;
-        scratch-is = k .scratch-is ∙ same-left crowd room w s s₁ (λ n. replicate {A = ℕ} n 0) b;
+        scratch-is = k .scratch-is ∙ in-alike 0 rest s s₁ (λ n. writtenIn n (replicate {A = ℕ} n 0)) d b;
       })

@@ -1,6 +1,6 @@
 -- From the counts on a grid to its tables, or to refusal 5 or 6. Assumes nothing.
 use mathlib.Core.Path.{_≡_, refl, sym, ap, _∙_, fun-ext}
-use mathlib.Core.Bool.{Bool, true, false}
+use mathlib.Core.Bool.{Bool, true, false, cond}
 use mathlib.Core.List.{List, _++_}
 use Prim.Native.Nat.{ℕ, suc, _+_, _-_, _≤_, _<_, _^_}
 use native.Mathlib.Omega.{arith}
@@ -9,10 +9,10 @@ use lib.ListN.{length, getD, replicate}
 use Rattle.refusals.specs.declared.Refusal.{Refusal}
 use Rattle.refusals.specs.declared.Check.{Check}
 use Rattle.refusals.specs.declared.Check.the-variants.{Fine, Refused}
-use Rattle.refusals.specs.Refusals.{refusal, unless, andThen}
+use Rattle.refusals.specs.Refusals.{refusal, unless, andThen, Answer, refused, gives, _then_, answerBy, leftIn, zeroBeyond}
+use Rattle.refusals.proofs.Leaving.{numbers-clear, left-alike}
 use Rattle.grid.specs.declared.Grid.{Grid}
 use Rattle.grid.specs.Domain.{Lines, count}
-use Rattle.walk.specs.Segment.{leftBy}
 use Rattle.tables.specs.Lists.{linesAt, sum, start, itemsOf, offsetsOf}
 use Rattle.tables.specs.States.{Placed, Table}
 use Rattle.tables.proofs.Laws.{counts-sum, placed-none, table-of}
@@ -20,12 +20,11 @@ use Rattle.fill.specs.declared.Filled.{Filled}
 use Rattle.fill.specs.declared.Filled.the-variants as filled
 use Rattle.fill.specs.OnGrid.{cells, listOn, globalsOn, total}
 use Rattle.fill.specs.Checks.{spaceCheck}
-use Rattle.fill.specs.Fill.{above, Filling, refused, crowded, made, unlessRefused, crowdedIf, filledOf, leftIn, FillIs}
+use Rattle.fill.specs.Fill.{above, Filling, crowded, made, filledOf, writtenIn, FillIs}
 use Rattle.fill.specs.Inside.{localOn, PlaceAsks, AllPlaced, Summed, ShiftedBack, FillAsks}
 use Rattle.fill.proofs.Walks.{all-walks}
 use Rattle.fill.proofs.Lines.{total-small}
 use Rattle.fill.proofs.Counts.{zeros-at}
-use Rattle.fill.proofs.Leaves.{left-zeros}
 
 -- ---- 5, then 6
 
@@ -46,12 +45,11 @@ module _ {g : Grid} {ls : Lines} {found : ℕ} {o s : List ℕ} (a : FillAsks g 
   -- a refusal by which every slice is cleared; the offsets were summed before
   pub lay-refused : (number value : ℕ) {o₁ t gs o′ t′ gs′ s′ : List ℕ} {r : Filled} → 4 ≤ number → number ≤ 7 → spaceCheck g ls (length t) (length gs) ≡ Refused (refusal number value)
       → ((g : Grid) (ls : Lines) → FillIs g ls o₁ t gs s r o′ t′ gs′ s′ (refused (refusal number value))) → length o₁ ≡ length o
-      → FillIs g ls o t gs s r o′ t′ gs′ s′ (unlessRefused (spaceCheck g ls (length t) (length gs)) made)
-  unfolding unlessRefused filledOf leftIn
+      → FillIs g ls o t gs s r o′ t′ gs′ s′ (spaceCheck g ls (length t) (length gs) then gives made)
+  unfolding _then_ answerBy leftIn
   lay-refused number value {o₁} low high h all e =
       let k = all g ls in
-      let q : Refusal = refusal number value in
-      let z : leftBy q o₁ ≡ leftBy q o = left-zeros q o₁ (low, high) ∙ ap (λ (n : ℕ). replicate {A = ℕ} n 0) e ∙ sym (left-zeros q o (low, high)) in
+      let z = left-alike 0 (refusal number value) o o₁ (numbers-clear number low high) e in
       rw h (record { answer = k .answer; offsets-are = k .offsets-are ∙ z; items-are = k .items-are; globals-are = k .globals-are; scratch-is = k .scratch-is })
 
   module _ (n : ℕ) (e : n ≡ cells g) where
@@ -86,8 +84,8 @@ module _ {g : Grid} {ls : Lines} {found : ℕ} {o s : List ℕ} (a : FillAsks g 
 
       pub lay-made : {t gs o₂ o₃ t₂ gs₂ s₃ : List ℕ} {room long : ℕ} → AllPlaced g ls o₂ t₂ room gs₂ → ShiftedBack o₂ o₃ n → s₃ ≡ replicate long 0
           → length o₃ ≡ length o → length t₂ ≡ length t → room ≡ length gs → long ≡ length s → all ≤ length t → found ≤ length gs
-          → FillIs g ls o t gs s (filled.Tables all found) o₃ t₂ gs₂ s₃ (unlessRefused (spaceCheck g ls (length t) (length gs)) made)
-      unfolding unlessRefused filledOf leftIn listOn total
+          → FillIs g ls o t gs s (filled.Tables all found) o₃ t₂ gs₂ s₃ (spaceCheck g ls (length t) (length gs) then gives made)
+      unfolding _then_ answerBy leftIn filledOf writtenIn zeroBeyond listOn total
       lay-made {t} {gs} {o₂} {o₃} {t₂} p q z b d f h l m =
           let w = all-walks g ls (a .walkable .fits) in
           let tab : Table (linesAt (localOn g ls) (count ls)) (cells g) o₃ t₂ =
@@ -107,12 +105,10 @@ module _ {g : Grid} {ls : Lines} {found : ℕ} {o s : List ℕ} (a : FillAsks g 
     unfolding listOn
     counts-above most = rw e (ap (λ (f : ℕ → ℕ). above most f (cells g)) (fun-ext (a .all .counted .counts .count-is)))
 
-    module _ (most : ℕ) {b : Bool} (h : b ≡ above most (λ c. getD o c 0) n) {t gs : List ℕ} {r : Filled} {o′ t′ gs′ s′ : List ℕ} (next : Filling) where
-      pub fill-crowded : b ≡ true → ((g : Grid) (ls : Lines) → FillIs g ls o t gs s r o′ t′ gs′ s′ crowded)
-          → FillIs g ls o t gs s r o′ t′ gs′ s′ (crowdedIf (above most (λ c. length (listOn g ls c)) (cells g)) next)
-      unfolding crowdedIf
+    module _ (most : ℕ) {b : Bool} (h : b ≡ above most (λ c. getD o c 0) n) {t gs : List ℕ} {r : Filled} {o′ t′ gs′ s′ : List ℕ} (next : Answer Filling) where
+      pub fill-crowded : b ≡ true → ((g : Grid) (ls : Lines) → FillIs g ls o t gs s r o′ t′ gs′ s′ (gives crowded))
+          → FillIs g ls o t gs s r o′ t′ gs′ s′ (cond (above most (λ c. length (listOn g ls c)) (cells g)) (gives crowded) next)
       fill-crowded q k = rw (sym (counts-above most) ∙ sym h ∙ q) (k g ls)
 
-      pub fill-laid : b ≡ false → FillIs g ls o t gs s r o′ t′ gs′ s′ next → FillIs g ls o t gs s r o′ t′ gs′ s′ (crowdedIf (above most (λ c. length (listOn g ls c)) (cells g)) next)
-      unfolding crowdedIf
+      pub fill-laid : b ≡ false → FillIs g ls o t gs s r o′ t′ gs′ s′ next → FillIs g ls o t gs s r o′ t′ gs′ s′ (cond (above most (λ c. length (listOn g ls c)) (cells g)) (gives crowded) next)
       fill-laid q k = rw (sym (counts-above most) ∙ sym h ∙ q) k

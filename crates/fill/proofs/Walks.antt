@@ -9,14 +9,14 @@ use lib.ListN.{length, take}
 use Rattle.slices.specs.Lists.{Rising, Below}
 use Rattle.refusals.specs.declared.Refusal.{Refusal}
 use Rattle.refusals.specs.declared.Check.the-variants.{Fine, Refused}
-use Rattle.refusals.specs.Refusals.{refusal, unless}
+use Rattle.refusals.specs.Refusals.{refusal, unless, refused, gives, answerBy}
 use Rattle.refusals.proofs.Checks.{unless-fine}
 use Rattle.grid.specs.declared.Grid.{Grid}
 use Rattle.grid.specs.Domain.{Lines, count, segmentAt, lineFits, fit}
 use Rattle.grid.proofs.Shapes.{shape-says, fit-shape}
 use Rattle.walk.specs.declared.Cells.{Cells}
 use Rattle.walk.specs.declared.Cells.the-variants as cells-are
-use Rattle.walk.specs.Pushes.{Outcome, refused, found}
+use Rattle.walk.specs.Pushes.{Outcome}
 use Rattle.walk.specs.Segment as walk
 use Rattle.walk.proofs.Visits.{segment-visits}
 use Rattle.walk.proofs.Answer.{entry-is}
@@ -33,16 +33,16 @@ use Rattle.fill.specs.Inside.{CountAs, Walkable, WalkAsks, Front, localO
 -- the answer names the cells, and they stand at the front; or the answer is a refusal
 walked-found : (o : Outcome) (was : List ℕ) (n : ℕ) (s : List ℕ) → walk.Walked o was (cells-are.Found n) s → length s ≡ length was → length (visited o) ≤ length was
     → (ends o ≡ true) × (n ≡ length (visited o)) × (n ≤ length s) × (take n s ≡ visited o)
-unfolding walk.cellsOf
+unfolding walk.cellsOf answerBy
 walked-found (refused why) was n s h e l = let z : _≡_ {A = ℕ} 0 1 = cc (h .answer) in absurd (omega arith)
-walked-found (found xs) was n s h e l =
+walked-found (gives xs) was n s h e l =
     let k : n ≡ length xs = cc (h .answer) in
     (refl, k, omega arith, rw k (h .left))
 
 walked-refused : (o : Outcome) (was : List ℕ) (r : Refusal) (s : List ℕ) → walk.Walked o was (cells-are.Refused r) s → ends o ≡ false
-unfolding walk.cellsOf
+unfolding walk.cellsOf answerBy
 walked-refused (refused why) was r s h = refl
-walked-refused (found xs) was r s h = let z : _≡_ {A = ℕ} 0 1 = cc (h .answer) in absurd (omega arith)
+walked-refused (gives xs) was r s h = let z : _≡_ {A = ℕ} 0 1 = cc (h .answer) in absurd (omega arith)
 
 module _ (g : Grid) (ls : Lines) (i : ℕ) where
   -- the cells of a line increase and are inside the grid
@@ -52,7 +52,7 @@ module _ (g : Grid) (ls : Lines) (i : ℕ) where
     where
       go : (o : Outcome) → walkOn g ls i ≡ o → Rising 0 (visited o) × Below (cells g) (visited o) × (length (visited o) ≤ 15008)
       go (refused why) e = (tt, tt, omega arith)
-      go (found xs) e = let v = segment-visits g _ xs (fit-shape g h) e in (v .rising, v .inside, v .few)
+      go (gives xs) e = let v = segment-visits g _ xs (fit-shape g h) e in (v .rising, v .inside, v .few)
 
   -- the scratch, the line and the grid pass, so the walk can be refused by 7 alone
   module _ {s : List ℕ} (a : WalkAsks g ls i s) (r : Cells) {s′ : List ℕ} (h : walk.Walked (walk.entryOf (length s) g (segmentAt ls i)) s r s′) where

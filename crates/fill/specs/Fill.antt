@@ -1,16 +1,13 @@
 -- What the two entries answer, and what they leave in each lent slice: counting on a given grid, and filling its tables. Definitions only.
 use mathlib.Core.Path.{_≡_}
-use mathlib.Core.Bool.{Bool, true, false, _||_}
-use mathlib.Core.List.{List, _++_}
-use Prim.Native.Nat.{ℕ, zero, suc, _-_}
+use mathlib.Core.Bool.{Bool, true, false, cond, _||_}
+use mathlib.Core.List.{List}
+use Prim.Native.Nat.{ℕ, zero, suc}
 use lib.Dec.{ltb}
 use lib.ListN.{length, replicate}
-use Rattle.refusals.specs.declared.Refusal.{Refusal}
-use Rattle.refusals.specs.declared.Check.{Check}
-use Rattle.refusals.specs.declared.Check.the-variants.{Fine, Refused}
+use Rattle.refusals.specs.Refusals.{Answer, gives, _then_, answerBy, leftIn, zeroBeyond}
 use Rattle.grid.specs.declared.Grid.{Grid}
 use Rattle.grid.specs.Domain.{Lines}
-use Rattle.walk.specs.Segment.{leftBy}
 use Rattle.tables.specs.Lists.{itemsOf, offsetsOf}
 use Rattle.fill.specs.declared.Count.{Count}
 use Rattle.fill.specs.declared.Count.the-variants as counted
@@ -21,21 +18,15 @@ use Rattle.fill.specs.Checks.{countingCheck, spaceCheck}
 
 -- ---- the count
 
--- the number, or the refusal
-unfoldable pub numberOr : Check → ℕ → Count
-numberOr Fine n = counted.Of n
-numberOr (Refused r) n = counted.Refused r
+-- what is refused; else how many lines are global
+unfoldable pub countOf : Grid → Lines → ℕ → ℕ → Answer ℕ
+countOf g ls counts scratch = countingCheck g ls counts scratch then gives (length (globalsOn g ls))
 
--- what is left in a slice that held `was`: what is written, or what the refusal leaves
-unfoldable pub leftOr : Check → List ℕ → List ℕ → List ℕ
-leftOr Fine was on = on
-leftOr (Refused r) was on = leftBy r was
-
--- how many lines are global; the number of lines of each cell, and a scratch of zeros
-pub record CountIs (g : Grid) (ls : Lines) (counts scratch : List ℕ) (r : Count) (counts′ scratch′ : List ℕ) (k : Check) : Type 0 where
-  pub answer : r ≡ numberOr k (length (globalsOn g ls))
-  pub counts-are : counts′ ≡ leftOr k counts (countsOn g ls (length counts))
-  pub scratch-is : scratch′ ≡ leftOr k scratch (replicate (length scratch) 0)
+-- the answer; the number of lines of each cell, and a scratch of zeros
+pub record CountIs (g : Grid) (ls : Lines) (counts scratch : List ℕ) (r : Count) (counts′ scratch′ : List ℕ) (a : Answer ℕ) : Type 0 where
+  pub answer : r ≡ answerBy counted.Refused counted.Of a
+  pub counts-are : counts′ ≡ leftIn 0 counts a (λ _. countsOn g ls (length counts))
+  pub scratch-is : scratch′ ≡ leftIn 0 scratch a (λ _. replicate (length scratch) 0)
 
 -- ---- the tables
 
@@ -44,43 +35,31 @@ unfoldable pub above : ℕ → (ℕ → ℕ) → ℕ → Bool
 above most g zero = false
 above most g (suc c) = above most g c || ltb most (g c)
 
--- what filling the tables of a grid comes to
+-- what filling the tables of a grid comes to where nothing is refused
 pub data Filling : Type 0 where
-  refused : Refusal → Filling
   crowded : Filling
   made : Filling
 
-unfoldable pub unlessRefused : Check → Filling → Filling
-unlessRefused Fine next = next
-unlessRefused (Refused r) next = refused r
-
-unfoldable pub crowdedIf : Bool → Filling → Filling
-crowdedIf true next = crowded
-crowdedIf false next = next
-
 -- what a count refuses; then a cell that lists more than `most`; then 5 and 6
-unfoldable pub fillingOf : Grid → Lines → ℕ → ℕ → ℕ → ℕ → ℕ → Filling
+unfoldable pub fillingOf : Grid → Lines → ℕ → ℕ → ℕ → ℕ → ℕ → Answer Filling
 fillingOf g ls most offsets items globals scratch =
-    unlessRefused (countingCheck g ls offsets scratch)
-    (crowdedIf (above most (λ c. length (listOn g ls c)) (cells g))
-    (unlessRefused (spaceCheck g ls items globals) made))
+    countingCheck g ls offsets scratch
+    then cond (above most (λ c. length (listOn g ls c)) (cells g)) (gives crowded) (spaceCheck g ls items globals then gives made)
 
--- the answer: the numbers of items and of globals, or that some cell is crowded, or the refusal
-unfoldable pub filledOf : Filling → Grid → Lines → Filled
-filledOf (refused r) g ls = filled.Refused r
-filledOf crowded g ls = filled.Crowded
-filledOf made g ls = filled.Tables (total g ls) (length (globalsOn g ls))
+-- the answer: that some cell is crowded, or the numbers of items and of globals
+unfoldable pub filledOf : Grid → Lines → Filling → Filled
+filledOf g ls crowded = filled.Crowded
+filledOf g ls made = filled.Tables (total g ls) (length (globalsOn g ls))
 
--- what is left in a slice that held `was`: what the refusal leaves, zeros where some cell is crowded, or what is written
-unfoldable pub leftIn : Filling → List ℕ → List ℕ → List ℕ
-leftIn (refused r) was on = leftBy r was
-leftIn crowded was on = replicate (length was) 0
-leftIn made was on = on
+-- what is written in a slice of n entries: zeros where some cell is crowded, else its part of the tables
+unfoldable pub writtenIn : ℕ → List ℕ → Filling → List ℕ
+writtenIn n part crowded = replicate n 0
+writtenIn n part made = part
 
 -- the tables of the lines on the grid, with zeros beyond, and a scratch of zeros
-pub record FillIs (g : Grid) (ls : Lines) (offsets items globals scratch : List ℕ) (r : Filled) (offsets′ items′ globals′ scratch′ : List ℕ) (f : Filling) : Type 0 where
-  pub answer : r ≡ filledOf f g ls
-  pub offsets-are : offsets′ ≡ leftIn f offsets (offsetsOf (listOn g ls) (cells g) (length offsets))
-  pub items-are : items′ ≡ leftIn f items (itemsOf (listOn g ls) (cells g) (length items))
-  pub globals-are : globals′ ≡ leftIn f globals (globalsOn g ls ++ replicate (length globals - length (globalsOn g ls)) 0)
-  pub scratch-is : scratch′ ≡ leftIn f scratch (replicate (length scratch) 0)
+pub record FillIs (g : Grid) (ls : Lines) (offsets items globals scratch : List ℕ) (r : Filled) (offsets′ items′ globals′ scratch′ : List ℕ) (f : Answer Filling) : Type 0 where
+  pub answer : r ≡ answerBy filled.Refused (filledOf g ls) f
+  pub offsets-are : offsets′ ≡ leftIn 0 offsets f (writtenIn (length offsets) (offsetsOf (listOn g ls) (cells g) (length offsets)))
+  pub items-are : items′ ≡ leftIn 0 items f (writtenIn (length items) (itemsOf (listOn g ls) (cells g) (length items)))
+  pub globals-are : globals′ ≡ leftIn 0 globals f (writtenIn (length globals) (zeroBeyond 0 (length globals) (globalsOn g ls)))
+  pub scratch-is : scratch′ ≡ leftIn 0 scratch f (writtenIn (length scratch) (replicate (length scratch) 0))

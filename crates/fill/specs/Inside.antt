@@ -7,9 +7,9 @@ use lib.ListN.{length, take, getD, set, replicate}
 use Rattle.refusals.specs.declared.Refusal.{Refusal}
 use Rattle.refusals.specs.declared.Check.{Check}
 use Rattle.refusals.specs.declared.Check.the-variants.{Fine, Refused}
+use Rattle.refusals.specs.Refusals.{leftBy}
 use Rattle.grid.specs.declared.Grid.{Grid}
 use Rattle.grid.specs.Domain.{Lines, count, Alike, lineFits, fit}
-use Rattle.walk.specs.Segment.{leftBy}
 use Rattle.tables.specs.Lists.{long, local, linesAt, sum}
 use Rattle.tables.specs.States.{Counted, Placed}
 use Rattle.fill.specs.declared.Count.{Count}
@@ -78,8 +78,8 @@ pub record AllCounted (g : Grid) (ls : Lines) (o : List ℕ) (k : ℕ) : Type 0 
 -- all lines counted, or a refusal, by whose rule both slices are as they were
 pub record CountLent (g : Grid) (ls : Lines) (o s : List ℕ) (r : Count) (o′ s′ : List ℕ) : Type 0 where
   pub is : CountAs (countingCheck g ls (length o) (length s)) (AllCounted g ls o′) r
-  pub offsets : (q : Refusal) → r ≡ counted.Refused q → leftBy q o′ ≡ leftBy q o
-  pub scratch : (q : Refusal) → r ≡ counted.Refused q → leftBy q s′ ≡ leftBy q s
+  pub offsets : (q : Refusal) → r ≡ counted.Refused q → leftBy 0 q o′ ≡ leftBy 0 q o
+  pub scratch : (q : Refusal) → r ≡ counted.Refused q → leftBy 0 q s′ ≡ leftBy 0 q s
 
 -- ---- the second pass
 

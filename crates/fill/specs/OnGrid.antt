@@ -3,9 +3,10 @@ use mathlib.Core.Bool.{Bool, true, false}
 use mathlib.Core.List.{List, [], _++_}
 use Prim.Native.Nat.{ℕ, _-_, _*_}
 use lib.ListN.{length, replicate}
+use Rattle.refusals.specs.Refusals.{refused, gives}
 use Rattle.grid.specs.declared.Grid.{Grid}
 use Rattle.grid.specs.Domain.{Lines, count, segmentAt}
-use Rattle.walk.specs.Pushes.{Outcome, refused, found}
+use Rattle.walk.specs.Pushes.{Outcome}
 use Rattle.walk.specs.Segment.{segmentOf}
 use Rattle.tables.specs.Lists.{localLines, globalLines, start, tabulate}
 
@@ -20,11 +21,11 @@ walkOn g ls i = segmentOf g (segmentAt ls i)
 -- whether a walk ends within its turns, and the distinct cells that it visits
 abbrev pub ends : Outcome → Bool
 ends (refused why) = false
-ends (found xs) = true
+ends (gives xs) = true
 
 abbrev pub visited : Outcome → List ℕ
 visited (refused why) = []
-visited (found xs) = xs
+visited (gives xs) = xs
 
 -- the distinct cells of line i
 unfoldable pub cellsOn : Grid → Lines → ℕ → List ℕ

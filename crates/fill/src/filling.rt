@@ -1,9 +1,11 @@
 // From the counts on a grid to its tables.
+ghost use mathlib.Core.Bool.{cond};
 ghost use lib.ListN.{length};
+ghost use Rattle.refusals.specs.Refusals.{gives, _then_};
 ghost use Rattle.grid.specs.Domain.{lines};
 ghost use Rattle.fill.specs.OnGrid.{cells, listOn};
 ghost use Rattle.fill.specs.Checks.{spaceCheck};
-ghost use Rattle.fill.specs.Fill.{above, made, unlessRefused, crowdedIf, FillIs};
+ghost use Rattle.fill.specs.Fill.{above, crowded, made, FillIs};
 ghost use Rattle.fill.specs.Inside.{FillAsks};
 use crate::Filled;
 use crate::lent::give_up;
@@ -36,7 +38,7 @@ fn lay_out(
         let t = now (items .entry) in
         let gs = now (globals .entry) in
         let s = now (scratch .entry) in
-        let f = unlessRefused (spaceCheck grid ls (length t) (length gs)) made in
+        let f = spaceCheck grid ls (length t) (length gs) then gives made in
         ⌜ FillIs grid ls o t gs s r (now (offsets .exit)) (now (items .exit)) (now (globals .exit)) (now (scratch .exit)) f ⌝ }
 {
     let n = cell_count(grid);
@@ -106,7 +108,7 @@ pub(crate) fn fill_counted(
         let t = now (items .entry) in
         let gs = now (globals .entry) in
         let s = now (scratch .entry) in
-        let f = crowdedIf (above most (λ c. length (listOn grid ls c)) (cells grid)) (unlessRefused (spaceCheck grid ls (length t) (length gs)) made) in
+        let f = cond (above most (λ c. length (listOn grid ls c)) (cells grid)) (gives crowded) (spaceCheck grid ls (length t) (length gs) then gives made) in
         ⌜ FillIs grid ls o t gs s r (now (offsets .exit)) (now (items .exit)) (now (globals .exit)) (now (scratch .exit)) f ⌝ }
 {
     let n = cell_count(grid);

@@ -1,10 +1,10 @@
 // The checks of what is lent, and what a refusal leaves of it.
 ghost use mathlib.Core.Path.{_≡_};
+ghost use Rattle.refusals.specs.Refusals.{refused, gives, leftBy};
 ghost use Rattle.grid.specs.declared.Grid.{Grid};
 ghost use Rattle.grid.specs.Domain.{Lines, lines};
-ghost use Rattle.walk.specs.Segment.{leftBy};
 ghost use Rattle.fill.specs.Checks.{lentCheck};
-ghost use Rattle.fill.specs.Fill.{refused, crowded, FillIs};
+ghost use Rattle.fill.specs.Fill.{crowded, FillIs};
 use crate::Filled;
 use grid::Grid;
 use refusals::Check;
@@ -35,7 +35,7 @@ pub(crate) fn check(
 
 // Document 01's rule: refusals 4 to 7 leave zeros in what the call is lent to write, all others change nothing.
 pub(crate) fn leave(why: Refusal, s: &mut [u32])
-    ensures { λ _. ⌜ now (s .exit) ≡ leftBy why (now (s .entry)) ⌝ }
+    ensures { λ _. ⌜ now (s .exit) ≡ leftBy 0 why (now (s .entry)) ⌝ }
 {
     if why.number < 4 {
         return;
@@ -77,7 +77,7 @@ pub(crate) fn give_up(
         let t = now (items .entry) in
         let gs = now (globals .entry) in
         let s = now (scratch .entry) in
-        ⌜ ((g : Grid) (ls : Lines) → FillIs g ls o t gs s r (now (offsets .exit)) (now (items .exit)) (now (globals .exit)) (now (scratch .exit)) crowded) ⌝ }
+        ⌜ ((g : Grid) (ls : Lines) → FillIs g ls o t gs s r (now (offsets .exit)) (now (items .exit)) (now (globals .exit)) (now (scratch .exit)) (gives crowded)) ⌝ }
 {
     slices::clear(offsets);
     slices::clear(items);

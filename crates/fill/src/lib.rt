@@ -7,8 +7,7 @@ mod passes;
 
 ghost use lib.ListN.{length};
 ghost use Rattle.grid.specs.Domain.{lines};
-ghost use Rattle.fill.specs.Checks.{countingCheck};
-ghost use Rattle.fill.specs.Fill.{CountIs, fillingOf, FillIs};
+ghost use Rattle.fill.specs.Fill.{countOf, CountIs, fillingOf, FillIs};
 ghost use Rattle.fill.specs.Inside.{CountLent};
 use crate::filling::fill_counted;
 use crate::lent::check;
@@ -63,8 +62,8 @@ pub fn count_on(
     scratch: &mut [u32],
 ) -> Count
     ensures { λ r. let ls = lines (now («start_x» .entry)) (now («start_y» .entry)) (now («end_x» .entry)) (now («end_y» .entry)) in
-        let k = countingCheck grid ls (length (now (counts .entry))) (length (now (scratch .entry))) in
-        ⌜ CountIs grid ls (now (counts .entry)) (now (scratch .entry)) r (now (counts .exit)) (now (scratch .exit)) k ⌝ }
+        let a = countOf grid ls (length (now (counts .entry))) (length (now (scratch .entry))) in
+        ⌜ CountIs grid ls (now (counts .entry)) (now (scratch .entry)) r (now (counts .exit)) (now (scratch .exit)) a ⌝ }
 {
     let counted = count_lent(start_x, start_y, end_x, end_y, grid, counts, scratch);
     match counted {

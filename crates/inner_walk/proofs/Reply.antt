@@ -5,9 +5,10 @@ use native.Mathlib.Omega.{arith}
 use mathlib.Core.List.{List, [], _∷_}
 use lib.ListN.{length, set}
 use Rattle.refusals.specs.declared.Refusal.{Refusal}
+use Rattle.refusals.specs.Refusals.{refused, gives, answerBy}
 use Rattle.walk.specs.declared.Cells.{Cells}
 use Rattle.walk.specs.declared.Cells.the-variants.{Found, Refused}
-use Rattle.walk.specs.Pushes.{Outcome, refused, found}
+use Rattle.walk.specs.Pushes.{Outcome}
 use Rattle.walk.specs.Segment.{cellsOf, Walked}
 use Rattle.inner_walk.specs.Replies.{numberOf, valueOf, WalkReplies}
 
@@ -20,13 +21,13 @@ same-walked : {o : Outcome} {was now : List ℕ} {R : Cells} → Walked o was R 
 same-walked w = record { answer = refl; size = w .size; left = w .left }
 
 found-is : (o : Outcome) (n : ℕ) → Found n ≡ cellsOf o → (0 ≡ numberOf o) × (n ≡ valueOf o)
-unfolding cellsOf numberOf valueOf
-found-is (found xs) n e = (refl, cc)
+unfolding cellsOf answerBy numberOf valueOf
+found-is (gives xs) n e = (refl, cc)
 found-is (refused why) n e = let z : _≡_ {A = ℕ} 0 1 = cc in absurd (omega arith)
 
 refused-is : (o : Outcome) (r : Refusal) → Refused r ≡ cellsOf o → (r .number ≡ numberOf o) × (r .value ≡ valueOf o)
-unfolding cellsOf numberOf valueOf
-refused-is (found xs) r e = let z : _≡_ {A = ℕ} 0 1 = cc in absurd (omega arith)
+unfolding cellsOf answerBy numberOf valueOf
+refused-is (gives xs) r e = let z : _≡_ {A = ℕ} 0 1 = cc in absurd (omega arith)
 refused-is (refused why) r e = let d : r ≡ why = cc in (rw d, rw d)
 
 module _ {o : Outcome} {was now out out′ : List ℕ} {R : Cells} (w : Walked o was R now) where

@@ -4,8 +4,9 @@ use mathlib.Core.Path.{_≡_}
 use mathlib.Core.List.{List}
 use lib.Ieee.{Float}
 use lib.ListN.{length, set}
+use Rattle.refusals.specs.Refusals.{answerBy}
 use Rattle.grid.specs.declared.Grid.{Grid}
-use Rattle.walk.specs.Pushes.{Outcome, refused, found}
+use Rattle.walk.specs.Pushes.{Outcome}
 use Rattle.walk.specs.Segment.{cellsOf, Walked}
 
 -- a grid by its five numbers
@@ -14,13 +15,11 @@ gridBy x y size cols rows = record { «min_x» = x; «min_y» = y; «cell_size»
 
 -- 0, or the refusal's number
 unfoldable pub numberOf : Outcome → ℕ
-numberOf (found xs) = 0
-numberOf (refused why) = why .number
+numberOf o = answerBy (λ r. r .number) (λ xs. 0) o
 
 -- the number of cells, or the refusal's value
 unfoldable pub valueOf : Outcome → ℕ
-valueOf (found xs) = length xs
-valueOf (refused why) = why .value
+valueOf o = answerBy (λ r. r .value) length o
 
 -- the walk whose outcome is o: its number, its value at the start of `out`, and the scratch as the walk promises it
 pub record WalkReplies (o : Outcome) (scratch out : List ℕ) (r : ℕ) (scratch′ out′ : List ℕ) : Type 0 where

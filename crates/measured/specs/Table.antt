@@ -5,9 +5,9 @@ use mathlib.Core.Bool.{true, false}
 use mathlib.Core.List.{List, [], _∷_}
 use Prim.Native.Nat.{ℕ, _+_, _-_, _^_}
 use lib.Ieee.{Float, binary64, round}
+use Rattle.refusals.specs.Refusals.{gives}
 use Rattle.grid.specs.declared.Grid.{Grid}
 use Rattle.grid.specs.Domain.{segmentBy}
-use Rattle.walk.specs.Pushes.{found}
 use Rattle.walk.specs.Segment.{entryOf}
 use Rattle.own.specs.declared.Owned.{Owned}
 use Rattle.own.specs.declared.Owned.the-variants.{Yes, No}
@@ -82,7 +82,7 @@ table =
 -- a question is answered as it was measured: by what `walk::cells_of_segment` answers with 16,384 entries of scratch, `own::point_owned`, and
 -- `snap::snap_point` of a point with both coordinates v
 abbrev pub Answered : Question → Type 0
-Answered (segment x₀ y₀ x₁ y₁ cells) = entryOf 16384 four (segmentBy x₀ y₀ x₁ y₁) ≡ found cells
+Answered (segment x₀ y₀ x₁ y₁ cells) = entryOf 16384 four (segmentBy x₀ y₀ x₁ y₁) ≡ gives cells
 Answered (owner row col x y owns) = pointAnswer four row col x y ≡ owns
 Answered (snap v strategy to) = snapAnswer v v (part 1 1) strategy ≡ Point to to
 

@@ -1,6 +1,7 @@
 -- Laws of answers.
 --   then-..          a check before an answer, by what it finds; then-andThen: two checks in a row are one after the other
 --   then-passed      where a result comes, the check found nothing; apart: a refusal is no result
+--   into-passed      where a result comes of an answer that goes on, the answer had one, and that led to it
 --   refused-by, past what an entry makes of a check and an answer: of the refusal, or of the answer
 -- Assumes nothing.
 use mathlib.Core.Path.{_≡_, refl}
@@ -9,7 +10,7 @@ use native.Mathlib.Omega.{arith}
 use Rattle.refusals.specs.declared.Refusal.{Refusal}
 use Rattle.refusals.specs.declared.Check.{Check}
 use Rattle.refusals.specs.declared.Check.the-variants.{Fine, Refused}
-use Rattle.refusals.specs.Refusals.{andThen, Answer, refused, gives, _then_, answerBy}
+use Rattle.refusals.specs.Refusals.{andThen, Answer, refused, gives, _then_, _into_, answerBy}
 
 -- ---- a check, then an answer
 
@@ -34,6 +35,12 @@ pub then-passed : {A : Type 0} (check : Check) (answer : Answer A) {a : A} → (
 unfolding _then_
 then-passed Fine answer h = (refl, h)
 then-passed (Refused r) answer h = apart refl h
+
+pub into-passed : {A B C : Type 0} (answer : Answer A) (next : A → Answer B) {b : B} → (answer into next) ≡ gives b
+    → ((a : A) → answer ≡ gives a → next a ≡ gives b → C) → C
+unfolding _into_
+into-passed (gives a) next h go = go a refl h
+into-passed (refused r) next h go = apart refl h
 
 -- ---- what an entry makes of them
 

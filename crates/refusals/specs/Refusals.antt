@@ -43,6 +43,12 @@ unfoldable pub _then_ : {A : Type 0} → Check → Answer A → Answer A
 _then_ Fine answer = answer
 _then_ (Refused r) answer = refused r
 
+infixl 15 _into_
+-- a result goes on to what it leads to; a refusal stays
+unfoldable pub _into_ : {A B : Type 0} → Answer A → (A → Answer B) → Answer B
+_into_ (refused r) next = refused r
+_into_ (gives a) next = next a
+
 -- what is made of an answer: one thing of a refusal, another of a result
 unfoldable pub answerBy : {A B : Type 0} → (Refusal → B) → (A → B) → Answer A → B
 answerBy ofRefusal ofResult (refused r) = ofRefusal r

@@ -11,7 +11,7 @@ use Rattle.slices.specs.Slices.{clearedFrom}
 use Rattle.refusals.specs.declared.Refusal.{Refusal}
 use Rattle.refusals.specs.declared.Check.{Check}
 use Rattle.refusals.specs.declared.Check.the-variants.{Fine, Refused}
-use Rattle.refusals.specs.Refusals.{refusal, unless, andThen, Answer, refused, gives, clears, answerBy, leftIn, zeroBeyond}
+use Rattle.refusals.specs.Refusals.{refusal, unless, andThen, Answer, refused, gives, answerBy, clears, leftIn, zeroBeyond}
 use Rattle.refusals.proofs.Checks.{unless-fine, andThen-refused, andThen-fine}
 use Rattle.refusals.proofs.Answers.{then-refused, then-fine, then-passed, refused-by, past}
 use Rattle.refusals.proofs.Leaving.{left-same, Clearing, clearing-unless, clearing-then}

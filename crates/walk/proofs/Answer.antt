@@ -9,16 +9,22 @@ use lib.ListN.{length, take, drop}
 use lib.Seq.{take-at}
 use lib.Dec.{eqb}
 use lib.Ieee.{Float, inf, binary64, sub, eq}
-use borrow.Author.Tests.{le-leb, lt-leb}
+use borrow.Author.Tests.{le-leb, leb-true}
 use Rattle.slices.specs.Slices.{sorted, distinctOf, OneOfEach, clearedFrom}
 use Rattle.refusals.specs.declared.Refusal.{Refusal}
-use Rattle.refusals.specs.Refusals.{refusal, unless}
+use Rattle.refusals.specs.declared.Check.the-variants.{Fine}
+use Rattle.refusals.specs.declared.Check.the-variants as check
+use Rattle.refusals.specs.Refusals.{refusal, unless, andThen, refused, gives, _then_, _into_, answerBy, clears, leftBy}
+use Rattle.refusals.proofs.Checks.{unless-fine, andThen-left, andThen-right}
+use Rattle.refusals.proofs.Answers.{then-refused, then-fine}
+use Rattle.refusals.proofs.Leaving.{left-zero, left-same, Clearing, clearing-unless, clearing-then}
 use Rattle.grid.specs.declared.Axis.{Axis}
 use Rattle.grid.specs.declared.Grid.{Grid}
 use Rattle.grid.specs.declared.Segment.{Segment}
 use Rattle.grid.specs.Axes.{xAxis, yAxis, indexOn, boundaryOn}
 use Rattle.grid.specs.Domain.{segment, fit, scratchCheck, segmentCheck, gridCheck}
 use Rattle.grid.proofs.Bools.{and-left}
+use Rattle.grid.proofs.Fine.{scratch-spares, grid-spares}
 use Rattle.grid.proofs.Shapes.{Shape, fit-says}
 use Rattle.walk.specs.declared.Walk.{Walk}
 use Rattle.walk.specs.declared.Way.{Way}
@@ -26,9 +32,9 @@ use Rattle.walk.specs.declared.Ran.{Ran}
 use Rattle.walk.specs.declared.Ran.the-variants.{Done, Over}
 use Rattle.walk.specs.declared.Cells.the-variants.{Found, Refused}
 use Rattle.walk.specs.Turns.{nought, deltaOf, firstOn, rayOf, startOf}
-use Rattle.walk.specs.Pushes.{Outcome, refused, found, walkedOf}
+use Rattle.walk.specs.Pushes.{Outcome, walkedOf}
 use Rattle.walk.specs.Modular.{courseBy, positionBy, wayBy, startBy, steppedBy, advancedBy, walkedBy}
-use Rattle.walk.specs.Segment.{addedOf, alongOn, endOf, pushesOf, answered, unlessNone, segmentOf, checked, entryOf, cellsOf, leftBy, Walked}
+use Rattle.walk.specs.Segment.{addedOf, alongOn, endOf, pushesOf, answered, unlessNone, segmentOf, entryCheck, entryOf, cellsOf, Walked}
 use Rattle.walk.specs.Inside.{Grown, Covers, Complete, Far, Straight, Still, WalkedTo, Walks, share, shareOf}
 use Rattle.walk.proofs.Floats.{sum-far, step-none, index-le}
 use Rattle.walk.proofs.Whole.{walked-is}
@@ -106,24 +112,26 @@ module _ (g : Grid) (line : Segment) where
   -- ---- the refusals, and the walk behind them
 
   module _ (n : ℕ) where
-    pub short-is : n < 16384 → entryOf n g line ≡ refused (refusal 3 0)
-    unfolding entryOf scratchCheck checked unless
-    short-is h = rw (lt-leb 16384 n h)
+    -- none of them refuses by 4 to 7
+    entry-spares : Clearing false (entryCheck n g line)
+    unfolding entryCheck segmentCheck clears
+    entry-spares = clearing-then (scratch-spares n) (clearing-then (clearing-unless _ 1 0 refl) (grid-spares g))
 
-    pub beyond-is : 16384 ≤ n → segment line ≡ false → entryOf n g line ≡ refused (refusal 1 0)
-    unfolding entryOf scratchCheck segmentCheck checked unless
-    beyond-is h k = rw (le-leb 16384 n h, k)
+    -- what a scratch and a grid say that pass them
+    pub entry-room : entryCheck n g line ≡ Fine → 16384 ≤ n
+    unfolding entryCheck scratchCheck
+    entry-room h = leb-true 16384 n (unless-fine _ 3 0 (andThen-left _ _ h))
 
-    pub unfit-is : 16384 ≤ n → segment line ≡ true → fit g ≡ false → entryOf n g line ≡ refused (refusal 8 0)
-    unfolding entryOf scratchCheck segmentCheck gridCheck checked unless
-    unfit-is h i k = rw (le-leb 16384 n h, i, k)
+    pub entry-fit : entryCheck n g line ≡ Fine → fit g ≡ true
+    unfolding entryCheck gridCheck
+    entry-fit h = unless-fine (fit g) 8 0 (andThen-right _ _ (andThen-right _ _ h))
 
     -- of a scratch, a segment and a grid that pass them
     pub entry-is : 16384 ≤ n → segment line ≡ true → fit g ≡ true → entryOf n g line ≡ segmentOf g line
-    unfolding entryOf scratchCheck segmentCheck gridCheck checked unless
+    unfolding entryOf entryCheck scratchCheck segmentCheck gridCheck _then_ andThen unless
     entry-is h i k = rw (le-leb 16384 n h, i, k)
 
-  none-is : g .cols ≡ 0 → segmentOf g line ≡ found []
+  none-is : g .cols ≡ 0 → segmentOf g line ≡ gives []
   unfolding segmentOf unlessNone
   none-is e = rw e
 
@@ -143,61 +151,55 @@ module _ (g : Grid) (line : Segment) where
 
 -- ---- the answers
 
-pub refused-walked : (o : Outcome) (why : Refusal) (was now : List ℕ) → o ≡ refused why → length now ≡ length was → now ≡ leftBy why was → Walked o was (Refused why) now
-unfolding cellsOf
+pub refused-walked : (o : Outcome) (why : Refusal) (was now : List ℕ) → o ≡ refused why → length now ≡ length was → now ≡ leftBy 0 why was → Walked o was (Refused why) now
+unfolding cellsOf answerBy
 refused-walked o why was now e l h = rw e (record { answer = refl; size = l; left = h })
 
-pub found-walked : (o : Outcome) (xs was now : List ℕ) (r : ℕ) → o ≡ found xs → length now ≡ length was → r ≡ length xs → take (length xs) now ≡ xs → Walked o was (Found r) now
-unfolding cellsOf
+pub found-walked : (o : Outcome) (xs was now : List ℕ) (r : ℕ) → o ≡ gives xs → length now ≡ length was → r ≡ length xs → take (length xs) now ≡ xs → Walked o was (Found r) now
+unfolding cellsOf answerBy
 found-walked o xs was now r e l c h = rw (e, c) (record { answer = refl; size = l; left = h })
 
 module _ (g : Grid) (line : Segment) (was : List ℕ) where
-  pub short-answer : length was < 16384 → Walked (entryOf (length was) g line) was (Refused (refusal 3 0)) was
-  unfolding leftBy
-  short-answer h = refused-walked _ (refusal 3 0) was was (short-is g line (length was) h) refl refl
+  pub check-answer : (r : Refusal) → entryCheck (length was) g line ≡ check.Refused r → Walked (entryOf (length was) g line) was (Refused r) was
+  unfolding entryOf
+  check-answer r e = refused-walked _ r was was (then-refused _ _ r e) refl (sym (left-same 0 r was (entry-spares g line (length was) .says r e)))
 
-  module _ (long : 16384 ≤ length was) where
-    pub beyond-answer : segment line ≡ false → Walked (entryOf (length was) g line) was (Refused (refusal 1 0)) was
-    unfolding leftBy
-    beyond-answer h = refused-walked _ (refusal 1 0) was was (beyond-is g line (length was) long h) refl refl
+  module _ (fine : entryCheck (length was) g line ≡ Fine) where
+    walks-on : entryOf (length was) g line ≡ segmentOf g line
+    unfolding entryOf
+    walks-on = then-fine _ _ fine
 
-    module _ (inside : segment line ≡ true) where
-      pub unfit-answer : fit g ≡ false → Walked (entryOf (length was) g line) was (Refused (refusal 8 0)) was
-      unfolding leftBy
-      unfit-answer h = refused-walked _ (refusal 8 0) was was (unfit-is g line (length was) long inside h) refl refl
+    pub none-answer : g .cols ≡ 0 → Walked (entryOf (length was) g line) was (Found 0) was
+    none-answer e = found-walked _ [] was was 0 (walks-on ∙ none-is g line e) refl refl refl
 
-      module _ (fits : fit g ≡ true) where
-        pub none-answer : g .cols ≡ 0 → Walked (entryOf (length was) g line) was (Found 0) was
-        none-answer e = found-walked _ [] was was 0 (entry-is g line (length was) long inside fits ∙ none-is g line e) refl refl refl
+    module _ (way : Way) (w : Walk) (R : Ran) (s : List ℕ) (e : way ≡ wayBy g line) (f : w ≡ startBy g line) (some : g .cols ≡ 0 → ⊥)
+        (run : Walks way w (walkedBy (g .cols) (g .rows) way w) R s) where
+      entry : entryOf (length was) g line ≡ answered g line (walkedBy (g .cols) (g .rows) way w)
+      entry = walks-on ∙ segment-by g line way w e f (fit-says g (entry-fit g line (length was) fine) .counts) some
 
-        module _ (way : Way) (w : Walk) (R : Ran) (s : List ℕ) (e : way ≡ wayBy g line) (f : w ≡ startBy g line) (some : g .cols ≡ 0 → ⊥)
-            (run : Walks way w (walkedBy (g .cols) (g .rows) way w) R s) where
-          entry : entryOf (length was) g line ≡ answered g line (walkedBy (g .cols) (g .rows) way w)
-          entry = entry-is g line (length was) long inside fits ∙ segment-by g line way w e f (fit-says g fits .counts) some
+      ordered : (o : Outcome) (n : ℕ) (l : List ℕ) → WalkedTo o (Done n) s → ((f : ℕ → Bool) → any f l ≡ any f (pushesOf g line (take n s))) → answered g line o ≡ gives (distinctOf (sorted l))
+      unfolding answered _into_
+      ordered (refused why) n l p q = absurd p
+      ordered (gives xs) n l p q = ap gives (sym (same-answer g line (take n s) xs (p .1)) ∙ sym (same-members l (pushesOf g line (take n s)) (λ u. q (eqb u))))
 
-          ordered : (o : Outcome) (n : ℕ) (l : List ℕ) → WalkedTo o (Done n) s → ((f : ℕ → Bool) → any f l ≡ any f (pushesOf g line (take n s))) → answered g line o ≡ found (distinctOf (sorted l))
-          unfolding answered
-          ordered (refused why) n l p q = absurd p
-          ordered (found xs) n l p q = ap found (sym (same-answer g line (take n s) xs (p .1)) ∙ sym (same-members l (pushesOf g line (take n s)) (λ u. q (eqb u))))
+      pub found-answer : (n m r : ℕ) (t u : List ℕ) → R ≡ Done n → Complete t m (pushesOf g line (take n s)) → length u ≡ length was
+          → OneOfEach (sorted (take m t)) (sorted (take m t) ++ drop m t) u r
+          → Walked (entryOf (length was) g line) was (Found r) u
+      found-answer n m r t u d q l k =
+          found-walked _ (distinctOf (sorted (take m t))) was u r
+          (entry ∙ ordered (walkedBy (g .cols) (g .rows) way w) n (take m t) (subst (λ (z : Ran). WalkedTo (walkedBy (g .cols) (g .rows) way w) z s) d (run .ran)) (q .same))
+          l (k .count) (rw (k .left) (take-at (distinctOf (sorted (take m t))) (drop r (sorted (take m t) ++ drop m t)) (length (distinctOf (sorted (take m t)))) refl))
 
-          pub found-answer : (n m r : ℕ) (t u : List ℕ) → R ≡ Done n → Complete t m (pushesOf g line (take n s)) → length u ≡ length was
-              → OneOfEach (sorted (take m t)) (sorted (take m t) ++ drop m t) u r
-              → Walked (entryOf (length was) g line) was (Found r) u
-          found-answer n m r t u d q l k =
-              found-walked _ (distinctOf (sorted (take m t))) was u r
-              (entry ∙ ordered (walkedBy (g .cols) (g .rows) way w) n (take m t) (subst (λ (z : Ran). WalkedTo (walkedBy (g .cols) (g .rows) way w) z s) d (run .ran)) (q .same))
-              l (k .count) (rw (k .left) (take-at (distinctOf (sorted (take m t))) (drop r (sorted (take m t) ++ drop m t)) (length (distinctOf (sorted (take m t)))) refl))
+      budget : (o : Outcome) → WalkedTo o Over s → answered g line o ≡ refused (refusal 7 0)
+      unfolding answered _into_
+      budget (refused why) p = ap refused p
+      budget (gives xs) p = absurd p
 
-          budget : (o : Outcome) → WalkedTo o Over s → answered g line o ≡ refused (refusal 7 0)
-          unfolding answered
-          budget (refused why) p = ap refused p
-          budget (found xs) p = absurd p
-
-          -- 7 clears
-          pub over-answer : (t : List ℕ) → R ≡ Over → length s ≡ length was → length t ≡ length s → t ≡ clearedFrom 0 s → Walked (entryOf (length was) g line) was (Refused (refusal 7 0)) t
-          unfolding leftBy clearedFrom
-          over-answer t d l k c =
-              let z : length s - 0 ≡ length was = omega arith in
-              refused-walked _ (refusal 7 0) was t
-              (entry ∙ budget (walkedBy (g .cols) (g .rows) way w) (subst (λ (z : Ran). WalkedTo (walkedBy (g .cols) (g .rows) way w) z s) d (run .ran)))
-              (k ∙ l) (c ∙ rw z)
+      -- 7 clears
+      pub over-answer : (t : List ℕ) → R ≡ Over → length s ≡ length was → length t ≡ length s → t ≡ clearedFrom 0 s → Walked (entryOf (length was) g line) was (Refused (refusal 7 0)) t
+      unfolding clears clearedFrom
+      over-answer t d l k c =
+          let z : length s - 0 ≡ length was = omega arith in
+          refused-walked _ (refusal 7 0) was t
+          (entry ∙ budget (walkedBy (g .cols) (g .rows) way w) (subst (λ (z : Ran). WalkedTo (walkedBy (g .cols) (g .rows) way w) z s) d (run .ran)))
+          (k ∙ l) (c ∙ rw z (sym (left-zero 0 (refusal 7 0) was refl)))

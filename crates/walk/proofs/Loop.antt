@@ -9,7 +9,7 @@ use lib.ListN.{length, take, length-append}
 use lib.Ieee.{Float, inf, binary64, add, sub, lt, le}
 use Rattle.numbers.specs.Order.{leastOf, magnitudeOf}
 use Rattle.slices.specs.Lists.{any}
-use Rattle.refusals.specs.Refusals.{refusal}
+use Rattle.refusals.specs.Refusals.{refusal, refused, gives, _into_}
 use Rattle.walk.specs.declared.Course.{Course}
 use Rattle.walk.specs.declared.Position.{Position}
 use Rattle.walk.specs.declared.Turn.{Turn}
@@ -18,7 +18,7 @@ use Rattle.walk.specs.declared.Way.{Way}
 use Rattle.walk.specs.declared.Ran.{Ran}
 use Rattle.walk.specs.declared.Ran.the-variants.{Done, Over}
 use Rattle.walk.specs.Turns.{one, finiteOf, toleranceOf, nearOf, stop, both, single, furtherOf, goesOf}
-use Rattle.walk.specs.Pushes.{Outcome, refused, found, before, after}
+use Rattle.walk.specs.Pushes.{Outcome, before, after}
 use Rattle.walk.specs.Modular.{arrivedBy, turnBy, steppedBy, advancedBy, movedBy, pushBy, sidesBy, pushedBy, nextBy, goingBy, turnsBy, walkedBy}
 use Rattle.walk.specs.Inside.{Grown, Covers, RanTo, RanWithin, Far, Straight, Still, Runs, WalkedTo, Walks}
 use Rattle.walk.proofs.Floats.{sum-far}
@@ -69,7 +69,7 @@ going-is way w k b e f = rw (← e) (sym f)
 -- ---- the laws of `turns`
 
 module _ (cols rows : ℕ) (way : Way) (w : Walk) (g : Bool) where
-  pub turns-stop : (n : ℕ) → g ≡ false → turnsBy n g cols rows way w ≡ found []
+  pub turns-stop : (n : ℕ) → g ≡ false → turnsBy n g cols rows way w ≡ gives []
   unfolding turnsBy
   turns-stop zero e = rw e
   turns-stop (suc n) e = rw e
@@ -90,9 +90,9 @@ module _ (cols rows : ℕ) (way : Way) (w : Walk) (g : Bool) where
       ap (λ (x : ℕ). turnsBy x g cols rows way w) p ∙ turns-suc (n - 1) e
 
 pub before-before : (a b : List ℕ) (o : Outcome) → before a (before b o) ≡ before (a ++ b) o
-unfolding before
+unfolding before _into_
 before-before a b (refused why) = refl
-before-before a b (found c) = ap found (sym (append-assoc a b c))
+before-before a b (gives c) = ap gives (sym (append-assoc a b c))
 
 -- ---- a line along an axis never turns both ways
 
@@ -184,7 +184,7 @@ module _ {P Q : Type 0} {goal : Outcome} {n cols rows : ℕ} {way : Way} {left :
       (more (going-is way w k b e f ∙ t) h (turned cols rows way w w′ k e i p q))
 
   pub done : goingBy way w ≡ false → RanTo goal (Done m) s × ((m ≤ n + 15000) × ((P → m ≤ n + 5000) × (Q → m ≤ n)))
-  unfolding before
+  unfolding before _into_
   done e = (
     subst (λ (o : Outcome). RanTo o (Done m) s) (sym (g .is ∙ ap (before (take m s)) (turns-stop cols rows way w (goingBy way w) left e)))
         (omega (arith, g .room, g .size), sym (append-nil (take m s))),
@@ -198,7 +198,7 @@ module _ {P Q : Type 0} {goal : Outcome} {n cols rows : ℕ} {way : Way} {left :
   )
 
   pub over : goingBy way w ≡ true → left ≡ 0 → RanTo goal Over s
-  unfolding before
+  unfolding before _into_
   over e z =
       subst (λ (o : Outcome). RanTo o Over s)
       (sym (g .is ∙ ap (λ (l : ℕ). before (take m s) (turnsBy l (goingBy way w) cols rows way w)) z ∙ ap (before (take m s)) (turns-over cols rows way w (goingBy way w) e)))
@@ -210,14 +210,14 @@ pub within-done : (R : Ran) (m b : ℕ) → R ≡ Done m → RanWithin R b → m
 within-done R m b e p = subst (λ (q : Ran). RanWithin q b) e p
 
 ran-after : (o : Outcome) (m r : ℕ) (s t ys : List ℕ) → RanTo o (Done m) s → Covers s t m r 1 ys → WalkedTo (after o ys) (Done r) t
-unfolding after
+unfolding after _into_
 ran-after (refused why) m r s t ys p g = absurd p
-ran-after (found xs) m r s t ys p g = (g .within, λ f. g .same f ∙ ap (λ (l : List ℕ). any f (l ++ ys)) (p .1))
+ran-after (gives xs) m r s t ys p g = (g .within, λ f. g .same f ∙ ap (λ (l : List ℕ). any f (l ++ ys)) (p .1))
 
 over-after : (o : Outcome) (s ys : List ℕ) → RanTo o Over s → WalkedTo (after o ys) Over s
-unfolding after
+unfolding after _into_
 over-after (refused why) s ys p = p
-over-after (found xs) s ys p = absurd p
+over-after (gives xs) s ys p = absurd p
 
 module _ (cols rows : ℕ) (way : Way) (w : Walk) {s₀ s₁ s₂ : List ℕ} {n : ℕ} {R : Ran}
     (g : Grown s₀ s₁ 0 n (pushBy cols rows (w .x .index) (w .y .index)))

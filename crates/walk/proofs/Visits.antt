@@ -13,7 +13,7 @@ use Rattle.slices.specs.Lists.{elem, Below, Rising}
 use Rattle.slices.proofs.Members.{elem-one-of-each, below-append, below-one-of-each}
 use Rattle.slices.proofs.Distinct.{one-of-each-rising, length-one-of-each}
 use Rattle.refusals.specs.declared.Refusal.{Refusal}
-use Rattle.refusals.specs.Refusals.{refusal}
+use Rattle.refusals.specs.Refusals.{refusal, refused, gives, _into_}
 use Rattle.grid.specs.declared.Grid.{Grid}
 use Rattle.grid.specs.declared.Segment.{Segment}
 use Rattle.grid.specs.Axes.{xAxis, yAxis, indexOn, boundaryOn}
@@ -23,7 +23,7 @@ use Rattle.grid.proofs.Shapes.{Shape, shape-says}
 use Rattle.walk.specs.declared.Walk.{Walk}
 use Rattle.walk.specs.declared.Way.{Way}
 use Rattle.walk.specs.Turns.{Ray, State, rayOf, startOf, turnOf}
-use Rattle.walk.specs.Pushes.{kept, pushOf, pushedOf, Outcome, refused, found, before, after, nextOf, goingOf, turns, walkedOf}
+use Rattle.walk.specs.Pushes.{kept, pushOf, pushedOf, Outcome, before, after, nextOf, goingOf, turns, walkedOf}
 use Rattle.walk.specs.Modular.{turnBy, steppedBy, movedBy, wayBy, startBy, pushBy, sidesBy, pushedBy, nextBy, goingBy, turnsBy, walkedBy}
 use Rattle.walk.specs.Segment.{lowColOf, lowRowOf, cornerOf, besideOf, addedOf, alongOn, cellOf, endOf, pushesOf, answered, unlessNone, segmentOf}
 use Rattle.walk.specs.Inside.{Straight, Still}
@@ -36,31 +36,31 @@ use Rattle.walk.proofs.Answer.{straight-x, straight-y, still, segment-i
 
 -- ---- an outcome from its parts
 
-no-cells : (why : Refusal) (xs : List ℕ) → refused why ≡ found xs → ⊥
+no-cells : (why : Refusal) (xs : List ℕ) → refused why ≡ gives xs → ⊥
 no-cells why xs e = let z : _≡_ {A = ℕ} 0 1 = cc in omega arith
 
-same-cells : (xs ys : List ℕ) → found xs ≡ found ys → xs ≡ ys
+same-cells : (xs ys : List ℕ) → gives xs ≡ gives ys → xs ≡ ys
 same-cells xs ys e = cc
 
 record Before (ps : List ℕ) (o : Outcome) (xs : List ℕ) : Type 0 where
   ys : List ℕ
-  rest : o ≡ found ys
+  rest : o ≡ gives ys
   whole : xs ≡ ps ++ ys
 
-before-found : (ps : List ℕ) (o : Outcome) (xs : List ℕ) → before ps o ≡ found xs → Before ps o xs
-unfolding before
+before-found : (ps : List ℕ) (o : Outcome) (xs : List ℕ) → before ps o ≡ gives xs → Before ps o xs
+unfolding before _into_
 before-found ps (refused why) xs e = absurd (no-cells why xs e)
-before-found ps (found ys) xs e = record { ys = ys; rest = refl; whole = sym (same-cells (ps ++ ys) xs e) }
+before-found ps (gives ys) xs e = record { ys = ys; rest = refl; whole = sym (same-cells (ps ++ ys) xs e) }
 
 record After (o : Outcome) (ps : List ℕ) (xs : List ℕ) : Type 0 where
   ys : List ℕ
-  rest : o ≡ found ys
+  rest : o ≡ gives ys
   whole : xs ≡ ys ++ ps
 
-after-found : (o : Outcome) (ps : List ℕ) (xs : List ℕ) → after o ps ≡ found xs → After o ps xs
-unfolding after
+after-found : (o : Outcome) (ps : List ℕ) (xs : List ℕ) → after o ps ≡ gives xs → After o ps xs
+unfolding after _into_
 after-found (refused why) ps xs e = absurd (no-cells why xs e)
-after-found (found ys) ps xs e = record { ys = ys; rest = refl; whole = sym (same-cells (ys ++ ps) xs e) }
+after-found (gives ys) ps xs e = record { ys = ys; rest = refl; whole = sym (same-cells (ys ++ ps) xs e) }
 
 -- ---- what is pushed is inside the grid
 
@@ -95,7 +95,7 @@ module _ (cols rows : ℕ) where
 
 -- a point that is not at its end never comes there
 still-refused : (left : ℕ) (g : Bool) (cols rows : ℕ) (way : Way) (w : Walk) → Still way w → g ≡ goingBy way w → g ≡ true → turnsBy left g cols rows way w ≡ refused (refusal 7 0)
-unfolding turnsBy before
+unfolding turnsBy before _into_
 still-refused zero g cols rows way w s e t = rw t
 still-refused (suc left) g cols rows way w s e t =
     let n = still-next way w s in
@@ -111,7 +111,7 @@ record Pushed (n left : ℕ) (way : Way) (w : Walk) (xs : List ℕ) : Type 0 whe
 none-pushed : (n left : ℕ) (way : Way) (w : Walk) (xs : List ℕ) → [] ≡ xs → Pushed n left way w xs
 none-pushed n left way w xs e = rw (← e) (record { inside = tt; all = omega arith; few = λ s. omega arith; least = λ s. omega arith })
 
-turns-pushed : (left : ℕ) (g : Bool) (cols rows : ℕ) (way : Way) (w : Walk) (xs : List ℕ) → g ≡ goingBy way w → turnsBy left g cols rows way w ≡ found xs → Pushed (rows * cols) left way w xs
+turns-pushed : (left : ℕ) (g : Bool) (cols rows : ℕ) (way : Way) (w : Walk) (xs : List ℕ) → g ≡ goingBy way w → turnsBy left g cols rows way w ≡ gives xs → Pushed (rows * cols) left way w xs
 unfolding turnsBy
 turns-pushed zero false cols rows way w xs g e = none-pushed (rows * cols) 0 way w xs (same-cells [] xs e)
 turns-pushed zero true cols rows way w xs g e = absurd (no-cells (refusal 7 0) xs e)
@@ -129,7 +129,7 @@ turns-pushed (suc left) true cols rows way w xs g e =
     }
 
 -- the walk, with its first and its last cell
-walked-pushed : (cols rows : ℕ) (way : Way) (w : Walk) (xs : List ℕ) → walkedBy cols rows way w ≡ found xs
+walked-pushed : (cols rows : ℕ) (way : Way) (w : Walk) (xs : List ℕ) → walkedBy cols rows way w ≡ gives xs
     → Below (rows * cols) xs × ((length xs ≤ 15002) × ((Straight way w → length xs ≤ 5002) × (Still way w → length xs ≤ 2)))
 unfolding walkedBy
 walked-pushed cols rows way w xs e =
@@ -225,21 +225,21 @@ module _ (g : Grid) (line : Segment) where
       }
 
   answer-visits : (o : Outcome) (xs : List ℕ) → Shape (g .cols) (g .rows) → 0 < g .cols → o ≡ walkedBy (g .cols) (g .rows) (wayBy g line) (startBy g line)
-      → answered g line o ≡ found xs → Visits g xs
-  unfolding answered
+      → answered g line o ≡ gives xs → Visits g xs
+  unfolding answered _into_
   answer-visits (refused why) xs s h e d = absurd (no-cells why xs d)
-  answer-visits (found walked) xs s h e d =
+  answer-visits (gives walked) xs s h e d =
       let w = walked-pushed (g .cols) (g .rows) (wayBy g line) (startBy g line) walked (sym e) in
       subst (λ (z : List ℕ). Visits g z) (same-cells (distinctOf (sorted (pushesOf g line walked))) xs d)
       (pushes-visit walked s h (w .0) (w .1 .0) (w .1 .1 .0) (w .1 .1 .1))
 
-  unless-visits : (n : ℕ) (o : Outcome) (xs : List ℕ) → unlessNone n o ≡ found xs → (0 < n → o ≡ found xs → Visits g xs) → Visits g xs
+  unless-visits : (n : ℕ) (o : Outcome) (xs : List ℕ) → unlessNone n o ≡ gives xs → (0 < n → o ≡ gives xs → Visits g xs) → Visits g xs
   unfolding unlessNone
   unless-visits zero o xs e h = subst (λ (z : List ℕ). Visits g z) (same-cells [] xs e) (record { rising = tt; inside = tt; few = omega arith })
   unless-visits (suc n) o xs e h = h (omega arith) e
 
   -- on a grid whose counts have a shape
-  pub segment-visits : (xs : List ℕ) → shape (g .cols) (g .rows) ≡ true → segmentOf g line ≡ found xs → Visits g xs
+  pub segment-visits : (xs : List ℕ) → shape (g .cols) (g .rows) ≡ true → segmentOf g line ≡ gives xs → Visits g xs
   unfolding segmentOf
   segment-visits xs s e =
       let w = walkedOf (g .cols) (g .rows) (rayOf g line) (startOf g line) in
@@ -247,25 +247,25 @@ module _ (g : Grid) (line : Segment) where
       unless-visits (g .cols) (answered g line w) xs e (λ h d. answer-visits w xs k h (walked-is g line k) d)
 
   -- the cells are those that were pushed: the walked ones and the added ones
-  pub segment-members : (walked xs : List ℕ) → (g .cols ≡ 0 → ⊥) → walkedOf (g .cols) (g .rows) (rayOf g line) (startOf g line) ≡ found walked
-      → segmentOf g line ≡ found xs → (v : ℕ) → elem v xs ≡ elem v (pushesOf g line walked)
-  unfolding answered
+  pub segment-members : (walked xs : List ℕ) → (g .cols ≡ 0 → ⊥) → walkedOf (g .cols) (g .rows) (rayOf g line) (startOf g line) ≡ gives walked
+      → segmentOf g line ≡ gives xs → (v : ℕ) → elem v xs ≡ elem v (pushesOf g line walked)
+  unfolding answered _into_
   segment-members walked xs h e d v =
-      let is : segmentOf g line ≡ found (distinctOf (sorted (pushesOf g line walked))) =
+      let is : segmentOf g line ≡ gives (distinctOf (sorted (pushesOf g line walked))) =
       segment-is g line h ∙ ap (answered g line) e in
       ap (elem v) (same-cells xs (distinctOf (sorted (pushesOf g line walked))) (sym d ∙ is)) ∙ elem-one-of-each v (pushesOf g line walked)
 
 -- ---- the one refusal
 
 before-refused : (ps : List ℕ) (o : Outcome) (why : Refusal) → before ps o ≡ refused why → o ≡ refused why
-unfolding before
+unfolding before _into_
 before-refused ps (refused y) why d = d
-before-refused ps (found ys) why d = absurd (no-cells why (ps ++ ys) (sym d))
+before-refused ps (gives ys) why d = absurd (no-cells why (ps ++ ys) (sym d))
 
 after-refused : (o : Outcome) (ps : List ℕ) (why : Refusal) → after o ps ≡ refused why → o ≡ refused why
-unfolding after
+unfolding after _into_
 after-refused (refused y) ps why d = d
-after-refused (found ys) ps why d = absurd (no-cells why (ys ++ ps) (sym d))
+after-refused (gives ys) ps why d = absurd (no-cells why (ys ++ ps) (sym d))
 
 turns-refused : (left : ℕ) (g : Bool) (cols rows : ℕ) (r : Ray) (s : State) (why : Refusal) → turns left g cols rows r s ≡ refused why → why ≡ refusal 7 0
 unfolding turns
@@ -285,9 +285,9 @@ walked-refused cols rows r s why e =
 
 module _ (g : Grid) (line : Segment) (why : Refusal) where
   answer-refused : (o : Outcome) → answered g line o ≡ refused why → o ≡ refused why
-  unfolding answered
+  unfolding answered _into_
   answer-refused (refused y) d = d
-  answer-refused (found ys) d = absurd (no-cells why (distinctOf (sorted (pushesOf g line ys))) (sym d))
+  answer-refused (gives ys) d = absurd (no-cells why (distinctOf (sorted (pushesOf g line ys))) (sym d))
 
   unless-refused : (n : ℕ) (o : Outcome) → unlessNone n o ≡ refused why → o ≡ refused why
   unfolding unlessNone

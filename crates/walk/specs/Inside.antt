@@ -8,7 +8,7 @@ use lib.ListN.{length, take, getD}
 use lib.Dec.{eqb}
 use lib.Ieee.{Float}
 use Rattle.slices.specs.Lists.{any}
-use Rattle.refusals.specs.Refusals.{refusal}
+use Rattle.refusals.specs.Refusals.{refusal, refused, gives}
 use Rattle.grid.specs.declared.Grid.{Grid}
 use Rattle.grid.specs.declared.Segment.{Segment}
 use Rattle.grid.specs.Axes.{xAxis, yAxis}
@@ -19,7 +19,7 @@ use Rattle.walk.specs.declared.Way.{Way}
 use Rattle.walk.specs.declared.Ran.{Ran}
 use Rattle.walk.specs.declared.Ran.the-variants.{Done, Over}
 use Rattle.walk.specs.Turns.{infinite}
-use Rattle.walk.specs.Pushes.{Outcome, refused, found}
+use Rattle.walk.specs.Pushes.{Outcome}
 use Rattle.walk.specs.Segment.{alongOn}
 use Rattle.walk.specs.Modular.{advancedBy}
 
@@ -51,8 +51,8 @@ pub record Complete (s : List ℕ) (r : ℕ) (cells : List ℕ) : Type 0 where
 abbrev pub RanTo : Outcome → Ran → List ℕ → Type 0
 RanTo (refused why) (Done r) s = ⊥
 RanTo (refused why) Over s = why ≡ refusal 7 0
-RanTo (found xs) (Done r) s = (r ≤ length s) × (take r s ≡ xs)
-RanTo (found xs) Over s = ⊥
+RanTo (gives xs) (Done r) s = (r ≤ length s) × (take r s ≡ xs)
+RanTo (gives xs) Over s = ⊥
 
 abbrev pub RanWithin : Ran → ℕ → Type 0
 RanWithin (Done r) b = r ≤ b
@@ -84,8 +84,8 @@ pub record Runs (way : Way) (w : Walk) (o : Outcome) (n : ℕ) (r : Ran) (s : Li
 abbrev pub WalkedTo : Outcome → Ran → List ℕ → Type 0
 WalkedTo (refused why) (Done r) s = ⊥
 WalkedTo (refused why) Over s = why ≡ refusal 7 0
-WalkedTo (found xs) (Done r) s = (r ≤ length s) × ((f : ℕ → Bool) → any f (take r s) ≡ any f xs)
-WalkedTo (found xs) Over s = ⊥
+WalkedTo (gives xs) (Done r) s = (r ≤ length s) × ((f : ℕ → Bool) → any f (take r s) ≡ any f xs)
+WalkedTo (gives xs) Over s = ⊥
 
 -- a walk, with its start cell and its end cell, and how much it pushes
 pub record Walks (way : Way) (w : Walk) (o : Outcome) (r : Ran) (s : List ℕ) : Type 0 where

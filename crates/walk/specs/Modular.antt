@@ -5,7 +5,7 @@ use mathlib.Core.Bool.{Bool, true, false, cond, _&&_}
 use mathlib.Core.List.{List, [], _++_}
 use lib.Dec.{ltb, eqb}
 use lib.Ieee.{Float, binary64, add, sub, lt}
-use Rattle.refusals.specs.Refusals.{refusal}
+use Rattle.refusals.specs.Refusals.{refusal, refused, gives, _into_}
 use Rattle.grid.specs.declared.Axis.{Axis}
 use Rattle.grid.specs.declared.Grid.{Grid}
 use Rattle.grid.specs.declared.Segment.{Segment}
@@ -16,7 +16,7 @@ use Rattle.walk.specs.declared.Turn.{Turn}
 use Rattle.walk.specs.declared.Walk.{Walk}
 use Rattle.walk.specs.declared.Way.{Way}
 use Rattle.walk.specs.Turns.{nought, deltaOf, firstOn, stop, furtherOf, goesOf}
-use Rattle.walk.specs.Pushes.{kept, Outcome, refused, found, before, after}
+use Rattle.walk.specs.Pushes.{kept, Outcome, before, after}
 
 -- one in the sign of d
 unfoldable pub stepBy : Float → ℕ
@@ -69,10 +69,10 @@ unfoldable pub goingBy : Way → Walk → Bool
 goingBy way w = goesOf (turnBy way w)
 
 unfoldable pub turnsBy : ℕ → Bool → ℕ → ℕ → Way → Walk → Outcome
-unfolding before
-turnsBy zero false cols rows way w = found []
+unfolding before _into_
+turnsBy zero false cols rows way w = gives []
 turnsBy zero true cols rows way w = refused (refusal 7 0)
-turnsBy (suc left) false cols rows way w = found []
+turnsBy (suc left) false cols rows way w = gives []
 turnsBy (suc left) true cols rows way w = before (pushedBy (turnBy way w) cols rows way w) (turnsBy left (goingBy way (nextBy way w)) cols rows way (nextBy way w))
 
 unfoldable pub walkedBy : ℕ → ℕ → Way → Walk → Outcome

@@ -5,8 +5,7 @@ use mathlib.Core.Bool.{Bool, true, false, _&&_}
 use mathlib.Core.List.{List, [], _∷_, _++_}
 use lib.IntN.{ℤ, pos, negsuc}
 use lib.Dec.{ltb}
-use Rattle.refusals.specs.Refusals.{refusal}
-use Rattle.refusals.specs.declared.Refusal.{Refusal}
+use Rattle.refusals.specs.Refusals.{refusal, Answer, refused, gives, _into_}
 use Rattle.walk.specs.declared.Turn.{Turn}
 use Rattle.walk.specs.Turns.{Ray, State, turnOf, goesOf, steppedOf, movedOf}
 
@@ -32,20 +31,17 @@ pushedOf k cols rows r s =
     sidesOf (k .x && k .y) cols rows r s
     ++ pushOf cols rows (movedOf k r s .x .index) (movedOf k r s .y .index)
 
--- what a walk comes to
-pub data Outcome : Type 0 where
-  refused : Refusal → Outcome
-  found : List ℕ → Outcome
+-- what a walk comes to: cells, or a refusal
+abbrev pub Outcome : Type 0
+Outcome = Answer (List ℕ)
 
 -- xs, and then what comes
 unfoldable pub before : List ℕ → Outcome → Outcome
-before xs (refused why) = refused why
-before xs (found ys) = found (xs ++ ys)
+before xs o = o into λ ys. gives (xs ++ ys)
 
 -- what comes, and then ys
 unfoldable pub after : Outcome → List ℕ → Outcome
-after (refused why) ys = refused why
-after (found xs) ys = found (xs ++ ys)
+after o ys = o into λ xs. gives (xs ++ ys)
 
 -- the state after the turn that comes next, and whether there is one
 unfoldable pub nextOf : Ray → State → State
@@ -57,10 +53,10 @@ goingOf r s = goesOf (turnOf r s)
 -- The pushes of the turns from a state on, with so many turns left; refusal 7 where one more would be made. The Bool is whether there is a turn:
 -- it is matched on, so that a walk that stops is computed no further. `from` puts it in.
 unfoldable pub turns : ℕ → Bool → ℕ → ℕ → Ray → State → Outcome
-unfolding before
-turns zero false cols rows r s = found []
+unfolding before _into_
+turns zero false cols rows r s = gives []
 turns zero true cols rows r s = refused (refusal 7 0)
-turns (suc left) false cols rows r s = found []
+turns (suc left) false cols rows r s = gives []
 turns (suc left) true cols rows r s = before (pushedOf (turnOf r s) cols rows r s) (turns left (goingOf r (nextOf r s)) cols rows r (nextOf r s))
 
 abbrev pub from : ℕ → ℕ → ℕ → Ray → State → Outcome

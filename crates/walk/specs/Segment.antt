@@ -3,13 +3,12 @@ use Prim.Native.Nat.{ℕ, zero, suc, _+_, _-_, _*_, _%_}
 use mathlib.Core.Path.{_≡_}
 use mathlib.Core.Bool.{Bool, true, false, cond, _&&_}
 use mathlib.Core.List.{List, [], _∷_, _++_}
-use lib.ListN.{length, take, replicate}
-use lib.Dec.{leb, ltb, eqb}
+use lib.ListN.{length, take}
+use lib.Dec.{ltb, eqb}
 use lib.Ieee.{Float, binary64, sub, eq}
 use Rattle.slices.specs.Slices.{sorted, distinctOf}
-use Rattle.refusals.specs.declared.Refusal.{Refusal}
 use Rattle.refusals.specs.declared.Check.{Check}
-use Rattle.refusals.specs.declared.Check.the-variants.{Fine, Refused as Due}
+use Rattle.refusals.specs.Refusals.{andThen, refused, gives, _then_, _into_, answerBy, leftBy, leftIn, zeroBeyond}
 use Rattle.grid.specs.declared.Axis.{Axis}
 use Rattle.grid.specs.declared.Grid.{Grid}
 use Rattle.grid.specs.declared.Segment.{Segment}
@@ -18,7 +17,7 @@ use Rattle.grid.specs.Domain.{scratchCheck, segmentCheck, gridCheck}
 use Rattle.walk.specs.declared.Cells.{Cells}
 use Rattle.walk.specs.declared.Cells.the-variants.{Found, Refused}
 use Rattle.walk.specs.Turns.{nought, rayOf, startOf}
-use Rattle.walk.specs.Pushes.{Outcome, refused, found, walkedOf}
+use Rattle.walk.specs.Pushes.{Outcome, walkedOf}
 
 -- ---- what is added
 
@@ -70,50 +69,42 @@ pushesOf g line walked =
 
 -- increasing, no cell twice
 unfoldable pub answered : Grid → Segment → Outcome → Outcome
-answered g line (refused why) = refused why
-answered g line (found walked) = found (distinctOf (sorted (pushesOf g line walked)))
+answered g line o = o into λ walked. gives (distinctOf (sorted (pushesOf g line walked)))
 
 -- a grid of 0 columns visits nothing
 unfoldable pub unlessNone : ℕ → Outcome → Outcome
-unlessNone zero o = found []
+unlessNone zero o = gives []
 unlessNone (suc n) o = o
 
--- the cells of the segment from ((line .«start_x»), (line .«start_y»)) to ((line .«end_x»), (line .«end_y»)), or refusal 7
+-- the cells of the segment, or refusal 7
 unfoldable pub segmentOf : Grid → Segment → Outcome
 segmentOf g line =
     unlessNone (g .cols) (answered g line (walkedOf (g .cols) (g .rows) (rayOf g line) (startOf g line)))
 
 -- ---- the refusals
 
--- the check's refusal, or what comes
-unfoldable pub checked : Check → Outcome → Outcome
-checked Fine o = o
-checked (Due why) o = refused why
+-- 3, 1, 8, by n entries of scratch
+unfoldable pub entryCheck : ℕ → Grid → Segment → Check
+entryCheck n g line = andThen (scratchCheck n) (andThen (segmentCheck line) (gridCheck g))
 
--- the walk of one segment, by n entries of scratch: 3, 1, 8, 7
+-- the walk of one segment, with 7
 unfoldable pub entryOf : ℕ → Grid → Segment → Outcome
-entryOf n g line = checked (scratchCheck n) (checked (segmentCheck line) (checked (gridCheck g) (segmentOf g line)))
+entryOf n g line = entryCheck n g line then segmentOf g line
 
 -- ---- what is handed back
 
 -- the number of cells, or the refusal
 unfoldable pub cellsOf : Outcome → Cells
-cellsOf (refused why) = Refused why
-cellsOf (found xs) = Found (length xs)
-
--- refusals 4 to 7 leave zero throughout, all others change nothing
-unfoldable pub leftBy : Refusal → List ℕ → List ℕ
-leftBy why was = cond (leb 4 (why .number) && leb (why .number) 7) (replicate (length was) 0) was
+cellsOf o = answerBy Refused (λ xs. Found (length xs)) o
 
 -- the scratch of one segment's walk: the cells at its start, and zero beyond them
 unfoldable pub scratchOf : Outcome → List ℕ → List ℕ
-scratchOf (refused why) was = leftBy why was
-scratchOf (found xs) was = xs ++ replicate (length was - length xs) 0
+scratchOf o was = leftIn 0 was o (λ xs. zeroBeyond 0 (length was) xs)
 
 -- the scratch of a walk inside a larger call: the cells at its start (what is beyond them is open), or what the refusal leaves
 abbrev pub Left : Outcome → List ℕ → List ℕ → Type 0
-Left (refused why) was now = now ≡ leftBy why was
-Left (found xs) was now = take (length xs) now ≡ xs
+Left (refused why) was now = now ≡ leftBy 0 why was
+Left (gives xs) was now = take (length xs) now ≡ xs
 
 -- what a walk inside a larger call promises
 pub record Walked (o : Outcome) (was : List ℕ) (r : Cells) (now : List ℕ) : Type 0 where

@@ -7,12 +7,13 @@ use beside::completed;
 use grid::Grid;
 use grid::Segment;
 use pushes::walked;
+use refusals::Check;
 use refusals::Refusal;
 use turns::started;
 use turns::way_of;
 ghost use mathlib.Core.Path.{_≡_};
 ghost use lib.ListN.{length};
-ghost use Rattle.walk.specs.Segment.{entryOf, Walked, Entered};
+ghost use Rattle.walk.specs.Segment.{entryCheck, entryOf, Walked, Entered};
 
 // The number of cells, which stand in the lent scratch, or a refusal.
 pub enum Cells {
@@ -55,28 +56,29 @@ pub enum Ran {
     Over,
 }
 
+// Refusals 3, 1 and 8, of n entries of scratch.
+fn check_entry(grid: Grid, line: Segment, n: usize) -> Check
+    ensures { λ r. ⌜ r ≡ entryCheck n grid line ⌝ }
+{
+    let lent = grid::checks::check_scratch(n);
+    if let Check::Refused(r) = lent {
+        return Check::Refused(r);
+    }
+    let inside = grid::checks::check_segment(line);
+    if let Check::Refused(r) = inside {
+        return Check::Refused(r);
+    }
+    grid::checks::check_grid(grid)
+}
+
 // The walk of one line inside a larger call: its cells, increasing, none twice, at the start of the scratch. What is beyond them there is not zeroed.
 // Refusals 3, 1, 8 and 7.
 pub fn segment_cells(grid: Grid, line: Segment, scratch: &mut [u32]) -> Cells
     ensures { λ r. ⌜ Walked (entryOf (length (now (scratch .entry))) grid line) (now (scratch .entry)) r (now (scratch .exit)) ⌝ }
 {
-    if scratch.len() < 16384 {
-        return Cells::Refused(Refusal {
-            number: 3,
-            value: 0,
-        });
-    }
-    if !grid::checks::is_segment(line) {
-        return Cells::Refused(Refusal {
-            number: 1,
-            value: 0,
-        });
-    }
-    if !grid::checks::is_fit(grid) {
-        return Cells::Refused(Refusal {
-            number: 8,
-            value: 0,
-        });
+    let check = check_entry(grid, line, scratch.len());
+    if let Check::Refused(r) = check {
+        return Cells::Refused(r);
     }
     if grid.cols == 0 {
         return Cells::Found(0);

@@ -9,7 +9,7 @@ use lib.ListN.{length, replicate, length-map}
 use borrow.Author.Tests.{leb-true, eqb-true}
 use Rattle.refusals.specs.declared.Refusal.{Refusal}
 use Rattle.refusals.specs.declared.Check.the-variants as check
-use Rattle.refusals.specs.Refusals.{refusal, unless, Answer, refused, gives, clears, answerBy, leftIn, zeroBeyond}
+use Rattle.refusals.specs.Refusals.{refusal, unless, Answer, refused, gives, answerBy, clears, leftIn, zeroBeyond}
 use Rattle.refusals.proofs.Checks.{unless-fine}
 use Rattle.refusals.proofs.Answers.{then-refused, then-fine}
 use Rattle.refusals.proofs.Leaving.{left-same, clearing-unless}

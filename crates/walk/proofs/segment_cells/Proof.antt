@@ -1,90 +1,62 @@
 -- `walk::segment_cells` meets its contract. Assumes nothing.
-use mathlib.Core.Path.{sym, _∙_}
+use mathlib.Core.Path.{_≡_, sym, _∙_}
 use native.Mathlib.Omega.{arith}
-use borrow.Author.Tests.{not-true, not-false}
 use borrow.Author.Needs.{needs}
+use lib.ListN.{length}
+use Rattle.refusals.specs.declared.Check.the-variants.{Fine}
 use Rattle.grid.proofs.Shapes.{fit-says}
-use Rattle.walk.proofs.Answer.{room, short-answer, beyond-answer, unfit-answer, none-answer, found-answer, over-answer}
+use Rattle.walk.specs.Segment.{entryCheck}
+use Rattle.walk.proofs.Answer.{room, entry-room, entry-fit, check-answer, none-answer, found-answer, over-answer}
 use Rattle.walk.proofs.segment_cells.Statement.{statement}
 use Rattle.walk.proofs.segment_cells.Tie as tie
 
-returns : tie.Need-returns
-returns c = short-answer _ _ _ (c .if1 .taken)
+-- 3, 1 and 8 have found nothing
+checked : (c : tie.After-enum-told) → let a = c .before .before .before .before .args in entryCheck (length (a .scratch .now)) (a .grid) (a .line) ≡ Fine
+checked c = sym (c .before .before .check-entry .ensures) ∙ c .enum-told .given .1
 
-is-segment-requires : tie.Need-is-segment-requires
-is-segment-requires c κs = search needs
+returns : tie.Need-returns
+returns c = check-answer _ _ _ _ (sym (c .before .before .before .check-entry .ensures) ∙ c .before .check .given .1)
 
 returns-2 : tie.Need-returns-2
-returns-2 c = beyond-answer _ _ _ (c .before .before .if1 .left) (sym (c .before .is-segment .ensures) ∙ not-true _ (c .if2 .taken))
-
-is-fit-requires : tie.Need-is-fit-requires
-is-fit-requires c κs = search needs
-
-returns-3 : tie.Need-returns-3
-returns-3 c = unfit-answer _ _ _ (c .before .before .before .before .if1 .left) (sym (c .before .before .before .is-segment .ensures) ∙ not-false _ (c .before .before .if2 .left)) (sym (c .before .is-fit .ensures) ∙ not-true _ (c .if3 .taken))
-
-returns-4 : tie.Need-returns-4
-returns-4 c = none-answer _ _ _ (c .before .before .before .before .before .before .if1 .left) (sym (c .before .before .before .before .before .is-segment .ensures) ∙ not-false _ (c .before .before .before .before .if2 .left)) (sym (c .before .before .before .is-fit .ensures) ∙ not-false _ (c .before .before .if3 .left)) (c .if4 .taken)
-
-way-of-requires : tie.Need-way-of-requires
-way-of-requires c κs = search needs
-
-started-requires : tie.Need-started-requires
-started-requires c κs = search needs
+returns-2 c = none-answer _ _ _ (checked (c .before .before)) (c .if1 .taken)
 
 walked-requires : tie.Need-walked-requires
-walked-requires c κs = (omega arith, fit-says _ (sym (c .before .before .before .before .before .before .is-fit .ensures) ∙ not-false _ (c .before .before .before .before .before .if3 .left)) .counts .cells)
-
-enum-known-r : tie.Need-enum-known-r
-enum-known-r c = search needs
+walked-requires c κs =
+    let f = checked (c .before .before .before .before .before) in
+    (entry-room _ _ _ f, fit-says _ (entry-fit _ _ _ f) .counts .cells)
 
 completed-requires : tie.Need-completed-requires
 completed-requires c κs =
-    let h = fit-says _ (sym (c .before .before .before .before .before .before .before .before .before .before .before .before .before .is-fit .ensures) ∙ not-false _ (c .before .before .before .before .before .before .before .before .before .before .before .before .if3 .left)) .counts in
+    let f = checked (c .before .before .before .before .before .before .before .before .before .before .before .before) in
+    let h = fit-says _ (entry-fit _ _ _ f) .counts in
     let w = c .before .before .before .before .before .before .walked in
     let z = room _ _ h _ _ _ _ _ _ (c .before .before .before .before .before .before .before .before .before .way-of .ensures) (c .before .before .before .before .before .before .before .before .started .ensures) (c .before .before .r .given .1) (w .ensures) in
-    (h, (omega (arith, c .before .before .before .before .before .before .before .before .before .before .if4 .left), omega (arith, z, w .kept .0, c .before .before .before .before .before .before .before .before .before .before .before .before .before .before .before .before .if1 .left)))
+    (h, (omega (arith, c .before .before .before .before .before .before .before .before .before .before .if1 .left), omega (arith, z, w .kept .0, entry-room _ _ _ f)))
 
-order-and-keep-requires : tie.Need-order-and-keep-requires
-order-and-keep-requires c κs = search needs
+returns-3 : tie.Need-returns-3
+returns-3 c = found-answer _ _ _ (checked (c .before .before .before .before .before .before .before .before .before .before .before .before .before .before .before .before .before .before .before)) _ _ _ _ (c .before .before .before .before .before .before .before .before .before .before .before .before .before .before .before .before .way-of .ensures) (c .before .before .before .before .before .before .before .before .before .before .before .before .before .before .before .started .ensures) (c .before .before .before .before .before .before .before .before .before .before .before .before .before .before .before .before .before .if1 .left) (c .before .before .before .before .before .before .before .before .before .before .before .before .before .walked .ensures) _ (c .before .before .before .before .before .before .completed .result) _ (c .before .before .before .before .before .before .completed .last .0) _ (c .before .before .before .before .before .before .before .before .before .r .given .1) (c .before .before .before .before .before .before .completed .ensures) (c .before .before .order-and-keep .kept .0 ∙ c .before .before .before .before .before .before .completed .kept .0 ∙ c .before .before .before .before .before .before .before .before .before .before .before .before .before .walked .kept .0) (c .before .before .order-and-keep .ensures)
 
-enum-told : tie.Need-enum-told
-enum-told c = search needs
-
-clear-from-requires : tie.Need-clear-from-requires
-clear-from-requires c κs = search needs
-
-same-length : tie.Need-same-length
-same-length c = search needs
-
-returns-5 : tie.Need-returns-5
-returns-5 c = found-answer _ _ _ (c .before .before .before .before .before .before .before .before .before .before .before .before .before .before .before .before .before .before .before .before .before .before .before .if1 .left) (sym (c .before .before .before .before .before .before .before .before .before .before .before .before .before .before .before .before .before .before .before .before .before .before .is-segment .ensures) ∙ not-false _ (c .before .before .before .before .before .before .before .before .before .before .before .before .before .before .before .before .before .before .before .before .before .if2 .left)) (sym (c .before .before .before .before .before .before .before .before .before .before .before .before .before .before .before .before .before .before .before .before .is-fit .ensures) ∙ not-false _ (c .before .before .before .before .before .before .before .before .before .before .before .before .before .before .before .before .before .before .before .if3 .left)) _ _ _ _ (c .before .before .before .before .before .before .before .before .before .before .before .before .before .before .before .before .way-of .ensures) (c .before .before .before .before .before .before .before .before .before .before .before .before .before .before .before .started .ensures) (c .before .before .before .before .before .before .before .before .before .before .before .before .before .before .before .before .before .if4 .left) (c .before .before .before .before .before .before .before .before .before .before .before .before .before .walked .ensures) _ (c .before .before .before .before .before .before .completed .result) _ (c .before .before .before .before .before .before .completed .last .0) _ (c .before .before .before .before .before .before .before .before .before .r .given .1) (c .before .before .before .before .before .before .completed .ensures) (c .before .before .order-and-keep .kept .0 ∙ c .before .before .before .before .before .before .completed .kept .0 ∙ c .before .before .before .before .before .before .before .before .before .before .before .before .before .walked .kept .0) (c .before .before .order-and-keep .ensures)
-
-same-length-2 : tie.Need-same-length-2
-same-length-2 c = search needs
-
-returns-6 : tie.Need-returns-6
-returns-6 c = over-answer _ _ _ (c .before .before .before .before .before .before .before .before .before .before .before .before .before .before .before .before .before .before .if1 .left) (sym (c .before .before .before .before .before .before .before .before .before .before .before .before .before .before .before .before .before .is-segment .ensures) ∙ not-false _ (c .before .before .before .before .before .before .before .before .before .before .before .before .before .before .before .before .if2 .left)) (sym (c .before .before .before .before .before .before .before .before .before .before .before .before .before .before .before .is-fit .ensures) ∙ not-false _ (c .before .before .before .before .before .before .before .before .before .before .before .before .before .before .if3 .left)) _ _ _ _ (c .before .before .before .before .before .before .before .before .before .before .before .way-of .ensures) (c .before .before .before .before .before .before .before .before .before .before .started .ensures) (c .before .before .before .before .before .before .before .before .before .before .before .before .if4 .left) (c .before .before .before .before .before .before .before .before .walked .ensures) _ (c .before .before .before .before .enum-told .given .1) (c .before .before .before .before .before .before .before .before .walked .kept .0) (c .before .before .clear-from .kept .0) (c .before .before .clear-from .ensures)
+returns-4 : tie.Need-returns-4
+returns-4 c = over-answer _ _ _ (checked (c .before .before .before .before .before .before .before .before .before .before .before .before .before .before)) _ _ _ _ (c .before .before .before .before .before .before .before .before .before .before .before .way-of .ensures) (c .before .before .before .before .before .before .before .before .before .before .started .ensures) (c .before .before .before .before .before .before .before .before .before .before .before .before .if1 .left) (c .before .before .before .before .before .before .before .before .walked .ensures) _ (c .before .before .before .before .enum-told2 .given .1) (c .before .before .before .before .before .before .before .before .walked .kept .0) (c .before .before .clear-from .kept .0) (c .before .before .clear-from .ensures)
 
 pub segment-cells-spec : {M : Type 1} → statement M
 segment-cells-spec =
     tie.close
     (tie.spec
+    (λ c κs. search needs)
+    (λ c. search needs)
     returns
-    is-segment-requires
+    (λ c. search needs)
     returns-2
-    is-fit-requires
-    returns-3
-    returns-4
-    way-of-requires
-    started-requires
+    (λ c κs. search needs)
+    (λ c κs. search needs)
     walked-requires
-    enum-known-r
+    (λ c. search needs)
     completed-requires
-    order-and-keep-requires
-    enum-told
-    clear-from-requires
-    same-length
-    returns-5
-    same-length-2
-    returns-6)
+    (λ c κs. search needs)
+    (λ c. search needs)
+    (λ c κs. search needs)
+    (λ c. search needs)
+    returns-3
+    (λ c. search needs)
+    returns-4)

@@ -12,7 +12,7 @@ same-length : tie.Need-same-length
 same-length c = search needs
 
 returns : tie.Need-returns
-returns c = record { number = refl; words = stored-one (c .args .out .now) (c .args .value) (c .pre) }
+returns c = record { number = refl; words = stored-one (c .args .out .now) (c .args .why .value) (c .pre) }
 
 pub refused-spec : {M : Type 1} → statement M
 refused-spec = tie.close (tie.spec slice-write-out same-length returns)

@@ -1,12 +1,13 @@
 -- `fill::lent::give_up` meets its contract. Assumes nothing.
 use borrow.Author.Needs.{needs}
 use mathlib.Core.Path.{refl}
-use Rattle.fill.specs.Fill.{filledOf, leftIn}
+use Rattle.refusals.specs.Refusals.{answerBy, leftIn}
+use Rattle.fill.specs.Fill.{filledOf, writtenIn}
 use Rattle.fill.proofs.lent.give_up.Statement.{statement}
 use Rattle.fill.proofs.lent.give_up.Tie as tie
 
 returns : tie.Need-returns
-unfolding filledOf leftIn
+unfolding answerBy leftIn filledOf writtenIn
 returns c =
     λ g ls.
     record { answer = refl; offsets-are = c .before .before .before .before .before .before .before .before .before .before .before .before .before .before .clear .ensures; items-are = c .before .before .before .before .before .before .before .before .before .before .clear2 .ensures; globals-are = c .before .before .before .before .before .before .clear3 .ensures; scratch-is = c .before .before .clear4 .ensures }

@@ -1,7 +1,8 @@
 -- `visit::visits::batch` meets its contract. Assumes nothing.
 use mathlib.Core.Path.{_≡_, refl, sym, ap, _∙_}
-use Rattle.grid.specs.Domain.{lines}
 use Rattle.refusals.specs.declared.Check.the-variants.{Fine}
+use Rattle.refusals.proofs.refuse_unless.Reads as refuse-unless-reads
+use Rattle.grid.specs.Domain.{lines}
 use Rattle.visit.specs.Entries.{beside, outputsCheck}
 use Rattle.visit.specs.Inside.{CursorIs}
 use Rattle.visit.proofs.EntryLaws.{seek-at, seek-beyond, batch-unlike, batch-refused, batch-beyond, batch-done, run-asks, bookmark-fits}
@@ -13,7 +14,6 @@ use Rattle.visit.proofs.visits.batch.Lts as lts
 use Rattle.slices.proofs.clear_from.Reads as clear-from-reads
 use Rattle.visit.proofs.scan.run.Reads as run-reads
 use Rattle.visit.proofs.seek.seek.Reads as seek-reads
-use Rattle.refusals.proofs.refuse_unless.Reads as refuse-unless-reads
 use Rattle.visit.proofs.visits.check_visit.Reads as check-visit-reads
 
 -- the outputs have one length

@@ -27,17 +27,13 @@ fn main() {
     let modules = position(&noding, "pub mod grid;");
     fs::write(out.join("candidates.rs"), noding[..modules].join("\n") + "\n").unwrap();
 
-    // The library, and the inner walk that is no part of it. Each archive exports only its own functions, so the two link side by side.
-    for variable in ["MORELTURRET_PORT_LIB", "MORELTURRET_INNER_LIB"] {
-        println!("cargo:rerun-if-env-changed={variable}");
-        if let Ok(archive) = env::var(variable) {
-            let archive = PathBuf::from(archive);
-            println!("cargo:rerun-if-changed={}", archive.display());
-            println!("cargo:rustc-link-search=native={}", archive.parent().unwrap().display());
-            let name = archive.file_stem().unwrap().to_str().unwrap();
-            println!("cargo:rustc-link-lib=static={}", name.strip_prefix("lib").unwrap());
-        }
-    }
+    // The inner walk, which is no part of the library. Each archive exports only its own functions, so the two link side by side.
+    println!("cargo:rerun-if-env-changed=MORELTURRET_INNER_LIB");
+    let archive = PathBuf::from(env::var("MORELTURRET_INNER_LIB").expect("MORELTURRET_INNER_LIB names the inner walk's archive"));
+    println!("cargo:rerun-if-changed={}", archive.display());
+    println!("cargo:rustc-link-search=native={}", archive.parent().unwrap().display());
+    let name = archive.file_stem().unwrap().to_str().unwrap();
+    println!("cargo:rustc-link-lib=static={}", name.strip_prefix("lib").unwrap());
 }
 
 fn watched(path: &Path) -> &Path {

@@ -19,31 +19,13 @@ if ! ls -d "$registry"/smallvec-1.* >/dev/null 2>&1; then
         skip "Debian's librust-smallvec-dev could not be installed"
 fi
 
-# The port's library, the one that C and Rust programs link, built again when a crate has changed; and the kinds whose functions it exports.
+# The port's library, the one that C and Rust programs link, and the inner walk, which is no part of it: built again when a crate has changed.
 built=$PWD/target/beside
 mkdir -p "$built"
-features=
-unset MORELTURRET_PORT_LIB MORELTURRET_INNER_LIB
-if grep -q '^capi:' crates.txt; then
-    archive=$PWD/target/library/libmorelturret.a
-    tools/build_library >"$built/library.log" 2>&1 || { cat "$built/library.log"; echo "${0##*/}: the port's library was not built"; exit 1; }
-    export MORELTURRET_PORT_LIB=$archive
-    # the inner walk, which is no part of the library
-    inner=$built/libinner_walk.a
-    if [ ! -f "$inner" ] || [ -n "$(find crates crates.txt -newer "$inner" -print -quit)" ]; then
-        tools/native_lib inner_walk "$inner" >>"$built/library.log" 2>&1 || { cat "$built/library.log"; echo "${0##*/}: the inner walk was not built"; exit 1; }
-    fi
-    export MORELTURRET_INNER_LIB=$inner
-    names=$(nm "$archive" "$inner" 2>/dev/null | sed -n 's/^.* T mt_//p')
-    exported() { for f in "$@"; do [[ $'\n'$names$'\n' == *$'\n'$f$'\n'* ]] || return 1; done; }
-    ! exported least greatest magnitude floor clamped_floor ceiling round_half_away square_root || features+=,numbers
-    ! exported segment_cells inner_walk || features+=,walk
-    ! exported build || features+=,build
-    ! exported batch test_at || features+=,visit
-    ! exported check_tables cell_list global_list || features+=,lists
-    ! exported point_owned overlap_owned owner || features+=,own
-    ! exported snap || features+=,snap
-    ! exported read_line_string || features+=,wkb
+tools/build_library >"$built/library.log" 2>&1 || { cat "$built/library.log"; echo "${0##*/}: the port's library was not built"; exit 1; }
+export MORELTURRET_LIB=$PWD/target/library MORELTURRET_INNER_LIB=$built/libinner_walk.a
+if [ ! -f "$MORELTURRET_INNER_LIB" ] || [ -n "$(find crates crates.txt -newer "$MORELTURRET_INNER_LIB" -print -quit)" ]; then
+    tools/native_lib inner_walk "$MORELTURRET_INNER_LIB" >>"$built/library.log" 2>&1 || { cat "$built/library.log"; echo "${0##*/}: the inner walk was not built"; exit 1; }
 fi
 
 # cargo writes its lock file beside the manifest, so the package is laid out under target/.
@@ -52,6 +34,7 @@ mkdir -p "$package"
 cmp -s beside/Cargo.toml "$package/Cargo.toml" || cp beside/Cargo.toml "$package/Cargo.toml"
 ln -sfn "$PWD/beside/build.rs" "$package/build.rs"
 ln -sfn "$PWD/beside/src" "$package/src"
+ln -sfn "$PWD/bindings/rust" "$package/morelturret"
 MORELTURRET_RUST_SRC=$(cd "$rust_source" && pwd) cargo build --quiet --release --offline --manifest-path "$package/Cargo.toml" --target-dir "$built" \
-    --config 'source.crates-io.replace-with="debian"' --config "source.debian.directory=\"$registry\"" --features "${features#,}"
+    --config 'source.crates-io.replace-with="debian"' --config "source.debian.directory=\"$registry\""
 programs=$built/release

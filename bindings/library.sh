@@ -4,4 +4,4 @@ built=$PWD/target/bindings
 export MORELTURRET_LIB=$PWD/target/library
 mkdir -p "$built"
 # What a build says is shown; what stands already is passed over in silence.
-tools/build_library | sed '/^build_library: .* is up to date$/d; /^build_library: for /d; /^check_header: .* declares each as it is/d' >&2
+tools/build_library | sed '/^build_library: .* is up to date$/d; /^build_library: for /d; /^declarations: .* as they are/d' >&2

@@ -7,15 +7,17 @@
  * after the call. The address is aligned for its type and not null, also where the length is 0; slices that are written (not `const`) must
  * overlap no other slice of the call.
  *
- * The grid is passed as its five numbers: min_x, min_y, cell_size, cols, rows. It is fit if both minima are finite and at most 1e9 in
- * magnitude, cell_size is from 0.25e-6 to 2e9, and cols and rows are both 0, or each 1 to 4,004 with product at most 1,002,001. A cell's
+ * A grid is passed as 64-bit words, the first five that mt_build writes to `out`: the bit patterns of min_x, min_y and cell_size, then cols and
+ * rows. Further words are not read, so what a build answered may be handed on as it is. A grid is fit if both minima are finite and at most 1e9
+ * in magnitude, cell_size is from 0.25e-6 to 2e9, and cols and rows are both 0, or each 1 to 4,004 with product at most 1,002,001. A cell's
  * number is row * cols + column.
  *
  * Answers. A function that can refuse returns MT_OK or the number of the refusal, and writes 64-bit words to the start of `out`:
  *   on success     the words that its comment names ("out");
  *   on a refusal   one word, the refusal's value;
  * the rest of `out` stays as it was. `out` has at least the words that stand in brackets at each function. Where it has fewer, the function
- * returns MT_OUT_SHORT and changes nothing at all: this comes before every refusal, also where one word would be enough for that.
+ * returns MT_OUT_SHORT and changes nothing at all: this comes before every refusal, also where one word would be enough for that. Next, where
+ * a grid has fewer than its five words, the function returns MT_FEW_WORDS, and changes nothing at all either.
  * A float in `out` is the bit pattern of the double; a NaN is 0x7ff8000000000000.
  *
  * Refusals come in the order in which each comment lists them: the first that applies is answered. Where a comment says nothing else, refusals
@@ -46,7 +48,8 @@ enum {
     MT_MISFIT_TABLES = 10,  /* the tables do not fit: 0 */
     MT_BAD_WKB = 11,        /* not a LineString that the reader takes: the byte position */
     MT_UNFIT_SNAP = 12,     /* snap size or strategy unfit: 0 */
-    MT_OUT_SHORT = 100      /* `out` has too few words; nothing is written */
+    MT_OUT_SHORT = 100,     /* `out` has too few words; nothing is written */
+    MT_FEW_WORDS = 101      /* a grid has too few words; nothing is written */
 };
 
 /* Snap strategies. */
@@ -90,21 +93,20 @@ uint32_t mt_snap(double x, double y, double size, uint32_t strategy, uint64_t *o
 /* Whether the cell (row, col) owns the point (x, y): low <= p < high on both axes; in the last column or row p = high counts too.
  * out (1 word): 1 where it does, else 0.
  * Refuses by 1, 8, 9. */
-uint32_t mt_point_owned(double min_x, double min_y, double cell_size, uint32_t cols, uint32_t rows, uint32_t row, uint32_t col, double x,
-                        double y, uint64_t *out, size_t out_len);
+uint32_t mt_point_owned(const uint64_t *grid, size_t grid_len, uint32_t row, uint32_t col, double x, double y,
+                        uint64_t *out, size_t out_len);
 
 /* Whether the cell (row, col) owns a collinear overlap whose first end is (x, y): that end, snapped, has low <= p < high on both axes, or the
  * cell is (0, 0).
  * out (1 word): 1 where it does, else 0.
  * Refuses by 1, 8, 12, 9. */
-uint32_t mt_overlap_owned(double min_x, double min_y, double cell_size, uint32_t cols, uint32_t rows, uint32_t row, uint32_t col, double x,
-                          double y, double size, uint32_t strategy, uint64_t *out, size_t out_len);
+uint32_t mt_overlap_owned(const uint64_t *grid, size_t grid_len, uint32_t row, uint32_t col, double x, double y, double size,
+                          uint32_t strategy, uint64_t *out, size_t out_len);
 
 /* The first cell in row order that owns the point (x, y).
  * out (3 words): 1, its row, its column; or 0, 0, 0 where the point is outside the grid.
  * Refuses by 1, 8. */
-uint32_t mt_owner(double min_x, double min_y, double cell_size, uint32_t cols, uint32_t rows, double x, double y, uint64_t *out,
-                  size_t out_len);
+uint32_t mt_owner(const uint64_t *grid, size_t grid_len, double x, double y, uint64_t *out, size_t out_len);
 
 /* ---- the walk ---- */
 
@@ -112,8 +114,8 @@ uint32_t mt_owner(double min_x, double min_y, double cell_size, uint32_t cols, u
  * beyond them. The scratch has at least 16,384 entries.
  * out (1 word): the number of cells.
  * Refuses by 3, 1, 8, 7. */
-uint32_t mt_segment_cells(double min_x, double min_y, double cell_size, uint32_t cols, uint32_t rows, double start_x, double start_y,
-                          double end_x, double end_y, uint32_t *scratch, size_t scratch_len, uint64_t *out, size_t out_len);
+uint32_t mt_segment_cells(const uint64_t *grid, size_t grid_len, double start_x, double start_y, double end_x, double end_y,
+                          uint32_t *scratch, size_t scratch_len, uint64_t *out, size_t out_len);
 
 /* ---- the build ---- */
 
@@ -123,12 +125,13 @@ uint32_t mt_segment_cells(double min_x, double min_y, double cell_size, uint32_t
  * entries. Offsets for 1,002,002 entries, items for 2,048 times the lines and globals for the lines are always enough.
  * More than 65,536 lines: cut them in parts of at most 32,768, and build each two parts together, every two once. Parts built alone lose the
  * pairs between them.
- * out (7 words): the bits of min_x, min_y and cell_size, cols, rows, the number of items, the number of globals. The grid is fit. A minimum that
- * is zero has the sign of the first zero coordinate on its axis, lines in order, start before end.
+ * out (7 words): the five words of the grid (the bits of min_x, min_y and cell_size, cols, rows), the number of items, the number of globals. The
+ * grid is fit. A minimum that is zero has the sign of the first zero coordinate on its axis, lines in order, start before end.
  * Refuses by 3, 2, 1; at each grid tried by 4, 7; then by 5, 6. */
-uint32_t mt_build(const double *start_x, size_t start_x_len, const double *start_y, size_t start_y_len, const double *end_x, size_t end_x_len,
-                  const double *end_y, size_t end_y_len, uint32_t *offsets, size_t offsets_len, uint32_t *items, size_t items_len,
-                  uint32_t *globals, size_t globals_len, uint32_t *scratch, size_t scratch_len, uint64_t *out, size_t out_len);
+uint32_t mt_build(const double *start_x, size_t start_x_len, const double *start_y, size_t start_y_len,
+                  const double *end_x, size_t end_x_len, const double *end_y, size_t end_y_len, uint32_t *offsets, size_t offsets_len,
+                  uint32_t *items, size_t items_len, uint32_t *globals, size_t globals_len, uint32_t *scratch, size_t scratch_len,
+                  uint64_t *out, size_t out_len);
 
 /* ---- standing tables ---- */
 
@@ -137,23 +140,23 @@ uint32_t mt_build(const double *start_x, size_t start_x_len, const double *start
  * first global_count globals strictly increase below the number of lines; global_count is within globals.
  * out (1 word): written only on a refusal.
  * Refuses by 2, 8, 10. */
-uint32_t mt_check_tables(double min_x, double min_y, double cell_size, uint32_t cols, uint32_t rows, size_t lines, const uint32_t *offsets,
-                         size_t offsets_len, const uint32_t *items, size_t items_len, const uint32_t *globals, size_t globals_len,
-                         uint64_t global_count, uint64_t *out, size_t out_len);
+uint32_t mt_check_tables(const uint64_t *grid, size_t grid_len, size_t lines, const uint32_t *offsets, size_t offsets_len,
+                         const uint32_t *items, size_t items_len, const uint32_t *globals, size_t globals_len, uint64_t global_count,
+                         uint64_t *out, size_t out_len);
 
 /* The list of the cell (row, col): the lines that visit it, increasing, as a part of items.
  * out (2 words): the index in items where the list starts, and its length.
  * Refuses by 2, 8, 10, 9. */
-uint32_t mt_cell_list(double min_x, double min_y, double cell_size, uint32_t cols, uint32_t rows, size_t lines, const uint32_t *offsets,
-                      size_t offsets_len, const uint32_t *items, size_t items_len, const uint32_t *globals, size_t globals_len,
-                      uint64_t global_count, uint32_t row, uint32_t col, uint64_t *out, size_t out_len);
+uint32_t mt_cell_list(const uint64_t *grid, size_t grid_len, size_t lines, const uint32_t *offsets, size_t offsets_len,
+                      const uint32_t *items, size_t items_len, const uint32_t *globals, size_t globals_len, uint64_t global_count,
+                      uint32_t row, uint32_t col, uint64_t *out, size_t out_len);
 
 /* The list of a global line, by its position among the globals: the globals from there on, as a part of globals.
  * out (2 words): the index in globals where the list starts, and its length.
  * Refuses by 2, 8, 10, 9. */
-uint32_t mt_global_list(double min_x, double min_y, double cell_size, uint32_t cols, uint32_t rows, size_t lines, const uint32_t *offsets,
-                        size_t offsets_len, const uint32_t *items, size_t items_len, const uint32_t *globals, size_t globals_len,
-                        uint64_t global_count, uint64_t position, uint64_t *out, size_t out_len);
+uint32_t mt_global_list(const uint64_t *grid, size_t grid_len, size_t lines, const uint32_t *offsets, size_t offsets_len,
+                        const uint32_t *items, size_t items_len, const uint32_t *globals, size_t globals_len, uint64_t global_count,
+                        uint64_t position, uint64_t *out, size_t out_len);
 
 /* ---- the visit ----
  *
@@ -166,9 +169,9 @@ uint32_t mt_global_list(double min_x, double min_y, double cell_size, uint32_t c
  * global line's position; the cell's column, or 0; the first line; the second line; 1 where their boxes overlap, else 0. For the end mark the
  * last five words are 0.
  * Refuses by 3, 2, 1, 8, 10, 9. */
-uint32_t mt_test_at(double min_x, double min_y, double cell_size, uint32_t cols, uint32_t rows, const double *start_x, size_t start_x_len,
-                    const double *start_y, size_t start_y_len, const double *end_x, size_t end_x_len, const double *end_y,
-                    size_t end_y_len, const uint32_t *offsets, size_t offsets_len, const uint32_t *items, size_t items_len,
+uint32_t mt_test_at(const uint64_t *grid, size_t grid_len, const double *start_x, size_t start_x_len,
+                    const double *start_y, size_t start_y_len, const double *end_x, size_t end_x_len, const double *end_y, size_t end_y_len,
+                    const uint32_t *offsets, size_t offsets_len, const uint32_t *items, size_t items_len,
                     const uint32_t *globals, size_t globals_len, uint64_t global_count, uint64_t bookmark, uint64_t *out, size_t out_len);
 
 /* The tests from a bookmark on, until the outputs first and second, of one length, are full of pairs or the end comes. Pair k is (first[k],
@@ -176,11 +179,11 @@ uint32_t mt_test_at(double min_x, double min_y, double cell_size, uint32_t cols,
  * back; the visit is over when a batch with outputs of some length makes no test.
  * out (3 words): the tests made, the pairs handed out, the new bookmark.
  * Refuses by 3, 2, 1, 8, 10, 9. */
-uint32_t mt_batch(double min_x, double min_y, double cell_size, uint32_t cols, uint32_t rows, const double *start_x, size_t start_x_len,
+uint32_t mt_batch(const uint64_t *grid, size_t grid_len, const double *start_x, size_t start_x_len,
                   const double *start_y, size_t start_y_len, const double *end_x, size_t end_x_len, const double *end_y, size_t end_y_len,
-                  const uint32_t *offsets, size_t offsets_len, const uint32_t *items, size_t items_len, const uint32_t *globals,
-                  size_t globals_len, uint64_t global_count, uint64_t bookmark, uint32_t *first, size_t first_len, uint32_t *second,
-                  size_t second_len, uint64_t *out, size_t out_len);
+                  const uint32_t *offsets, size_t offsets_len, const uint32_t *items, size_t items_len,
+                  const uint32_t *globals, size_t globals_len, uint64_t global_count, uint64_t bookmark, uint32_t *first, size_t first_len,
+                  uint32_t *second, size_t second_len, uint64_t *out, size_t out_len);
 
 /* ---- the reader ---- */
 
@@ -188,8 +191,8 @@ uint32_t mt_batch(double min_x, double min_y, double cell_size, uint32_t cols, u
  * the same length, at least 1,024. Beyond the points x and y are zeroed. Every NaN becomes the one NaN.
  * out (1 word): the number of points.
  * Refuses by 3, 11, and then writes nothing to x and y. */
-uint32_t mt_read_line_string(const uint8_t *bytes, size_t bytes_len, double *x, size_t x_len, double *y, size_t y_len, uint64_t *out,
-                             size_t out_len);
+uint32_t mt_read_line_string(const uint8_t *bytes, size_t bytes_len, double *x, size_t x_len, double *y, size_t y_len,
+                             uint64_t *out, size_t out_len);
 
 #ifdef __cplusplus
 }

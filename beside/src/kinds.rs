@@ -1,4 +1,4 @@
-//! One comparison for each kind of question. Each asks the Rust, the model and, where its library exports the functions, the port.
+//! One comparison for each kind of question. Each asks the Rust, the model and the port.
 //! What the Rust cannot be asked (refusals, walks past the budget, the reader) is asked of the model and the port.
 
 use crate::random::Random;
@@ -17,8 +17,6 @@ pub mod wkb;
 pub trait Kind {
     type Case: Clone;
     const NAME: &'static str;
-    /// Whether the port takes part.
-    const PORT: bool;
     /// Whether the Rust has such a function.
     const RUST: bool = true;
     /// The shape's name, and the case.
@@ -48,12 +46,7 @@ pub fn run<K: Kind>(seed: u64, cases: u64, fixed: Vec<(&'static str, K::Case)>) 
         }
         total += 1;
     }
-    let sides = match (K::PORT, K::RUST) {
-        (true, true) => "port, Rust and model",
-        (true, false) => "port and model",
-        (false, true) => "Rust and model, without the port",
-        (false, false) => "the model alone, without the port",
-    };
+    let sides = if K::RUST { "port, Rust and model" } else { "port and model" };
     println!("{}: {total} cases, {sides}: no difference", K::NAME);
     let mut shapes: BTreeMap<&str, Vec<String>> = BTreeMap::new();
     for ((shape, answer), count) in counts {

@@ -6,6 +6,7 @@
 //! The modules named in the second half stand for parts of the Rust's own crate: its source names them by `crate::`.
 
 pub mod cases;
+pub mod inner;
 pub mod kinds;
 pub mod model;
 pub mod oracle;
@@ -18,14 +19,7 @@ pub(crate) mod stand_in;
 pub(crate) use stand_in::{diagnostics, options, trace, types, utils, PolygonizeError, Result};
 
 /// Document 01's grid record.
-#[derive(Clone, Copy, Debug, PartialEq)]
-pub struct Grid {
-    pub min_x: f64,
-    pub min_y: f64,
-    pub cell_size: f64,
-    pub cols: u32,
-    pub rows: u32,
-}
+pub use morelturret::Grid;
 
 /// A line: start x, start y, end x, end y.
 pub type Line = [f64; 4];

@@ -78,15 +78,15 @@ int main(int argc, char **argv) {
     size_t lines = (size_t)out[0] - 1;
     const double *start_x = x, *start_y = y, *end_x = x + 1, *end_y = y + 1;
 
-    /* 4. A grid, and the tables on it: the list of cell c is items[offsets[c]] up to items[offsets[c + 1]]. */
+    /* 4. A grid, and the tables on it: the list of cell c is items[offsets[c]] up to items[offsets[c + 1]]. The words that are answered begin with
+     * those of the grid, and are handed on as they are. */
+    uint64_t built[7];
     number = mt_build(start_x, lines, start_y, lines, end_x, lines, end_y, lines, offsets, OFFSETS, items, ITEMS, globals, LINES, scratch,
-                      SCRATCH, out, 7);
-    if (number != MT_OK) return refused(number, out[0]);
-    double min_x = of_bits(out[0]), min_y = of_bits(out[1]), cell_size = of_bits(out[2]);
-    uint32_t cols = (uint32_t)out[3], rows = (uint32_t)out[4];
-    uint64_t item_count = out[5], global_count = out[6];
+                      SCRATCH, built, 7);
+    if (number != MT_OK) return refused(number, built[0]);
+    uint64_t item_count = built[5], global_count = built[6];
     printf("lines %zu\n", lines);
-    printf("grid %" PRIu32 " columns, %" PRIu32 " rows, cell size %.9f (bits %016" PRIx64 ")\n", cols, rows, cell_size, out[2]);
+    printf("grid %" PRIu64 " columns, %" PRIu64 " rows, cell size %.9f (bits %016" PRIx64 ")\n", built[3], built[4], of_bits(built[2]), built[2]);
     printf("items %" PRIu64 "\n", item_count);
     printf("globals %" PRIu64 "\n", global_count);
 
@@ -95,8 +95,8 @@ int main(int argc, char **argv) {
     uint64_t bookmark = 0, overlaps = 0, pairs;
     uint32_t shown[SHOWN][2];
     do {
-        number = mt_batch(min_x, min_y, cell_size, cols, rows, start_x, lines, start_y, lines, end_x, lines, end_y, lines, offsets, OFFSETS, items,
-                          ITEMS, globals, LINES, global_count, bookmark, first, BATCH, second, BATCH, out, 7);
+        number = mt_batch(built, 7, start_x, lines, start_y, lines, end_x, lines, end_y, lines, offsets, OFFSETS, items, ITEMS, globals, LINES,
+                          global_count, bookmark, first, BATCH, second, BATCH, out, 7);
         if (number != MT_OK) return refused(number, out[0]);
         pairs = out[1];
         bookmark = out[2];

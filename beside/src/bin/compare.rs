@@ -1,5 +1,5 @@
 //! compare [--seed S] [--cases N | --share P] [KIND..]: the port beside the Rust, kind by kind. Without kinds, all of them; without N, a full run
-//! of each, or P hundredths of one. --port asks that the port takes part in every kind.
+//! of each, or P hundredths of one. The port takes part in every kind: --port may be said, and changes nothing.
 //! Ends with status 1 at the first difference.
 
 use beside::kinds::{self, build, lists, numbers, own, snap, visit, walk, wkb};
@@ -17,46 +17,21 @@ const KINDS: [(&str, u64); 9] = [
     ("wkb", 100_000),
 ];
 
-/// The kinds in which the port takes part.
-const PORTED: &[&str] = &[
-    "sample",
-    #[cfg(feature = "numbers")]
-    "numbers",
-    #[cfg(feature = "walk")]
-    "walk",
-    #[cfg(feature = "build")]
-    "build",
-    #[cfg(feature = "visit")]
-    "visit",
-    #[cfg(feature = "lists")]
-    "lists",
-    #[cfg(feature = "own")]
-    "own",
-    #[cfg(feature = "snap")]
-    "snap",
-    #[cfg(feature = "wkb")]
-    "wkb",
-];
-
 fn main() {
     let mut words = std::env::args().skip(1);
-    let (mut seed, mut cases, mut share, mut port, mut asked) = (1, None, 100, false, Vec::new());
+    let (mut seed, mut cases, mut share, mut asked) = (1, None, 100, Vec::new());
     while let Some(word) = words.next() {
         let mut number = || words.next().and_then(|w| w.replace('_', "").parse().ok()).unwrap_or_else(|| stop(&format!("{word} needs a number")));
         match word.as_str() {
             "--seed" => seed = number(),
             "--cases" => cases = Some(number()),
             "--share" => share = number(),
-            "--port" => port = true,
+            "--port" => {}
             kind if KINDS.iter().any(|k| k.0 == kind) => asked.push(word),
             _ => stop(&format!("compare [--seed S] [--cases N | --share P] [--port] [KIND..], with KIND one of {}", KINDS.map(|k| k.0).join(" "))),
         }
     }
     let kinds = KINDS.iter().copied().filter(|k| asked.is_empty() || asked.iter().any(|a| a == k.0));
-    let missing: Vec<&str> = kinds.clone().map(|k| k.0).filter(|kind| !PORTED.contains(kind)).collect();
-    if port && !missing.is_empty() {
-        stop(&format!("the port's library does not export what these kinds need: {}", missing.join(" ")));
-    }
     for (kind, full) in kinds {
         let n = cases.unwrap_or(full * share / 100).max(1);
         let begun = std::time::Instant::now();

@@ -12,72 +12,76 @@ const OFFSETS: usize = 4096;
 const ITEMS: usize = 8192;
 const GLOBALS: usize = 64;
 const OUTPUT: usize = 4096;
-const LINES: usize = 2048;
-const BYTES: usize = 1 << 20;
+const QUESTION: usize = 16384;
+const BYTES: usize = 1_572_864;
 
-/// The fields of one record.
-struct Fields(Vec<u32>);
+/// A float's bit pattern, one for every NaN.
+fn bits(v: f64) -> u64 {
+    if v.is_nan() { f64::NAN.to_bits() } else { v.to_bits() }
+}
 
-impl Fields {
+/// The words of a question or of an answer, in order.
+struct Words(Vec<u64>);
+
+impl Words {
     fn new() -> Self {
-        Fields(Vec::new())
+        Words(Vec::new())
     }
-    fn word(&mut self, v: u32) -> &mut Self {
+    fn word(mut self, v: u64) -> Self {
         self.0.push(v);
         self
     }
-    fn wide(&mut self, v: u64) -> &mut Self {
-        self.word(v as u32).word((v >> 32) as u32)
+    fn float(self, v: f64) -> Self {
+        self.word(bits(v))
     }
-    fn float(&mut self, v: f64) -> &mut Self {
-        self.wide(if v.is_nan() { f64::NAN.to_bits() } else { v.to_bits() })
-    }
-    fn words(&mut self, entries: &[u32]) -> &mut Self {
+    /// A slice that is read: how many entries it has, and the entries.
+    fn list(mut self, entries: impl ExactSizeIterator<Item = u64>) -> Self {
+        self.0.push(entries.len() as u64);
         self.0.extend(entries);
         self
     }
-    fn grid(&mut self, g: &Grid) -> &mut Self {
-        self.float(g.min_x).float(g.min_y).float(g.cell_size).word(g.cols).word(g.rows)
+    fn entries(self, entries: &[u32]) -> Self {
+        self.list(entries.iter().map(|&v| v as u64))
     }
-    fn line(&mut self, l: &Line) -> &mut Self {
-        for &v in l {
-            self.float(v);
-        }
-        self
+    fn grid(self, g: &Grid) -> Self {
+        self.list([bits(g.min_x), bits(g.min_y), bits(g.cell_size), g.cols as u64, g.rows as u64].into_iter())
     }
     /// Start x of all lines, start y, end x, end y.
-    fn columns(&mut self, lines: &[Line]) -> &mut Self {
-        for k in 0..4 {
-            for line in lines {
-                self.float(line[k]);
-            }
-        }
-        self
+    fn lines(self, lines: &[Line]) -> Self {
+        (0..4).fold(self, |words, k| words.list(lines.iter().map(|line| bits(line[k]))))
     }
-    /// Document 01's number, and the values: of a refusal its one value and zeros.
-    fn answer(&mut self, number: u32, value: u64, values: &[u64]) -> &mut Self {
-        self.word(number);
-        for (i, &v) in values.iter().enumerate() {
-            self.wide(if number == 0 { v } else if i == 0 { value } else { 0 });
-        }
-        self
+    /// The slices of a visit: the grid, the lines, the tables.
+    fn tables(self, lines: &[Line], s: &Standing) -> Self {
+        self.grid(&s.grid).lines(lines).entries(s.offsets).entries(s.items).entries(s.globals)
+    }
+    /// An answer: document 01's number, and the values that are written to `out`: of a refusal its one value and zeros.
+    fn answer(number: u32, value: u64, values: &[u64]) -> Self {
+        let refused = values.iter().enumerate().map(|(i, _)| if i == 0 { value } else { 0 });
+        let out: Vec<u64> = if number == 0 { values.to_vec() } else { refused.collect() };
+        Words([vec![number as u64], out].concat())
+    }
+    /// A slice that was written: its entries up to the last that is not zero.
+    fn written(self, entries: &[u32]) -> Self {
+        let to = entries.iter().rposition(|&v| v != 0).map_or(0, |last| last + 1);
+        self.entries(&entries[..to])
     }
 }
 
 struct File {
-    words: Vec<u32>,
+    words: Vec<u64>,
     records: u32,
     kinds: [(u32, usize); 10],
 }
 
 impl File {
-    fn put(&mut self, kind: u32, fields: Fields) {
-        self.words.push(kind);
-        self.words.push(fields.0.len() as u32);
-        self.words.extend(&fields.0);
+    fn put(&mut self, kind: usize, question: Words, answer: Words) {
+        assert!(question.0.len() <= QUESTION);
+        self.words.extend([kind as u64, question.0.len() as u64, answer.0.len() as u64]);
+        self.words.extend(&question.0);
+        self.words.extend(&answer.0);
         self.records += 1;
-        self.kinds[kind as usize].0 += 1;
-        self.kinds[kind as usize].1 += 4 * (fields.0.len() + 2);
+        self.kinds[kind].0 += 1;
+        self.kinds[kind].1 += 8 * (3 + question.0.len() + answer.0.len());
     }
 
     fn numbers(&mut self, r: &mut Random) {
@@ -90,21 +94,19 @@ impl File {
                     _ => numbers::pattern(r, i % 9),
                 };
                 let count = r.pick(&[1, 2, 3, 1001, 4004, u32::MAX]);
-                let mut f = Fields::new();
-                f.word(function).float(v);
-                match function {
+                let (second, answer) = match function {
                     // where the sign of a zero is open, nothing can be compared
-                    1 | 2 if v == 0.0 && other == 0.0 => f.float(1.0).float(if function == 1 { v.min(1.0) } else { v.max(1.0) }),
-                    1 => f.float(other).float(v.min(other)),
-                    2 => f.float(other).float(v.max(other)),
-                    3 => f.float(0.0).float(v.abs()),
-                    4 => f.float(0.0).float(v.floor()),
-                    5 => f.wide(count as u64).wide((v.floor() as isize).clamp(0, count as isize - 1) as u64),
-                    6 => f.float(0.0).wide(v.ceil() as usize as u64),
-                    7 => f.float(0.0).float(v.round()),
-                    _ => f.float(0.0).float(v.sqrt()),
+                    1 | 2 if v == 0.0 && other == 0.0 => (bits(1.0), bits(if function == 1 { v.min(1.0) } else { v.max(1.0) })),
+                    1 => (bits(other), bits(v.min(other))),
+                    2 => (bits(other), bits(v.max(other))),
+                    3 => (0, bits(v.abs())),
+                    4 => (0, bits(v.floor())),
+                    5 => (count as u64, (v.floor() as isize).clamp(0, count as isize - 1) as u64),
+                    6 => (0, v.ceil() as usize as u64),
+                    7 => (0, bits(v.round())),
+                    _ => (0, bits(v.sqrt())),
                 };
-                self.put(1, f);
+                self.put(1, Words::new().word(function).float(v).word(second), Words::new().word(answer));
             }
         }
     }
@@ -113,9 +115,8 @@ impl File {
         let mut out = [0; 8];
         let number = model::segment_cells(grid, line, &mut vec![0; scratch], &mut out);
         let cells = if number == 0 { oracle::segment_cells(grid, line) } else { Vec::new() };
-        let mut f = Fields::new();
-        f.grid(grid).line(line).word(scratch as u32).answer(number, out[0], &[cells.len() as u64]).words(&cells);
-        self.put(2, f);
+        let question = line.iter().fold(Words::new(), |words, &v| words.float(v)).word(scratch as u64).grid(grid);
+        self.put(2, question, Words::answer(number, out[0], &[cells.len() as u64]).written(&cells));
     }
 
     fn walks(&mut self, r: &mut Random) {
@@ -158,12 +159,11 @@ impl File {
         let [mut offsets, mut items, mut globals, mut scratch] = [room[0], room[1], room[2], SCRATCH].map(|n| vec![0; n]);
         let mut out = [0; 8];
         let number = model::build(columns.coordinates(), &mut offsets, &mut items, &mut globals, &mut scratch, &mut out);
-        let lent = [room[0] as u32, room[1] as u32, room[2] as u32, SCRATCH as u32];
-        let mut f = Fields::new();
-        f.word(lines.len() as u32);
+        let question = room.iter().fold(Words::new(), |words, &n| words.word(n as u64)).word(SCRATCH as u64).lines(lines);
         if number != 0 {
-            f.words(&[0; 3]).words(&lent).answer(number, out[0], &[0; 7]).columns(lines);
-            return self.put(3, f);
+            // what is lent is zero before the call, and after a refusal
+            let answer = (0..4).fold(Words::answer(number, out[0], &[0; 7]), |words, _| words.written(&[]));
+            return self.put(3, question, answer);
         }
         let rust_lines = oracle::Lines::new(lines);
         let built = oracle::build(&rust_lines);
@@ -179,9 +179,7 @@ impl File {
             items.len() as u64,
             globals.len() as u64,
         ];
-        f.words(&[offsets.len() as u32, items.len() as u32, globals.len() as u32]).words(&lent).answer(0, 0, &values);
-        f.columns(lines).words(&offsets).words(items).words(&globals);
-        self.put(3, f);
+        self.put(3, question, Words::answer(0, 0, &values).written(&offsets).written(items).written(&globals).written(&[]));
 
         let (tests, pairs) = built.visit(&rust_lines);
         let s = Standing { grid, lines: columns.coordinates(), offsets: &offsets, items, globals: &globals, global_count: globals.len() as u64 };
@@ -206,10 +204,8 @@ impl File {
             let bookmark = [tests, tests + 1, 0].get(k).copied().unwrap_or_else(|| r.below(tests + 1));
             let mut out = [0; 8];
             let number = model::test_at(&s, &all, bookmark, &mut out);
-            let mut f = tables(lines, &s);
-            f.wide(bookmark).answer(number, out[0], &out[..6]);
-            lists(&mut f, lines, &s);
-            self.put(5, f);
+            let question = Words::new().word(s.global_count).word(bookmark).tables(lines, &s);
+            self.put(5, question, Words::answer(number, out[0], &out[..6]));
         }
     }
 
@@ -218,12 +214,8 @@ impl File {
         assert!(room <= OUTPUT);
         let (mut first, mut second, mut out) = (vec![0; room], vec![0; room], [0; 8]);
         let number = model::batch(s, all, bookmark, &mut first, &mut second, &mut out);
-        let pairs = if number == 0 { out[1] as usize } else { 0 };
-        let mut f = tables(lines, s);
-        f.wide(bookmark).word(room as u32).answer(number, out[0], &out[..3]).word(pairs as u32);
-        lists(&mut f, lines, s);
-        f.words(&first[..pairs]).words(&second[..pairs]);
-        self.put(4, f);
+        let question = Words::new().word(s.global_count).word(bookmark).word(room as u64).word(room as u64).tables(lines, s);
+        self.put(4, question, Words::answer(number, out[0], &out[..3]).written(&first).written(&second));
         out[2]
     }
 
@@ -283,7 +275,7 @@ impl File {
         ];
         lines.extend((1..1597).map(|k| point(1000.0 * k as f64 / 1597.0, 1.25)));
         lines.push(point(1000.0, 1.5));
-        assert!(lines.len() == 1600 && lines.len() <= LINES);
+        assert_eq!(lines.len(), 1600);
         self.build(r, &lines, ample, 1);
         // a walk that the Rust never ends
         let grid = Grid { min_x: -70.00000000000001, min_y: 1.0553831621433073e-7, cell_size: 1.0, cols: 15, rows: 2 };
@@ -298,21 +290,17 @@ impl File {
             let mut out = [0; 8];
             let number = model::point_owned(&c.grid, c.row, c.col, c.x, c.y, &mut out);
             let owned = if number == 0 { owners.point(c.row, c.col, c.x, c.y) } else { false };
-            let mut f = Fields::new();
-            f.grid(&c.grid).word(c.row).word(c.col).float(c.x).float(c.y).answer(number, out[0], &[owned as u64]);
-            self.put(6, f);
+            let cell = || Words::new().word(c.row as u64).word(c.col as u64).float(c.x).float(c.y);
+            self.put(6, cell().grid(&c.grid), Words::answer(number, out[0], &[owned as u64]));
 
             let number = model::overlap_owned(&c.grid, c.row, c.col, c.x, c.y, c.size, c.strategy, &mut out);
             let owned = if number == 0 { owners.overlap(c.row, c.col, c.x, c.y, c.size, c.strategy) } else { false };
-            let mut f = Fields::new();
-            f.grid(&c.grid).word(c.row).word(c.col).float(c.x).float(c.y).float(c.size).word(c.strategy).answer(number, out[0], &[owned as u64]);
-            self.put(7, f);
+            let question = cell().float(c.size).word(c.strategy as u64).grid(&c.grid);
+            self.put(7, question, Words::answer(number, out[0], &[owned as u64]));
 
             let number = model::owner(&c.grid, c.x, c.y, &mut out);
             let owner = if number == 0 { own::scan(&c.grid, c.x, c.y) } else { [0; 3] };
-            let mut f = Fields::new();
-            f.grid(&c.grid).float(c.x).float(c.y).answer(number, out[0], &owner);
-            self.put(8, f);
+            self.put(8, Words::new().float(c.x).float(c.y).grid(&c.grid), Words::answer(number, out[0], &owner));
         }
     }
 
@@ -324,22 +312,10 @@ impl File {
             let mut out = [0; 8];
             let number = model::snap(x, y, size, strategy, &mut out);
             let (a, b) = if number == 0 { oracle::snap(x, y, size, strategy) } else { (0.0, 0.0) };
-            let mut f = Fields::new();
-            f.float(x).float(y).float(size).word(strategy).answer(number, out[0], &[a.to_bits(), b.to_bits()]);
-            self.put(9, f);
+            let question = Words::new().float(x).float(y).float(size).word(strategy as u64);
+            self.put(9, question, Words::answer(number, out[0], &[bits(a), bits(b)]));
         }
     }
-}
-
-/// The head of a visit's record, as far as the count of globals.
-fn tables(lines: &[Line], s: &Standing) -> Fields {
-    let mut f = Fields::new();
-    f.words(&[lines.len() as u32, s.offsets.len() as u32, s.items.len() as u32, s.globals.len() as u32]).grid(&s.grid).wide(s.global_count);
-    f
-}
-
-fn lists(f: &mut Fields, lines: &[Line], s: &Standing) {
-    f.columns(lines).words(s.offsets).words(s.items).words(s.globals);
 }
 
 fn main() {

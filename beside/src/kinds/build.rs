@@ -50,11 +50,7 @@ impl Columns {
 type Entry = fn(Coordinates, &mut [u32], &mut [u32], &mut [u32], &mut [u32], &mut [u64]) -> u32;
 
 fn entries() -> Vec<(&'static str, Entry)> {
-    #[allow(unused_mut)]
-    let mut all: Vec<(&'static str, Entry)> = vec![("model", model::build)];
-    #[cfg(feature = "build")]
-    all.push(("port", crate::port::build));
-    all
+    vec![("model", model::build), ("port", crate::port::build)]
 }
 
 /// What a call leaves.
@@ -71,7 +67,6 @@ pub struct Build;
 impl Kind for Build {
     type Case = Case;
     const NAME: &'static str = "build";
-    const PORT: bool = cfg!(feature = "build");
 
     fn draw(r: &mut Random) -> (&'static str, Case) {
         let most = r.pick(&[3, 8, 30, 30, 100, 100, 300, 1000, 3000]);

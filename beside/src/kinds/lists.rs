@@ -6,6 +6,7 @@ use super::visit::{Case, Owned, Visit};
 use super::{answers, slices, word, Kind, JUNK};
 use crate::cases;
 use crate::model::{self, Lists as Tables, MOST_CELLS, MOST_LINES};
+use crate::port;
 use crate::oracle;
 use crate::random::Random;
 use crate::Grid;
@@ -22,14 +23,10 @@ struct Entries {
 }
 
 fn entries() -> Vec<Entries> {
-    #[allow(unused_mut)]
-    let mut all = vec![Entries { who: "model", check_tables: model::check_tables, cell_list: model::cell_list, global_list: model::global_list }];
-    #[cfg(feature = "lists")]
-    {
-        use crate::port;
-        all.push(Entries { who: "port", check_tables: port::check_tables, cell_list: port::cell_list, global_list: port::global_list });
-    }
-    all
+    vec![
+        Entries { who: "model", check_tables: model::check_tables, cell_list: model::cell_list, global_list: model::global_list },
+        Entries { who: "port", check_tables: port::check_tables, cell_list: port::cell_list, global_list: port::global_list },
+    ]
 }
 
 /// The words of the array that `out` is a part of, and what they hold before a call.
@@ -78,7 +75,6 @@ pub struct Lists;
 impl Kind for Lists {
     type Case = Case;
     const NAME: &'static str = "lists";
-    const PORT: bool = cfg!(feature = "lists");
 
     fn draw(r: &mut Random) -> (&'static str, Case) {
         let most = r.pick(&[3, 8, 30, 100, 300]);

@@ -2,6 +2,7 @@
 //! Differences are counted by function. The sign of a zero that min or max answers is counted apart: Rust leaves it open.
 
 use crate::model;
+use crate::port::numbers as port;
 use crate::random::{nudged, Random};
 
 struct Functions {
@@ -28,26 +29,17 @@ const MODEL: Functions = Functions {
     square_root: model::square_root,
 };
 
-#[cfg(feature = "numbers")]
-fn port() -> Option<Functions> {
-    use crate::port::numbers as port;
-    Some(Functions {
-        who: "port",
-        least: port::least,
-        greatest: port::greatest,
-        magnitude: port::magnitude,
-        floor: port::floor,
-        clamped_floor: port::clamped_floor,
-        ceiling: port::ceiling,
-        round_half_away: port::round_half_away,
-        square_root: port::square_root,
-    })
-}
-
-#[cfg(not(feature = "numbers"))]
-fn port() -> Option<Functions> {
-    None
-}
+const PORT: Functions = Functions {
+    who: "port",
+    least: port::least,
+    greatest: port::greatest,
+    magnitude: port::magnitude,
+    floor: port::floor,
+    clamped_floor: port::clamped_floor,
+    ceiling: port::ceiling,
+    round_half_away: port::round_half_away,
+    square_root: port::square_root,
+};
 
 const FAMILIES: [&str; 9] = [
     "random patterns", "halves", "powers of two", "near 2^52 and 2^53", "subnormals", "squares", "special", "limits of whole numbers", "decimals",
@@ -118,7 +110,7 @@ struct Count {
 /// Answers whether nothing differs but the sign of a zero of min and max.
 pub fn run(seed: u64, cases: u64) -> bool {
     let mut right = true;
-    for f in [Some(MODEL), port()].into_iter().flatten() {
+    for f in [MODEL, PORT] {
         let names = ["least", "greatest", "magnitude", "floor", "clamped_floor", "ceiling", "round_half_away", "square_root"];
         let mut counts: Vec<Count> = names.map(|name| Count { name, differ: 0, zeros: 0, first: String::new() }).into();
         let mut r = Random::new(seed);
@@ -177,9 +169,6 @@ pub fn run(seed: u64, cases: u64) -> bool {
             println!("  {}: {} differences{zeros}{first}", c.name, c.differ);
             right &= c.differ == 0;
         }
-    }
-    if port().is_none() {
-        println!("numbers: without the port");
     }
     right
 }

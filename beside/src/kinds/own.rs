@@ -4,6 +4,7 @@ use super::{answers, float, rounder, word, Kind};
 use crate::cases;
 use crate::model;
 use crate::oracle::Owners;
+use crate::port;
 use crate::random::{decimals, Random};
 use crate::Grid;
 
@@ -26,14 +27,10 @@ struct Entries {
 }
 
 fn entries() -> Vec<Entries> {
-    #[allow(unused_mut)]
-    let mut all = vec![Entries { who: "model", point: model::point_owned, overlap: model::overlap_owned, owner: model::owner }];
-    #[cfg(feature = "own")]
-    {
-        use crate::port;
-        all.push(Entries { who: "port", point: port::point_owned, overlap: port::overlap_owned, owner: port::owner });
-    }
-    all
+    vec![
+        Entries { who: "model", point: model::point_owned, overlap: model::overlap_owned, owner: model::owner },
+        Entries { who: "port", point: port::point_owned, overlap: port::overlap_owned, owner: port::owner },
+    ]
 }
 
 /// A snap size and a strategy, fit but for one time in a hundred.
@@ -56,7 +53,6 @@ pub struct Own;
 impl Kind for Own {
     type Case = Case;
     const NAME: &'static str = "own";
-    const PORT: bool = cfg!(feature = "own");
 
     fn draw(r: &mut Random) -> (&'static str, Case) {
         let mut grid = cases::grid(r);

@@ -18,11 +18,7 @@ pub struct Case {
 type Entry = fn(f64, f64, f64, u32, &mut [u64]) -> u32;
 
 fn entries() -> Vec<(&'static str, Entry)> {
-    #[allow(unused_mut)]
-    let mut all: Vec<(&'static str, Entry)> = vec![("model", model::snap)];
-    #[cfg(feature = "snap")]
-    all.push(("port", crate::port::snap));
-    all
+    vec![("model", model::snap), ("port", crate::port::snap)]
 }
 
 pub struct Snap;
@@ -30,7 +26,6 @@ pub struct Snap;
 impl Kind for Snap {
     type Case = Case;
     const NAME: &'static str = "snap";
-    const PORT: bool = cfg!(feature = "snap");
 
     fn draw(r: &mut Random) -> (&'static str, Case) {
         let (size, strategy) = snapping(r);

@@ -5,6 +5,7 @@ use super::{answers, float, rounder, slices, Kind, JUNK};
 use crate::cases;
 use crate::model::{self, Standing, Test};
 use crate::oracle;
+use crate::port;
 use crate::random::Random;
 use crate::{Grid, Line};
 
@@ -20,14 +21,10 @@ type Batch = fn(&Standing, &[Test], u64, &mut [u32], &mut [u32], &mut [u64]) -> 
 type TestAt = fn(&Standing, &[Test], u64, &mut [u64]) -> u32;
 
 fn entries() -> Vec<(&'static str, Batch, TestAt)> {
-    #[allow(unused_mut)]
-    let mut all: Vec<(&'static str, Batch, TestAt)> = vec![("model", model::batch, model::test_at)];
-    #[cfg(feature = "visit")]
-    {
-        use crate::port;
-        all.push(("port", |s, _, b, first, second, out| port::batch(s, b, first, second, out), |s, _, b, out| port::test_at(s, b, out)));
-    }
-    all
+    vec![
+        ("model", model::batch, model::test_at),
+        ("port", |s, _, b, first, second, out| port::batch(s, b, first, second, out), |s, _, b, out| port::test_at(s, b, out)),
+    ]
 }
 
 /// One batch by every entry: they leave the same, and that is what the model leaves.
@@ -64,7 +61,6 @@ pub struct Visit;
 impl Kind for Visit {
     type Case = Case;
     const NAME: &'static str = "visit";
-    const PORT: bool = cfg!(feature = "visit");
 
     fn draw(r: &mut Random) -> (&'static str, Case) {
         let most = r.pick(&[3, 8, 30, 100, 300]);

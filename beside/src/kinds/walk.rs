@@ -17,15 +17,10 @@ pub struct Case {
 type Entry = fn(&Grid, &Line, &mut [u32], &mut [u64]) -> u32;
 
 fn entries() -> Vec<(&'static str, Entry)> {
-    #[allow(unused_mut)]
-    let mut all: Vec<(&'static str, Entry)> = vec![("model", model::segment_cells)];
-    #[cfg(feature = "walk")]
-    all.push(("port", crate::port::segment_cells));
-    all
+    vec![("model", model::segment_cells), ("port", crate::port::segment_cells)]
 }
 
 /// The inner walk: the same answer and the same cells; what is beyond them on success is open, and a refusal leaves what the entry's leaves.
-#[cfg(feature = "walk")]
 fn inner(case: &Case, wanted: &(u32, u64, Vec<u32>)) -> Result<(), String> {
     let mut scratch = vec![JUNK; case.scratch];
     let mut out = [u64::MAX; 8];
@@ -40,7 +35,6 @@ pub struct Walk;
 impl Kind for Walk {
     type Case = Case;
     const NAME: &'static str = "walk";
-    const PORT: bool = cfg!(feature = "walk");
 
     fn draw(r: &mut Random) -> (&'static str, Case) {
         let grid = cases::grid(r);
@@ -81,7 +75,6 @@ impl Kind for Walk {
             answers(who, (wanted.0, &[wanted.1]), (got.0, &[got.1]))?;
             slices(&format!("{who}: scratch"), &wanted.2, &got.2)?;
         }
-        #[cfg(feature = "walk")]
         inner(case, wanted.as_ref().unwrap())?;
         Ok(match wanted.unwrap().0 {
             7 => "past the budget",

@@ -14,11 +14,7 @@ pub struct Case {
 type Entry = fn(&[u8], &mut [f64], &mut [f64], &mut [u64]) -> u32;
 
 fn entries() -> Vec<(&'static str, Entry)> {
-    #[allow(unused_mut)]
-    let mut all: Vec<(&'static str, Entry)> = vec![("model", model::read_line_string)];
-    #[cfg(feature = "wkb")]
-    all.push(("port", crate::port::read_line_string));
-    all
+    vec![("model", model::read_line_string), ("port", crate::port::read_line_string)]
 }
 
 /// A LineString in bytes.
@@ -45,7 +41,6 @@ pub struct Wkb;
 impl Kind for Wkb {
     type Case = Case;
     const NAME: &'static str = "wkb";
-    const PORT: bool = cfg!(feature = "wkb");
     const RUST: bool = false;
 
     fn draw(r: &mut Random) -> (&'static str, Case) {

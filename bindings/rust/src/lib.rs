@@ -46,7 +46,8 @@ mod place;
 mod read;
 mod refusal;
 #[allow(unsafe_code)]
-mod sys;
+#[rustfmt::skip]
+pub mod sys;
 mod tables;
 mod walk;
 

@@ -24,6 +24,27 @@ pub struct Grid {
 impl Grid {
     /// The grid of no lines: minima 0, cell size 1, 0 by 0.
     pub const EMPTY: Grid = Grid { min_x: 0.0, min_y: 0.0, cell_size: 1.0, cols: 0, rows: 0 };
+
+    /// The words by which the library takes a grid, the first that it writes for a build: the bits of `min_x`, `min_y` and `cell_size`, `cols`,
+    /// `rows`.
+    ///
+    /// ```
+    /// use morelturret::Grid;
+    ///
+    /// let grid = Grid { min_x: 0.0, min_y: -0.0, cell_size: 1.0, cols: 4, rows: 3 };
+    /// assert_eq!(grid.words(), [0, 1 << 63, 0x3ff0000000000000, 4, 3]);
+    /// assert_eq!(Grid::from_words(grid.words()), grid);
+    /// ```
+    pub fn words(self) -> [u64; 5] {
+        [self.min_x.to_bits(), self.min_y.to_bits(), self.cell_size.to_bits(), self.cols as u64, self.rows as u64]
+    }
+
+    /// The grid that these words say. A count above `u32::MAX`, which no fit grid has, becomes `u32::MAX`.
+    pub fn from_words([min_x, min_y, cell_size, cols, rows]: [u64; 5]) -> Grid {
+        let count = |word: u64| word.min(u32::MAX as u64) as u32;
+        let [min_x, min_y, cell_size] = [min_x, min_y, cell_size].map(f64::from_bits);
+        Grid { min_x, min_y, cell_size, cols: count(cols), rows: count(rows) }
+    }
 }
 
 /// How a coordinate is snapped. The two differ where v / size plus a half is rounded up to the next whole number.
@@ -64,7 +85,7 @@ pub fn snap(x: f64, y: f64, size: f64, strategy: Strategy) -> Result<(f64, f64),
 /// assert_eq!(point_owned(grid, 0, 0, 1.0, 0.5), Ok(false));
 /// ```
 pub fn point_owned(grid: Grid, row: u32, col: u32, x: f64, y: f64) -> Result<bool, Refusal> {
-    let [owned] = answer(|out| sys::point_owned(grid, (row, col), (x, y), out))?;
+    let [owned] = answer(|out| sys::point_owned(&grid.words(), row, col, x, y, out))?;
     Ok(owned == 1)
 }
 
@@ -81,7 +102,7 @@ pub fn point_owned(grid: Grid, row: u32, col: u32, x: f64, y: f64) -> Result<boo
 /// assert_eq!(overlap_owned(grid, 0, 1, 1.75, 0.5, 0.5, Strategy::Grid), Ok(false));
 /// ```
 pub fn overlap_owned(grid: Grid, row: u32, col: u32, x: f64, y: f64, size: f64, strategy: Strategy) -> Result<bool, Refusal> {
-    let [owned] = answer(|out| sys::overlap_owned(grid, (row, col), (x, y), size, strategy as u32, out))?;
+    let [owned] = answer(|out| sys::overlap_owned(&grid.words(), row, col, x, y, size, strategy as u32, out))?;
     Ok(owned == 1)
 }
 
@@ -97,6 +118,6 @@ pub fn overlap_owned(grid: Grid, row: u32, col: u32, x: f64, y: f64, size: f64, 
 /// assert_eq!(owner(grid, 4.5, 1.0), Ok(None));
 /// ```
 pub fn owner(grid: Grid, x: f64, y: f64) -> Result<Option<(u32, u32)>, Refusal> {
-    let [found, row, col] = answer(|out| sys::owner(grid, (x, y), out))?;
+    let [found, row, col] = answer(|out| sys::owner(&grid.words(), x, y, out))?;
     Ok((found == 1).then_some((row as u32, col as u32)))
 }

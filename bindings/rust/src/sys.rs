@@ -1,14 +1,15 @@
-//! The exported functions of the library, and a safe function over each. All that is `unsafe` in this crate is here.
+//! The exported functions of the library as the C header has them: numbers and slices go in, the answer is a number, with words in `out`. A
+//! safe function over each; the rest of this crate answers in Rust's way. All that is `unsafe` in this crate is here.
 //!
 //! Why each call is sound. `include/morelturret.h` asks three things of its caller: that a slice's address is aligned and not null, also where
 //! the length is 0; that so many entries stand there; and that a slice that is written overlaps no other slice of the call. `as_ptr` and
 //! `as_mut_ptr` of a Rust slice give the first two, for an empty slice too, and `&mut` gives the third. Everything else is checked by the
 //! library, which ends on every argument, keeps nothing after a call and has no state. It writes whole entries of numbers, and every pattern
-//! of bits is one. `tests/header.rs` holds the declarations to the header.
+//! of bits is one. `tools/declarations` writes the declarations and the functions from the crate that exports them.
 
-use crate::{Grid, Lines, Standing};
+#![allow(clippy::too_many_arguments)]
 
-#[rustfmt::skip]
+// ---- written by tools/declarations: from here
 extern "C" {
     fn mt_least(a: f64, b: f64) -> f64;
     fn mt_greatest(a: f64, b: f64) -> f64;
@@ -19,292 +20,191 @@ extern "C" {
     fn mt_round_half_away(v: f64) -> f64;
     fn mt_square_root(v: f64) -> f64;
     fn mt_snap(x: f64, y: f64, size: f64, strategy: u32, out: *mut u64, out_len: usize) -> u32;
-    fn mt_point_owned(
-        min_x: f64, min_y: f64, cell_size: f64, cols: u32, rows: u32,
-        row: u32, col: u32, x: f64, y: f64,
-        out: *mut u64, out_len: usize,
-    ) -> u32;
-    fn mt_overlap_owned(
-        min_x: f64, min_y: f64, cell_size: f64, cols: u32, rows: u32,
-        row: u32, col: u32, x: f64, y: f64, size: f64, strategy: u32,
-        out: *mut u64, out_len: usize,
-    ) -> u32;
-    fn mt_owner(
-        min_x: f64, min_y: f64, cell_size: f64, cols: u32, rows: u32,
-        x: f64, y: f64,
-        out: *mut u64, out_len: usize,
-    ) -> u32;
-    fn mt_segment_cells(
-        min_x: f64, min_y: f64, cell_size: f64, cols: u32, rows: u32,
-        start_x: f64, start_y: f64, end_x: f64, end_y: f64,
-        scratch: *mut u32, scratch_len: usize,
-        out: *mut u64, out_len: usize,
-    ) -> u32;
-    fn mt_build(
-        start_x: *const f64, start_x_len: usize,
-        start_y: *const f64, start_y_len: usize,
-        end_x: *const f64, end_x_len: usize,
-        end_y: *const f64, end_y_len: usize,
-        offsets: *mut u32, offsets_len: usize,
-        items: *mut u32, items_len: usize,
-        globals: *mut u32, globals_len: usize,
-        scratch: *mut u32, scratch_len: usize,
-        out: *mut u64, out_len: usize,
-    ) -> u32;
-    fn mt_check_tables(
-        min_x: f64, min_y: f64, cell_size: f64, cols: u32, rows: u32,
-        lines: usize,
-        offsets: *const u32, offsets_len: usize,
-        items: *const u32, items_len: usize,
-        globals: *const u32, globals_len: usize,
-        global_count: u64,
-        out: *mut u64, out_len: usize,
-    ) -> u32;
-    fn mt_cell_list(
-        min_x: f64, min_y: f64, cell_size: f64, cols: u32, rows: u32,
-        lines: usize,
-        offsets: *const u32, offsets_len: usize,
-        items: *const u32, items_len: usize,
-        globals: *const u32, globals_len: usize,
-        global_count: u64, row: u32, col: u32,
-        out: *mut u64, out_len: usize,
-    ) -> u32;
-    fn mt_global_list(
-        min_x: f64, min_y: f64, cell_size: f64, cols: u32, rows: u32,
-        lines: usize,
-        offsets: *const u32, offsets_len: usize,
-        items: *const u32, items_len: usize,
-        globals: *const u32, globals_len: usize,
-        global_count: u64, position: u64,
-        out: *mut u64, out_len: usize,
-    ) -> u32;
-    fn mt_test_at(
-        min_x: f64, min_y: f64, cell_size: f64, cols: u32, rows: u32,
-        start_x: *const f64, start_x_len: usize,
-        start_y: *const f64, start_y_len: usize,
-        end_x: *const f64, end_x_len: usize,
-        end_y: *const f64, end_y_len: usize,
-        offsets: *const u32, offsets_len: usize,
-        items: *const u32, items_len: usize,
-        globals: *const u32, globals_len: usize,
-        global_count: u64, bookmark: u64,
-        out: *mut u64, out_len: usize,
-    ) -> u32;
-    fn mt_batch(
-        min_x: f64, min_y: f64, cell_size: f64, cols: u32, rows: u32,
-        start_x: *const f64, start_x_len: usize,
-        start_y: *const f64, start_y_len: usize,
-        end_x: *const f64, end_x_len: usize,
-        end_y: *const f64, end_y_len: usize,
-        offsets: *const u32, offsets_len: usize,
-        items: *const u32, items_len: usize,
-        globals: *const u32, globals_len: usize,
-        global_count: u64, bookmark: u64,
-        first: *mut u32, first_len: usize,
-        second: *mut u32, second_len: usize,
-        out: *mut u64, out_len: usize,
-    ) -> u32;
-    fn mt_read_line_string(
-        bytes: *const u8, bytes_len: usize,
-        x: *mut f64, x_len: usize,
-        y: *mut f64, y_len: usize,
-        out: *mut u64, out_len: usize,
-    ) -> u32;
+    fn mt_point_owned(grid: *const u64, grid_len: usize, row: u32, col: u32, x: f64, y: f64, out: *mut u64, out_len: usize) -> u32;
+    fn mt_overlap_owned(grid: *const u64, grid_len: usize, row: u32, col: u32, x: f64, y: f64, size: f64, strategy: u32,
+        out: *mut u64, out_len: usize) -> u32;
+    fn mt_owner(grid: *const u64, grid_len: usize, x: f64, y: f64, out: *mut u64, out_len: usize) -> u32;
+    fn mt_segment_cells(grid: *const u64, grid_len: usize, start_x: f64, start_y: f64, end_x: f64, end_y: f64,
+        scratch: *mut u32, scratch_len: usize, out: *mut u64, out_len: usize) -> u32;
+    fn mt_build(start_x: *const f64, start_x_len: usize, start_y: *const f64, start_y_len: usize, end_x: *const f64, end_x_len: usize,
+        end_y: *const f64, end_y_len: usize, offsets: *mut u32, offsets_len: usize, items: *mut u32, items_len: usize,
+        globals: *mut u32, globals_len: usize, scratch: *mut u32, scratch_len: usize, out: *mut u64, out_len: usize) -> u32;
+    fn mt_check_tables(grid: *const u64, grid_len: usize, lines: usize, offsets: *const u32, offsets_len: usize,
+        items: *const u32, items_len: usize, globals: *const u32, globals_len: usize, global_count: u64,
+        out: *mut u64, out_len: usize) -> u32;
+    fn mt_cell_list(grid: *const u64, grid_len: usize, lines: usize, offsets: *const u32, offsets_len: usize,
+        items: *const u32, items_len: usize, globals: *const u32, globals_len: usize, global_count: u64, row: u32, col: u32,
+        out: *mut u64, out_len: usize) -> u32;
+    fn mt_global_list(grid: *const u64, grid_len: usize, lines: usize, offsets: *const u32, offsets_len: usize,
+        items: *const u32, items_len: usize, globals: *const u32, globals_len: usize, global_count: u64, position: u64,
+        out: *mut u64, out_len: usize) -> u32;
+    fn mt_test_at(grid: *const u64, grid_len: usize, start_x: *const f64, start_x_len: usize, start_y: *const f64, start_y_len: usize,
+        end_x: *const f64, end_x_len: usize, end_y: *const f64, end_y_len: usize, offsets: *const u32, offsets_len: usize,
+        items: *const u32, items_len: usize, globals: *const u32, globals_len: usize, global_count: u64, bookmark: u64,
+        out: *mut u64, out_len: usize) -> u32;
+    fn mt_batch(grid: *const u64, grid_len: usize, start_x: *const f64, start_x_len: usize, start_y: *const f64, start_y_len: usize,
+        end_x: *const f64, end_x_len: usize, end_y: *const f64, end_y_len: usize, offsets: *const u32, offsets_len: usize,
+        items: *const u32, items_len: usize, globals: *const u32, globals_len: usize, global_count: u64, bookmark: u64,
+        first: *mut u32, first_len: usize, second: *mut u32, second_len: usize, out: *mut u64, out_len: usize) -> u32;
+    fn mt_read_line_string(bytes: *const u8, bytes_len: usize, x: *mut f64, x_len: usize, y: *mut f64, y_len: usize,
+        out: *mut u64, out_len: usize) -> u32;
 }
 
-pub(crate) fn least(a: f64, b: f64) -> f64 {
+/// `mt_least` of the header.
+#[inline]
+pub fn least(a: f64, b: f64) -> f64 {
     // SAFETY: numbers by value alone.
     unsafe { mt_least(a, b) }
 }
 
-pub(crate) fn greatest(a: f64, b: f64) -> f64 {
+/// `mt_greatest` of the header.
+#[inline]
+pub fn greatest(a: f64, b: f64) -> f64 {
     // SAFETY: numbers by value alone.
     unsafe { mt_greatest(a, b) }
 }
 
-pub(crate) fn magnitude(v: f64) -> f64 {
+/// `mt_magnitude` of the header.
+#[inline]
+pub fn magnitude(v: f64) -> f64 {
     // SAFETY: numbers by value alone.
     unsafe { mt_magnitude(v) }
 }
 
-pub(crate) fn floor(v: f64) -> f64 {
+/// `mt_floor` of the header.
+#[inline]
+pub fn floor(v: f64) -> f64 {
     // SAFETY: numbers by value alone.
     unsafe { mt_floor(v) }
 }
 
-pub(crate) fn clamped_floor(v: f64, count: u32) -> u32 {
+/// `mt_clamped_floor` of the header.
+#[inline]
+pub fn clamped_floor(v: f64, count: u32) -> u32 {
     // SAFETY: numbers by value alone.
     unsafe { mt_clamped_floor(v, count) }
 }
 
-pub(crate) fn ceiling(v: f64) -> u64 {
+/// `mt_ceiling` of the header.
+#[inline]
+pub fn ceiling(v: f64) -> u64 {
     // SAFETY: numbers by value alone.
     unsafe { mt_ceiling(v) }
 }
 
-pub(crate) fn round_half_away(v: f64) -> f64 {
+/// `mt_round_half_away` of the header.
+#[inline]
+pub fn round_half_away(v: f64) -> f64 {
     // SAFETY: numbers by value alone.
     unsafe { mt_round_half_away(v) }
 }
 
-pub(crate) fn square_root(v: f64) -> f64 {
+/// `mt_square_root` of the header.
+#[inline]
+pub fn square_root(v: f64) -> f64 {
     // SAFETY: numbers by value alone.
     unsafe { mt_square_root(v) }
 }
 
-pub(crate) fn snap(x: f64, y: f64, size: f64, strategy: u32, out: &mut [u64]) -> u32 {
-    // SAFETY: `out` is a Rust slice, lent for this call.
+/// `mt_snap` of the header.
+#[inline]
+pub fn snap(x: f64, y: f64, size: f64, strategy: u32, out: &mut [u64]) -> u32 {
+    // SAFETY: numbers by value, and Rust slices that are lent for this call.
     unsafe { mt_snap(x, y, size, strategy, out.as_mut_ptr(), out.len()) }
 }
 
-pub(crate) fn point_owned(g: Grid, (row, col): (u32, u32), (x, y): (f64, f64), out: &mut [u64]) -> u32 {
-    // SAFETY: `out` is a Rust slice, lent for this call.
-    unsafe { mt_point_owned(g.min_x, g.min_y, g.cell_size, g.cols, g.rows, row, col, x, y, out.as_mut_ptr(), out.len()) }
+/// `mt_point_owned` of the header.
+#[inline]
+pub fn point_owned(grid: &[u64], row: u32, col: u32, x: f64, y: f64, out: &mut [u64]) -> u32 {
+    // SAFETY: numbers by value, and Rust slices that are lent for this call.
+    unsafe { mt_point_owned(grid.as_ptr(), grid.len(), row, col, x, y, out.as_mut_ptr(), out.len()) }
 }
 
-pub(crate) fn overlap_owned(g: Grid, (row, col): (u32, u32), (x, y): (f64, f64), size: f64, strategy: u32, out: &mut [u64]) -> u32 {
-    // SAFETY: `out` is a Rust slice, lent for this call.
-    unsafe { mt_overlap_owned(g.min_x, g.min_y, g.cell_size, g.cols, g.rows, row, col, x, y, size, strategy, out.as_mut_ptr(), out.len()) }
+/// `mt_overlap_owned` of the header.
+#[inline]
+pub fn overlap_owned(grid: &[u64], row: u32, col: u32, x: f64, y: f64, size: f64, strategy: u32, out: &mut [u64]) -> u32 {
+    // SAFETY: numbers by value, and Rust slices that are lent for this call.
+    unsafe { mt_overlap_owned(grid.as_ptr(), grid.len(), row, col, x, y, size, strategy, out.as_mut_ptr(), out.len()) }
 }
 
-pub(crate) fn owner(g: Grid, (x, y): (f64, f64), out: &mut [u64]) -> u32 {
-    // SAFETY: `out` is a Rust slice, lent for this call.
-    unsafe { mt_owner(g.min_x, g.min_y, g.cell_size, g.cols, g.rows, x, y, out.as_mut_ptr(), out.len()) }
+/// `mt_owner` of the header.
+#[inline]
+pub fn owner(grid: &[u64], x: f64, y: f64, out: &mut [u64]) -> u32 {
+    // SAFETY: numbers by value, and Rust slices that are lent for this call.
+    unsafe { mt_owner(grid.as_ptr(), grid.len(), x, y, out.as_mut_ptr(), out.len()) }
 }
 
-#[rustfmt::skip]
-pub(crate) fn segment_cells(g: Grid, start: (f64, f64), end: (f64, f64), scratch: &mut [u32], out: &mut [u64]) -> u32 {
-    // SAFETY: Rust slices, lent for this call; `&mut` keeps the two apart.
-    unsafe {
-        mt_segment_cells(
-            g.min_x, g.min_y, g.cell_size, g.cols, g.rows,
-            start.0, start.1, end.0, end.1,
-            scratch.as_mut_ptr(), scratch.len(),
-            out.as_mut_ptr(), out.len(),
-        )
-    }
+/// `mt_segment_cells` of the header.
+#[inline]
+pub fn segment_cells(grid: &[u64], start_x: f64, start_y: f64, end_x: f64, end_y: f64, scratch: &mut [u32], out: &mut [u64]) -> u32 {
+    // SAFETY: numbers by value, and Rust slices that are lent for this call.
+    unsafe { mt_segment_cells(grid.as_ptr(), grid.len(), start_x, start_y, end_x, end_y, scratch.as_mut_ptr(), scratch.len(),
+        out.as_mut_ptr(), out.len()) }
 }
 
-#[rustfmt::skip]
-pub(crate) fn build(l: Lines, offsets: &mut [u32], items: &mut [u32], globals: &mut [u32], scratch: &mut [u32], out: &mut [u64]) -> u32 {
-    // SAFETY: Rust slices, lent for this call; `&mut` keeps those that are written apart from all others.
-    unsafe {
-        mt_build(
-            l.start_x.as_ptr(), l.start_x.len(),
-            l.start_y.as_ptr(), l.start_y.len(),
-            l.end_x.as_ptr(), l.end_x.len(),
-            l.end_y.as_ptr(), l.end_y.len(),
-            offsets.as_mut_ptr(), offsets.len(),
-            items.as_mut_ptr(), items.len(),
-            globals.as_mut_ptr(), globals.len(),
-            scratch.as_mut_ptr(), scratch.len(),
-            out.as_mut_ptr(), out.len(),
-        )
-    }
+/// `mt_build` of the header.
+#[inline]
+pub fn build(start_x: &[f64], start_y: &[f64], end_x: &[f64], end_y: &[f64], offsets: &mut [u32], items: &mut [u32], globals: &mut [u32],
+    scratch: &mut [u32], out: &mut [u64]) -> u32 {
+    // SAFETY: numbers by value, and Rust slices that are lent for this call.
+    unsafe { mt_build(start_x.as_ptr(), start_x.len(), start_y.as_ptr(), start_y.len(), end_x.as_ptr(), end_x.len(),
+        end_y.as_ptr(), end_y.len(), offsets.as_mut_ptr(), offsets.len(), items.as_mut_ptr(), items.len(),
+        globals.as_mut_ptr(), globals.len(), scratch.as_mut_ptr(), scratch.len(), out.as_mut_ptr(), out.len()) }
 }
 
-#[rustfmt::skip]
-pub(crate) fn check_tables(s: &Standing, out: &mut [u64]) -> u32 {
-    let g = s.grid;
-    // SAFETY: Rust slices, lent for this call; only `out` is written, and `&mut` keeps it apart from the others.
-    unsafe {
-        mt_check_tables(
-            g.min_x, g.min_y, g.cell_size, g.cols, g.rows,
-            s.line_count,
-            s.offsets.as_ptr(), s.offsets.len(),
-            s.items.as_ptr(), s.items.len(),
-            s.globals.as_ptr(), s.globals.len(),
-            s.global_count,
-            out.as_mut_ptr(), out.len(),
-        )
-    }
+/// `mt_check_tables` of the header.
+#[inline]
+pub fn check_tables(grid: &[u64], lines: usize, offsets: &[u32], items: &[u32], globals: &[u32], global_count: u64,
+    out: &mut [u64]) -> u32 {
+    // SAFETY: numbers by value, and Rust slices that are lent for this call.
+    unsafe { mt_check_tables(grid.as_ptr(), grid.len(), lines, offsets.as_ptr(), offsets.len(), items.as_ptr(), items.len(),
+        globals.as_ptr(), globals.len(), global_count, out.as_mut_ptr(), out.len()) }
 }
 
-#[rustfmt::skip]
-pub(crate) fn cell_list(s: &Standing, row: u32, col: u32, out: &mut [u64]) -> u32 {
-    let g = s.grid;
-    // SAFETY: Rust slices, lent for this call; only `out` is written, and `&mut` keeps it apart from the others.
-    unsafe {
-        mt_cell_list(
-            g.min_x, g.min_y, g.cell_size, g.cols, g.rows,
-            s.line_count,
-            s.offsets.as_ptr(), s.offsets.len(),
-            s.items.as_ptr(), s.items.len(),
-            s.globals.as_ptr(), s.globals.len(),
-            s.global_count, row, col,
-            out.as_mut_ptr(), out.len(),
-        )
-    }
+/// `mt_cell_list` of the header.
+#[inline]
+pub fn cell_list(grid: &[u64], lines: usize, offsets: &[u32], items: &[u32], globals: &[u32], global_count: u64, row: u32, col: u32,
+    out: &mut [u64]) -> u32 {
+    // SAFETY: numbers by value, and Rust slices that are lent for this call.
+    unsafe { mt_cell_list(grid.as_ptr(), grid.len(), lines, offsets.as_ptr(), offsets.len(), items.as_ptr(), items.len(),
+        globals.as_ptr(), globals.len(), global_count, row, col, out.as_mut_ptr(), out.len()) }
 }
 
-#[rustfmt::skip]
-pub(crate) fn global_list(s: &Standing, position: u64, out: &mut [u64]) -> u32 {
-    let g = s.grid;
-    // SAFETY: Rust slices, lent for this call; only `out` is written, and `&mut` keeps it apart from the others.
-    unsafe {
-        mt_global_list(
-            g.min_x, g.min_y, g.cell_size, g.cols, g.rows,
-            s.line_count,
-            s.offsets.as_ptr(), s.offsets.len(),
-            s.items.as_ptr(), s.items.len(),
-            s.globals.as_ptr(), s.globals.len(),
-            s.global_count, position,
-            out.as_mut_ptr(), out.len(),
-        )
-    }
+/// `mt_global_list` of the header.
+#[inline]
+pub fn global_list(grid: &[u64], lines: usize, offsets: &[u32], items: &[u32], globals: &[u32], global_count: u64, position: u64,
+    out: &mut [u64]) -> u32 {
+    // SAFETY: numbers by value, and Rust slices that are lent for this call.
+    unsafe { mt_global_list(grid.as_ptr(), grid.len(), lines, offsets.as_ptr(), offsets.len(), items.as_ptr(), items.len(),
+        globals.as_ptr(), globals.len(), global_count, position, out.as_mut_ptr(), out.len()) }
 }
 
-#[rustfmt::skip]
-pub(crate) fn test_at(s: &Standing, l: Lines, bookmark: u64, out: &mut [u64]) -> u32 {
-    let g = s.grid;
-    // SAFETY: Rust slices, lent for this call; only `out` is written, and `&mut` keeps it apart from the others.
-    unsafe {
-        mt_test_at(
-            g.min_x, g.min_y, g.cell_size, g.cols, g.rows,
-            l.start_x.as_ptr(), l.start_x.len(),
-            l.start_y.as_ptr(), l.start_y.len(),
-            l.end_x.as_ptr(), l.end_x.len(),
-            l.end_y.as_ptr(), l.end_y.len(),
-            s.offsets.as_ptr(), s.offsets.len(),
-            s.items.as_ptr(), s.items.len(),
-            s.globals.as_ptr(), s.globals.len(),
-            s.global_count, bookmark,
-            out.as_mut_ptr(), out.len(),
-        )
-    }
+/// `mt_test_at` of the header.
+#[inline]
+pub fn test_at(grid: &[u64], start_x: &[f64], start_y: &[f64], end_x: &[f64], end_y: &[f64], offsets: &[u32], items: &[u32],
+    globals: &[u32], global_count: u64, bookmark: u64, out: &mut [u64]) -> u32 {
+    // SAFETY: numbers by value, and Rust slices that are lent for this call.
+    unsafe { mt_test_at(grid.as_ptr(), grid.len(), start_x.as_ptr(), start_x.len(), start_y.as_ptr(), start_y.len(),
+        end_x.as_ptr(), end_x.len(), end_y.as_ptr(), end_y.len(), offsets.as_ptr(), offsets.len(), items.as_ptr(), items.len(),
+        globals.as_ptr(), globals.len(), global_count, bookmark, out.as_mut_ptr(), out.len()) }
 }
 
-#[rustfmt::skip]
-pub(crate) fn batch(s: &Standing, l: Lines, bookmark: u64, first: &mut [u32], second: &mut [u32], out: &mut [u64]) -> u32 {
-    let g = s.grid;
-    // SAFETY: Rust slices, lent for this call; `&mut` keeps those that are written apart from all others.
-    unsafe {
-        mt_batch(
-            g.min_x, g.min_y, g.cell_size, g.cols, g.rows,
-            l.start_x.as_ptr(), l.start_x.len(),
-            l.start_y.as_ptr(), l.start_y.len(),
-            l.end_x.as_ptr(), l.end_x.len(),
-            l.end_y.as_ptr(), l.end_y.len(),
-            s.offsets.as_ptr(), s.offsets.len(),
-            s.items.as_ptr(), s.items.len(),
-            s.globals.as_ptr(), s.globals.len(),
-            s.global_count, bookmark,
-            first.as_mut_ptr(), first.len(),
-            second.as_mut_ptr(), second.len(),
-            out.as_mut_ptr(), out.len(),
-        )
-    }
+/// `mt_batch` of the header.
+#[inline]
+pub fn batch(grid: &[u64], start_x: &[f64], start_y: &[f64], end_x: &[f64], end_y: &[f64], offsets: &[u32], items: &[u32], globals: &[u32],
+    global_count: u64, bookmark: u64, first: &mut [u32], second: &mut [u32], out: &mut [u64]) -> u32 {
+    // SAFETY: numbers by value, and Rust slices that are lent for this call.
+    unsafe { mt_batch(grid.as_ptr(), grid.len(), start_x.as_ptr(), start_x.len(), start_y.as_ptr(), start_y.len(),
+        end_x.as_ptr(), end_x.len(), end_y.as_ptr(), end_y.len(), offsets.as_ptr(), offsets.len(), items.as_ptr(), items.len(),
+        globals.as_ptr(), globals.len(), global_count, bookmark, first.as_mut_ptr(), first.len(), second.as_mut_ptr(), second.len(),
+        out.as_mut_ptr(), out.len()) }
 }
 
-#[rustfmt::skip]
-pub(crate) fn read_line_string(bytes: &[u8], x: &mut [f64], y: &mut [f64], out: &mut [u64]) -> u32 {
-    // SAFETY: Rust slices, lent for this call; `&mut` keeps those that are written apart from all others.
-    unsafe {
-        mt_read_line_string(
-            bytes.as_ptr(), bytes.len(),
-            x.as_mut_ptr(), x.len(),
-            y.as_mut_ptr(), y.len(),
-            out.as_mut_ptr(), out.len(),
-        )
-    }
+/// `mt_read_line_string` of the header.
+#[inline]
+pub fn read_line_string(bytes: &[u8], x: &mut [f64], y: &mut [f64], out: &mut [u64]) -> u32 {
+    // SAFETY: numbers by value, and Rust slices that are lent for this call.
+    unsafe { mt_read_line_string(bytes.as_ptr(), bytes.len(), x.as_mut_ptr(), x.len(), y.as_mut_ptr(), y.len(),
+        out.as_mut_ptr(), out.len()) }
 }
+// ---- written by tools/declarations: to here

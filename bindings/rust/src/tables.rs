@@ -39,9 +39,10 @@ pub struct Built {
 /// # Ok::<(), morelturret::Refusal>(())
 /// ```
 pub fn build(lines: Lines, offsets: &mut [u32], items: &mut [u32], globals: &mut [u32], scratch: &mut [u32]) -> Result<Built, Refusal> {
-    let [min_x, min_y, cell_size, cols, rows, items, globals] = answer(|out| sys::build(lines, offsets, items, globals, scratch, out))?;
-    let [min_x, min_y, cell_size] = [min_x, min_y, cell_size].map(f64::from_bits);
-    let grid = Grid { min_x, min_y, cell_size, cols: cols as u32, rows: rows as u32 };
+    let Lines { start_x, start_y, end_x, end_y } = lines;
+    let [min_x, min_y, cell_size, cols, rows, items, globals] =
+        answer(|out| sys::build(start_x, start_y, end_x, end_y, offsets, items, globals, scratch, out))?;
+    let grid = Grid::from_words([min_x, min_y, cell_size, cols, rows]);
     Ok(Built { grid, items: items as usize, globals: globals as usize })
 }
 
@@ -243,23 +244,28 @@ impl<'a> Standing<'a> {
     ///
     /// Refuses by 2 (too many lines), 8 (the grid is unfit) and 10 (the tables do not fit).
     pub fn check_tables(&self) -> Result<(), Refusal> {
-        answer::<1>(|out| sys::check_tables(self, out)).map(|_| ())
+        let Standing { grid, line_count, offsets, items, globals, global_count } = *self;
+        answer::<1>(|out| sys::check_tables(&grid.words(), line_count, offsets, items, globals, global_count, out)).map(|_| ())
     }
 
     /// The list of the cell (row, col): the lines that visit it, increasing, as a part of the items.
     ///
     /// Refuses by 2 (too many lines), 8 (the grid), 10 (the tables), 9 (the cell).
     pub fn cell_list(&self, row: u32, col: u32) -> Result<&'a [u32], Refusal> {
-        let [from, length] = answer(|out| sys::cell_list(self, row, col, out))?;
-        Ok(&self.items[from as usize..][..length as usize])
+        let Standing { grid, line_count, offsets, items, globals, global_count } = *self;
+        let [from, length] =
+            answer(|out| sys::cell_list(&grid.words(), line_count, offsets, items, globals, global_count, row, col, out))?;
+        Ok(&items[from as usize..][..length as usize])
     }
 
     /// The list of a global line, by its position among the globals: the globals from there on, as a part of them.
     ///
     /// Refuses by 2 (too many lines), 8 (the grid), 10 (the tables), 9 (the position).
     pub fn global_list(&self, position: u64) -> Result<&'a [u32], Refusal> {
-        let [from, length] = answer(|out| sys::global_list(self, position, out))?;
-        Ok(&self.globals[from as usize..][..length as usize])
+        let Standing { grid, line_count, offsets, items, globals, global_count } = *self;
+        let [from, length] =
+            answer(|out| sys::global_list(&grid.words(), line_count, offsets, items, globals, global_count, position, out))?;
+        Ok(&globals[from as usize..][..length as usize])
     }
 
     /// One test by its bookmark, the number of tests before it; none at the total, where the visit ends.
@@ -276,7 +282,11 @@ impl<'a> Standing<'a> {
     /// # Ok::<(), morelturret::Refusal>(())
     /// ```
     pub fn test_at(&self, lines: Lines, bookmark: u64) -> Result<Option<Test>, Refusal> {
-        let [kind, at, col, first, second, overlap] = answer(|out| sys::test_at(self, lines, bookmark, out))?;
+        let Standing { grid, offsets, items, globals, global_count, .. } = *self;
+        let Lines { start_x, start_y, end_x, end_y } = lines;
+        let [kind, at, col, first, second, overlap] = answer(|out| {
+            sys::test_at(&grid.words(), start_x, start_y, end_x, end_y, offsets, items, globals, global_count, bookmark, out)
+        })?;
         let place = match kind {
             0 => Place::Cell { row: at as u32, col: col as u32 },
             1 => Place::Global { position: at },
@@ -311,7 +321,11 @@ impl<'a> Standing<'a> {
     /// # Ok::<(), morelturret::Refusal>(())
     /// ```
     pub fn batch(&self, lines: Lines, bookmark: u64, first: &mut [u32], second: &mut [u32]) -> Result<Batch, Refusal> {
-        let [tests, overlaps, bookmark] = answer(|out| sys::batch(self, lines, bookmark, first, second, out))?;
+        let Standing { grid, offsets, items, globals, global_count, .. } = *self;
+        let Lines { start_x, start_y, end_x, end_y } = lines;
+        let [tests, overlaps, bookmark] = answer(|out| {
+            sys::batch(&grid.words(), start_x, start_y, end_x, end_y, offsets, items, globals, global_count, bookmark, first, second, out)
+        })?;
         Ok(Batch { tests, overlaps: overlaps as usize, bookmark })
     }
 

@@ -17,6 +17,6 @@ use crate::{sys, Grid};
 /// # Ok::<(), morelturret::Refusal>(())
 /// ```
 pub fn segment_cells(grid: Grid, start: (f64, f64), end: (f64, f64), scratch: &mut [u32]) -> Result<&[u32], Refusal> {
-    let [count] = answer(|out| sys::segment_cells(grid, start, end, scratch, out))?;
+    let [count] = answer(|out| sys::segment_cells(&grid.words(), start.0, start.1, end.0, end.1, scratch, out))?;
     Ok(&scratch[..count as usize])
 }

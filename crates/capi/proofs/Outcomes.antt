@@ -1,5 +1,6 @@
 -- Any two outcomes that the promise of an exported function admits are identical: its number, `out`, and every slice that it is lent to write,
--- also where `out` is short. Assumes nothing.
+-- also where `out` is short or words are too few to say a grid. One that is lent nothing to write but `out` promises `Replies`, as the functions of
+-- `replies` do, and `one-outcome` there says it. Assumes nothing.
 use mathlib.Core.Path.{_≡_, refl, sym, _∙_}
 use mathlib.Core.Bool.{Bool, true, false}
 use mathlib.Core.List.{List}
@@ -8,16 +9,16 @@ use lib.Dec.{leb}
 use lib.Ieee.{Float}
 use lib.ListN.{length}
 use borrow.Author.Tests.{leb-true, leb-false}
-use Rattle.refusals.specs.Refusals.{Answer}
 use Rattle.grid.specs.Domain.{Lines}
 use Rattle.grid.specs.declared.Grid.{Grid}
+use Rattle.grid.specs.Words.{gridWords}
 use Rattle.tables.specs.Tables.{Tables}
 use Rattle.wkb.proofs.Outcomes as wkb
 use Rattle.walk.specs.Pushes.{Outcome}
 use Rattle.walk.proofs.Outcomes as walk
 use Rattle.build.proofs.Theorems as build
 use Rattle.visit.proofs.Outcomes as visit
-use Rattle.capi.specs.Replies.{Reply, Replies}
+use Rattle.replies.proofs.Outcomes.{one-outcome}
 use Rattle.capi.specs.Lent.{ReadReplies, WalkReplies, BuildReplies, BatchReplies}
 
 -- `out` has the n words of a result, or is short
@@ -28,9 +29,9 @@ by-room n out {P} enough short = go (leb n (length out)) refl
     go true e = enough (leb-true n (length out) e)
     go false e = short (leb-false n (length out) e)
 
--- of a function that is lent nothing to write but `out`
-pub one-outcome : {n : ℕ} {a : Reply} {out out′ out₁ : List ℕ} {r r₁ : ℕ} → Replies n a out r out′ → Replies n a out r₁ out₁ → (r ≡ r₁) × (out′ ≡ out₁)
-one-outcome h k = (h .number ∙ sym (k .number), h .words ∙ sym (k .words))
+-- and words say a grid, or are too few
+by-words : (n : ℕ) (out words : List ℕ) {P : Type 0} → (n ≤ length out → gridWords ≤ length words → P) → (length out < n → P) → (length words < gridWords → P) → P
+by-words n out words asked short few = by-room n out (λ l. by-room gridWords words (asked l) few) short
 
 pub read-one-outcome : {bytes : List ℕ} {x y x′ x₁ y′ y₁ : List Float} {out out′ out₁ : List ℕ} {r r₁ : ℕ}
     → ReadReplies bytes x y out r x′ y′ out′ → ReadReplies bytes x y out r₁ x₁ y₁ out₁
@@ -43,18 +44,18 @@ read-one-outcome {out = out} h k =
       by-room 1 out (λ l. wkb.one-outcome (h .called l) (k .called l) .2) (λ l. h .short l .1 ∙ sym (k .short l .1)),
     )
 
-pub walk-one-outcome : {o : Outcome} {scratch scratch′ scratch₁ out out′ out₁ : List ℕ} {r r₁ : ℕ}
-    → WalkReplies o scratch out r scratch′ out′ → WalkReplies o scratch out r₁ scratch₁ out₁
+pub walk-one-outcome : {words : List ℕ} {o : Outcome} {scratch scratch′ scratch₁ out out′ out₁ : List ℕ} {r r₁ : ℕ}
+    → WalkReplies words o scratch out r scratch′ out′ → WalkReplies words o scratch out r₁ scratch₁ out₁
     → (r ≡ r₁) × (out′ ≡ out₁) × (scratch′ ≡ scratch₁)
-walk-one-outcome {out = out} h k =
+walk-one-outcome {words} {out = out} h k =
     let a = one-outcome (h .replies) (k .replies) in (
       a .0,
       a .1,
-      by-room 1 out (λ l. walk.one-outcome (h .called l) (k .called l) .1) (λ l. h .short l ∙ sym (k .short l)),
+      by-words 1 out words (λ l m. walk.one-outcome (h .called l m) (k .called l m) .1) (λ l. h .short l ∙ sym (k .short l)) (λ m. h .few m ∙ sym (k .few m)),
     )
 
-pub build-one-outcome : {ls : Lines} {o o′ o₁ t t′ t₁ gs gs′ gs₁ s s′ s₁ out out′ out₁ : List ℕ} {r r₁ : ℕ} {e : Answer Grid}
-    → BuildReplies ls o t gs s out r o′ t′ gs′ s′ out′ e → BuildReplies ls o t gs s out r₁ o₁ t₁ gs₁ s₁ out₁ e
+pub build-one-outcome : {ls : Lines} {o o′ o₁ t t′ t₁ gs gs′ gs₁ s s′ s₁ out out′ out₁ : List ℕ} {r r₁ : ℕ}
+    → BuildReplies ls o t gs s out r o′ t′ gs′ s′ out′ → BuildReplies ls o t gs s out r₁ o₁ t₁ gs₁ s₁ out₁
     → (r ≡ r₁) × (out′ ≡ out₁) × (o′ ≡ o₁) × (t′ ≡ t₁) × (gs′ ≡ gs₁) × (s′ ≡ s₁)
 build-one-outcome {out = out} h k =
     let a = one-outcome (h .replies) (k .replies) in (
@@ -66,13 +67,13 @@ build-one-outcome {out = out} h k =
       by-room 7 out (λ l. build.one-outcome (h .called l) (k .called l) .scratch) (λ l. h .short l .3 ∙ sym (k .short l .3)),
     )
 
-pub batch-one-outcome : {ls : Lines} {g : Grid} {t : Tables} {b : ℕ} {first first′ first₁ second second′ second₁ out out′ out₁ : List ℕ} {r r₁ : ℕ}
-    → BatchReplies ls g t b first second out r first′ second′ out′ → BatchReplies ls g t b first second out r₁ first₁ second₁ out₁
+pub batch-one-outcome : {words : List ℕ} {ls : Lines} {g : Grid} {t : Tables} {b : ℕ} {first first′ first₁ second second′ second₁ out out′ out₁ : List ℕ} {r r₁ : ℕ}
+    → BatchReplies words ls g t b first second out r first′ second′ out′ → BatchReplies words ls g t b first second out r₁ first₁ second₁ out₁
     → (r ≡ r₁) × (out′ ≡ out₁) × (first′ ≡ first₁) × (second′ ≡ second₁)
-batch-one-outcome {out = out} h k =
+batch-one-outcome {words} {out = out} h k =
     let a = one-outcome (h .replies) (k .replies) in (
       a .0,
       a .1,
-      by-room 3 out (λ l. visit.one-outcome (h .called l) (k .called l) .1) (λ l. h .short l .0 ∙ sym (k .short l .0)),
-      by-room 3 out (λ l. visit.one-outcome (h .called l) (k .called l) .2) (λ l. h .short l .1 ∙ sym (k .short l .1)),
+      by-words 3 out words (λ l m. visit.one-outcome (h .called l m) (k .called l m) .1) (λ l. h .short l .0 ∙ sym (k .short l .0)) (λ m. h .few m .0 ∙ sym (k .few m .0)),
+      by-words 3 out words (λ l m. visit.one-outcome (h .called l m) (k .called l m) .2) (λ l. h .short l .1 ∙ sym (k .short l .1)) (λ m. h .few m .1 ∙ sym (k .few m .1)),
     )

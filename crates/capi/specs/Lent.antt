@@ -1,5 +1,5 @@
 -- The promises of exported functions that are lent slices to write beside `out`. Where `out` has the words of a result, the entry is called, and
--- its own promise holds of those slices; where it is short, they stay as they were. Definitions only.
+-- its own promise holds of those slices; where it is short, they stay as they were, and so they do where words are too few to say a grid. Definitions only.
 use Prim.Native.Nat.{ℕ, _≤_, _<_}
 use mathlib.Core.Path.{_≡_}
 use mathlib.Core.List.{List}
@@ -8,6 +8,7 @@ use lib.ListN.{length}
 use Rattle.refusals.specs.Refusals.{Answer}
 use Rattle.grid.specs.Domain.{Lines}
 use Rattle.grid.specs.declared.Grid.{Grid}
+use Rattle.grid.specs.Words.{gridWords}
 use Rattle.tables.specs.Tables.{Tables}
 use Rattle.wkb.specs.declared.Read.{Read}
 use Rattle.wkb.specs.Reading as wkb
@@ -15,8 +16,9 @@ use Rattle.walk.specs.Pushes.{Outcome}
 use Rattle.walk.specs.Segment.{cellsOf, Entered}
 use Rattle.build.specs.Build as build
 use Rattle.visit.specs.Entries.{batchAnswer, BatchIs}
-use Rattle.capi.specs.Replies.{Replies}
-use Rattle.capi.specs.Answers.{ofRead, ofCells, ofBuilt, ofBatch}
+use Rattle.replies.specs.Replies.{Replies}
+use Rattle.replies.specs.Answers.{ofRead, ofCells, ofBuilt, ofBatch}
+use Rattle.capi.specs.Few.{unlessFew}
 
 -- what the reader answers
 abbrev pub readAnswer : List ℕ → List Float → List Float → Read
@@ -27,20 +29,27 @@ pub record ReadReplies (bytes : List ℕ) (x y : List Float) (out : List ℕ) (r
   pub called : 1 ≤ length out → wkb.ReadAs bytes x y (readAnswer bytes x y) x′ y′
   pub short : length out < 1 → (x′ ≡ x) × (y′ ≡ y)
 
--- the walk of one segment, whose outcome is o
-pub record WalkReplies (o : Outcome) (scratch out : List ℕ) (r : ℕ) (scratch′ out′ : List ℕ) : Type 0 where
-  pub replies : Replies 1 (ofCells (cellsOf o)) out r out′
-  pub called : 1 ≤ length out → Entered o scratch (cellsOf o) scratch′
+-- the walk of one segment on the grid that words say, whose outcome is o
+pub record WalkReplies (words : List ℕ) (o : Outcome) (scratch out : List ℕ) (r : ℕ) (scratch′ out′ : List ℕ) : Type 0 where
+  pub replies : Replies 1 (unlessFew words (ofCells (cellsOf o))) out r out′
+  pub called : 1 ≤ length out → gridWords ≤ length words → Entered o scratch (cellsOf o) scratch′
   pub short : length out < 1 → scratch′ ≡ scratch
+  pub few : length words < gridWords → scratch′ ≡ scratch
 
--- a build that ends in e
-pub record BuildReplies (ls : Lines) (offsets items globals scratch out : List ℕ) (r : ℕ) (offsets′ items′ globals′ scratch′ out′ : List ℕ) (e : Answer Grid) : Type 0 where
-  pub replies : Replies 7 (ofBuilt (build.answerOf e ls)) out r out′
-  pub called : 7 ≤ length out → build.BuildIs ls offsets items globals scratch (build.answerOf e ls) offsets′ items′ globals′ scratch′ e
+-- what a build into these slices ends in
+abbrev pub buildEnd : Lines → List ℕ → List ℕ → List ℕ → List ℕ → Answer Grid
+buildEnd ls offsets items globals scratch = build.endOf ls (length offsets) (length items) (length globals) (length scratch)
+
+pub record BuildReplies (ls : Lines) (offsets items globals scratch out : List ℕ) (r : ℕ) (offsets′ items′ globals′ scratch′ out′ : List ℕ) : Type 0 where
+  pub replies : Replies 7 (ofBuilt (build.answerOf (buildEnd ls offsets items globals scratch) ls)) out r out′
+  pub called :
+      let e = buildEnd ls offsets items globals scratch in
+      7 ≤ length out → build.BuildIs ls offsets items globals scratch (build.answerOf e ls) offsets′ items′ globals′ scratch′ e
   pub short : length out < 7 → (offsets′ ≡ offsets) × (items′ ≡ items) × (globals′ ≡ globals) × (scratch′ ≡ scratch)
 
--- a batch from the bookmark b
-pub record BatchReplies (ls : Lines) (g : Grid) (t : Tables) (b : ℕ) (first second out : List ℕ) (r : ℕ) (first′ second′ out′ : List ℕ) : Type 0 where
-  pub replies : Replies 3 (ofBatch (batchAnswer ls g t b first second)) out r out′
-  pub called : 3 ≤ length out → BatchIs ls g t b first second first′ second′ (batchAnswer ls g t b first second)
+-- a batch from the bookmark b, on the grid g that words say
+pub record BatchReplies (words : List ℕ) (ls : Lines) (g : Grid) (t : Tables) (b : ℕ) (first second out : List ℕ) (r : ℕ) (first′ second′ out′ : List ℕ) : Type 0 where
+  pub replies : Replies 3 (unlessFew words (ofBatch (batchAnswer ls g t b first second))) out r out′
+  pub called : 3 ≤ length out → gridWords ≤ length words → BatchIs ls g t b first second first′ second′ (batchAnswer ls g t b first second)
   pub short : length out < 3 → (first′ ≡ first) × (second′ ≡ second)
+  pub few : length words < gridWords → (first′ ≡ first) × (second′ ≡ second)

@@ -1,13 +1,15 @@
 // The exported functions: each public entry under a plain name, with numbers and slices alone, for a program in C or Rust to link.
-// A grid goes in as its five numbers. An entry that can refuse answers by document 01's number, 0 for success, and writes its values to
-// the start of the lent `out`: the words of the result, or the one value of the refusal. The rest of `out` stays as it was. Where `out` has
-// fewer words than a success writes, or none, the function answers 100 before all else, and changes nothing.
+// A grid goes in as 64-bit words, the first five that `mt_build` writes to `out`; further words are not read. An entry that can refuse answers
+// as `replies` says: by document 01's number, with its values at the start of the lent `out`. Where `out` has fewer words than a success writes, or
+// none, the function answers 100 before all else; next, where a grid has fewer than five words, 101. Both change nothing.
 pub mod building;
 pub mod number;
 pub mod ownership;
 pub mod reading;
-mod reply;
 pub mod snapping;
 pub mod standing;
 pub mod visiting;
 pub mod walking;
+
+// The number of a function that is handed too few words to say a grid.
+pub(crate) const FEW: u32 = 101;

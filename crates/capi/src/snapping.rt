@@ -1,21 +1,8 @@
 // Snapping of a point.
-use crate::reply;
-use snap::Snapped;
-ghost use Prim.Native.Nat.{_≤_};
-ghost use lib.ListN.{length};
+use replies::SHORT;
 ghost use Rattle.snap.specs.Snap.{snapAnswer};
-ghost use Rattle.capi.specs.Replies.{Handed, Replies};
-ghost use Rattle.capi.specs.Answers.{ofSnap};
-
-fn snapped(answer: Snapped, out: &mut [u64]) -> u32
-    requires { ⌜ 2 ≤ length (now out) ⌝ }
-    ensures { λ r. ⌜ Handed (ofSnap answer) (now (out .entry)) r (now (out .exit)) ⌝ }
-{
-    match answer {
-        Snapped::Point { x, y } => reply::two(reply::bits(x), reply::bits(y), out),
-        Snapped::Refused(r) => reply::refused(r, out),
-    }
-}
+ghost use Rattle.replies.specs.Replies.{Replies};
+ghost use Rattle.replies.specs.Answers.{ofSnap};
 
 // Out: the bits of x and y.
 #[no_mangle]
@@ -23,7 +10,7 @@ pub extern "C" fn mt_snap(x: f64, y: f64, size: f64, strategy: u32, out: &mut [u
     ensures { λ r. ⌜ Replies 2 (ofSnap (snapAnswer x y size strategy)) (now (out .entry)) r (now (out .exit)) ⌝ }
 {
     if out.len() < 2 {
-        return reply::SHORT;
+        return SHORT;
     }
-    snapped(snap::snap_point(x, y, size, strategy), out)
+    replies::snapped(snap::snap_point(x, y, size, strategy), out)
 }

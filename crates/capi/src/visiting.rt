@@ -1,21 +1,22 @@
 // Visits of standing tables: lists by their place, one test by its bookmark, and a batch of tests.
-use crate::reply;
+use crate::FEW;
 use grid::Grid;
+use grid::words::WORDS;
+use grid::words::grid_by;
 use refusals::Check;
-use visit::BatchAnswer;
+use replies::SHORT;
 use visit::Place;
-use visit::Test;
-use visit::TestAnswer;
 ghost use mathlib.Core.Path.{_≡_};
-ghost use mathlib.Core.Bool.{cond};
-ghost use Prim.Native.Nat.{suc, _+_, _*_, _-_, _≤_};
+ghost use Prim.Native.Nat.{suc, _+_, _*_};
 ghost use lib.ListN.{length, getD};
 ghost use Rattle.grid.specs.Domain.{lines};
 ghost use Rattle.tables.specs.Tables.{tables};
 ghost use Rattle.visit.specs.Places.{listCheck, listAt};
 ghost use Rattle.visit.specs.Entries.{beside, testAt};
-ghost use Rattle.capi.specs.Replies.{Handed, Replies, gridBy};
-ghost use Rattle.capi.specs.Answers.{ofPart, ofTest, ofPlace, ofBatch};
+ghost use Rattle.grid.specs.Words.{gridBy};
+ghost use Rattle.replies.specs.Replies.{Replies};
+ghost use Rattle.replies.specs.Answers.{ofPart, ofTest};
+ghost use Rattle.capi.specs.Few.{unlessFew};
 ghost use Rattle.capi.specs.Lent.{BatchReplies};
 
 // ---- lists by their place
@@ -49,29 +50,26 @@ fn listed<'a>(
     from: u64,
     out: &mut [u64],
 ) -> u32
-    requires { ⌜ 2 ≤ length (now out) ⌝ }
-    ensures { λ r. ⌜ Handed (ofPart (listCheck grid (tables grid lines (now (offsets .entry)) (now (items .entry)) (now (globals .entry)) «global_count») place) from (from + length (listAt (tables grid lines (now (offsets .entry)) (now (items .entry)) (now (globals .entry)) «global_count») place))) (now (out .entry)) r (now (out .exit)) ⌝ }
+    ensures { λ r. let t = tables grid lines (now (offsets .entry)) (now (items .entry)) (now (globals .entry)) «global_count» in
+        ⌜ Replies 2 (ofPart (listCheck grid t place) from (from + length (listAt t place))) (now (out .entry)) r (now (out .exit)) ⌝ }
 {
     let list = visit::lists::list_at(lines, grid, offsets, items, globals, global_count, place);
     let len = list.len() as u64;
     if 0 < len {
-        return reply::two(from, len, out);
+        return replies::part(Check::Fine, from, len, out);
     }
-    let check = visit::lists::list_check(lines, grid, offsets, items, globals, global_count, place);
-    match check {
-        Check::Fine => reply::two(from, 0, out),
-        Check::Refused(r) => reply::refused(r, out),
-    }
+    replies::part(
+        visit::lists::list_check(lines, grid, offsets, items, globals, global_count, place),
+        from,
+        len,
+        out,
+    )
 }
 
 // The list of a cell is a part of the items. Out: where it starts, and its length.
 #[no_mangle]
 pub extern "C" fn mt_cell_list<'a>(
-    min_x: f64,
-    min_y: f64,
-    cell_size: f64,
-    cols: u32,
-    rows: u32,
+    grid: &[u64],
     lines: usize,
     offsets: &[u32],
     items: &'a [u32],
@@ -81,22 +79,24 @@ pub extern "C" fn mt_cell_list<'a>(
     col: u32,
     out: &mut [u64],
 ) -> u32
-    ensures { λ r. ⌜ Replies 2 (ofPart (listCheck (gridBy «min_x» «min_y» «cell_size» cols rows) (tables (gridBy «min_x» «min_y» «cell_size» cols rows) lines (now (offsets .entry)) (now (items .entry)) (now (globals .entry)) «global_count») (Place.Cell row col)) (getD (now (offsets .entry)) (row * cols + col) 0) (getD (now (offsets .entry)) (suc (row * cols + col)) 0)) (now (out .entry)) r (now (out .exit)) ⌝ }
+    ensures { λ r. let w = now (grid .entry) in
+        let g = gridBy w in
+        let o = now (offsets .entry) in
+        let t = tables g lines o (now (items .entry)) (now (globals .entry)) «global_count» in
+        let cell = row * g .cols + col in
+        ⌜ Replies 2 (unlessFew w (ofPart (listCheck g t (Place.Cell row col)) (getD o cell 0) (getD o (suc cell) 0))) (now (out .entry)) r (now (out .exit)) ⌝ }
 {
     if out.len() < 2 {
-        return reply::SHORT;
+        return SHORT;
     }
-    let grid = Grid {
-        min_x,
-        min_y,
-        cell_size,
-        cols,
-        rows,
-    };
-    let from = entry(offsets, cell_number(row, cols, col));
+    if grid.len() < WORDS {
+        return FEW;
+    }
+    let by_words = grid_by(grid);
+    let from = entry(offsets, cell_number(row, by_words.cols, col));
     listed(
         lines,
-        grid,
+        by_words,
         offsets,
         items,
         globals,
@@ -110,11 +110,7 @@ pub extern "C" fn mt_cell_list<'a>(
 // The list of a global line, by its position, is a part of the globals. Out: where it starts, and its length.
 #[no_mangle]
 pub extern "C" fn mt_global_list<'a>(
-    min_x: f64,
-    min_y: f64,
-    cell_size: f64,
-    cols: u32,
-    rows: u32,
+    grid: &[u64],
     lines: usize,
     offsets: &[u32],
     items: &'a [u32],
@@ -123,21 +119,20 @@ pub extern "C" fn mt_global_list<'a>(
     position: u64,
     out: &mut [u64],
 ) -> u32
-    ensures { λ r. ⌜ Replies 2 (ofPart (listCheck (gridBy «min_x» «min_y» «cell_size» cols rows) (tables (gridBy «min_x» «min_y» «cell_size» cols rows) lines (now (offsets .entry)) (now (items .entry)) (now (globals .entry)) «global_count») (Place.Global position)) position «global_count») (now (out .entry)) r (now (out .exit)) ⌝ }
+    ensures { λ r. let w = now (grid .entry) in
+        let g = gridBy w in
+        let t = tables g lines (now (offsets .entry)) (now (items .entry)) (now (globals .entry)) «global_count» in
+        ⌜ Replies 2 (unlessFew w (ofPart (listCheck g t (Place.Global position)) position «global_count»)) (now (out .entry)) r (now (out .exit)) ⌝ }
 {
     if out.len() < 2 {
-        return reply::SHORT;
+        return SHORT;
     }
-    let grid = Grid {
-        min_x,
-        min_y,
-        cell_size,
-        cols,
-        rows,
-    };
+    if grid.len() < WORDS {
+        return FEW;
+    }
     listed(
         lines,
-        grid,
+        grid_by(grid),
         offsets,
         items,
         globals,
@@ -150,63 +145,10 @@ pub extern "C" fn mt_global_list<'a>(
 
 // ---- one test by its bookmark
 
-fn flag(b: bool) -> u64
-    ensures { λ r. ⌜ r ≡ cond b 1 0 ⌝ }
-{
-    if b {
-        return 1;
-    }
-    0
-}
-
-fn made(place: Place, first: u32, second: u32, overlap: u64, out: &mut [u64]) -> u32
-    requires { ⌜ 6 ≤ length (now out) ⌝ }
-    ensures { λ r. ⌜ Handed (ofPlace place first second overlap) (now (out .entry)) r (now (out .exit)) ⌝ }
-{
-    match place {
-        Place::Cell { row, col } => reply::six(
-            0,
-            row as u64,
-            col as u64,
-            first as u64,
-            second as u64,
-            overlap,
-            out,
-        ),
-        Place::Global(position) => reply::six(
-            1,
-            position as u64,
-            0,
-            first as u64,
-            second as u64,
-            overlap,
-            out,
-        ),
-    }
-}
-
-fn test(answer: TestAnswer, out: &mut [u64]) -> u32
-    requires { ⌜ 6 ≤ length (now out) ⌝ }
-    ensures { λ r. ⌜ Handed (ofTest answer) (now (out .entry)) r (now (out .exit)) ⌝ }
-{
-    match answer {
-        TestAnswer::Made(t) => {
-            let place = t.place;
-            made(place, t.first, t.second, flag(t.overlap), out)
-        },
-        TestAnswer::End => reply::six(2, 0, 0, 0, 0, 0, out),
-        TestAnswer::Refused(r) => reply::refused(r, out),
-    }
-}
-
 // Out: 0 for a cell, 1 for a global line, 2 for the end mark; row or position; column; first; second; 1 where the boxes overlap.
 #[no_mangle]
 pub extern "C" fn mt_test_at(
-    min_x: f64,
-    min_y: f64,
-    cell_size: f64,
-    cols: u32,
-    rows: u32,
+    grid: &[u64],
     start_x: &[f64],
     start_y: &[f64],
     end_x: &[f64],
@@ -218,25 +160,25 @@ pub extern "C" fn mt_test_at(
     bookmark: u64,
     out: &mut [u64],
 ) -> u32
-    ensures { λ r. ⌜ Replies 6 (ofTest (testAt (lines (now («start_x» .entry)) (now («start_y» .entry)) (now («end_x» .entry)) (now («end_y» .entry))) (gridBy «min_x» «min_y» «cell_size» cols rows) (beside (lines (now («start_x» .entry)) (now («start_y» .entry)) (now («end_x» .entry)) (now («end_y» .entry))) (gridBy «min_x» «min_y» «cell_size» cols rows) (now (offsets .entry)) (now (items .entry)) (now (globals .entry)) «global_count») bookmark)) (now (out .entry)) r (now (out .exit)) ⌝ }
+    ensures { λ r. let ls = lines (now («start_x» .entry)) (now («start_y» .entry)) (now («end_x» .entry)) (now («end_y» .entry)) in
+        let w = now (grid .entry) in
+        let g = gridBy w in
+        let t = beside ls g (now (offsets .entry)) (now (items .entry)) (now (globals .entry)) «global_count» in
+        ⌜ Replies 6 (unlessFew w (ofTest (testAt ls g t bookmark))) (now (out .entry)) r (now (out .exit)) ⌝ }
 {
     if out.len() < 6 {
-        return reply::SHORT;
+        return SHORT;
     }
-    let grid = Grid {
-        min_x,
-        min_y,
-        cell_size,
-        cols,
-        rows,
-    };
-    test(
+    if grid.len() < WORDS {
+        return FEW;
+    }
+    replies::test(
         visit::visits::test_at(
             start_x,
             start_y,
             end_x,
             end_y,
-            grid,
+            grid_by(grid),
             offsets,
             items,
             globals,
@@ -249,24 +191,10 @@ pub extern "C" fn mt_test_at(
 
 // ---- a batch of tests
 
-fn batch(answer: BatchAnswer, out: &mut [u64]) -> u32
-    requires { ⌜ 3 ≤ length (now out) ⌝ }
-    ensures { λ r. ⌜ Handed (ofBatch answer) (now (out .entry)) r (now (out .exit)) ⌝ }
-{
-    match answer {
-        BatchAnswer::Done(t) => reply::three(t.tests, t.overlaps, t.bookmark, out),
-        BatchAnswer::Refused(r) => reply::refused(r, out),
-    }
-}
-
 // Out: the tests made, the overlaps, the new bookmark. The pairs that overlap stand in first and second, and zero beyond them.
 #[no_mangle]
 pub extern "C" fn mt_batch(
-    min_x: f64,
-    min_y: f64,
-    cell_size: f64,
-    cols: u32,
-    rows: u32,
+    grid: &[u64],
     start_x: &[f64],
     start_y: &[f64],
     end_x: &[f64],
@@ -280,25 +208,25 @@ pub extern "C" fn mt_batch(
     second: &mut [u32],
     out: &mut [u64],
 ) -> u32
-    ensures { λ r. ⌜ BatchReplies (lines (now («start_x» .entry)) (now («start_y» .entry)) (now («end_x» .entry)) (now («end_y» .entry))) (gridBy «min_x» «min_y» «cell_size» cols rows) (beside (lines (now («start_x» .entry)) (now («start_y» .entry)) (now («end_x» .entry)) (now («end_y» .entry))) (gridBy «min_x» «min_y» «cell_size» cols rows) (now (offsets .entry)) (now (items .entry)) (now (globals .entry)) «global_count») bookmark (now (first .entry)) (now (second .entry)) (now (out .entry)) r (now (first .exit)) (now (second .exit)) (now (out .exit)) ⌝ }
+    ensures { λ r. let ls = lines (now («start_x» .entry)) (now («start_y» .entry)) (now («end_x» .entry)) (now («end_y» .entry)) in
+        let w = now (grid .entry) in
+        let g = gridBy w in
+        let t = beside ls g (now (offsets .entry)) (now (items .entry)) (now (globals .entry)) «global_count» in
+        ⌜ BatchReplies w ls g t bookmark (now (first .entry)) (now (second .entry)) (now (out .entry)) r (now (first .exit)) (now (second .exit)) (now (out .exit)) ⌝ }
 {
     if out.len() < 3 {
-        return reply::SHORT;
+        return SHORT;
     }
-    let grid = Grid {
-        min_x,
-        min_y,
-        cell_size,
-        cols,
-        rows,
-    };
-    batch(
+    if grid.len() < WORDS {
+        return FEW;
+    }
+    replies::batch(
         visit::visits::batch(
             start_x,
             start_y,
             end_x,
             end_y,
-            grid,
+            grid_by(grid),
             offsets,
             items,
             globals,

@@ -2,3 +2,4 @@
 pub mod Bools
 pub mod Fine
 pub mod Shapes
+pub mod Saying

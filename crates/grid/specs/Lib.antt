@@ -2,3 +2,4 @@
 pub mod Domain
 pub mod Boxes
 pub mod Axes
+pub mod Words

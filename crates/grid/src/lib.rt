@@ -1,7 +1,8 @@
-// The grid record, its axes, segments and their boxes, and the checks of document 01's domain. Every crate above cites these.
+// The grid record, its axes, its words, segments and their boxes, and the checks of document 01's domain. Every crate above cites these.
 pub mod axes;
 pub mod checks;
 pub mod segments;
+pub mod words;
 
 // A uniform grid: its lower corner, the size of its cells, and how many there are each way.
 pub struct Grid {

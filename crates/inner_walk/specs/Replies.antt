@@ -2,16 +2,10 @@
 use Prim.Native.Nat.{ℕ}
 use mathlib.Core.Path.{_≡_}
 use mathlib.Core.List.{List}
-use lib.Ieee.{Float}
 use lib.ListN.{length, set}
 use Rattle.refusals.specs.Refusals.{answerBy}
-use Rattle.grid.specs.declared.Grid.{Grid}
 use Rattle.walk.specs.Pushes.{Outcome}
 use Rattle.walk.specs.Segment.{cellsOf, Walked}
-
--- a grid by its five numbers
-abbrev pub gridBy : Float → Float → Float → ℕ → ℕ → Grid
-gridBy x y size cols rows = record { «min_x» = x; «min_y» = y; «cell_size» = size; cols = cols; rows = rows }
 
 -- 0, or the refusal's number
 unfoldable pub numberOf : Outcome → ℕ

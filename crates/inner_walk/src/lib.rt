@@ -1,12 +1,13 @@
 // The walk of one line as a build takes it, for whoever times it. It is no part of the library.
-use grid::Grid;
 use grid::Segment;
+use grid::words::grid_by;
 use walk::Cells;
 ghost use mathlib.Core.Path.{_≡_};
 ghost use lib.ListN.{length, set};
 ghost use Rattle.grid.specs.Domain.{segmentBy};
+ghost use Rattle.grid.specs.Words.{gridBy};
 ghost use Rattle.walk.specs.Segment.{entryOf};
-ghost use Rattle.inner_walk.specs.Replies.{gridBy, WalkReplies};
+ghost use Rattle.inner_walk.specs.Replies.{WalkReplies};
 
 // Writes the first entry, where there is one.
 fn put(value: u64, out: &mut [u64])
@@ -18,15 +19,11 @@ fn put(value: u64, out: &mut [u64])
     out[0] = value;
 }
 
-// Answers 0 or the refusal's number. Out: the number of cells, or the refusal's value. The cells stand at the start of the scratch; what is beyond
-// them there is open.
+// The grid is said by its words. Answers 0 or the refusal's number. Out: the number of cells, or the refusal's value. The cells stand at the
+// start of the scratch; what is beyond them there is open.
 #[no_mangle]
 pub extern "C" fn mt_inner_walk(
-    min_x: f64,
-    min_y: f64,
-    cell_size: f64,
-    cols: u32,
-    rows: u32,
+    grid: &[u64],
     start_x: f64,
     start_y: f64,
     end_x: f64,
@@ -34,22 +31,17 @@ pub extern "C" fn mt_inner_walk(
     scratch: &mut [u32],
     out: &mut [u64],
 ) -> u32
-    ensures { λ r. ⌜ WalkReplies (entryOf (length (now (scratch .entry))) (gridBy «min_x» «min_y» «cell_size» cols rows) (segmentBy «start_x» «start_y» «end_x» «end_y»)) (now (scratch .entry)) (now (out .entry)) r (now (scratch .exit)) (now (out .exit)) ⌝ }
+    ensures { λ r. let s = now (scratch .entry) in
+        let o = entryOf (length s) (gridBy (now (grid .entry))) (segmentBy «start_x» «start_y» «end_x» «end_y») in
+        ⌜ WalkReplies o s (now (out .entry)) r (now (scratch .exit)) (now (out .exit)) ⌝ }
 {
-    let grid = Grid {
-        min_x,
-        min_y,
-        cell_size,
-        cols,
-        rows,
-    };
     let line = Segment {
         start_x,
         start_y,
         end_x,
         end_y,
     };
-    let cells = walk::segment_cells(grid, line, scratch);
+    let cells = walk::segment_cells(grid_by(grid), line, scratch);
     match cells {
         Cells::Found(n) => {
             put(n as u64, out);

@@ -1,7 +1,4 @@
--- What the proofs of several functions use. `Reading`: laws of what stands in words. `Listing`: laws of the lists in a record. `Asking`, `Building`, `Visiting`: from what was read of a
--- record, and what an exported function promises, to a record that holds.
-mod Reading
-mod Listing
-mod Asking
-mod Building
-mod Visiting
+-- `Bytes`: laws of words in bytes. `Rows`: laws of the records of a file. `Sameness`: how far two files are the same, and which records agree.
+mod Bytes
+mod Rows
+mod Sameness

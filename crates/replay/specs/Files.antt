@@ -1,28 +1,34 @@
--- A file of records: words, record after record. A record is its kind, the number of words that follow, and those words. Definitions only.
-use Prim.Native.Nat.{ℕ, suc, _+_, _≤_, _<_}
+-- The records of a file. A record is its kind, the number q of words of its question, the number a of words of its answer, then question and
+-- answer; the file is one record after another. Definitions only.
+use Prim.Native.Nat.{ℕ, zero, suc, _+_}
 use mathlib.Core.Bool.{cond}
-use mathlib.Core.List.{List}
-use lib.Dec.{eqb}
+use mathlib.Core.List.{List, [], _∷_}
+use lib.Dec.{eqb, leb}
 use lib.ListN.{length}
-use Rattle.replay.specs.Words.{wordAt, part}
-use Rattle.replay.specs.Records.{Holds}
 
--- where the record at a place ends
-unfoldable pub after : List ℕ → ℕ → ℕ
-after w at = at + 2 + wordAt (suc at) w
+-- a record by its kind and the place where it ends
+pub record Record : Type 0 where
+  pub kind : ℕ
+  pub end : ℕ
 
--- the records of w up to the place `at` stand whole in w, and all hold
-pub data Held (w : List ℕ) : ℕ → Type 0 where
-  none : Held w 0
-  next : {at : ℕ} → Held w at → after w at ≤ length w → Holds (wordAt at w) (part (at + 2) (after w at) w) → Held w (after w at)
+-- the records that stand whole in w, the first of them after n words, where `at` words stand before w
+unfoldable pub recordsFrom : ℕ → ℕ → List ℕ → List Record
+recordsFrom at (suc n) [] = []
+recordsFrom at (suc n) (x ∷ w) = recordsFrom (suc at) n w
+recordsFrom at zero [] = []
+recordsFrom at zero (kind ∷ []) = []
+recordsFrom at zero (kind ∷ q ∷ []) = []
+recordsFrom at zero (kind ∷ q ∷ a ∷ w) =
+    cond (leb (q + a) (length w)) (record { kind = kind; end = at + 3 + (q + a) } ∷ recordsFrom (at + 3) (q + a) w) []
 
--- of the records that begin in w, up to the place `at`, so many are of the kind k
-pub data Counted (w : List ℕ) (k : ℕ) : ℕ → ℕ → Type 0 where
-  none : Counted w k 0 0
-  next : {at n : ℕ} → Counted w k at n → at < length w → Counted w k (after w at) (n + cond (eqb (wordAt at w) k) 1 0)
+-- the records that stand whole in w, from the first on
+unfoldable pub recordsOf : List ℕ → List Record
+recordsOf w = recordsFrom 0 0 w
 
--- so many of all records are
-pub record CountedAll (w : List ℕ) (k n : ℕ) : Type 0 where
-  pub at : ℕ
-  pub all : length w ≤ at
-  pub counted : Counted w k at n
+-- how many are of the kind k
+unfoldable pub ofKind : ℕ → List Record → ℕ
+ofKind k [] = 0
+ofKind k (r ∷ rs) = cond (eqb (r .kind) k) 1 0 + ofKind k rs
+
+unfoldable pub countOf : ℕ → List ℕ → ℕ
+countOf k w = ofKind k (recordsOf w)

@@ -1,6 +1,5 @@
--- `Words`: what stands in the words of a record. `Records`: when a record's answer is the one that its question asks for, by kind.
--- `Inside`: what the parts of the comparison promise each other. `Files`: a file of records that all hold.
+-- `Words`: words in bytes, and how far two rows of them are the same. `Files`: the records of a file, and how many are of a kind.
+-- `Inside`: what private functions promise each other.
 pub mod Words
-pub mod Records
-pub mod Inside
 pub mod Files
+pub mod Inside

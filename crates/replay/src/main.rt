@@ -1,15 +1,18 @@
 // The program: recorded questions and answers of the Rust from standard input; how many of each kind the port answers alike, to standard output.
-// The last line is `all agree`, or says where the first record begins that the port answers in another way.
+// The file is made once more with the port's answers, and the two are compared. The last line is `all agree`, or says which word is the first
+// that differs.
 ghost use mathlib.Core.Path.{_≡_};
 ghost use Prim.Native.Nat.{_*_};
 ghost use lib.ListN.{length};
 use libc::STDIN_FILENO;
 use libc::STDOUT_FILENO;
 
+mod answer;
+mod asking;
 mod lines;
-mod lists;
-mod number;
+mod numbers_of;
 mod points;
+mod question;
 mod records;
 mod visits;
 mod words;
@@ -22,58 +25,65 @@ fn say(name: &[u8], n: u64) {
     io::write_all(STDOUT_FILENO, b"\n");
 }
 
-// How many of the records that agree are of each kind.
-fn say_kinds(agreed: &[u32]) {
-    say(b"numbers", records::count(agreed, 1));
-    say(b"walks", records::count(agreed, 2));
-    say(b"builds", records::count(agreed, 3));
-    say(b"batches", records::count(agreed, 4));
-    say(b"tests", records::count(agreed, 5));
-    say(b"points owned", records::count(agreed, 6));
-    say(b"overlaps owned", records::count(agreed, 7));
-    say(b"owners", records::count(agreed, 8));
-    say(b"snaps", records::count(agreed, 9));
+// How many of the records are of each kind.
+fn say_kinds(w: &[u64]) {
+    say(b"numbers", records::count(w, 1));
+    say(b"walks", records::count(w, 2));
+    say(b"builds", records::count(w, 3));
+    say(b"batches", records::count(w, 4));
+    say(b"tests", records::count(w, 5));
+    say(b"points owned", records::count(w, 6));
+    say(b"overlaps owned", records::count(w, 7));
+    say(b"owners", records::count(w, 8));
+    say(b"snaps", records::count(w, 9));
 }
 
-// Asks all records of a file that was read whole, and says what came out.
-fn compare(bytes: &[u8], words: &mut [u32])
-    requires { ⌜ length (now bytes) ≡ 4 * length (now words) ⌝ }
-{
-    words::words_of(bytes, words);
-    let end = records::replay(words);
-    say_kinds(&words[..end]);
-    if end == words.len() {
+// The records up to the first word that differs, and that word, if there is one.
+fn compare(file: &[u64], made: &[u64]) {
+    let same = words::same_to(file, made);
+    say_kinds(&file[..same]);
+    if same == file.len() {
         io::write_all(STDOUT_FILENO, b"all agree\n");
         return;
     }
-    say(b"differs at word", end as u64);
+    say(b"differs at word", same as u64);
 }
 
-fn room_for_bytes() -> [u8; 1048576]
-    ensures { λ r. ⌜ 1048576 ≡ length r ⌝ }
+// Makes the file once more, and compares.
+fn replay(bytes: &[u8], file: &mut [u64], made: &mut [u64])
+    requires { ⌜ (length (now bytes) ≡ 8 * length (now file)) × (length (now made) ≡ length (now file)) ⌝ }
 {
-    [0; 1048576]
+    words::words_of(bytes, file);
+    let to = asking::make(file, made);
+    compare(file, &made[..to]);
 }
 
-fn room_for_words() -> [u32; 262144]
-    ensures { λ r. ⌜ 262144 ≡ length r ⌝ }
+fn room_for_bytes() -> [u8; 1572864]
+    ensures { λ r. ⌜ 1572864 ≡ length r ⌝ }
 {
-    [0; 262144]
+    [0; 1572864]
+}
+
+fn room_for_words() -> [u64; 196608]
+    ensures { λ r. ⌜ 196608 ≡ length r ⌝ }
+{
+    [0; 196608]
 }
 
 // A file that fills all the room may go on, and is not compared.
 fn main() {
     let mut bytes = room_for_bytes();
     let n = io::read_full(STDIN_FILENO, &mut bytes);
-    if n == 1048576 {
+    if n == 1572864 {
         io::write_all(STDOUT_FILENO, b"too long\n");
         return;
     }
-    if n % 4 != 0 {
+    if n % 8 != 0 {
         io::write_all(STDOUT_FILENO, b"not whole words\n");
         return;
     }
-    let mut words = room_for_words();
-    let k = n / 4;
-    compare(&bytes[..n], &mut words[..k]);
+    let mut file = room_for_words();
+    let mut made = room_for_words();
+    let k = n / 8;
+    replay(&bytes[..n], &mut file[..k], &mut made[..k]);
 }

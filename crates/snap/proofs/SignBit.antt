@@ -1,26 +1,20 @@
 -- The sign bit of a pattern: the pattern of a value whose sign is clear lies below 2 ^ 63, and the others from there on. Assumes nothing.
 use mathlib.Core.Path.{_≡_, refl, sym, subst}
-use mathlib.Core.Bool.{Bool, true, false, not, true≢false}
+use mathlib.Core.Bool.{Bool, true, false, not}
 use Prim.Native.Nat.{ℕ, zero, suc, _+_, _-_, _*_, _/_, _^_, _≤_, _<_}
 use native.Mathlib.Omega.{arith}
 use lib.Dec.{T}
 use lib.IntN.{ℤ, pos}
 use lib.Ieee.{Float, nan, inf, fin, Format, binary64, prec, low, hid, top, size, up, down, round, toBits, fits, ne, isNan}
 use lib.Ieee.Bits.{toBits-lt}
-use lib.Ieee.Compare.{differs-from-itself, nan-differs}
+use lib.Ieee.Compare.{differs-from-itself}
 use Rattle.snap.specs.Snap.{signOf}
 
--- ---- a NaN, which alone differs from itself
+-- ---- a NaN, which alone differs from itself, stays
 
 pub nan-stays : (v : Float) → ne v v ≡ true → v ≡ signOf v
 unfolding signOf
 nan-stays v h = rw (differs-from-itself v (subst T (sym h) tt))
-
-pub not-nan : (v : Float) → ne v v ≡ false → T (not (isNan v))
-unfolding isNan
-not-nan nan h = absurd (true≢false (rw nan-differs at h))
-not-nan (inf s) h = tt
-not-nan (fin s m e) h = tt
 
 -- ---- the pattern of a set sign is 2 ^ 63 more than that of a clear one
 

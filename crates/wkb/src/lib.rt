@@ -66,16 +66,6 @@ fn number_at_8(bytes: &[u8], at: usize, order: Order) -> u64
     }
 }
 
-// The float of a bit pattern. Every pattern of a NaN gives the NaN.
-fn coordinate(bits: u64) -> f64
-    ensures { λ r. ⌜ r ≡ ofBits binary64 bits ⌝ }
-{
-    if bits % 0x8000_0000_0000_0000 > 0x7ff0_0000_0000_0000 {
-        return 0.0 / 0.0;
-    }
-    f64::from_bits(bits)
-}
-
 // The order that the first byte names.
 fn order_of(b: u8) -> Order
     ensures { λ r. ⌜ r ≡ orderOf b ⌝ }
@@ -143,7 +133,7 @@ fn read_axis(bytes: &[u8], at: usize, order: Order, n: usize, s: &mut [f64])
 {
     let mut i = 0;
     while i < n {
-        s[i] = coordinate(number_at_8(bytes, at + 16 * i, order));
+        s[i] = numbers::bits::from_bits(number_at_8(bytes, at + 16 * i, order));
         i += 1;
     }
     zero_from(s, n);

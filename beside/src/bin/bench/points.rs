@@ -4,6 +4,7 @@ use super::clock::Clock;
 use beside::oracle::Owners;
 use beside::random::Random;
 use beside::{plain, port, Grid};
+use morelturret::sys;
 use std::hint::black_box;
 
 const BAR: Option<f64> = Some(1.5);
@@ -27,17 +28,19 @@ pub fn owners(clock: &Clock, r: &mut Random) {
         let grid = Grid { min_x: 271.03, min_y: 29.7, cell_size: 0.0237, cols, rows };
         let points: Vec<(f64, f64)> =
             (0..POINTS).map(|_| (coordinate(r, grid.min_x, grid.cell_size, cols), coordinate(r, grid.min_y, grid.cell_size, rows))).collect();
+        // a caller hands a grid's words on as they are
+        let words = grid.words();
         let mut out = [0u64; 3];
         let mut test = Owners::new(&grid);
         for &(x, y) in &points {
-            assert_eq!(port::owner(&grid, x, y, &mut out), 0);
+            assert_eq!(sys::owner(&words, x, y, &mut out), 0);
             let found = (out[0] == 1).then_some((out[1] as u32, out[2] as u32));
             assert_eq!(found, plain::owner(&grid, x, y), "the owner of {x}, {y}");
             assert!(found.map_or(true, |(row, col)| test.point(row, col, x, y)), "the Rust's ownership test of {x}, {y}");
         }
         clock.both(
             &format!("{cols} by {rows} cells, {POINTS} points"), "point", POINTS, BAR,
-            &mut || points.iter().for_each(|&(x, y)| { black_box(port::owner(&grid, x, y, &mut out)); black_box(&out); }),
+            &mut || points.iter().for_each(|&(x, y)| { black_box(sys::owner(&words, x, y, &mut out)); black_box(&out); }),
             &mut || points.iter().for_each(|&(x, y)| { black_box(plain::owner(&grid, x, y)); }),
         );
     }
@@ -49,11 +52,12 @@ pub fn owners(clock: &Clock, r: &mut Random) {
             (y as u32, x as u32, grid.min_x + x * grid.cell_size, grid.min_y + y * grid.cell_size)
         })
         .collect();
+    let words = grid.words();
     let mut out = [0u64; 1];
     let mut test = Owners::new(&grid);
     clock.both(
         "a point, 64 by 64 cells", "call", points.len(), None,
-        &mut || points.iter().for_each(|&(row, col, x, y)| { black_box(port::point_owned(&grid, row, col, x, y, &mut out)); }),
+        &mut || points.iter().for_each(|&(row, col, x, y)| { black_box(sys::point_owned(&words, row, col, x, y, &mut out)); }),
         &mut || points.iter().for_each(|&(row, col, x, y)| { black_box(test.point(row, col, x, y)); }),
     );
 }

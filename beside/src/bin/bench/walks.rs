@@ -4,7 +4,8 @@ use super::clock::Clock;
 use beside::model::SCRATCH;
 use beside::oracle::Lines;
 use beside::random::Random;
-use beside::{port, Grid, Line};
+use beside::{inner, Grid, Line};
+use morelturret::sys;
 use std::hint::black_box;
 
 const BAR: Option<f64> = Some(1.0);
@@ -36,13 +37,15 @@ fn lines(r: &mut Random, least: f64, most: f64, n: usize, left: bool, down: bool
         .collect()
 }
 
-type Walk = fn(&Grid, &Line, &mut [u32], &mut [u64]) -> u32;
+/// A walk on the grid that words say.
+type Walk = fn(&[u64], f64, f64, f64, f64, &mut [u32], &mut [u64]) -> u32;
 
 /// One walk of the port against the Rust's, each length in each direction. The bar speaks of the slowest direction.
 fn compared(clock: &Clock, r: &mut Random, walk: Walk, bar: Option<f64>) {
     let mut scratch = vec![0u32; SCRATCH];
     // neither side knows the grid beforehand
     let grid = &black_box(GRID);
+    let words = grid.words();
     for (name, least, most, n) in LENGTHS {
         let (mut cells, mut port, mut rust, mut ratios) = (0, 0.0, 0.0, Vec::new());
         for (direction, left, down) in DIRECTIONS {
@@ -50,15 +53,16 @@ fn compared(clock: &Clock, r: &mut Random, walk: Walk, bar: Option<f64>) {
             let rust_lines = Lines::new(&lines);
             let mut out = [0u64; 8];
             for (i, line) in lines.iter().enumerate() {
-                assert_eq!(walk(grid, line, &mut scratch, &mut out), 0);
+                let [x0, y0, x1, y1] = *line;
+                assert_eq!(walk(&words, x0, y0, x1, y1, &mut scratch, &mut out), 0);
                 let walked = &scratch[..out[0] as usize];
                 assert!(rust_lines.cells(i, grid).iter().map(|&c| c as u32).eq(walked.iter().copied()), "the walk of {line:?}");
                 cells += walked.len();
             }
             let times = clock.turns(&mut [
                 &mut || {
-                    for line in &lines {
-                        black_box(walk(grid, line, &mut scratch, &mut out));
+                    for &[x0, y0, x1, y1] in &lines {
+                        black_box(walk(&words, x0, y0, x1, y1, &mut scratch, &mut out));
                         black_box(&scratch);
                     }
                 },
@@ -83,7 +87,7 @@ fn compared(clock: &Clock, r: &mut Random, walk: Walk, bar: Option<f64>) {
 
 pub fn times(clock: &Clock, r: &mut Random) {
     clock.head("Walk, as a build takes it (mt_inner_walk): the port also checks the segment and the grid, and neither side clears anything. In brackets the cells of a line on average.");
-    compared(clock, r, port::inner_walk, BAR);
+    compared(clock, r, inner::inner_walk, BAR);
     clock.head("Walk of one segment (mt_segment_cells): the port also clears 16,384 entries of scratch.");
-    compared(clock, r, port::segment_cells, None);
+    compared(clock, r, sys::segment_cells, None);
 }

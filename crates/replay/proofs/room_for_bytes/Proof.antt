@@ -5,8 +5,5 @@ use lib.ListN.{length-replicate}
 use Rattle.replay.proofs.room_for_bytes.Statement.{statement}
 use Rattle.replay.proofs.room_for_bytes.Tie as tie
 
-returns : tie.Need-returns
-returns c = sym (length-replicate {A = ℕ} 1048576 0)
-
 pub room-for-bytes-spec : {M : Type 1} → statement M
-room-for-bytes-spec = tie.close (tie.spec returns)
+room-for-bytes-spec = tie.close (tie.spec (λ c. sym (length-replicate {A = ℕ} 1572864 0)))

@@ -5,8 +5,5 @@ use lib.ListN.{length-replicate}
 use Rattle.replay.proofs.room_for_words.Statement.{statement}
 use Rattle.replay.proofs.room_for_words.Tie as tie
 
-returns : tie.Need-returns
-returns c = sym (length-replicate {A = ℕ} 262144 0)
-
 pub room-for-words-spec : {M : Type 1} → statement M
-room-for-words-spec = tie.close (tie.spec returns)
+room-for-words-spec = tie.close (tie.spec (λ c. sym (length-replicate {A = ℕ} 196608 0)))

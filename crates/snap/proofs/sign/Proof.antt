@@ -3,7 +3,8 @@ use mathlib.Core.Path.{sym, subst}
 use native.Mathlib.Omega.{arith}
 use lib.Dec.{T}
 use lib.Ieee.{binary64, fits, ofBits, neg}
-use Rattle.snap.proofs.SignBit.{nan-stays, not-nan, clear, set}
+use Rattle.numbers.proofs.Patterns.{not-nan}
+use Rattle.snap.proofs.SignBit.{nan-stays, clear, set}
 use Rattle.snap.proofs.sign.Statement.{statement}
 use Rattle.snap.proofs.sign.Tie as tie
 

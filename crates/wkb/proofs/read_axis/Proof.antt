@@ -40,7 +40,7 @@ loop-holds c =
 loop-again : tie.Need-loop-again Inv-loop μ-loop
 loop-again c =
     let v = c .before .before .before .loop .inv in
-    let t = turned-more (v .4) (omega arith) (c .before .number-at-8 .ensures) (c .coordinate .ensures) in
+    let t = turned-more (v .4) (omega arith) (c .before .number-at-8 .ensures) (c .from-bits .ensures) in
     (v .0, v .1, omega arith, written-length (t .is), t)
 
 -- zeros beyond the last point

@@ -1,7 +1,7 @@
 -- `capi::snapping::mt_snap` meets its contract: an `out` that is short, or the entry's answer handed over. Assumes nothing.
 use mathlib.Core.Path.{ap}
-use Rattle.capi.specs.Answers.{ofSnap}
-use Rattle.capi.proofs.Handing.{short-replies, handed-replies}
+use Rattle.replies.specs.Answers.{ofSnap}
+use Rattle.replies.proofs.Handing.{short-replies, replied}
 use borrow.Author.Needs.{needs}
 use Rattle.capi.proofs.snapping.mt_snap.Statement.{statement}
 use Rattle.capi.proofs.snapping.mt_snap.Tie as tie
@@ -9,18 +9,9 @@ use Rattle.capi.proofs.snapping.mt_snap.Tie as tie
 returns : tie.Need-returns
 returns c = short-replies 2 _ _ (c .if1 .taken)
 
-snap-point-requires : tie.Need-snap-point-requires
-snap-point-requires c κs = search needs
-
-snapped-requires : tie.Need-snapped-requires
-snapped-requires c κs = search needs
-
-same-length : tie.Need-same-length
-same-length c = search needs
-
 returns-2 : tie.Need-returns-2
-returns-2 c = handed-replies 2 (c .before .before .before .before .before .if1 .left) (ap ofSnap (c .before .before .before .before .snap-point .ensures)) (c .before .before .snapped .ensures)
+returns-2 c = replied 2 (ap ofSnap (c .before .before .before .before .snap-point .ensures)) (c .before .before .snapped .ensures)
 
 pub mt-snap-spec : {M : Type 1} → statement M
 mt-snap-spec =
-    tie.close (tie.spec returns snap-point-requires snapped-requires same-length returns-2)
+    tie.close (tie.spec returns (λ c κs. search needs) (λ c κs. search needs) (λ c. search needs) returns-2)

@@ -1,9 +1,10 @@
--- `capi::visiting::mt_batch` meets its contract: an `out` that is short, or what the entry answers and leaves. Assumes nothing.
+-- `capi::visiting::mt_batch` meets its contract: an `out` that is short, words that are too few, or what the entry answers and leaves. Assumes nothing.
 use mathlib.Core.Path.{refl, ap}
 use native.Mathlib.Omega.{arith}
 use Rattle.visit.specs.Entries.{BatchIs}
-use Rattle.capi.specs.Answers.{ofBatch}
-use Rattle.capi.proofs.Handing.{short-replies, handed-replies}
+use Rattle.replies.specs.Answers.{ofBatch}
+use Rattle.replies.proofs.Handing.{short-replies}
+use Rattle.capi.proofs.Handing.{few-replies, asked}
 use borrow.Author.Needs.{needs}
 use Rattle.capi.proofs.visiting.mt_batch.Statement.{statement}
 use Rattle.capi.proofs.visiting.mt_batch.Tie as tie
@@ -11,32 +12,36 @@ use Rattle.capi.proofs.visiting.mt_batch.Tie as tie
 returns : tie.Need-returns
 returns c =
     let s = c .if1 .taken in
-    record { replies = short-replies 3 _ _ s; called = λ h. absurd (omega arith); short = λ h. (refl, refl) }
-
-batch-requires : tie.Need-batch-requires
-batch-requires c κs = search needs
-
-batch-requires-2 : tie.Need-batch-requires-2
-batch-requires-2 c κs = search needs
-
-same-length : tie.Need-same-length
-same-length c = search needs
-
-same-length-2 : tie.Need-same-length-2
-same-length-2 c = search needs
-
-same-length-3 : tie.Need-same-length-3
-same-length-3 c = search needs
+    record { replies = short-replies 3 _ _ s; called = λ h k. absurd (omega (arith, h)); short = λ h. (refl, refl); few = λ h. (refl, refl) }
 
 returns-2 : tie.Need-returns-2
 returns-2 c =
-    let h = c .before .before .before .before .before .before .before .before .before .before .before .if1 .left in
+    let s = c .if2 .taken in
+    record { replies = few-replies 3 _ _ _ (c .before .if1 .left) s; called = λ h k. absurd (omega (arith, k)); short = λ h. (refl, refl); few = λ h. (refl, refl) }
+
+returns-3 : tie.Need-returns-3
+returns-3 c =
+    let h = c .before .before .before .before .before .before .before .before .before .before .before .before .before .if1 .left in
+    let k = c .before .before .before .before .before .before .before .before .before .before .before .before .if2 .left in
     let e = c .before .before .before .before .before .before .before .before .batch .ensures in
-    record {
-      replies = handed-replies 3 h (ap ofBatch (e .answers)) (c .before .before .batch2 .ensures);
-      called = λ _. record { answers = refl; first-is = e .first-is; second-is = e .second-is };
-      short = λ s. absurd (omega arith);
-    }
+    rw (← c .before .before .before .before .before .before .before .before .before .before .before .grid-by .ensures)
+    (record {
+      replies = asked 3 _ k (ap ofBatch (e .answers)) (c .before .before .batch2 .ensures);
+      called = λ _ _. record { answers = refl; first-is = e .first-is; second-is = e .second-is };
+      short = λ s. absurd (omega (arith, s));
+      few = λ s. absurd (omega (arith, s));
+    })
 
 pub mt-batch-spec : {M : Type 1} → statement M
-mt-batch-spec = tie.close (tie.spec returns batch-requires batch-requires-2 same-length same-length-2 same-length-3 returns-2)
+mt-batch-spec =
+    tie.close
+    (tie.spec
+    returns
+    returns-2
+    (λ c κs. search needs)
+    (λ c κs. search needs)
+    (λ c κs. search needs)
+    (λ c. search needs)
+    (λ c. search needs)
+    (λ c. search needs)
+    returns-3)

@@ -1,38 +1,46 @@
--- `replay::records::count` meets its contract. The invariant: so many of the records up to the place are of the kind. Assumes nothing.
-use mathlib.Core.Path.{_≡_}
+-- `replay::records::count` meets its contract. The invariant: what is counted, and the count of what follows, make up the whole. Assumes nothing.
+use mathlib.Core.Path.{_≡_, refl, sym, ap, _∙_}
 use mathlib.Core.Bool.{cond}
 use mathlib.Core.List.{List}
 use Prim.Native.Nat.{ℕ, _+_, _-_, _≤_, _<_}
 use native.Mathlib.Omega.{arith}
 use lib.Dec.{eqb}
-use lib.ListN.{length}
-use Rattle.replay.specs.Words.{wordAt}
-use Rattle.replay.specs.Files.{after, Counted, none, next}
-use Rattle.replay.proofs.Reading.{further}
+use lib.ListN.{length, drop, getD}
+use lib.Seq.{getD-drop, drop-drop}
+use Rattle.replay.specs.Files.{recordsFrom, recordsOf, ofKind, countOf}
+use Rattle.replay.specs.Inside.{sizeOf}
+use Rattle.replay.proofs.Rows.{short-at, next-at, last-at}
 use Rattle.replay.proofs.records.count.Statement.{statement}
 use Rattle.replay.proofs.records.count.Tie as tie
 
--- one more record
-more : {w : List ℕ} {k at n to one : ℕ} → Counted w k at n → at < length w → to ≡ after w at → one ≡ cond (eqb (wordAt at w) k) 1 0 → Counted w k to (n + one)
-more h l e f = rw (e, f) (next h l)
+record Counts (w : List ℕ) (k n at : ℕ) : Type 0 where
+  within : at ≤ length w
+  few : n ≤ at
+  rest : countOf k w ≡ n + ofKind k (recordsFrom at 0 (drop at w))
+
+start : (w : List ℕ) (k : ℕ) → Counts w k 0 0
+unfolding countOf recordsOf
+start w k = record { within = omega arith; few = omega arith; rest = omega arith }
+
+-- a record of the size s
+more : {w : List ℕ} {k n at s one : ℕ} → Counts w k n at → s ≡ sizeOf (drop at w) → at + s ≤ length w → (s ≡ 0 → ⊥) → one ≡ cond (eqb (getD w at 0) k) 1 0 → one ≤ 1 →
+    Counts w k (n + one) (at + s)
+unfolding ofKind
+more {w} {k} {n} {at} {s} {one} c e g h o l = record {
+  within = g;
+  few = omega arith;
+  rest = rw (e, o) (let r = rw (next-at at w (omega (arith, e, h))) at (c .rest) in omega (arith, r));
+}
+
+ended : {w : List ℕ} {k n at : ℕ} → Counts w k n at → sizeOf (drop at w) ≡ 0 → n ≡ countOf k w
+unfolding ofKind
+ended {w} {k} {n} {at} c e = let r = rw (last-at at w e) at (c .rest) in omega (arith, r)
 
 abbrev Inv-loop : tie.InvT-loop
-Inv-loop w kind counted₀ at₀ counted at = (counted ≤ at) × Counted w kind at counted
+Inv-loop w kind counted₀ at₀ counted at = Counts w kind counted at
 
 abbrev μ-loop : tie.MeasureT-loop
 μ-loop w kind counted₀ at₀ counted at = length w - at
-
-add-counted : tie.Need-add-counted Inv-loop μ-loop
-add-counted c = omega arith
-
-loop-less : tie.Need-loop-less Inv-loop μ-loop
-loop-less c = omega (arith, further _ _ (c .end-of .ensures))
-
-loop-again : tie.Need-loop-again Inv-loop μ-loop
-loop-again c =
-    let l = c .before .before .before .before .loop in
-    let o = c .before .one-if .ensures in
-    (omega (arith, further _ _ (c .end-of .ensures), o .1), more (l .inv .1) (omega arith) (c .end-of .ensures) (o .0))
 
 pub count-spec : {M : Type 1} → statement M
 count-spec =
@@ -40,12 +48,17 @@ count-spec =
     (tie.spec
     Inv-loop
     μ-loop
-    (λ c. (omega arith, none))
+    (λ c. start _ _)
+    (λ c κs. omega arith)
+    (λ c. ended (c .before .before .before .loop .inv) (sym (c .before .size-at .ensures .0) ∙ c .if1 .taken))
     (λ c. omega arith)
     (λ c. omega arith)
     (λ c κs. tt)
-    add-counted
-    (λ c κs. omega arith)
-    loop-less
-    loop-again
-    (λ c. record { at = c .before .loop .at; all = omega arith; counted = c .before .loop .inv .1 }))
+    (λ c. omega arith)
+    (λ c. omega arith)
+    (λ c. omega arith)
+    (λ c.
+      let e = c .before .before .before .size-at .ensures in
+      let o = c .one-if .ensures in
+      more (c .before .before .before .before .before .loop .inv) (e .0) (e .1) (c .before .before .if1 .left) (o .0) (o .1))
+    (λ c. ended (c .before .loop .inv) (short-at (c .before .loop .at) (c .before .before .before .args .w .now) (omega arith))))

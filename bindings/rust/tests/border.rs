@@ -1,0 +1,77 @@
+//! The library's functions as they are exported: what a short `out` and too few words are answered by, and what of a grid's words is read.
+
+use morelturret::{sys, Grid, Strategy, SCRATCH};
+
+const JUNK: u64 = 0xdead_beef_dead_beef;
+const FOUR: Grid = Grid { min_x: 0.0, min_y: 0.0, cell_size: 1.0, cols: 4, rows: 4 };
+
+/// A function that takes a grid's words and `out`, and how many words a success writes.
+type Asked = (&'static str, fn(&[u64], &mut [u64]) -> u32, usize);
+
+/// Every function that takes a grid, each with arguments that it answers, on a grid of no lines but for the points.
+const TAKEN: [Asked; 9] = [
+    ("point_owned", |grid, out| sys::point_owned(grid, 0, 0, 0.5, 0.5, out), 1),
+    ("overlap_owned", |grid, out| sys::overlap_owned(grid, 0, 0, 0.5, 0.5, 0.0, Strategy::Grid as u32, out), 1),
+    ("owner", |grid, out| sys::owner(grid, 0.5, 0.5, out), 3),
+    ("segment_cells", |grid, out| sys::segment_cells(grid, 0.5, 0.5, 2.5, 0.5, &mut vec![7; SCRATCH], out), 1),
+    ("check_tables", |grid, out| sys::check_tables(grid, 0, &[0; 17], &[], &[], 0, out), 1),
+    ("cell_list", |grid, out| sys::cell_list(grid, 0, &[0; 17], &[], &[], 0, 0, 0, out), 2),
+    ("global_list", |grid, out| sys::global_list(grid, 1, &[0; 17], &[], &[0], 1, 0, out), 2),
+    ("test_at", |grid, out| sys::test_at(grid, &[], &[], &[], &[], &[0; 17], &[], &[], 0, 0, out), 6),
+    ("batch", |grid, out| sys::batch(grid, &[], &[], &[], &[], &[0; 17], &[], &[], 0, 0, &mut [7], &mut [7], out), 3),
+];
+
+#[test]
+fn too_few_words_after_a_short_out() {
+    let words = FOUR.words();
+    for (name, ask, needed) in TAKEN {
+        let mut out = [JUNK; 6];
+        for few in 0..5 {
+            assert_eq!(ask(&words[..few], &mut out[..needed]), 101, "{name} with {few} words");
+            assert_eq!(ask(&words[..few], &mut out[..needed - 1]), 100, "{name}: a short out comes first");
+        }
+        assert_eq!(ask(&words, &mut out[..needed - 1]), 100, "{name} with a short out");
+        assert_eq!(out, [JUNK; 6], "{name} writes nothing");
+        assert_eq!(ask(&words, &mut out[..needed]), 0, "{name}");
+    }
+}
+
+#[test]
+fn further_words_are_not_read() {
+    let mut words = [JUNK; 8];
+    words[..5].copy_from_slice(&FOUR.words());
+    for (name, ask, needed) in TAKEN {
+        let (mut out, mut again) = ([JUNK; 6], [JUNK; 6]);
+        assert_eq!(ask(&FOUR.words(), &mut out[..needed]), 0, "{name}");
+        assert_eq!(ask(&words, &mut again[..needed]), 0, "{name} with further words");
+        assert_eq!(out, again, "{name}");
+    }
+}
+
+#[test]
+fn counts_beyond_32_bits_are_unfit() {
+    for at in [3, 4] {
+        for count in [1 << 32, (1 << 32) + 4, u64::MAX] {
+            let mut words = FOUR.words();
+            words[at] = count;
+            for (name, ask, needed) in TAKEN {
+                let mut out = [JUNK; 6];
+                assert_eq!((ask(&words, &mut out[..needed]), out[0]), (8, 0), "{name} with {count} in word {at}");
+            }
+        }
+    }
+}
+
+#[test]
+fn a_built_grid_is_handed_on_as_it_comes() {
+    let (x, y) = ([0.0, 2.0, 2.0, 0.0, 0.0], [0.0, 0.0, 2.0, 2.0, 0.0]);
+    let (mut offsets, mut items, mut globals, mut scratch) = ([0; 16], [0; 32], [0; 4], vec![0; SCRATCH]);
+    let (mut built, mut out) = ([0; 7], [0; 3]);
+    assert_eq!(sys::build(&x[..4], &y[..4], &x[1..], &y[1..], &mut offsets, &mut items, &mut globals, &mut scratch, &mut built), 0);
+    let (mut first, mut second) = ([0; 16], [0; 16]);
+    let visit = |first: &mut [u32], second: &mut [u32], out: &mut [u64]| {
+        sys::batch(&built, &x[..4], &y[..4], &x[1..], &y[1..], &offsets, &items, &globals, built[6], 0, first, second, out)
+    };
+    assert_eq!(visit(&mut first, &mut second, &mut out), 0);
+    assert_eq!(out, [9, 9, 9]);
+}

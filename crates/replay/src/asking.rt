@@ -1,0 +1,90 @@
+// The file once more: the heads and the questions as they stand, and the port's answers.
+ghost use mathlib.Core.Path.{_≡_};
+ghost use Prim.Native.Nat.{_≤_};
+ghost use lib.ListN.{length};
+use crate::answer;
+use crate::lines;
+use crate::numbers_of;
+use crate::points;
+use crate::records;
+use crate::visits;
+
+// Asks the exported function of a kind, and answers how many words its answer has: 0 where there is no such kind, or no room for what is lent.
+fn ask(kind: u64, question: &[u64], answer: &mut [u64]) -> usize
+    requires { ⌜ length (now question) ≤ 16384 ⌝ }
+{
+    if kind == 1 {
+        return numbers_of::number(question, answer);
+    }
+    if kind == 2 {
+        return lines::walk(question, answer);
+    }
+    if kind == 3 {
+        return lines::build(question, answer);
+    }
+    if kind == 4 {
+        return visits::batch(question, answer);
+    }
+    if kind == 5 {
+        return visits::test(question, answer);
+    }
+    if kind == 6 {
+        return points::point_owned(question, answer);
+    }
+    if kind == 7 {
+        return points::overlap_owned(question, answer);
+    }
+    if kind == 8 {
+        return points::owner(question, answer);
+    }
+    if kind == 9 {
+        return points::snap(question, answer);
+    }
+    0
+}
+
+// Writes how a record begins: its head and its question as they stand, but the number of words of the answer.
+fn begin(w: &[u64], answered: u64, made: &mut [u64]) {
+    answer::words(made, 0, w);
+    answer::word(made, 2, answered);
+}
+
+// Makes a record once more, with the port's answer. Says whether it could be asked.
+fn record(w: &[u64], made: &mut [u64]) -> bool
+    requires { ⌜ length (now made) ≡ length (now w) ⌝ }
+{
+    if w.len() < 3 {
+        return false;
+    }
+    let q = w[1] as usize;
+    if 16384 < q {
+        return false;
+    }
+    if w.len() - 3 < q {
+        return false;
+    }
+    let to = 3 + q;
+    let n = ask(w[0], &w[3..to], &mut made[to..]);
+    begin(&w[..to], n as u64, made);
+    n != 0
+}
+
+// Makes record after record, and answers where it stopped: at one that does not stand whole, or could not be asked, or at the end of the file.
+pub(crate) fn make(file: &[u64], made: &mut [u64]) -> usize
+    requires { ⌜ length (now made) ≡ length (now file) ⌝ }
+    ensures { λ r. ⌜ r ≤ length (now (file .entry)) ⌝ }
+{
+    let mut at = 0;
+    while at < file.len() {
+        let size = records::size_at(file, at);
+        if size == 0 {
+            return at;
+        }
+        let to = at + size;
+        if !record(&file[at..to], &mut made[at..to]) {
+            return at;
+        }
+        at = to;
+    }
+    at
+}

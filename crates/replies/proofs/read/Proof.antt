@@ -1,0 +1,32 @@
+-- `replies::read` meets its contract: each case of the answer is handed over. Assumes nothing.
+use mathlib.Core.Path.{sym, ap}
+use Rattle.replies.specs.Answers.{ofRead}
+use Rattle.replies.proofs.Handing.{short-replies, handed}
+use borrow.Author.Needs.{needs}
+use Rattle.replies.proofs.read.Statement.{statement}
+use Rattle.replies.proofs.read.Tie as tie
+
+returns : tie.Need-returns
+returns c = short-replies 1 _ _ (c .if1 .taken)
+
+returns-2 : tie.Need-returns-2
+unfolding ofRead
+returns-2 c = handed 1 (c .before .before .before .before .before .before .before .if1 .left) (ap ofRead (sym (c .before .before .before .before .before .answer .given .1))) (c .before .before .one .ensures)
+
+returns-3 : tie.Need-returns-3
+unfolding ofRead
+returns-3 c = handed 1 (c .before .before .before .before .before .before .before .if1 .left) (ap ofRead (sym (c .before .before .before .before .before .answer2 .given .1))) (c .before .before .refused .ensures)
+
+pub read-spec : {M : Type 1} → statement M
+read-spec =
+    tie.close
+    (tie.spec
+    returns
+    (λ c. search needs)
+    (λ c κs. search needs)
+    (λ c. search needs)
+    (λ c κs. search needs)
+    (λ c. search needs)
+    returns-2
+    (λ c. search needs)
+    returns-3)

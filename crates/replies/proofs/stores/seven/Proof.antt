@@ -1,0 +1,25 @@
+-- `replies::stores::seven` meets its contract. Assumes nothing.
+use mathlib.Core.Path.{refl}
+use native.Mathlib.Omega.{arith}
+use lib.ListN.{length-set}
+use Rattle.replies.proofs.Handing.{stored-seven}
+use borrow.Author.Needs.{needs}
+use Rattle.replies.proofs.stores.seven.Statement.{statement}
+use Rattle.replies.proofs.stores.seven.Tie as tie
+
+returns : tie.Need-returns
+returns c = record { number = refl; words = stored-seven (c .args .out .now) (c .args .a) (c .args .b) (c .args .c) (c .args .d) (c .args .e) (c .args .f) (c .args .g) (c .pre) }
+
+pub seven-spec : {M : Type 1} → statement M
+seven-spec =
+    tie.close
+    (tie.spec
+    (λ c. search needs)
+    (λ c. simp length-set (omega arith))
+    (λ c. simp length-set (omega arith))
+    (λ c. simp length-set (omega arith))
+    (λ c. simp length-set (omega arith))
+    (λ c. simp length-set (omega arith))
+    (λ c. simp length-set (omega arith))
+    (λ c. search needs)
+    returns)

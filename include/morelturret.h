@@ -7,17 +7,18 @@
  * after the call. The address is aligned for its type and not null, also where the length is 0; slices that are written (not `const`) must
  * overlap no other slice of the call.
  *
- * A grid is passed as 64-bit words, the first five that mt_build writes to `out`: the bit patterns of min_x, min_y and cell_size, then cols and
- * rows. Further words are not read, so what a build answered may be handed on as it is. A grid is fit if both minima are finite and at most 1e9
- * in magnitude, cell_size is from 0.25e-6 to 2e9, and cols and rows are both 0, or each 1 to 4,004 with product at most 1,002,001. A cell's
- * number is row * cols + column.
+ * A grid is passed as 64-bit words, the first six that mt_build writes to `out`: the bit patterns of min_x, min_y, cell_width and cell_height,
+ * then cols and rows. Further words are not read, so what a build answered may be handed on as it is. A grid is fit if both minima are finite
+ * and at most 1e9 in magnitude, cell_width and cell_height are each from 0.25e-6 to 2e9, and cols and rows are both 0, or each 1 to 4,004 with
+ * product at most 1,002,001. A cell's number is row * cols + column.
  *
  * Answers. A function that can refuse returns MT_OK or the number of the refusal, and writes 64-bit words to the start of `out`:
  *   on success     the words that its comment names ("out");
  *   on a refusal   one word, the refusal's value;
  * the rest of `out` stays as it was. `out` has at least the words that stand in brackets at each function. Where it has fewer, the function
  * returns MT_OUT_SHORT and changes nothing at all: this comes before every refusal, also where one word would be enough for that. Next, where
- * a grid has fewer than its five words, the function returns MT_FEW_WORDS, and changes nothing at all either.
+ * a grid has fewer than its six words, the function returns MT_FEW_WORDS, and where a sizing is none of those below, MT_NO_SIZING; both change
+ * nothing at all either.
  * A float in `out` is the bit pattern of the double; a NaN is 0x7ff8000000000000.
  *
  * Refusals come in the order in which each comment lists them: the first that applies is answered. Where a comment says nothing else, refusals
@@ -49,8 +50,17 @@ enum {
     MT_BAD_WKB = 11,        /* not a LineString that the reader takes: the byte position */
     MT_UNFIT_SNAP = 12,     /* snap size or strategy unfit: 0 */
     MT_OUT_SHORT = 100,     /* `out` has too few words; nothing is written */
-    MT_FEW_WORDS = 101      /* a grid has too few words; nothing is written */
+    MT_FEW_WORDS = 101,     /* a grid has too few words; nothing is written */
+    MT_NO_SIZING = 102      /* there is no sizing of this number; nothing is written */
 };
+
+/* Sizings: how a build sizes its cells, for n lines of so much extent in x (width) and in y (height).
+ *   MT_SQUARE   cell_width and cell_height are equal: the largest of the square root of area / n, the longer side / 1000, and 1e-6. The area is
+ *               width * height; below 1e-9 it counts as n.
+ *   MT_AXES     each axis by itself, with s the square root of n: cell_width is the largest of width / s, width / 1000 and 1e-6; cell_height
+ *               alike from height. A change of one axis's unit changes lists by rounding alone, as long as no size is held at 1e-6 and the
+ *               1e-9 that a grid reaches beyond the lines is not lost. */
+enum { MT_SQUARE = 0, MT_AXES = 1 };
 
 /* Snap strategies. */
 enum { MT_GRID = 0, MT_GEOS_COMPAT = 1 };
@@ -119,19 +129,21 @@ uint32_t mt_segment_cells(const uint64_t *grid, size_t grid_len, double start_x,
 
 /* ---- the build ---- */
 
-/* Picks a grid for the lines and writes its tables. Line i goes from (start_x[i], start_y[i]) to (end_x[i], end_y[i]). The list of cell c is
- * items[offsets[c]] up to items[offsets[c + 1]]: the lines, increasing, that visit it. A line that visits more than 2,048 cells is in no list
- * but in globals. Beyond what is written offsets, items and globals are zeroed, and so is all of the scratch, which has at least 16,384
- * entries. Offsets for 1,002,002 entries, items for 2,048 times the lines and globals for the lines are always enough.
+/* Picks a grid for the lines, its cells sized by `sizing` (MT_SQUARE or MT_AXES), and writes its tables. Line i goes from (start_x[i],
+ * start_y[i]) to (end_x[i], end_y[i]). The list of cell c is items[offsets[c]] up to items[offsets[c + 1]]: the lines, increasing, that visit
+ * it. A line that visits more than 2,048 cells is in no list but in globals. Where a cell would list more than 500 lines and 4 times the cells
+ * are below 1,000,000, both sizes are halved, at most twice. Beyond what is written offsets, items and globals are zeroed, and so is all of the
+ * scratch, which has at least 16,384 entries. Offsets for 1,002,002 entries, items for 2,048 times the lines and globals for the lines are
+ * always enough.
  * More than 65,536 lines: cut them in parts of at most 32,768, and build each two parts together, every two once. Parts built alone lose the
  * pairs between them.
- * out (7 words): the five words of the grid (the bits of min_x, min_y and cell_size, cols, rows), the number of items, the number of globals. The
- * grid is fit. A minimum that is zero has the sign of the first zero coordinate on its axis, lines in order, start before end.
+ * out (8 words): the six words of the grid (the bits of min_x, min_y, cell_width and cell_height, cols, rows), the number of items, the number of
+ * globals. The grid is fit. A minimum that is zero has the sign of the first zero coordinate on its axis, lines in order, start before end.
  * Refuses by 3, 2, 1; at each grid tried by 4, 7; then by 5, 6. */
 uint32_t mt_build(const double *start_x, size_t start_x_len, const double *start_y, size_t start_y_len,
-                  const double *end_x, size_t end_x_len, const double *end_y, size_t end_y_len, uint32_t *offsets, size_t offsets_len,
-                  uint32_t *items, size_t items_len, uint32_t *globals, size_t globals_len, uint32_t *scratch, size_t scratch_len,
-                  uint64_t *out, size_t out_len);
+                  const double *end_x, size_t end_x_len, const double *end_y, size_t end_y_len, uint32_t sizing,
+                  uint32_t *offsets, size_t offsets_len, uint32_t *items, size_t items_len, uint32_t *globals, size_t globals_len,
+                  uint32_t *scratch, size_t scratch_len, uint64_t *out, size_t out_len);
 
 /* ---- standing tables ---- */
 

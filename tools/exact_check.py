@@ -1,8 +1,10 @@
 #!/usr/bin/env python3
-"""exact_check.py FILE..: which legs of a chain share a point, by exact arithmetic, and which of those pairs the visit never tests.
+"""exact_check.py [--sizing square|axes] FILE..: which legs of a chain share a point, by exact arithmetic, and which of those pairs the visit
+never tests.
 
 FILE is one LineString in well-known binary. Coordinates are floats, so each is a fraction, and nothing is rounded here. The program is run
-on FILE (./morelturret, which builds it on demand); a pair of legs is tested if the two share a `cell` line or one is on the `global` line.
+on FILE (./morelturret, which builds it on demand, with the sizing that is named); a pair of legs is tested if the two share a `cell` line or
+one is on the `global` line.
 Consecutive legs share their joint, so they count too.
 Prints a line for each FILE, and one for each pair that is missing. Status 0: none is missing; 1: some are; 2: a FILE was refused or not read."""
 import pathlib
@@ -58,13 +60,13 @@ def tested_of(printed, legs):
     return tested
 
 
-def check(path):
+def check(path, sizing):
     try:
         data = pathlib.Path(path).read_bytes()
     except OSError as e:
         print(f"{path}: {e.strerror}", file=sys.stderr)
         return 2
-    run = subprocess.run([TOP / "morelturret", path], capture_output=True, text=True)
+    run = subprocess.run([TOP / "morelturret", "--sizing", sizing, path], capture_output=True, text=True)
     if run.returncode != 0:
         sys.stderr.write(run.stderr)
         return 2
@@ -87,9 +89,12 @@ def check(path):
 
 
 def main():
-    if len(sys.argv) < 2 or sys.argv[1] in ("-h", "--help"):
+    words, sizing = sys.argv[1:], "square"
+    if words[:1] == ["--sizing"]:
+        sizing, words = "".join(words[1:2]), words[2:]
+    if not words or words[0] in ("-h", "--help"):
         sys.exit(__doc__)
-    sys.exit(max(check(path) for path in sys.argv[1:]))
+    sys.exit(max(check(path, sizing) for path in words))
 
 
 if __name__ == "__main__":

@@ -1,6 +1,7 @@
 #!/usr/bin/env python3
 """make_examples.py [FOLDER]: writes the LineStrings of examples/ (well-known binary) to FOLDER, or to examples/ beside this script's folder.
-What the program prints for NAME.wkb stands in NAME.out. Nothing here is random: each run writes the same bytes.
+What the program prints for NAME.wkb stands in NAME.out, and by `--sizing axes` in NAME.axes.out. Nothing here is random: each run writes the
+same bytes.
 
 With points of your own, `write(path, points)` makes a file that the program reads: little-endian, type 2, 1 to 1,024 points (x, y)."""
 import math
@@ -53,6 +54,8 @@ def examples():
     yield "square_big_endian", line_string(square, big=True)
     yield "one_point", line_string([(281.5, 36.25)])  # no lines: a grid of 0 by 0
     yield "orbits", line_string(orbits())
+    # the same with temperatures in thousandths of a kelvin: by axis the lists are those of `orbits`, on square cells they are not
+    yield "orbits_millikelvin", line_string([(round(1000 * kelvin), ppb) for kelvin, ppb in orbits()])
     # 510 samples at one temperature, then two swings over 1,000: on the grid that 510 lines in one cell lead to, a swing visits 4,001 cells
     yield "hold_and_swing", line_string([(100.1, 0)] * 511 + [(0, 0), (1000, 0), (0, 0)])
 

@@ -8,7 +8,7 @@ const SHAPES: [(u32, u32); 14] = [
     (1001, 1001), (4004, 1), (1, 4004), (4004, 250), (250, 4004),
 ];
 
-/// A fit grid. Those of a thousand columns and more are drawn less often: their walks are long.
+/// A fit grid of square cells. Those of a thousand columns and more are drawn less often: their walks are long.
 pub fn grid(r: &mut Random) -> Grid {
     let (cols, rows) = match r.below(8) {
         0 => SHAPES[r.below(SHAPES.len() as u64) as usize],
@@ -36,7 +36,35 @@ pub fn grid(r: &mut Random) -> Grid {
         _ => r.between(-1e4, 1e4),
     };
     let (min_x, min_y) = (min(), min());
-    Grid { min_x, min_y, cell_size, cols, rows }
+    Grid { min_x, min_y, cell_width: cell_size, cell_height: cell_size, cols, rows }
+}
+
+/// The least and the most that a cell's width and height may be.
+const SIZES: (f64, f64) = (1e-6 / 4.0, 2e9);
+
+/// A fit grid whose cells are as wide as a square grid's, and as high as chance has it.
+pub fn oblong(r: &mut Random) -> Grid {
+    let g = grid(r);
+    let cell_height = match r.below(8) {
+        0..=2 => {
+            // a power of two apart: there the Rust can be asked as well
+            let mut size = g.cell_width * 2f64.powi(r.below(81) as i32 - 40);
+            while size < SIZES.0 {
+                size *= 2.0;
+            }
+            while size > SIZES.1 {
+                size /= 2.0;
+            }
+            size
+        }
+        3..=4 => g.cell_width * r.size(1e-12, 1e12),
+        5 => g.cell_width * 10f64.powi(r.below(25) as i32 - 12),
+        6 => nudged(g.cell_width, r.below(5) as i64 - 2),
+        _ => grid(r).cell_height,
+    };
+    let cell_height = cell_height.clamp(SIZES.0, SIZES.1);
+    let min_y = if r.once_in(3) { (r.between(-1.0, 1.0) * cell_height).clamp(-1e9, 1e9) } else { g.min_y };
+    Grid { min_y, cell_height, ..g }
 }
 
 /// A coordinate on an axis: inside, on a boundary and a hair beside it, or outside.
@@ -61,32 +89,33 @@ pub fn coordinate(r: &mut Random, low: f64, size: f64, count: u32) -> f64 {
 
 /// A segment on the grid, with the name of its shape.
 pub fn segment(r: &mut Random, g: &Grid) -> (&'static str, Line) {
-    let x = |r: &mut Random| coordinate(r, g.min_x, g.cell_size, g.cols);
-    let y = |r: &mut Random| coordinate(r, g.min_y, g.cell_size, g.rows);
+    let (width, height) = (g.cell_width, g.cell_height);
+    let x = |r: &mut Random| coordinate(r, g.min_x, width, g.cols);
+    let y = |r: &mut Random| coordinate(r, g.min_y, height, g.rows);
     let (x0, y0) = (x(r), y(r));
     let keep = |v: f64| v.clamp(-1e9, 1e9);
     match r.below(16) {
         0..=2 => ("free", [x0, y0, x(r), y(r)]),
         3..=5 => {
-            let mut near = |v: f64| keep(v + r.between(-4.0, 4.0) * g.cell_size);
-            ("short", [x0, y0, near(x0), near(y0)])
+            let mut near = |v: f64, size: f64| keep(v + r.between(-4.0, 4.0) * size);
+            ("short", [x0, y0, near(x0, width), near(y0, height)])
         }
         6 => ("vertical", [x0, y0, x0, y(r)]),
         7 => ("horizontal", [x0, y0, x(r), y0]),
         8 => ("point", [x0, y0, x0, y0]),
         9..=11 => {
             // from one corner of a cell to another by equal steps or by a simple slope: both ways at once
-            let corner = |r: &mut Random, low: f64, count: u32| low + r.below(count as u64 + 1) as f64 * g.cell_size;
-            let (a, b) = (corner(r, g.min_x, g.cols), corner(r, g.min_y, g.rows));
+            let corner = |r: &mut Random, low: f64, size: f64, count: u32| low + r.below(count as u64 + 1) as f64 * size;
+            let (a, b) = (corner(r, g.min_x, width, g.cols), corner(r, g.min_y, height, g.rows));
             let k = r.below(30) as f64;
             let (p, q) = r.pick(&[(1.0, 1.0), (1.0, 2.0), (2.0, 1.0), (3.0, 2.0), (1.0, 3.0)]);
-            let (c, d) = (a + r.sign() * k * p * g.cell_size, b + r.sign() * k * q * g.cell_size);
-            let mut moved = |v: f64| match r.below(8) {
-                0 => nudged(v, r.below(5) as i64 - 2),
-                1 => v + r.sign() * g.cell_size * 2f64.powi(-35 - r.below(13) as i32),
-                _ => v,
+            let (c, d) = (a + r.sign() * k * p * width, b + r.sign() * k * q * height);
+            let mut moved = |v: f64, size: f64| match r.below(8) {
+                0 => keep(nudged(v, r.below(5) as i64 - 2)),
+                1 => keep(v + r.sign() * size * 2f64.powi(-35 - r.below(13) as i32)),
+                _ => keep(v),
             };
-            ("corner", [keep(moved(a)), keep(moved(b)), keep(moved(c)), keep(moved(d))])
+            ("corner", [moved(a, width), moved(b, height), moved(c, width), moved(d, height)])
         }
         12..=13 => {
             // so little difference on one axis that t_max grows without bound
@@ -105,16 +134,30 @@ pub fn segment(r: &mut Random, g: &Grid) -> (&'static str, Line) {
             }
         }
         14 => {
-            let mut far = |low: f64, count: u32| keep(low + r.between(-2.0, 3.0) * count as f64 * g.cell_size);
-            ("leaving", [far(g.min_x, g.cols), far(g.min_y, g.rows), far(g.min_x, g.cols), far(g.min_y, g.rows)])
+            let mut far = |low: f64, size: f64, count: u32| keep(low + r.between(-2.0, 3.0) * count as f64 * size);
+            let (x0, y0) = (far(g.min_x, width, g.cols), far(g.min_y, height, g.rows));
+            ("leaving", [x0, y0, far(g.min_x, width, g.cols), far(g.min_y, height, g.rows)])
         }
         _ => {
             // the whole length of a row or a column
-            let end = |low: f64, count: u32| keep(low + (count as f64 - 0.5) * g.cell_size);
-            let near = |low: f64| keep(low + 0.5 * g.cell_size);
-            let (a, b, c, d) = (near(g.min_x), near(g.min_y), end(g.min_x, g.cols), end(g.min_y, g.rows));
+            let end = |low: f64, size: f64, count: u32| keep(low + (count as f64 - 0.5) * size);
+            let near = |low: f64, size: f64| keep(low + 0.5 * size);
+            let (a, b) = (near(g.min_x, width), near(g.min_y, height));
+            let (c, d) = (end(g.min_x, width, g.cols), end(g.min_y, height, g.rows));
             ("long", r.pick(&[[a, b, c, d], [c, d, a, b], [a, d, c, b], [c, b, a, d], [a, b, c, b], [a, b, a, d]]))
         }
+    }
+}
+
+/// Gives a grid a cell size that is not fit, or at the edge of it: to one axis where these are kept apart.
+pub fn resize<const AXES: bool>(r: &mut Random, g: &mut Grid) {
+    let size = r.pick(&[0.0, -1.0, 2.4999999999999994e-7, 2.5e-7, 2e9, 2000000000.0000002, f64::NAN, f64::INFINITY]);
+    if !AXES {
+        (g.cell_width, g.cell_height) = (size, size);
+    } else if r.once_in(2) {
+        g.cell_width = size;
+    } else {
+        g.cell_height = size;
     }
 }
 
@@ -126,7 +169,11 @@ pub fn bad(r: &mut Random) -> f64 {
 /// A year on a bench: n legs of orbits that loop through temperature (kelvin) and frequency (parts per billion), and drift.
 /// More legs are more orbits, and each in shorter legs, so that a leg crosses as many cells of the finer grid.
 pub fn year(r: &mut Random, n: usize) -> Vec<Line> {
-    let legs = (0.7 * (n as f64).sqrt()).max(8.0);
+    orbits(r, n, (0.7 * (n as f64).sqrt()).max(8.0))
+}
+
+/// A year in so many legs for each orbit: the more orbits, the more cells of the finer grid each leg crosses.
+pub fn orbits(r: &mut Random, n: usize, legs: f64) -> Vec<Line> {
     let noise = 4.0 / (n as f64).sqrt().max(8.0);
     let point = |i: usize, noise: (f64, f64)| {
         let phase = i as f64 / legs * std::f64::consts::TAU;
@@ -270,4 +317,152 @@ pub fn lines(r: &mut Random, most: usize) -> (&'static str, Vec<Line>) {
             ("scattered", all.collect())
         }
     }
+}
+
+/// What one axis is multiplied by.
+fn factor(r: &mut Random) -> f64 {
+    match r.below(5) {
+        0 => 1.0,
+        1 => 2f64.powi(r.below(81) as i32 - 40),
+        2 => 10f64.powi(r.below(25) as i32 - 12),
+        3 => r.pick(&[1e3, 1e6, 1e-3, 1e-6]),
+        _ => r.size(1e-12, 1e12),
+    }
+}
+
+/// An extent of n lines on one axis: none, the least, the most, and those at which 1e-6 or the 1e-9 that a grid reaches further begins to count.
+fn extent(r: &mut Random, n: usize) -> f64 {
+    let s = (n as f64).sqrt();
+    let which = r.below(10);
+    let mut beside = |v: f64| nudged(v, r.below(5) as i64 - 2);
+    match which {
+        0 => 0.0,
+        1 => beside(1e-9),
+        2 => beside(1e-6 * s),
+        3 => beside(1e-6),
+        4 => 2e9,
+        5 => beside(2e9).min(2e9),
+        6 => 1.0,
+        7 => s,
+        _ => r.size(1e-9, 2e9),
+    }
+}
+
+/// n lines between 0 and 1 on both axes, most with ends at 0 and at 1, and the name of their shape.
+fn unit(r: &mut Random, n: usize) -> (&'static str, Vec<Line>) {
+    let side = (n as f64).sqrt().ceil().max(1.0);
+    let keep = |v: f64| v.clamp(0.0, 1.0);
+    let mut lines: Vec<Line> = Vec::with_capacity(n);
+    let shape = match r.below(8) {
+        0..=1 => {
+            lines.extend((0..n).map(|_| {
+                let (x, y) = (r.unit(), r.unit());
+                [x, y, keep(x + r.between(-2.0, 2.0) / side), keep(y + r.between(-2.0, 2.0) / side)]
+            }));
+            "extents, short"
+        }
+        2 => {
+            lines.extend((0..n).map(|_| [r.unit(), r.unit(), r.unit(), r.unit()]));
+            "extents, free"
+        }
+        3 => {
+            // ends on the boundaries of the first grid, or of a halved one
+            let parts = side * r.pick(&[1.0, 2.0, 4.0]);
+            let mut at = || r.below(parts as u64 + 1) as f64 / parts;
+            lines.extend((0..n).map(|_| [at(), at(), at(), at()]));
+            "extents, corners"
+        }
+        4 => {
+            // along one axis, or a hair off it
+            let hair = r.pick(&[0.0, 0.0, 5e-324, 1e-300, 1e-17]);
+            let upright = r.once_in(2);
+            lines.extend((0..n).map(|_| {
+                let (from, to, at) = (r.unit(), r.unit(), r.below(side as u64 + 1) as f64 / side);
+                if upright { [at, from, at + hair, to] } else { [from, at, to, at + hair] }
+            }));
+            "extents, along an axis"
+        }
+        5 => {
+            // many in one place: a halving, or two
+            let (x, y, small) = (r.unit() * 0.9, r.unit() * 0.9, r.size(1e-4, 0.1));
+            let mut near = |v: f64| keep(v + r.unit() * small);
+            lines.extend((0..n + 510).map(|_| [near(x), near(y), near(x), near(y)]));
+            "extents, cluster"
+        }
+        6 => {
+            lines.extend((0..n).map(|_| {
+                let (x, y) = (r.unit(), r.unit());
+                [x, y, x, y]
+            }));
+            "extents, points"
+        }
+        _ => {
+            let (mut x, mut y) = (0.5, 0.5);
+            lines.extend((0..n).map(|_| {
+                let from = (x, y);
+                (x, y) = (keep(x + r.between(-1.0, 1.0) / side), keep(y + r.between(-1.0, 1.0) / side));
+                [from.0, from.1, x, y]
+            }));
+            "extents, chain"
+        }
+    };
+    if !r.once_in(8) {
+        // the whole of both extents
+        lines[0] = [0.0, r.unit(), 1.0, r.unit()];
+        let last = lines.len() - 1;
+        lines[last][1] = 0.0;
+        lines[last][3] = 1.0;
+    }
+    (shape, lines)
+}
+
+/// A set of about at most `most` lines whose extents in x and in y have nothing to do with each other, with the name of its shape.
+pub fn apart(r: &mut Random, most: usize) -> (&'static str, Vec<Line>) {
+    if r.once_in(3) {
+        // one of the sets above with one axis in another unit
+        let (shape, mut all) = lines(r, most);
+        let f = factor(r);
+        let k = r.below(2) as usize;
+        for line in &mut all {
+            line[k] = (line[k] * f).clamp(-1e9, 1e9);
+            line[k + 2] = (line[k + 2] * f).clamp(-1e9, 1e9);
+        }
+        return (shape, all);
+    }
+    let n = match r.below(4) {
+        // a whole root, and the numbers beside it
+        0 => {
+            let root = 1 + r.below((most as f64).sqrt() as u64) as usize;
+            (root * root + r.below(3) as usize).saturating_sub(1).max(1)
+        }
+        _ => 1 + r.below(most as u64) as usize,
+    };
+    let width = extent(r, n);
+    let height = match r.below(3) {
+        0 => extent(r, n),
+        1 => (width * 2f64.powi(r.below(81) as i32 - 40)).min(2e9),
+        _ => (width * r.size(1e-12, 1e12)).min(2e9),
+    };
+    let mut low = |extent: f64| match r.below(4) {
+        0 => 0.0,
+        1 => -extent / 2.0,
+        2 => -extent,
+        _ => r.between(-1e9, 1e9) * if r.once_in(2) { 1.0 } else { 1e-6 },
+    };
+    // 2e9 has one place alone, and what is too high is brought down
+    let (min_x, min_y) = (low(width).min(1e9 - width).max(-1e9), low(height).min(1e9 - height).max(-1e9));
+    let (shape, mut all) = unit(r, n);
+    for line in &mut all {
+        for (k, (min, extent)) in [(min_x, width), (min_y, height), (min_x, width), (min_y, height)].into_iter().enumerate() {
+            line[k] = (min + line[k] * extent).clamp(-1e9, 1e9);
+        }
+    }
+    let flat = |k: usize| all.iter().all(|l| l[k] == all[0][k] && l[k + 2] == all[0][k]);
+    let shape = match (flat(0), flat(1)) {
+        (true, true) => "no extent",
+        (true, false) => "no width",
+        (false, true) => "no height",
+        _ => shape,
+    };
+    (shape, all)
 }

@@ -1,7 +1,9 @@
 //! One comparison for each kind of question. Each asks the Rust, the model and the port.
-//! What the Rust cannot be asked (refusals, walks past the budget, the reader) is asked of the model and the port.
+//! What the Rust cannot be asked (refusals, walks past the budget, the reader, cells sized by axis) is asked of the model and the port. Kinds that
+//! turn on the sizes of cells are asked twice: `AXES` says that width and height are kept apart.
 
 use crate::random::Random;
+use crate::Grid;
 use std::collections::BTreeMap;
 
 pub mod build;
@@ -17,8 +19,8 @@ pub mod wkb;
 pub trait Kind {
     type Case: Clone;
     const NAME: &'static str;
-    /// Whether the Rust has such a function.
-    const RUST: bool = true;
+    /// Who is asked.
+    const SIDES: &'static str = "port, Rust and model";
     /// The shape's name, and the case.
     fn draw(r: &mut Random) -> (&'static str, Self::Case);
     /// What the answer was, in a word or two; or how two answers differ.
@@ -46,8 +48,7 @@ pub fn run<K: Kind>(seed: u64, cases: u64, fixed: Vec<(&'static str, K::Case)>) 
         }
         total += 1;
     }
-    let sides = if K::RUST { "port, Rust and model" } else { "port and model" };
-    println!("{}: {total} cases, {sides}: no difference", K::NAME);
+    println!("{}: {total} cases, {}: no difference", K::NAME, K::SIDES);
     let mut shapes: BTreeMap<&str, Vec<String>> = BTreeMap::new();
     for ((shape, answer), count) in counts {
         shapes.entry(shape).or_default().push(format!("{answer} {count}"));
@@ -85,6 +86,21 @@ pub fn rounder(v: f64) -> Vec<f64> {
     all
 }
 
+/// Rounder cell sizes: one of the two, or both where they are to stay equal.
+pub fn sizes(g: &Grid, apart: bool) -> Vec<(f64, f64)> {
+    if !apart {
+        return rounder(g.cell_width).into_iter().map(|size| (size, size)).collect();
+    }
+    let widths = rounder(g.cell_width).into_iter().map(|width| (width, g.cell_height));
+    widths.chain(rounder(g.cell_height).into_iter().map(|height| (g.cell_width, height))).collect()
+}
+
+/// A grid's line in what is shown of a case.
+pub fn show_grid(g: &Grid) -> String {
+    let at = format!("{}, {}", float(g.min_x), float(g.min_y));
+    format!("grid {} by {} at {at}, cells {} wide, {} high\n", g.cols, g.rows, float(g.cell_width), float(g.cell_height))
+}
+
 /// A float's value and pattern.
 pub fn float(v: f64) -> String {
     format!("{v:?} ({:016x})", v.to_bits())
@@ -109,11 +125,18 @@ pub fn answers(who: &str, wanted: (u32, &[u64]), got: (u32, &[u64])) -> Result<(
 
 /// A word for an answer by number.
 pub fn word(number: u32) -> &'static str {
-    [
-        "answered", "refused 1", "refused 2", "refused 3", "refused 4", "refused 5", "refused 6", "refused 7", "refused 8", "refused 9",
-        "refused 10", "refused 11", "refused 12",
-    ][number as usize]
+    match number {
+        100 => "out is short",
+        102 => "no such sizing",
+        _ => [
+            "answered", "refused 1", "refused 2", "refused 3", "refused 4", "refused 5", "refused 6", "refused 7", "refused 8", "refused 9",
+            "refused 10", "refused 11", "refused 12",
+        ][number as usize],
+    }
 }
+
+/// Who is asked where the Rust has only one cell size.
+pub const WHERE_SQUARED: &str = "port and model, and the Rust where the sizes are a power of two apart";
 
 /// What lent slices hold before a call: anything but zero, so that an entry left alone shows.
 pub const JUNK: u32 = 0xdead_beef;

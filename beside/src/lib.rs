@@ -1,6 +1,6 @@
 //! The port and the Rust that it was made from, in one program.
 //!
-//! `oracle` is the Rust unchanged, `port` the proved library, `model` a third opinion: document 01 written down once more, apart from both.
+//! `oracle` is the Rust unchanged, `port` the proved library, `model` a third opinion: the documents written down once more, apart from both.
 //! `kinds` has one comparison for each kind of question, `cases` what they ask.
 //!
 //! The modules named in the second half stand for parts of the Rust's own crate: its source names them by `crate::`.
@@ -18,8 +18,8 @@ pub(crate) mod noding;
 pub(crate) mod stand_in;
 pub(crate) use stand_in::{diagnostics, options, trace, types, utils, PolygonizeError, Result};
 
-/// Document 01's grid record.
-pub use morelturret::Grid;
+/// The grid record, and how a build sizes its cells.
+pub use morelturret::{Grid, Sizing};
 
 /// A line: start x, start y, end x, end y.
 pub type Line = [f64; 4];

@@ -1,8 +1,8 @@
-//! Document 01 written down once more, apart from the Rust and from the port: the third opinion.
+//! Document 01, and what document 02 adds, written down once more, apart from the Rust and from the port: the third opinion.
 //! Numbers are worked out on bit patterns. Each entry has the port's own shape: lent slices, an answer by number, values in `out`.
 //! The walk counts its turns, so that the Rust is never asked for a walk that may not end.
 
-use crate::{Grid, Line};
+use crate::{Grid, Line, Sizing};
 
 /// The turns that a walk may make.
 pub const BUDGET: u32 = 5000;
@@ -151,7 +151,8 @@ pub fn coordinate_fits(v: f64) -> bool {
 pub fn grid_fits(g: &Grid) -> bool {
     let counts = (g.cols == 0 && g.rows == 0)
         || ((1..=4004).contains(&g.cols) && (1..=4004).contains(&g.rows) && g.cols as u64 * g.rows as u64 <= 1_002_001);
-    coordinate_fits(g.min_x) && coordinate_fits(g.min_y) && g.cell_size >= 1e-6 / 4.0 && g.cell_size <= 2e9 && counts
+    let sizes = [g.cell_width, g.cell_height].iter().all(|&size| size >= 1e-6 / 4.0 && size <= 2e9);
+    coordinate_fits(g.min_x) && coordinate_fits(g.min_y) && sizes && counts
 }
 
 pub fn snap_fits(size: f64, strategy: u32) -> bool {
@@ -191,7 +192,7 @@ impl Axis {
 }
 
 fn axes(g: &Grid) -> (Axis, Axis) {
-    (Axis { low: g.min_x, size: g.cell_size, count: g.cols }, Axis { low: g.min_y, size: g.cell_size, count: g.rows })
+    (Axis { low: g.min_x, size: g.cell_width, count: g.cols }, Axis { low: g.min_y, size: g.cell_height, count: g.rows })
 }
 
 /// How a walk goes on one axis: the index, the step, `t_max` and `t_delta`.
@@ -367,6 +368,59 @@ impl Coordinates<'_> {
     }
 }
 
+/// The cell width and the cell height of the first grid that is tried for n lines.
+fn first_sizes(sizing: Sizing, n: f64, width: f64, height: f64) -> (f64, f64) {
+    match sizing {
+        Sizing::Square => {
+            let mut area = width * height;
+            if area < 1e-9 {
+                area = n;
+            }
+            let size = greatest(greatest(square_root(area / n), greatest(width, height) / 1000.0), 1e-6);
+            (size, size)
+        }
+        Sizing::Axes => {
+            let s = square_root(n);
+            let size = |extent: f64| greatest(greatest(extent / s, extent / 1000.0), 1e-6);
+            (size(width), size(height))
+        }
+    }
+}
+
+/// What a grid lists: the lines of each cell, and the global lines.
+pub struct Listed {
+    pub lists: Vec<Vec<u32>>,
+    pub globals: Vec<u32>,
+}
+
+impl Listed {
+    pub fn offsets(&self) -> Vec<u32> {
+        let mut offsets = vec![0];
+        for l in &self.lists {
+            offsets.push(offsets.last().unwrap() + l.len() as u32);
+        }
+        offsets
+    }
+}
+
+/// The lines in the domain counted and placed on a grid that is fit; or the first line whose walk goes beyond the budget.
+pub fn listed_on(grid: &Grid, lines: Coordinates) -> Result<Listed, usize> {
+    let mut lists = vec![Vec::new(); grid.cols as usize * grid.rows as usize];
+    let mut globals = Vec::new();
+    let mut cells = Vec::new();
+    for i in 0..lines.len() {
+        walk(grid, &lines.line(i), &mut cells).ok_or(i)?;
+        if cells.len() > MOST_CELLS {
+            globals.push(i as u32);
+        } else {
+            for &c in &cells {
+                lists[c as usize].push(i as u32);
+            }
+        }
+    }
+    Ok(Listed { lists, globals })
+}
+
 /// What a build makes, with the most cells + 1 of the grids that it tried and the halvings.
 #[derive(Clone)]
 pub struct Tables {
@@ -379,68 +433,71 @@ pub struct Tables {
 }
 
 /// The tables of a set of lines in the domain. `room` is the number of offsets lent. A refusal 4 or 7 is the error.
-pub fn tables(lines: Coordinates, room: usize) -> Result<Tables, (u32, u64)> {
+pub fn tables(lines: Coordinates, sizing: Sizing, room: usize) -> Result<Tables, (u32, u64)> {
     let n = lines.len();
     if n == 0 {
         if room < 1 {
             return Err((4, 1));
         }
-        let grid = Grid { min_x: 0.0, min_y: 0.0, cell_size: 1.0, cols: 0, rows: 0 };
+        let grid = Grid { min_x: 0.0, min_y: 0.0, cell_width: 1.0, cell_height: 1.0, cols: 0, rows: 0 };
         return Ok(Tables { grid, offsets: vec![0], items: vec![], globals: vec![], most_offsets: 1, halvings: 0 });
     }
+    // of zeros the first stays: lines in order, start before end
     let reach = |a: &[f64], b: &[f64]| {
-        let all = || a.iter().chain(b).copied();
+        let all = || a.iter().zip(b).flat_map(|(&start, &end)| [start, end]);
         (all().fold(f64::INFINITY, least), all().fold(f64::NEG_INFINITY, greatest))
     };
     let (min_x, max_x) = reach(lines.start_x, lines.end_x);
     let (min_y, max_y) = reach(lines.start_y, lines.end_y);
     let (width, height) = (max_x - min_x, max_y - min_y);
-    let mut area = width * height;
-    if area < 1e-9 {
-        area = n as f64;
-    }
-    let mut cell_size = greatest(greatest(square_root(area / n as f64), greatest(width, height) / 1000.0), 1e-6);
+    let (mut cell_width, mut cell_height) = first_sizes(sizing, n as f64, width, height);
     let mut halvings = 0;
     let mut most_offsets = 0;
-    let mut cells = Vec::new();
     loop {
-        let cols = ceiling((width + 1e-9) / cell_size);
-        let rows = ceiling((height + 1e-9) / cell_size);
+        let cols = ceiling((width + 1e-9) / cell_width);
+        let rows = ceiling((height + 1e-9) / cell_height);
         let count = (cols * rows) as usize;
         most_offsets = most_offsets.max(count + 1);
         if count + 1 > room {
             return Err((4, count as u64 + 1));
         }
-        let grid = Grid { min_x, min_y, cell_size, cols: cols as u32, rows: rows as u32 };
-        let mut lists = vec![Vec::new(); count];
-        let mut globals = Vec::new();
-        for i in 0..n {
-            if walk(&grid, &lines.line(i), &mut cells).is_none() {
-                return Err((7, i as u64));
-            }
-            if cells.len() > MOST_CELLS {
-                globals.push(i as u32);
-            } else {
-                for &c in &cells {
-                    lists[c as usize].push(i as u32);
-                }
-            }
-        }
-        let crowded = lists.iter().any(|l| l.len() > 500);
+        let grid = Grid { min_x, min_y, cell_width, cell_height, cols: cols as u32, rows: rows as u32 };
+        let listed = listed_on(&grid, lines).map_err(|line| (7, line as u64))?;
+        let crowded = listed.lists.iter().any(|l| l.len() > 500);
         if crowded && halvings < 2 && count * 4 < 1_000_000 {
-            cell_size /= 2.0;
+            cell_width /= 2.0;
+            cell_height /= 2.0;
             halvings += 1;
             continue;
         }
-        let mut offsets = vec![0];
-        for l in &lists {
-            offsets.push(offsets.last().unwrap() + l.len() as u32);
-        }
-        return Ok(Tables { grid, offsets, items: lists.concat(), globals, most_offsets, halvings });
+        return Ok(Tables { grid, offsets: listed.offsets(), items: listed.lists.concat(), globals: listed.globals, most_offsets, halvings });
     }
 }
 
-pub fn build(lines: Coordinates, offsets: &mut [u32], items: &mut [u32], globals: &mut [u32], scratch: &mut [u32], out: &mut [u64]) -> u32 {
+/// What a function answers whose `out` has too few words, and a build that is asked for a sizing that there is not.
+pub const SHORT: u32 = 100;
+pub const NO_SIZING: u32 = 102;
+
+/// The sizing of a number.
+pub fn sizing_of(number: u32) -> Option<Sizing> {
+    match number {
+        0 => Some(Sizing::Square),
+        1 => Some(Sizing::Axes),
+        _ => None,
+    }
+}
+
+/// out: the words of the grid, the number of items, the number of globals.
+#[allow(clippy::too_many_arguments)]
+pub fn build(
+    lines: Coordinates, sizing: u32, offsets: &mut [u32], items: &mut [u32], globals: &mut [u32], scratch: &mut [u32], out: &mut [u64],
+) -> u32 {
+    if out.len() < 8 {
+        return SHORT;
+    }
+    let Some(sizing) = sizing_of(sizing) else {
+        return NO_SIZING;
+    };
     if lines.uneven() || scratch.len() < SCRATCH {
         out[0] = 0;
         return 3;
@@ -452,7 +509,7 @@ pub fn build(lines: Coordinates, offsets: &mut [u32], items: &mut [u32], globals
     for s in [&mut *offsets, &mut *items, &mut *globals, &mut *scratch] {
         s.fill(0);
     }
-    let refusal = match tables(lines, offsets.len()) {
+    let refusal = match tables(lines, sizing, offsets.len()) {
         Err(refusal) => refusal,
         Ok(t) if t.items.len() > items.len() => (5, t.items.len() as u64),
         Ok(t) if t.globals.len() > globals.len() => (6, t.globals.len() as u64),
@@ -461,8 +518,8 @@ pub fn build(lines: Coordinates, offsets: &mut [u32], items: &mut [u32], globals
             left(items, &t.items);
             left(globals, &t.globals);
             let g = t.grid;
-            out[..3].copy_from_slice(&[g.min_x.to_bits(), g.min_y.to_bits(), g.cell_size.to_bits()]);
-            out[3..7].copy_from_slice(&[g.cols as u64, g.rows as u64, t.items.len() as u64, t.globals.len() as u64]);
+            out[..4].copy_from_slice(&[g.min_x, g.min_y, g.cell_width, g.cell_height].map(f64::to_bits));
+            out[4..8].copy_from_slice(&[g.cols as u64, g.rows as u64, t.items.len() as u64, t.globals.len() as u64]);
             return 0;
         }
     };
@@ -536,9 +593,6 @@ impl Lists<'_> {
         (!self.fits()).then_some((10, 0))
     }
 }
-
-/// What a function answers whose `out` has too few words.
-pub const SHORT: u32 = 100;
 
 /// The values at the start of `out`, or the refusal's one. `out` has room for the values, whichever it is.
 fn listed(out: &mut [u64], answer: Result<[u64; 2], (u32, u64)>) -> u32 {

@@ -37,16 +37,18 @@ pub mod grid {
         use super::*;
         use crate::stand_in::geo::algorithm::line_intersection::NEXT;
 
+        /// The cells of a line on a grid of square cells: their size is the width.
         #[inline]
         pub fn cells(line: &Line3D, g: &crate::Grid) -> SmallVec<[usize; 64]> {
-            segment_cells(line, g.min_x, g.min_y, g.cell_size, g.cols as usize, g.rows as usize)
+            segment_cells(line, g.min_x, g.min_y, g.cell_width, g.cols as usize, g.rows as usize)
         }
 
         pub fn record(grid: &UniformGrid) -> crate::Grid {
             crate::Grid {
                 min_x: grid.bounds_min.x,
                 min_y: grid.bounds_min.y,
-                cell_size: grid.cell_size,
+                cell_width: grid.cell_size,
+                cell_height: grid.cell_size,
                 cols: grid.cols as u32,
                 rows: grid.rows as u32,
             }
@@ -64,13 +66,18 @@ pub mod grid {
             &grid.global_lines
         }
 
-        /// A grid with no lists: all that an ownership test reads.
+        /// A grid of square cells with no lists: all that an ownership test reads.
         pub fn bare(g: &crate::Grid) -> UniformGrid {
+            standing(g, &[], &[], &[])
+        }
+
+        /// A grid with lists: a visit reads these and the counts, and no size.
+        pub fn standing(g: &crate::Grid, offsets: &[u32], items: &[u32], globals: &[u32]) -> UniformGrid {
             UniformGrid {
-                cell_offsets: Vec::new(),
-                cell_items: Vec::new(),
-                global_lines: Vec::new(),
-                cell_size: g.cell_size,
+                cell_offsets: offsets.iter().map(|&o| o as usize).collect(),
+                cell_items: items.to_vec(),
+                global_lines: globals.iter().map(|&l| l as usize).collect(),
+                cell_size: g.cell_width,
                 cols: g.cols as usize,
                 rows: g.rows as usize,
                 bounds_min: Coord { x: g.min_x, y: g.min_y },

@@ -33,9 +33,50 @@ impl Lines {
     }
 }
 
-/// The cells of a segment.
+/// The cells of a segment on a grid of square cells.
 pub fn segment_cells(grid: &Grid, line: &Line) -> Vec<u32> {
+    assert_eq!(grid.cell_width, grid.cell_height, "the Rust has one cell size");
     reach::cells(&line_of(line), grid).iter().map(|&c| c as u32).collect()
+}
+
+/// The square cells that a fit grid has once x and y are multiplied by two factors, where these are powers of two. Multiplied by them, from 1 on,
+/// no float is rounded; and every step of the walk and of the ownership tests is one of an axis by itself, or compares what is the same on both
+/// grids. So the Rust, which has one cell size, answers for a grid of two sizes as well.
+pub struct Squared {
+    grid: Grid,
+    factors: [f64; 2],
+}
+
+impl Squared {
+    /// None where the ratio of the sizes is no power of two.
+    pub fn of(g: &Grid) -> Option<Squared> {
+        // equal digits: only the exponents may differ
+        if (g.cell_width.to_bits() ^ g.cell_height.to_bits()) << 12 != 0 {
+            return None;
+        }
+        let size = g.cell_width.max(g.cell_height);
+        let factors = [size / g.cell_width, size / g.cell_height];
+        let grid = Grid { min_x: g.min_x * factors[0], min_y: g.min_y * factors[1], cell_width: size, cell_height: size, ..*g };
+        Some(Squared { grid, factors })
+    }
+
+    pub fn grid(&self) -> &Grid {
+        &self.grid
+    }
+
+    /// Whether the cells were square already.
+    pub fn is_itself(&self) -> bool {
+        self.factors == [1.0, 1.0]
+    }
+
+    pub fn point(&self, x: f64, y: f64) -> (f64, f64) {
+        (x * self.factors[0], y * self.factors[1])
+    }
+
+    pub fn line(&self, line: &Line) -> Line {
+        let ((a, b), (c, d)) = (self.point(line[0], line[1]), self.point(line[2], line[3]));
+        [a, b, c, d]
+    }
 }
 
 /// A grid that the Rust built.
@@ -46,6 +87,11 @@ pub fn build(lines: &Lines) -> Built {
 }
 
 impl Built {
+    /// Tables that stand on a grid of any two sizes, for the Rust to visit.
+    pub fn standing(grid: &Grid, offsets: &[u32], items: &[u32], globals: &[u32]) -> Built {
+        Built(reach::standing(grid, offsets, items, globals))
+    }
+
     pub fn grid(&self) -> Grid {
         reach::record(&self.0)
     }
@@ -83,7 +129,7 @@ impl Built {
     }
 }
 
-/// The Rust's ownership tests on one grid.
+/// The Rust's ownership tests on one grid of square cells.
 pub struct Owners {
     grid: UniformGrid,
     lines: [Line3D; 2],
@@ -92,6 +138,7 @@ pub struct Owners {
 
 impl Owners {
     pub fn new(grid: &Grid) -> Self {
+        assert_eq!(grid.cell_width, grid.cell_height, "the Rust has one cell size");
         let line = line_of(&[0.0; 4]);
         Owners { grid: reach::bare(grid), lines: [line, line], events: Vec::with_capacity(4) }
     }

@@ -49,12 +49,12 @@ pub fn snap(x: f64, y: f64, size: f64, strategy: u32, out: &mut [u64]) -> u32 {
     0
 }
 
-/// The first index of an axis that owns p, in the float steps of the ownership test: low = min + index x cell_size, high = low + cell_size.
+/// The first index of an axis that owns p, in the float steps of the ownership test: low = min + index x size, high = low + size.
 /// The edges keep their order along an axis, so the first index with p below its high edge, or else the last, is the only one that can be it.
 #[inline]
-fn first(min: f64, cell_size: f64, count: u32, p: f64) -> Option<u32> {
-    let low = |i: u32| min + i as f64 * cell_size;
-    let high = |i: u32| low(i) + cell_size;
+fn first(min: f64, size: f64, count: u32, p: f64) -> Option<u32> {
+    let low = |i: u32| min + i as f64 * size;
+    let high = |i: u32| low(i) + size;
     let last = count.checked_sub(1)?;
     let (mut a, mut b) = (0, last);
     while a < b {
@@ -71,7 +71,7 @@ fn first(min: f64, cell_size: f64, count: u32, p: f64) -> Option<u32> {
 /// The row and the column of the first cell in row order that owns (x, y). The Rust has no such search.
 #[inline(never)]
 pub fn owner(g: &Grid, x: f64, y: f64) -> Option<(u32, u32)> {
-    let col = first(g.min_x, g.cell_size, g.cols, x)?;
-    let row = first(g.min_y, g.cell_size, g.rows, y)?;
+    let col = first(g.min_x, g.cell_width, g.cols, x)?;
+    let row = first(g.min_y, g.cell_height, g.rows, y)?;
     Some((row, col))
 }

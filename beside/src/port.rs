@@ -28,9 +28,12 @@ pub fn inner_walk(g: &Grid, line: &Line, scratch: &mut [u32], out: &mut [u64]) -
     inner::inner_walk(&g.words(), x0, y0, x1, y1, scratch, out)
 }
 
+/// The sizing is asked for by its number: 0 square, 1 by axis. out: the words of the grid, the number of items, the number of globals.
 #[inline]
-pub fn build(l: Coordinates, offsets: &mut [u32], items: &mut [u32], globals: &mut [u32], scratch: &mut [u32], out: &mut [u64]) -> u32 {
-    sys::build(l.start_x, l.start_y, l.end_x, l.end_y, offsets, items, globals, scratch, out)
+pub fn build(
+    l: Coordinates, sizing: u32, offsets: &mut [u32], items: &mut [u32], globals: &mut [u32], scratch: &mut [u32], out: &mut [u64],
+) -> u32 {
+    sys::build(l.start_x, l.start_y, l.end_x, l.end_y, sizing, offsets, items, globals, scratch, out)
 }
 
 /// out: written only on a refusal.

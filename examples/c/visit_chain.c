@@ -1,7 +1,8 @@
-/* visit_chain FILE: from a chain of points to the pairs of lines that may cross, by the library's C functions.
+/* visit_chain [--sizing square|axes] FILE: from a chain of points to the pairs of lines that may cross, by the library's C functions.
  *
  * FILE holds one LineString in well-known binary. Consecutive points make lines, numbered from 0. Printed are the grid that the library picks for
  * them, how long its tables are, how many tests a whole visit makes, how many of them found two lines whose boxes overlap, and the first such pairs.
+ * The grid's cells are square, or, by `--sizing axes`, as wide and as high as each axis by itself asks for.
  * The exit status is 0; 1 where the library refuses, which is printed with its number and value; 2 where FILE can't be read or standard
  * output can't be written.
  *
@@ -12,6 +13,7 @@
 #include "morelturret.h"
 #include <inttypes.h>
 #include <stdio.h>
+#include <string.h>
 
 /* The reader takes up to 1,024 points, and its slices have room for all of them. */
 enum { POINTS = 1024, LINES = POINTS - 1 };
@@ -53,24 +55,36 @@ static double of_bits(uint64_t bits) {
     return word.value;
 }
 
+/* Whether the words ask for a sizing and one file, or for one file alone; then what they ask for stands in *sizing and *path. */
+static int asked(int argc, char **argv, uint32_t *sizing, const char **path) {
+    *sizing = MT_SQUARE;
+    *path = argv[argc - 1];
+    if (argc == 2) return 1;
+    if (argc != 4 || strcmp(argv[1], "--sizing") != 0) return 0;
+    if (strcmp(argv[2], "axes") == 0) *sizing = MT_AXES;
+    return *sizing == MT_AXES || strcmp(argv[2], "square") == 0;
+}
+
 int main(int argc, char **argv) {
-    if (argc != 2) {
-        fprintf(stderr, "visit_chain: one FILE is needed, a LineString in well-known binary\n");
+    uint32_t sizing;
+    const char *path;
+    if (!asked(argc, argv, &sizing, &path)) {
+        fprintf(stderr, "visit_chain: [--sizing square|axes] and one FILE are needed, a LineString in well-known binary\n");
         return 2;
     }
 
     /* 1. The bytes. */
-    FILE *file = fopen(argv[1], "rb");
+    FILE *file = fopen(path, "rb");
     size_t length = file ? fread(bytes, 1, BYTES, file) : 0;
     if (!file || ferror(file)) {
-        fprintf(stderr, "visit_chain: %s can't be read\n", argv[1]);
+        fprintf(stderr, "visit_chain: %s can't be read\n", path);
         return 2;
     }
     fclose(file);
 
     /* 2. Bytes to points. A slice is passed as its address and its length; `out` takes what the function answers. */
-    uint64_t out[7];
-    uint32_t number = mt_read_line_string(bytes, length, x, POINTS, y, POINTS, out, 7);
+    uint64_t out[3];
+    uint32_t number = mt_read_line_string(bytes, length, x, POINTS, y, POINTS, out, 3);
     if (number != MT_OK) return refused(number, out[0]);
 
     /* 3. Points to lines: line i goes from point i to point i + 1, so the ends are the starts from the second on. Nothing is copied: slices that
@@ -80,13 +94,14 @@ int main(int argc, char **argv) {
 
     /* 4. A grid, and the tables on it: the list of cell c is items[offsets[c]] up to items[offsets[c + 1]]. The words that are answered begin with
      * those of the grid, and are handed on as they are. */
-    uint64_t built[7];
-    number = mt_build(start_x, lines, start_y, lines, end_x, lines, end_y, lines, offsets, OFFSETS, items, ITEMS, globals, LINES, scratch,
-                      SCRATCH, built, 7);
+    uint64_t built[8];
+    number = mt_build(start_x, lines, start_y, lines, end_x, lines, end_y, lines, sizing, offsets, OFFSETS, items, ITEMS, globals, LINES,
+                      scratch, SCRATCH, built, 8);
     if (number != MT_OK) return refused(number, built[0]);
-    uint64_t item_count = built[5], global_count = built[6];
+    uint64_t width = built[2], height = built[3], item_count = built[6], global_count = built[7];
     printf("lines %zu\n", lines);
-    printf("grid %" PRIu64 " columns, %" PRIu64 " rows, cell size %.9f (bits %016" PRIx64 ")\n", built[3], built[4], of_bits(built[2]), built[2]);
+    printf("grid %" PRIu64 " columns, %" PRIu64 " rows, cells %.9f by %.9f ", built[4], built[5], of_bits(width), of_bits(height));
+    printf("(bits %016" PRIx64 " %016" PRIx64 ")\n", width, height);
     printf("items %" PRIu64 "\n", item_count);
     printf("globals %" PRIu64 "\n", global_count);
 
@@ -95,8 +110,8 @@ int main(int argc, char **argv) {
     uint64_t bookmark = 0, overlaps = 0, pairs;
     uint32_t shown[SHOWN][2];
     do {
-        number = mt_batch(built, 7, start_x, lines, start_y, lines, end_x, lines, end_y, lines, offsets, OFFSETS, items, ITEMS, globals, LINES,
-                          global_count, bookmark, first, BATCH, second, BATCH, out, 7);
+        number = mt_batch(built, 8, start_x, lines, start_y, lines, end_x, lines, end_y, lines, offsets, OFFSETS, items, ITEMS, globals, LINES,
+                          global_count, bookmark, first, BATCH, second, BATCH, out, 3);
         if (number != MT_OK) return refused(number, out[0]);
         pairs = out[1];
         bookmark = out[2];

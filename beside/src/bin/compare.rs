@@ -1,11 +1,12 @@
 //! compare [--seed S] [--cases N | --share P] [KIND..]: the port beside the Rust, kind by kind. Without kinds, all of them; without N, a full run
-//! of each, or P hundredths of one. The port takes part in every kind: --port may be said, and changes nothing.
+//! of each, or P hundredths of one. The kinds named axes- are of cells whose width and height are kept apart.
+//! The port takes part in every kind: --port may be said, and changes nothing.
 //! Ends with status 1 at the first difference.
 
 use beside::kinds::{self, build, lists, numbers, own, snap, visit, walk, wkb};
 
 /// The kinds, with the cases of a full run.
-const KINDS: [(&str, u64); 9] = [
+const KINDS: [(&str, u64); 14] = [
     ("sample", 1),
     ("numbers", 10_000_000),
     ("walk", 1_000_000),
@@ -15,6 +16,11 @@ const KINDS: [(&str, u64); 9] = [
     ("own", 1_000_000),
     ("snap", 2_200_000),
     ("wkb", 100_000),
+    ("axes-walk", 500_000),
+    ("axes-build", 3_000),
+    ("axes-visit", 2_000),
+    ("axes-lists", 5_000),
+    ("axes-own", 500_000),
 ];
 
 fn main() {
@@ -36,15 +42,20 @@ fn main() {
         let n = cases.unwrap_or(full * share / 100).max(1);
         let begun = std::time::Instant::now();
         let right = match kind {
-            "sample" => sample(),
+            "sample" => sample() & by_axis(),
             "numbers" => numbers::run(seed, n),
-            "walk" => kinds::run::<walk::Walk>(seed, n, walk::fixed()),
-            "build" => kinds::run::<build::Build>(seed, n, build::fixed(seed)),
-            "visit" => kinds::run::<visit::Visit>(seed, n, vec![]),
-            "lists" => kinds::run::<lists::Lists>(seed, n, vec![]),
-            "own" => kinds::run::<own::Own>(seed, n, vec![]),
+            "walk" => kinds::run::<walk::Walk<false>>(seed, n, walk::fixed()),
+            "build" => kinds::run::<build::Build<false>>(seed, n, build::fixed(seed)),
+            "visit" => kinds::run::<visit::Visit<false>>(seed, n, vec![]),
+            "lists" => kinds::run::<lists::Lists<false>>(seed, n, vec![]),
+            "own" => kinds::run::<own::Own<false>>(seed, n, vec![]),
             "snap" => kinds::run::<snap::Snap>(seed, n, vec![]),
-            _ => kinds::run::<wkb::Wkb>(seed, n, vec![]),
+            "wkb" => kinds::run::<wkb::Wkb>(seed, n, vec![]),
+            "axes-walk" => kinds::run::<walk::Walk<true>>(seed, n, walk::fixed_by_axis()),
+            "axes-build" => kinds::run::<build::Build<true>>(seed, n, build::fixed_by_axis(seed)),
+            "axes-visit" => kinds::run::<visit::Visit<true>>(seed, n, vec![]),
+            "axes-lists" => kinds::run::<lists::Lists<true>>(seed, n, vec![]),
+            _ => kinds::run::<own::Own<true>>(seed, n, vec![]),
         };
         println!("  (seed {seed}, {:.1} s)", begun.elapsed().as_secs_f64());
         if !right {
@@ -61,7 +72,7 @@ fn stop(text: &str) -> ! {
 /// Document 01's sample and measured points, by the Rust alone: they show that the Rust at hand is the one that the document speaks of.
 fn sample() -> bool {
     use beside::{oracle, Grid};
-    let four = Grid { min_x: 0.0, min_y: 0.0, cell_size: 1.0, cols: 4, rows: 4 };
+    let four = Grid { min_x: 0.0, min_y: 0.0, cell_width: 1.0, cell_height: 1.0, cols: 4, rows: 4 };
     let cells = |line| oracle::segment_cells(&four, &line);
     let at = |x| cells([x, 0.5, x, 0.5]);
     let hair = 2f64.powi(-41);
@@ -100,7 +111,7 @@ visit 9 9
     let lines = oracle::Lines::new(&[[0.0, 0.0, 2.0, 0.0], [2.0, 0.0, 2.0, 2.0], [2.0, 2.0, 0.0, 2.0], [0.0, 2.0, 0.0, 0.0]]);
     let built = oracle::build(&lines);
     let (g, offsets, items) = (built.grid(), built.offsets(), built.items());
-    let mut text = format!("grid {} {} {:016x} {} {}\n", g.cols, g.rows, g.cell_size.to_bits(), items.len(), built.globals().len());
+    let mut text = format!("grid {} {} {:016x} {} {}\n", g.cols, g.rows, g.cell_width.to_bits(), items.len(), built.globals().len());
     for cell in 0..(g.cols * g.rows) as usize {
         let list = &items[offsets[cell] as usize..offsets[cell + 1] as usize];
         if !list.is_empty() {
@@ -112,9 +123,42 @@ visit 9 9
     let (tests, pairs) = built.visit(&lines);
     text += &format!("visit {tests} {}\n", pairs.len());
     if text == wanted {
-        println!("sample: the Rust prints document 01's sample; {} of {} measured points are as there", measured.iter().filter(|m| m.1).count(), measured.len());
+        let as_there = measured.iter().filter(|m| m.1).count();
+        println!("sample: the Rust prints document 01's sample; {as_there} of {} measured points are as there", measured.len());
     } else {
         println!("sample: the Rust prints\n{text}where document 01 has\n{wanted}");
     }
     text == wanted && measured.iter().all(|m| m.1)
+}
+
+/// Document 02's sizing by axis, by the model alone, at values that are worked out by hand: columns, rows, cell width, cell height, items.
+fn by_axis() -> bool {
+    use beside::kinds::build::Columns;
+    use beside::{model, Line, Sizing};
+    let square = [[0.0, 0.0, 2.0, 0.0], [2.0, 0.0, 2.0, 2.0], [2.0, 2.0, 0.0, 2.0], [0.0, 2.0, 0.0, 0.0]];
+    let milli = square.map(|[a, b, c, d]| [a * 1000.0, b, c * 1000.0, d]);
+    let wide = [[-1e9, 0.0, 1e9, 0.0], [0.0, 0.0, 0.0, 1e-9], [0.0; 4], [0.0; 4]];
+    // 574 points at one place: half the width, half the height, and both once more
+    let crowd: Vec<Line> = vec![[0.0, 0.0, 24.0, 48.0], [24.0, 48.0, 0.0, 0.0]].into_iter().chain(vec![[24.0, 48.0, 24.0, 48.0]; 574]).collect();
+    let wanted: [(&str, &[Line], (u32, u32, f64, f64, usize)); 7] = [
+        ("no lines", &[], (0, 0, 1.0, 1.0, 0)),
+        ("one point", &[[0.0; 4]], (1, 1, 1e-6, 1e-6, 1)),
+        ("one diagonal", &[[0.0, 0.0, 2.0, 2.0]], (2, 2, 2.0, 2.0, 4)),
+        ("the square", &square, (3, 3, 1.0, 1.0, 18)),
+        ("the square, x in thousandths", &milli, (3, 3, 1000.0, 1.0, 18)),
+        ("2e9 wide, 1e-9 high", &wide, (2, 1, 1e9, 1e-6, 8)),
+        ("two halvings", &crowd, (97, 97, 0.25, 0.5, 2 * 289 + 574 * 4)),
+    ];
+    let mut right = 0;
+    for (name, lines, wanted) in wanted {
+        let t = model::tables(Columns::new(lines).coordinates(), Sizing::Axes, usize::MAX).unwrap();
+        let got = (t.grid.cols, t.grid.rows, t.grid.cell_width, t.grid.cell_height, t.items.len());
+        if got == wanted {
+            right += 1;
+        } else {
+            println!("sample: the model sizes {name} by axis as {got:?}, where document 02 has {wanted:?}");
+        }
+    }
+    println!("sample: the model has {right} of {} grids by axis as document 02", wanted.len());
+    right == wanted.len()
 }

@@ -1,11 +1,12 @@
-//! record [--seed S] OUT: writes a sample of the Rust's answers of every kind. REPLAY.md has the form.
+//! record [--seed S] OUT: writes a sample of the Rust's answers of every kind, and of the model's where cells are sized by axis. REPLAY.md has the
+//! form.
 
 use beside::kinds::build::Columns;
-use beside::kinds::{numbers, own};
+use beside::kinds::{numbers, own, walk};
 use beside::model::{self, Standing, Test, SCRATCH};
-use beside::oracle;
+use beside::oracle::{self, Built, Squared};
 use beside::random::{nudged, Random};
-use beside::{cases, Grid, Line};
+use beside::{cases, Grid, Line, Sizing};
 
 // What the program `replay` has room for.
 const OFFSETS: usize = 4096;
@@ -44,7 +45,8 @@ impl Words {
         self.list(entries.iter().map(|&v| v as u64))
     }
     fn grid(self, g: &Grid) -> Self {
-        self.list([bits(g.min_x), bits(g.min_y), bits(g.cell_size), g.cols as u64, g.rows as u64].into_iter())
+        let floats = [g.min_x, g.min_y, g.cell_width, g.cell_height].map(bits);
+        self.list(floats.into_iter().chain([g.cols as u64, g.rows as u64]).collect::<Vec<_>>().into_iter())
     }
     /// Start x of all lines, start y, end x, end y.
     fn lines(self, lines: &[Line]) -> Self {
@@ -66,6 +68,9 @@ impl Words {
         self.entries(&entries[..to])
     }
 }
+
+/// How a set of lines is drawn.
+type Draw = fn(&mut Random, usize) -> (&'static str, Vec<Line>);
 
 struct File {
     words: Vec<u64>,
@@ -113,20 +118,40 @@ impl File {
 
     fn walk(&mut self, grid: &Grid, line: &Line, scratch: usize) {
         let mut out = [0; 8];
-        let number = model::segment_cells(grid, line, &mut vec![0; scratch], &mut out);
-        let cells = if number == 0 { oracle::segment_cells(grid, line) } else { Vec::new() };
+        let mut left = vec![0; scratch];
+        let number = model::segment_cells(grid, line, &mut left, &mut out);
+        let cells = match Squared::of(grid) {
+            _ if number != 0 => Vec::new(),
+            Some(squared) => oracle::segment_cells(squared.grid(), &squared.line(line)),
+            None => left[..out[0] as usize].to_vec(),
+        };
         let question = line.iter().fold(Words::new(), |words, &v| words.float(v)).word(scratch as u64).grid(grid);
         self.put(2, question, Words::answer(number, out[0], &[cells.len() as u64]).written(&cells));
     }
 
     fn walks(&mut self, r: &mut Random) {
-        use beside::kinds::{walk, Kind};
+        use beside::kinds::Kind;
         for (_, c) in walk::fixed() {
             self.walk(&c.grid, &c.line, c.scratch);
         }
+        self.drawn_walks(r, 420, walk::Walk::<false>::draw);
+        let four = Grid { min_x: 0.0, min_y: 0.0, cell_width: 1.0, cell_height: 1.0, cols: 4, rows: 4 };
+        for scratch in [0, SCRATCH - 1, SCRATCH] {
+            self.walk(&four, &[0.5, 0.5, 2.5, 0.5], scratch);
+        }
+        for line in [[f64::NAN, 0.0, 0.0, 0.0], [0.0, nudged(1e9, 1), 0.0, 0.0], [0.0, 0.0, f64::INFINITY, 0.0], [0.0, 0.0, 0.0, -1e9]] {
+            self.walk(&four, &line, SCRATCH);
+        }
+        for (cols, rows) in [(0, 0), (0, 1), (4005, 1), (1002, 1001), (1001, 1001)] {
+            self.walk(&Grid { cols, rows, ..four }, &[0.5, 0.5, 2.5, 0.5], SCRATCH);
+        }
+    }
+
+    /// So many drawn walks, few of them long.
+    fn drawn_walks(&mut self, r: &mut Random, count: u32, draw: fn(&mut Random) -> (&'static str, walk::Case)) {
         let (mut short, mut long) = (0, 0);
-        while short < 420 {
-            let (_, c) = walk::Walk::draw(r);
+        while short < count {
+            let (_, c) = draw(r);
             let mut cells = Vec::new();
             let turns = if model::grid_fits(&c.grid) { model::walk(&c.grid, &c.line, &mut cells) } else { None };
             // few walks of many cells: they are long to write
@@ -141,39 +166,37 @@ impl File {
             self.walk(&c.grid, &c.line, c.scratch);
             short += 1;
         }
-        let four = Grid { min_x: 0.0, min_y: 0.0, cell_size: 1.0, cols: 4, rows: 4 };
-        for scratch in [0, SCRATCH - 1, SCRATCH] {
-            self.walk(&four, &[0.5, 0.5, 2.5, 0.5], scratch);
-        }
-        for line in [[f64::NAN, 0.0, 0.0, 0.0], [0.0, nudged(1e9, 1), 0.0, 0.0], [0.0, 0.0, f64::INFINITY, 0.0], [0.0, 0.0, 0.0, -1e9]] {
-            self.walk(&four, &line, SCRATCH);
-        }
-        for (cols, rows) in [(0, 0), (0, 1), (4005, 1), (1002, 1001), (1001, 1001)] {
-            self.walk(&Grid { cols, rows, ..four }, &[0.5, 0.5, 2.5, 0.5], SCRATCH);
-        }
     }
 
-    /// A build into `room` entries, and visits of its tables: none, the whole one, or that and more.
-    fn build(&mut self, r: &mut Random, lines: &[Line], room: [usize; 3], visits: usize) {
+    /// A build into `room` entries by the sizing of a number, and visits of its tables: none, the whole one, or that and more.
+    fn build(&mut self, r: &mut Random, sizing: u32, lines: &[Line], room: [usize; 3], visits: usize) {
         let columns = Columns::new(lines);
         let [mut offsets, mut items, mut globals, mut scratch] = [room[0], room[1], room[2], SCRATCH].map(|n| vec![0; n]);
         let mut out = [0; 8];
-        let number = model::build(columns.coordinates(), &mut offsets, &mut items, &mut globals, &mut scratch, &mut out);
-        let question = room.iter().fold(Words::new(), |words, &n| words.word(n as u64)).word(SCRATCH as u64).lines(lines);
+        let number = model::build(columns.coordinates(), sizing, &mut offsets, &mut items, &mut globals, &mut scratch, &mut out);
+        let lent = room.iter().fold(Words::new().word(sizing as u64), |words, &n| words.word(n as u64));
+        let question = lent.word(SCRATCH as u64).lines(lines);
         if number != 0 {
             // what is lent is zero before the call, and after a refusal
-            let answer = (0..4).fold(Words::answer(number, out[0], &[0; 7]), |words, _| words.written(&[]));
+            let answer = (0..4).fold(Words::answer(number, out[0], &[0; 8]), |words, _| words.written(&[]));
             return self.put(3, question, answer);
         }
         let rust_lines = oracle::Lines::new(lines);
-        let built = oracle::build(&rust_lines);
-        let (grid, offsets, items, globals) = (built.grid(), built.offsets(), built.items(), built.globals());
+        let (grid, built) = if sizing == Sizing::Square as u32 {
+            let built = oracle::build(&rust_lines);
+            (built.grid(), built)
+        } else {
+            let t = model::tables(columns.coordinates(), Sizing::Axes, usize::MAX).unwrap();
+            (t.grid, Built::standing(&t.grid, &t.offsets, &t.items, &t.globals))
+        };
+        let (offsets, items, globals) = (built.offsets(), built.items(), built.globals());
         // the sign of a zero minimum is open in the Rust: document 01's stands for it
         let minimum = |v: f64, open: u64| if v == 0.0 && f64::from_bits(open) == 0.0 { open } else { v.to_bits() };
         let values = [
             minimum(grid.min_x, out[0]),
             minimum(grid.min_y, out[1]),
-            grid.cell_size.to_bits(),
+            grid.cell_width.to_bits(),
+            grid.cell_height.to_bits(),
             grid.cols as u64,
             grid.rows as u64,
             items.len() as u64,
@@ -219,53 +242,87 @@ impl File {
         out[2]
     }
 
-    fn builds(&mut self, r: &mut Random) {
+    /// Document 01's builds, and so many drawn ones, of so many lines and so many entries at most, in one sizing.
+    fn sized(&mut self, r: &mut Random, sizing: Sizing, count: u32, most: (usize, usize), visits: usize, draw: Draw) {
         let ample = [OFFSETS, ITEMS, GLOBALS];
+        let number = sizing as u32;
         let square = [[0.0, 0.0, 2.0, 0.0], [2.0, 0.0, 2.0, 2.0], [2.0, 2.0, 0.0, 2.0], [0.0, 2.0, 0.0, 0.0]];
-        self.build(r, &square, ample, 6);
-        self.build(r, &[[0.0, 0.0, 2.0, 2.0]], ample, 2);
-        self.build(r, &[[0.0; 4]], ample, 2);
-        self.build(r, &[], ample, 2);
-        self.build(r, &[], [0, 0, 0], 0);
+        self.build(r, number, &square, ample, 3 * visits);
+        self.build(r, number, &[[0.0, 0.0, 2.0, 2.0]], ample, visits);
+        self.build(r, number, &[[0.0; 4]], ample, visits);
+        self.build(r, number, &[], ample, visits);
+        self.build(r, number, &[], [0, 0, 0], 0);
         let mut made = 0;
-        while made < 48 {
-            let (_, lines) = cases::lines(r, 40);
-            let Ok(t) = model::tables(Columns::new(&lines).coordinates(), usize::MAX) else { continue };
-            if lines.len() > 40 || t.most_offsets > 300 || t.items.len() > 300 {
+        while made < count {
+            let (_, lines) = draw(r, most.0);
+            let Ok(t) = model::tables(Columns::new(&lines).coordinates(), sizing, usize::MAX) else { continue };
+            if lines.len() > most.0 || t.most_offsets > most.1 || t.items.len() > most.1 {
                 continue;
             }
             made += 1;
             let needed = [t.most_offsets, t.items.len(), t.globals.len()];
             match made % 11 {
-                0 => self.build(r, &lines, [needed[0] - 1, ITEMS, GLOBALS], 0),
-                1 => self.build(r, &lines, [OFFSETS, needed[1] - 1, GLOBALS], 0),
-                2 => self.build(r, &lines, needed, 2),
+                0 => self.build(r, number, &lines, [needed[0] - 1, ITEMS, GLOBALS], 0),
+                1 => self.build(r, number, &lines, [OFFSETS, needed[1] - 1, GLOBALS], 0),
+                2 => self.build(r, number, &lines, needed, visits),
                 3 => {
                     let mut lines = lines;
                     let k = r.below(lines.len() as u64) as usize;
                     lines[k][r.below(4) as usize] = cases::bad(r);
-                    self.build(r, &lines, ample, 0);
+                    self.build(r, number, &lines, ample, 0);
                 }
-                _ => self.build(r, &lines, ample, 2),
+                _ => self.build(r, number, &lines, ample, visits),
             }
         }
+    }
+
+    fn builds(&mut self, r: &mut Random) {
+        self.sized(r, Sizing::Square, 48, (40, 300), 2, cases::lines);
+        let ample = [OFFSETS, ITEMS, GLOBALS];
         // two halvings, two global lines, and lines of 2,048 and 2,049 cells on the last grid of 4,001 columns
         let mut lines = vec![[0.0, 0.0, 4000.0, 0.0], [3000.0, 0.0, 0.0, 0.0], [0.5, 0.0, 2047.5, 0.0], [2048.5, 0.0, 0.5, 0.0]];
         lines.extend((0..505).map(|i| [i as f64 / 512.0, 0.0, (i as f64 + 0.5) / 512.0, 0.0]));
-        self.build(r, &lines, ample, 1);
-        self.build(r, &lines, [OFFSETS, ITEMS, 1], 0);
+        self.build(r, Sizing::Square as u32, &lines, ample, 1);
+        self.build(r, Sizing::Square as u32, &lines, [OFFSETS, ITEMS, 1], 0);
+    }
+
+    /// What turns on a width and a height that are kept apart: walks, builds, visits and owners.
+    fn axes(&mut self, r: &mut Random) {
+        use beside::kinds::Kind;
+        self.drawn_walks(r, 60, walk::Walk::<true>::draw);
+        self.sized(r, Sizing::Axes, 16, (12, 60), 1, cases::apart);
+        let ample = [OFFSETS, ITEMS, GLOBALS];
+        // two halvings: 91 columns and 1 row
+        let mut lines = vec![[100.1, 0.0, 100.1, 0.0]; 505];
+        lines.extend([[100.1, 0.0, 0.0, 0.0], [0.0, 0.0, 1000.0, 0.0], [1000.0, 0.0, 0.0, 0.0]]);
+        self.build(r, Sizing::Axes as u32, &lines, ample, 0);
+        // a sizing that there is not
+        for number in [2, u32::MAX] {
+            self.build(r, number, &[[0.0, 0.0, 2.0, 2.0]], ample, 0);
+            self.build(r, number, &[[0.0, f64::NAN, 2.0, 2.0]], [0, 0, 0], 0);
+        }
+        self.drawn_owners(r, 40, own::Own::<true>::draw);
     }
 
     /// Lines that meet and that the Rust never tests (docs/FINDINGS.md).
     fn findings(&mut self, r: &mut Random) {
         let ample = [OFFSETS, ITEMS, GLOBALS];
         for points in [
-            [0x4090028f5c28f5c3, 0x40900028f5c28f5c, 0x409000b851eb851f, 0x409001147ae147ae, 0x4090000000000000, 0x4090000000000000, 0x409000f5c28f5c29, 0x409000f5c28f5c29],
-            [0x4071e2f844108dde, 0x40425a0001321cba, 0x4071a16ba0110cea, 0x40434a9db5a3d80e, 0x4071900000000000, 0x4042000000000000, 0x4071b1cec910ed27, 0x40430e7648876939],
-            [0x41c000000000000b, 0x41c0000000000140, 0x41c00000000000dc, 0x41c000000000004a, 0x41c0000000000000, 0x41c0000000000000, 0x41c0000000000099, 0x41c0000000000099],
+            [
+                0x4090028f5c28f5c3, 0x40900028f5c28f5c, 0x409000b851eb851f, 0x409001147ae147ae,
+                0x4090000000000000, 0x4090000000000000, 0x409000f5c28f5c29, 0x409000f5c28f5c29,
+            ],
+            [
+                0x4071e2f844108dde, 0x40425a0001321cba, 0x4071a16ba0110cea, 0x40434a9db5a3d80e,
+                0x4071900000000000, 0x4042000000000000, 0x4071b1cec910ed27, 0x40430e7648876939,
+            ],
+            [
+                0x41c000000000000b, 0x41c0000000000140, 0x41c00000000000dc, 0x41c000000000004a,
+                0x41c0000000000000, 0x41c0000000000000, 0x41c0000000000099, 0x41c0000000000099,
+            ],
         ] {
             let lines: Vec<Line> = points.windows(4).step_by(2).map(|w| [w[0], w[1], w[2], w[3]].map(f64::from_bits)).collect();
-            self.build(r, &lines, ample, 2);
+            self.build(r, Sizing::Square as u32, &lines, ample, 2);
         }
         let point = |x: f64, y: f64| [x, y, x, y];
         let mut lines = vec![
@@ -276,27 +333,33 @@ impl File {
         lines.extend((1..1597).map(|k| point(1000.0 * k as f64 / 1597.0, 1.25)));
         lines.push(point(1000.0, 1.5));
         assert_eq!(lines.len(), 1600);
-        self.build(r, &lines, ample, 1);
+        self.build(r, Sizing::Square as u32, &lines, ample, 1);
         // a walk that the Rust never ends
-        let grid = Grid { min_x: -70.00000000000001, min_y: 1.0553831621433073e-7, cell_size: 1.0, cols: 15, rows: 2 };
+        let grid = Grid { min_x: -70.00000000000001, min_y: 1.0553831621433073e-7, cell_width: 1.0, cell_height: 1.0, cols: 15, rows: 2 };
         self.walk(&grid, &[0.0, 0.6036785153383751, 5e-324, 1.639504059742847], SCRATCH);
     }
 
     fn owners(&mut self, r: &mut Random) {
         use beside::kinds::Kind;
-        for _ in 0..220 {
-            let (_, c) = own::Own::draw(r);
-            let mut owners = oracle::Owners::new(&c.grid);
+        self.drawn_owners(r, 220, own::Own::<false>::draw);
+    }
+
+    /// So many drawn points with a cell of each, by the Rust where it can be asked.
+    fn drawn_owners(&mut self, r: &mut Random, count: u32, draw: fn(&mut Random) -> (&'static str, own::Case)) {
+        for _ in 0..count {
+            let (_, c) = draw(r);
+            let mut rust = own::by_rust(&c.grid);
             let mut out = [0; 8];
             let number = model::point_owned(&c.grid, c.row, c.col, c.x, c.y, &mut out);
-            let owned = if number == 0 { owners.point(c.row, c.col, c.x, c.y) } else { false };
+            let owned = rust.as_mut().filter(|_| number == 0).map_or(out[0], |rust| rust.point(c.row, c.col, c.x, c.y) as u64);
             let cell = || Words::new().word(c.row as u64).word(c.col as u64).float(c.x).float(c.y);
-            self.put(6, cell().grid(&c.grid), Words::answer(number, out[0], &[owned as u64]));
+            self.put(6, cell().grid(&c.grid), Words::answer(number, out[0], &[owned]));
 
             let number = model::overlap_owned(&c.grid, c.row, c.col, c.x, c.y, c.size, c.strategy, &mut out);
-            let owned = if number == 0 { owners.overlap(c.row, c.col, c.x, c.y, c.size, c.strategy) } else { false };
+            let asked = rust.as_mut().filter(|_| number == 0);
+            let owned = asked.map_or(out[0], |rust| rust.overlap(c.row, c.col, c.x, c.y, c.size, c.strategy) as u64);
             let question = cell().float(c.size).word(c.strategy as u64).grid(&c.grid);
-            self.put(7, question, Words::answer(number, out[0], &[owned as u64]));
+            self.put(7, question, Words::answer(number, out[0], &[owned]));
 
             let number = model::owner(&c.grid, c.x, c.y, &mut out);
             let owner = if number == 0 { own::scan(&c.grid, c.x, c.y) } else { [0; 3] };
@@ -337,6 +400,7 @@ fn main() {
     file.findings(r);
     file.owners(r);
     file.snaps(r);
+    file.axes(r);
     let records = file.records;
     let bytes: Vec<u8> = file.words.iter().flat_map(|w| w.to_le_bytes()).collect();
     std::fs::write(&path, &bytes).unwrap_or_else(|e| panic!("{path}: {e}"));

@@ -1,21 +1,27 @@
-//! Builds: every entry of every buffer, the zeros beyond included, and refusals at their exact edges.
+//! Builds: every entry of every buffer, the zeros beyond included, and refusals at their exact edges. Square cells are the Rust's; cells sized by
+//! axis are the model's, and the lists on them those of the Rust's walks where the Rust can be asked.
 
 use super::{answers, float, rounder, slices, word, Kind, JUNK};
 use crate::cases;
-use crate::model::{self, Coordinates, MOST_LINES, SCRATCH};
-use crate::oracle;
+use crate::model::{self, Coordinates, MOST_CELLS, MOST_LINES, SCRATCH};
+use crate::oracle::{self, Squared};
+use crate::port;
 use crate::random::{nudged, Random};
-use crate::Line;
+use crate::{Line, Sizing};
 
 #[derive(Clone)]
 pub struct Case {
     pub lines: Vec<Line>,
+    /// The number by which the sizing is asked for.
+    pub sizing: u32,
     /// Entries taken from the end of one coordinate slice, and which one.
     pub short: Option<usize>,
     pub offsets: Room,
     pub items: Room,
     pub globals: Room,
     pub scratch: usize,
+    /// The words lent as `out`.
+    pub out: usize,
 }
 
 /// How many entries are lent: beyond what is needed (or short of it), or an exact number.
@@ -47,44 +53,83 @@ impl Columns {
     }
 }
 
-type Entry = fn(Coordinates, &mut [u32], &mut [u32], &mut [u32], &mut [u32], &mut [u64]) -> u32;
+type Entry = fn(Coordinates, u32, &mut [u32], &mut [u32], &mut [u32], &mut [u32], &mut [u64]) -> u32;
 
-fn entries() -> Vec<(&'static str, Entry)> {
-    vec![("model", model::build), ("port", crate::port::build)]
-}
+/// The words of the array that `out` is a part of, and what they hold before a call.
+const WORDS: usize = 10;
+const LEFT: u64 = 888_888_888;
 
 /// What a call leaves.
 struct Left {
     number: u32,
-    out: Vec<u64>,
+    out: [u64; WORDS],
     buffers: [Vec<u32>; 4],
 }
 
 const NAMES: [&str; 4] = ["offsets", "items", "globals", "scratch"];
 
-pub struct Build;
+impl Left {
+    fn by(entry: Entry, case: &Case, lines: Coordinates, sizes: [usize; 4]) -> Left {
+        let mut buffers = sizes.map(|n| vec![JUNK; n]);
+        let mut out = [LEFT; WORDS];
+        let [offsets, items, globals, scratch] = &mut buffers;
+        let number = entry(lines, case.sizing, offsets, items, globals, scratch, &mut out[..case.out]);
+        Left { number, out, buffers }
+    }
 
-impl Kind for Build {
+    /// How what another left differs from this.
+    fn held(&self, who: &str, other: &Left) -> Result<(), String> {
+        answers(who, (self.number, &self.out), (other.number, &other.out))?;
+        for (k, name) in NAMES.iter().enumerate() {
+            slices(&format!("{who}: {name}"), &self.buffers[k], &other.buffers[k])?;
+        }
+        Ok(())
+    }
+
+    /// The same with zero minima of one sign: the Rust leaves it open.
+    fn signless(mut self) -> Left {
+        for bits in &mut self.out[..2] {
+            *bits = if *bits == 1 << 63 { 0 } else { *bits };
+        }
+        self
+    }
+}
+
+pub struct Build<const AXES: bool>;
+
+impl<const AXES: bool> Kind for Build<AXES> {
     type Case = Case;
-    const NAME: &'static str = "build";
+    const NAME: &'static str = if AXES { "axes-build" } else { "build" };
+    const SIDES: &'static str =
+        if AXES { "port and model, and the Rust's walks where the sizes are a power of two apart" } else { "port, Rust and model" };
 
     fn draw(r: &mut Random) -> (&'static str, Case) {
         let most = r.pick(&[3, 8, 30, 30, 100, 100, 300, 1000, 3000]);
-        let (shape, lines) = cases::lines(r, most);
+        let (shape, lines) = if !AXES {
+            cases::lines(r, most)
+        } else if r.once_in(200) {
+            let (_, mut lines) = cases::apart(r, MOST_LINES);
+            lines.truncate(MOST_LINES);
+            ("up to 65,536 lines", lines)
+        } else {
+            cases::apart(r, most)
+        };
         let mut room = |often: u64| if r.once_in(often) { Room::Needed(r.below(3) as i64 - 1) } else { Room::Needed(r.below(40) as i64) };
         let (offsets, items, globals) = (room(6), room(6), room(3));
-        let mut case = Case { lines, short: None, offsets, items, globals, scratch: SCRATCH };
+        let mut case = Case { lines, sizing: AXES as u32, short: None, offsets, items, globals, scratch: SCRATCH, out: 8 };
         if !r.once_in(20) {
             return (shape, case);
         }
         let n = case.lines.len() as u64;
-        match r.below(8) {
+        match r.below(10) {
             0..=2 => case.lines[r.below(n) as usize][r.below(4) as usize] = cases::bad(r),
             3 => case.short = Some(r.below(4) as usize),
             4 => case.scratch = r.pick(&[0, SCRATCH - 1, SCRATCH, SCRATCH + 7]),
             5 => case.offsets = Room::Exactly(r.below(3) as usize),
             6 => case.items = Room::Exactly(r.below(3) as usize),
-            _ => case.lines.clear(),
+            7 => case.lines.clear(),
+            8 => case.sizing = r.pick(&[0, 1, 2, 3, 256, 1 << 31, u32::MAX]),
+            _ => (case.out, case.sizing) = (r.below(WORDS as u64 + 1) as usize, r.pick(&[case.sizing, 2])),
         }
         ("edge of the domain", case)
     }
@@ -98,41 +143,33 @@ impl Kind for Build {
         let inside = case.short.is_none()
             && case.lines.len() <= MOST_LINES
             && case.lines.iter().flatten().all(|&v| model::coordinate_fits(v));
-        let tables = if inside { model::tables(columns.coordinates(), usize::MAX) } else { Err((0, 0)) };
+        let tables = match model::sizing_of(case.sizing) {
+            Some(sizing) if inside => model::tables(columns.coordinates(), sizing, usize::MAX),
+            _ => Err((0, 0)),
+        };
         let needed = tables.as_ref().map_or([4096, 64, 8], |t| [t.most_offsets, t.items.len(), t.globals.len()]);
         let sizes = [case.offsets.of(needed[0]), case.items.of(needed[1]), case.globals.of(needed[2]), case.scratch];
 
-        let mut wanted: Option<Left> = None;
-        for (who, entry) in entries() {
-            let mut buffers = sizes.map(|n| vec![JUNK; n]);
-            let mut out = [u64::MAX; 8];
-            let [offsets, items, globals, scratch] = &mut buffers;
-            let number = entry(columns.coordinates(), offsets, items, globals, scratch, &mut out);
-            let mut got = Left { number, out: out[..if number == 0 { 7 } else { 1 }].to_vec(), buffers };
-            if number == 0 {
-                // document 01 leaves the sign of a zero minimum open
-                for bits in &mut got.out[..2] {
-                    *bits = plus_zero(*bits);
-                }
-            }
-            let wanted = wanted.get_or_insert_with(|| if number == 0 { by_rust(case, sizes) } else { Left { buffers: got.buffers.clone(), out: got.out.clone(), number } });
-            answers(who, (wanted.number, &wanted.out), (got.number, &got.out))?;
-            for (k, name) in NAMES.iter().enumerate() {
-                slices(&format!("{who}: {name}"), &wanted.buffers[k], &got.buffers[k])?;
-            }
-        }
-        let number = wanted.unwrap().number;
-        Ok(match (number, &tables) {
-            (0, Ok(t)) => match (t.halvings, t.globals.is_empty()) {
-                (0, true) => "built",
-                (0, false) => "built with globals",
-                (1, true) => "built, one halving",
-                (1, false) => "built with globals, one halving",
-                (_, true) => "built, two halvings",
-                (_, false) => "built with globals, two halvings",
-            },
-            _ => word(number),
-        })
+        let by_model = Left::by(model::build, case, columns.coordinates(), sizes);
+        let by_port = Left::by(port::build, case, columns.coordinates(), sizes);
+        by_model.held("port", &by_port)?;
+        let number = by_model.number;
+        let (0, Ok(t)) = (number, &tables) else {
+            return Ok(word(number));
+        };
+        // the port leaves what the model leaves: one of the two is held to the Rust
+        let rust = if case.sizing == Sizing::Square as u32 {
+            by_rust(case, sizes).held("model", &by_model.signless())?;
+            false
+        } else {
+            by_walks(case, t)?
+        };
+        let built = [
+            ["built", "built with globals", "built, the Rust's walks", "built with globals, the Rust's walks"],
+            ["one halving", "one halving, globals", "one halving, the Rust's walks", "one halving, globals, the Rust's walks"],
+            ["two halvings", "two halvings, globals", "two halvings, the Rust's walks", "two halvings, globals, the Rust's walks"],
+        ];
+        Ok(built[t.halvings as usize][2 * rust as usize + !t.globals.is_empty() as usize])
     }
 
     fn smaller(case: &Case) -> Vec<Case> {
@@ -168,41 +205,64 @@ impl Kind for Build {
     fn show(case: &Case) -> String {
         let lines: Vec<String> = case.lines.iter().take(40).map(|l| format!("  {}", l.map(float).join(", "))).collect();
         format!(
-            "{} lines\n{}\nlent: offsets {:?}, items {:?}, globals {:?}, scratch {}; short slice {:?}\n",
-            case.lines.len(), lines.join("\n"), case.offsets, case.items, case.globals, case.scratch, case.short,
+            "{} lines\n{}\nsizing {}; lent: offsets {:?}, items {:?}, globals {:?}, scratch {}, out {}; short slice {:?}\n",
+            case.lines.len(), lines.join("\n"), case.sizing, case.offsets, case.items, case.globals, case.scratch, case.out, case.short,
         )
     }
 }
 
-fn plus_zero(bits: u64) -> u64 {
-    if bits == 1 << 63 {
-        0
-    } else {
-        bits
-    }
+/// Written entries, and zero up to n.
+fn filled(written: &[u32], n: usize) -> Vec<u32> {
+    let mut all = written.to_vec();
+    all.resize(n.max(written.len()), 0);
+    all
 }
 
 /// The Rust's tables, as they are to stand in the lent buffers.
 fn by_rust(case: &Case, sizes: [usize; 4]) -> Left {
     let built = oracle::build(&oracle::Lines::new(&case.lines));
-    let (g, globals) = (built.grid(), built.globals());
-    let out = vec![
-        plus_zero(g.min_x.to_bits()), plus_zero(g.min_y.to_bits()), g.cell_size.to_bits(),
-        g.cols as u64, g.rows as u64, built.items().len() as u64, globals.len() as u64,
-    ];
-    let fill = |written: &[u32], n: usize| {
-        let mut all = written.to_vec();
-        all.resize(n.max(written.len()), 0);
-        all
-    };
-    let buffers = [fill(&built.offsets(), sizes[0]), fill(built.items(), sizes[1]), fill(&globals, sizes[2]), vec![0; sizes[3]]];
-    Left { number: 0, out, buffers }
+    let globals = built.globals();
+    let mut out = [LEFT; WORDS];
+    out[..6].copy_from_slice(&built.grid().words());
+    out[6..8].copy_from_slice(&[built.items().len() as u64, globals.len() as u64]);
+    let buffers = [filled(&built.offsets(), sizes[0]), filled(built.items(), sizes[1]), filled(&globals, sizes[2]), vec![0; sizes[3]]];
+    Left { number: 0, out, buffers }.signless()
 }
 
-/// Document 01's builds, its limits of lines, and the largest grids that are halved and that are not.
-pub fn fixed(seed: u64) -> Vec<(&'static str, Case)> {
-    let ample = |lines: Vec<Line>| Case { lines, short: None, offsets: Room::Needed(1), items: Room::Needed(1), globals: Room::Needed(1), scratch: SCRATCH };
-    let mut r = Random::new(seed);
+/// Holds the tables to the cells that the Rust's walks find on their grid. Answers whether the Rust could be asked.
+fn by_walks(case: &Case, t: &model::Tables) -> Result<bool, String> {
+    let Some(squared) = Squared::of(&t.grid) else {
+        return Ok(false);
+    };
+    let mut lists = vec![Vec::new(); t.offsets.len() - 1];
+    let mut globals = Vec::new();
+    for (i, line) in case.lines.iter().enumerate() {
+        let cells = oracle::segment_cells(squared.grid(), &squared.line(line));
+        if cells.len() > MOST_CELLS {
+            globals.push(i as u32);
+        } else {
+            cells.iter().for_each(|&c| lists[c as usize].push(i as u32));
+        }
+    }
+    let ends = lists.iter().scan(0, |end, list: &Vec<u32>| {
+        *end += list.len() as u32;
+        Some(*end)
+    });
+    slices("by the Rust's walks: offsets", &[0].into_iter().chain(ends).collect::<Vec<_>>(), &t.offsets)?;
+    slices("by the Rust's walks: items", &lists.concat(), &t.items)?;
+    slices("by the Rust's walks: globals", &globals, &t.globals)?;
+    Ok(true)
+}
+
+/// A build with room to spare.
+fn ample(lines: Vec<Line>, sizing: Sizing) -> Case {
+    let [offsets, items, globals] = [Room::Needed(1); 3];
+    Case { lines, sizing: sizing as u32, short: None, offsets, items, globals, scratch: SCRATCH, out: 8 }
+}
+
+/// Document 01's builds, its limits of lines, and 500 lines in a cell.
+fn fixed_in(sizing: Sizing, r: &mut Random) -> Vec<(&'static str, Case)> {
+    let ample = |lines: Vec<Line>| ample(lines, sizing);
     let mut all = vec![
         ("measured points", ample(vec![[0.0, 0.0, 2.0, 2.0]])),
         ("measured points", ample(vec![[0.0; 4]])),
@@ -211,6 +271,20 @@ pub fn fixed(seed: u64) -> Vec<(&'static str, Case)> {
         ("no lines", Case { offsets: Room::Exactly(0), ..ample(vec![]) }),
         ("no lines", Case { offsets: Room::Exactly(1), items: Room::Exactly(0), globals: Room::Exactly(0), ..ample(vec![]) }),
     ];
+    // a sizing that there is not, and an `out` that is short, come before every refusal
+    let refused = [
+        ample(vec![[0.0, 0.0, 2.0, 2.0]]),
+        ample(vec![[0.0, f64::NAN, 2.0, 2.0]]),
+        Case { short: Some(2), ..ample(vec![[0.0, 0.0, 2.0, 2.0]]) },
+        Case { scratch: SCRATCH - 1, ..ample(vec![[0.0, 0.0, 2.0, 2.0]]) },
+        Case { offsets: Room::Exactly(0), ..ample(vec![]) },
+        Case { items: Room::Exactly(0), ..ample(vec![[0.0, 0.0, 2.0, 2.0]]) },
+    ];
+    for case in refused {
+        for (number, words) in [(2, 8), (u32::MAX, WORDS), (2, 7), (sizing as u32, 7), (sizing as u32, 0), (sizing as u32, WORDS)] {
+            all.push(("answers of the border", Case { sizing: number, out: words, ..case.clone() }));
+        }
+    }
     // 500 lines in a cell, and 501: only those are too many
     for n in [500, 501] {
         all.push(("500 and 501 in a cell", ample(vec![[0.25, 0.25, 0.75, 0.75]; n])));
@@ -218,12 +292,7 @@ pub fn fixed(seed: u64) -> Vec<(&'static str, Case)> {
         spread.push([100.0, 100.0, 100.0, 100.0]);
         all.push(("500 and 501 in a cell", ample(spread)));
     }
-    // an area of exactly 1e-9 stays
-    for w in [1e-9, nudged(1e-9, -1), nudged(1e-9, 1)] {
-        all.push(("area near 1e-9", ample(vec![[0.0, 0.0, w, 1.0], [0.0, 0.5, w, 0.25]])));
-        all.push(("area near 1e-9", ample(vec![[0.0, 0.0, 1.0, 0.0], [0.0, w, 1.0, w]])));
-    }
-    let most = cases::year(&mut r, MOST_LINES + 1);
+    let most = cases::year(r, MOST_LINES + 1);
     all.push(("65,537 lines", ample(most.clone())));
     all.push(("65,536 lines", ample(most[..MOST_LINES].to_vec())));
     // about n lines in a square, 600 of them in one small place: about n cells, 4 n after one halving
@@ -235,5 +304,52 @@ pub fn fixed(seed: u64) -> Vec<(&'static str, Case)> {
         }));
         all.push(("cells x 4 near 1,000,000", ample(lines)));
     }
+    all
+}
+
+/// Document 01's builds and limits, and areas at which the square sizing turns.
+pub fn fixed(seed: u64) -> Vec<(&'static str, Case)> {
+    let mut all = fixed_in(Sizing::Square, &mut Random::new(seed));
+    // an area of exactly 1e-9 stays
+    for w in [1e-9, nudged(1e-9, -1), nudged(1e-9, 1)] {
+        all.push(("area near 1e-9", ample(vec![[0.0, 0.0, w, 1.0], [0.0, 0.5, w, 0.25]], Sizing::Square)));
+        all.push(("area near 1e-9", ample(vec![[0.0, 0.0, 1.0, 0.0], [0.0, w, 1.0, w]], Sizing::Square)));
+    }
+    all
+}
+
+/// The same by axis; every two of some extents, and what makes a line global by axis.
+pub fn fixed_by_axis(seed: u64) -> Vec<(&'static str, Case)> {
+    let r = &mut Random::new(seed);
+    let ample = |lines: Vec<Line>| ample(lines, Sizing::Axes);
+    let mut all = fixed_in(Sizing::Axes, r);
+    let extents = [0.0, 5e-324, 1e-9, 1e-6, 2.5e-3, 1.0, 1e3, 1e9, 2e9];
+    for (width, height) in extents.into_iter().flat_map(|w| extents.map(|h| (w, h))) {
+        for n in [1, 2, 4, 7, 9, 100] {
+            let (x, y) = (-width / 2.0, -height / 2.0);
+            let mut at = || [x + r.unit() * width, y + r.unit() * height];
+            let mut lines: Vec<Line> = (0..n).map(|_| [at(), at()].concat().try_into().unwrap()).collect();
+            lines[0] = [x, y, width / 2.0, height / 2.0];
+            all.push(("every two extents", ample(lines)));
+        }
+    }
+    // Two halvings, and then more than 2,048 cells of one line: those of a diagonal through the corners of 998 by 998 cells, and those of a level line
+    // on a boundary of 1,025 columns, which has two in each.
+    let crowd = |lines: &mut Vec<Line>, n: usize, [x, y]: [f64; 2]| lines.extend(vec![[x, y, x, y]; n]);
+    let mut diagonals = vec![[0.0, 0.0, 499.0, 499.0], [499.0, 499.0, 0.0, 0.0], [0.0, 499.0, 499.0, 0.0]];
+    crowd(&mut diagonals, 600, [100.3, 100.3]);
+    while diagonals.len() < 62_001 {
+        let (x, y) = (r.unit() * 499.0, r.unit() * 499.0);
+        diagonals.push([x, y, x, y]);
+    }
+    all.push(("globals by axis", ample(diagonals.clone())));
+    all.push(("globals by axis", Case { globals: Room::Needed(-1), ..ample(diagonals) }));
+    let mut level = vec![[0.0, 1e-6, 256.0, 1e-6], [0.0, 0.0, 256.0, 3e-6]];
+    crowd(&mut level, 600, [100.1, 2.1e-6]);
+    while level.len() < MOST_LINES {
+        let (x, y) = (r.unit() * 256.0, r.unit() * 3e-6);
+        level.push([x, y, x, y]);
+    }
+    all.push(("globals by axis", ample(level)));
     all
 }

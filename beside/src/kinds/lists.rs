@@ -1,5 +1,6 @@
-//! Lists by place and the check of tables: on the tables that the Rust builds, with more lent than is used, and on damaged ones. On built tables a cell's list is exactly
-//! the lines whose walk by the Rust visits the cell. Every word that is lent as `out`, and of the array that it is a part of, is compared.
+//! Lists by place and the check of tables: on the tables that the Rust builds, with more lent than is used, and on damaged ones. On built tables a
+//! cell's list is exactly the lines whose walk by the Rust (where sizes are kept apart, by the model) visits the cell. Every word that is lent as
+//! `out`, and of the array that it is a part of, is compared.
 
 use super::build::Columns;
 use super::visit::{Case, Owned, Visit};
@@ -9,7 +10,7 @@ use crate::model::{self, Lists as Tables, MOST_CELLS, MOST_LINES};
 use crate::port;
 use crate::oracle;
 use crate::random::Random;
-use crate::Grid;
+use crate::{Grid, Line};
 
 type CheckTables = fn(&Tables, &mut [u64]) -> u32;
 type CellList = fn(&Tables, u32, u32, &mut [u64]) -> u32;
@@ -70,28 +71,25 @@ fn cell(r: &mut Random, g: &Grid) -> (u32, u32) {
     (place(r, g.rows as u64, u32::MAX as u64) as u32, place(r, g.cols as u64, u32::MAX as u64) as u32)
 }
 
-pub struct Lists;
+pub struct Lists<const AXES: bool>;
 
-impl Kind for Lists {
+impl<const AXES: bool> Kind for Lists<AXES> {
     type Case = Case;
-    const NAME: &'static str = "lists";
+    const NAME: &'static str = if AXES { "axes-lists" } else { "lists" };
+    const SIDES: &'static str = if AXES { "port and model" } else { "port, Rust and model" };
 
     fn draw(r: &mut Random) -> (&'static str, Case) {
-        let most = r.pick(&[3, 8, 30, 100, 300]);
-        let (shape, lines) = cases::lines(r, most);
-        let damage = r.once_in(2);
-        (if damage { "damaged tables" } else { shape }, Case { lines, seed: r.bits(), damage })
+        Case::draw(r, AXES, 2)
     }
 
     fn check(case: &Case) -> Result<&'static str, String> {
         let columns = Columns::new(&case.lines);
         let lines = columns.coordinates();
-        if model::tables(lines, usize::MAX).is_err() {
+        let Some((grid, built)) = case.tables(AXES) else {
             return Ok("not built");
-        }
-        let built = oracle::build(&oracle::Lines::new(&case.lines));
-        let (offsets, globals) = (built.offsets(), built.globals());
-        let standing = model::Standing { grid: built.grid(), lines, offsets: &offsets, items: built.items(), globals: &globals, global_count: globals.len() as u64 };
+        };
+        let (offsets, items, globals) = (built.offsets(), built.items(), built.globals());
+        let standing = model::Standing { grid, lines, offsets: &offsets, items, globals: &globals, global_count: globals.len() as u64 };
         let mut t = Owned::of(&standing);
         let r = &mut Random::new(case.seed);
         // a build leaves entries beyond the tables; what they are is of no account
@@ -109,7 +107,15 @@ impl Kind for Lists {
         }
         let t = Tables { grid: t.grid, lines: count, offsets: &t.offsets, items: &t.items, globals: &t.globals, global_count: t.global_count };
 
-        let walks: Vec<Vec<u32>> = if case.damage { vec![] } else { case.lines.iter().map(|l| oracle::segment_cells(&t.grid, l)).collect() };
+        let walked = |line: &Line| {
+            let mut cells = Vec::new();
+            if !AXES {
+                return oracle::segment_cells(&t.grid, line);
+            }
+            model::walk(&t.grid, line, &mut cells);
+            cells
+        };
+        let walks: Vec<Vec<u32>> = if case.damage { vec![] } else { case.lines.iter().map(walked).collect() };
         for _ in 0..20 {
             let (row, col) = cell(r, &t.grid);
             let lent = lent(r);
@@ -139,11 +145,11 @@ impl Kind for Lists {
     }
 
     fn smaller(case: &Case) -> Vec<Case> {
-        Visit::smaller(case)
+        Visit::<AXES>::smaller(case)
     }
 
     fn show(case: &Case) -> String {
-        Visit::show(case)
+        Visit::<AXES>::show(case)
     }
 }
 
@@ -154,9 +160,11 @@ fn unfit(r: &mut Random, g: Grid) -> Grid {
         Grid { min_y: f64::INFINITY, ..g },
         Grid { min_x: -1.0000000000000001e9, ..g },
         Grid { min_y: cases::bad(&mut r.clone()), ..g },
-        Grid { cell_size: -7.0, ..g },
-        Grid { cell_size: 1e-6 / 4.0, ..g },
-        Grid { cell_size: 2e9, ..g },
+        Grid { cell_width: -7.0, ..g },
+        Grid { cell_height: -7.0, ..g },
+        Grid { cell_width: 1e-6 / 4.0, ..g },
+        Grid { cell_height: 2e9, ..g },
+        Grid { cell_height: f64::NAN, ..g },
         Grid { cols: 1, rows: 0, ..g },
         Grid { cols: 0, rows: 1, ..g },
         Grid { cols: 4004, rows: 4004, ..g },

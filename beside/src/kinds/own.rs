@@ -1,9 +1,9 @@
 //! Ownership of points and overlaps by one cell, and the owner of a point against a plain scan of all cells.
 
-use super::{answers, float, rounder, word, Kind};
+use super::{answers, float, rounder, show_grid, sizes, word, Kind, WHERE_SQUARED};
 use crate::cases;
 use crate::model;
-use crate::oracle::Owners;
+use crate::oracle::{self, Owners, Squared};
 use crate::port;
 use crate::random::{decimals, Random};
 use crate::Grid;
@@ -48,31 +48,33 @@ pub fn snapping(r: &mut Random) -> (f64, u32) {
     (size, r.below(2) as u32)
 }
 
-pub struct Own;
+pub struct Own<const AXES: bool>;
 
-impl Kind for Own {
+impl<const AXES: bool> Kind for Own<AXES> {
     type Case = Case;
-    const NAME: &'static str = "own";
+    const NAME: &'static str = if AXES { "axes-own" } else { "own" };
+    const SIDES: &'static str = if AXES { WHERE_SQUARED } else { "port, Rust and model" };
 
     fn draw(r: &mut Random) -> (&'static str, Case) {
-        let mut grid = cases::grid(r);
+        let mut grid = if AXES { cases::oblong(r) } else { cases::grid(r) };
         let (row, col) = (r.below(grid.rows as u64) as u32, r.below(grid.cols as u64) as u32);
         // near the cell that is asked about, or anywhere
-        let mut near = |low: f64, index: u32, count: u32| {
+        let mut near = |low: f64, size: f64, index: u32, count: u32| {
             if r.once_in(3) {
-                return cases::coordinate(r, low, grid.cell_size, count);
+                return cases::coordinate(r, low, size, count);
             }
-            let edge = low + index as f64 * grid.cell_size;
+            let edge = low + index as f64 * size;
             let v = match r.below(5) {
                 0 => edge,
-                1 => edge + grid.cell_size,
-                2 => low + (index + 1) as f64 * grid.cell_size,
-                3 => decimals(edge + r.unit() * grid.cell_size, 2),
-                _ => edge + r.unit() * grid.cell_size,
+                1 => edge + size,
+                2 => low + (index + 1) as f64 * size,
+                3 => decimals(edge + r.unit() * size, 2),
+                _ => edge + r.unit() * size,
             };
             crate::random::nudged(v, if r.once_in(2) { 0 } else { r.below(5) as i64 - 2 }).clamp(-1e9, 1e9)
         };
-        let (mut x, y) = (near(grid.min_x, col, grid.cols), near(grid.min_y, row, grid.rows));
+        let mut x = near(grid.min_x, grid.cell_width, col, grid.cols);
+        let y = near(grid.min_y, grid.cell_height, row, grid.rows);
         let (size, strategy) = snapping(r);
         let mut cell = (row, col);
         let mut shape = "in the domain";
@@ -81,7 +83,7 @@ impl Kind for Own {
             match r.below(4) {
                 0 => x = cases::bad(r),
                 1 => cell = r.pick(&[(grid.rows, col), (row, grid.cols), (u32::MAX, u32::MAX), (grid.rows, grid.cols)]),
-                2 => grid.cell_size = r.pick(&[0.0, 2.4999999999999998e-7, f64::NAN, 2000000000.0000002]),
+                2 => cases::resize::<AXES>(r, &mut grid),
                 _ => (grid.cols, grid.rows) = r.pick(&[(0, 0), (0, 3), (4005, 1)]),
             }
         }
@@ -95,7 +97,7 @@ impl Kind for Own {
             let mut out = [u64::MAX; 8];
             let number = (e.point)(g, c.row, c.col, c.x, c.y, &mut out);
             let wanted = *point.get_or_insert_with(|| match number {
-                0 => (0, Owners::new(g).point(c.row, c.col, c.x, c.y) as u64),
+                0 => (0, by_rust(g).map_or(out[0], |mut rust| rust.point(c.row, c.col, c.x, c.y) as u64)),
                 n => (n, out[0]),
             });
             answers(&format!("{}: point owned", e.who), (wanted.0, &[wanted.1]), (number, &out[..1]))?;
@@ -103,7 +105,7 @@ impl Kind for Own {
             let mut out = [u64::MAX; 8];
             let number = (e.overlap)(g, c.row, c.col, c.x, c.y, c.size, c.strategy, &mut out);
             let wanted = *overlap.get_or_insert_with(|| match number {
-                0 => (0, Owners::new(g).overlap(c.row, c.col, c.x, c.y, c.size, c.strategy) as u64),
+                0 => (0, by_rust(g).map_or(out[0], |mut rust| rust.overlap(c.row, c.col, c.x, c.y, c.size, c.strategy) as u64)),
                 n => (n, out[0]),
             });
             answers(&format!("{}: overlap owned", e.who), (wanted.0, &[wanted.1]), (number, &out[..1]))?;
@@ -117,7 +119,11 @@ impl Kind for Own {
             let got = if number == 0 { [out[0], out[1], out[2]] } else { [out[0], 0, 0] };
             answers(&format!("{}: owner", e.who), (wanted.0, &wanted.1), (number, &got))?;
         }
+        let twice = AXES && Squared::of(g).is_some();
         Ok(match (point.unwrap(), owner.unwrap()) {
+            ((0, 1), _) if twice => "owned, by the Rust too",
+            ((0, _), (0, [1, ..])) if twice => "owned by another, by the Rust too",
+            ((0, _), (0, _)) if twice => "outside, by the Rust too",
             ((0, 1), _) => "owned",
             ((0, _), (0, [1, ..])) => "owned by another",
             ((0, _), (0, _)) => "outside",
@@ -138,8 +144,8 @@ impl Kind for Own {
         for v in rounder(case.grid.min_y) {
             put(&|c| c.grid.min_y = v);
         }
-        for v in rounder(case.grid.cell_size) {
-            put(&|c| c.grid.cell_size = v);
+        for (width, height) in sizes(&case.grid, AXES) {
+            put(&|c| (c.grid.cell_width, c.grid.cell_height) = (width, height));
         }
         for v in rounder(case.x) {
             put(&|c| c.x = v);
@@ -166,30 +172,67 @@ impl Kind for Own {
     }
 
     fn show(c: &Case) -> String {
-        let g = &c.grid;
-        format!(
-            "grid {} by {} at {}, {}, cell size {}\ncell row {} column {}, point {}, {}, snap size {} strategy {}\n",
-            g.cols, g.rows, float(g.min_x), float(g.min_y), float(g.cell_size), c.row, c.col, float(c.x), float(c.y), float(c.size), c.strategy,
-        )
+        let point = format!("point {}, {}, snap size {} strategy {}", float(c.x), float(c.y), float(c.size), c.strategy);
+        format!("{}cell row {} column {}, {point}\n", show_grid(&c.grid), c.row, c.col)
     }
 }
 
-/// The first cell in row order that the Rust says owns the point. Every cell is asked where they are few; else the cells of the rows
-/// and columns near the point's own, which rounding cannot leave.
+/// The Rust's ownership tests for a fit grid: of its own cells where they are square, else of those that are a power of two away.
+pub struct ByRust {
+    squared: Squared,
+    owners: Owners,
+}
+
+/// None where the Rust cannot be asked, and where the grid is not fit.
+pub fn by_rust(g: &Grid) -> Option<ByRust> {
+    if !model::grid_fits(g) {
+        return None;
+    }
+    let squared = Squared::of(g)?;
+    let owners = Owners::new(squared.grid());
+    Some(ByRust { squared, owners })
+}
+
+impl ByRust {
+    pub fn point(&mut self, row: u32, col: u32, x: f64, y: f64) -> bool {
+        let (x, y) = self.squared.point(x, y);
+        self.owners.point(row, col, x, y)
+    }
+
+    /// A snap size is one for both axes, so where these are kept apart the point is snapped first, and owned as it is then.
+    pub fn overlap(&mut self, row: u32, col: u32, x: f64, y: f64, size: f64, strategy: u32) -> bool {
+        if self.squared.is_itself() {
+            return self.owners.overlap(row, col, x, y, size, strategy);
+        }
+        let (x, y) = oracle::snap(x, y, size, strategy);
+        let (x, y) = self.squared.point(x, y);
+        self.owners.overlap(row, col, x, y, 0.0, 0)
+    }
+}
+
+/// The first cell in row order that owns the point: by the Rust, or by the model where the Rust cannot be asked. Every cell is asked where they are
+/// few; else the cells of the rows and columns near the point's own, which rounding cannot leave.
 pub fn scan(g: &Grid, x: f64, y: f64) -> [u64; 3] {
-    let mut owners = Owners::new(g);
-    let near = |low: f64, p: f64, count: u32| {
+    let mut rust = by_rust(g);
+    let mut owns = |row: u32, col: u32| match &mut rust {
+        Some(rust) => rust.point(row, col, x, y),
+        None => {
+            let mut out = [0];
+            model::point_owned(g, row, col, x, y, &mut out) == 0 && out[0] == 1
+        }
+    };
+    let near = |low: f64, size: f64, p: f64, count: u32| {
         if g.cols * g.rows <= 400 {
             return (0, count);
         }
-        let at = ((p - low) / g.cell_size).floor().clamp(0.0, count as f64) as u32;
+        let at = ((p - low) / size).floor().clamp(0.0, count as f64) as u32;
         (at.saturating_sub(3), (at + 3).min(count))
     };
-    let (from_row, to_row) = near(g.min_y, y, g.rows);
-    let (from_col, to_col) = near(g.min_x, x, g.cols);
+    let (from_row, to_row) = near(g.min_y, g.cell_height, y, g.rows);
+    let (from_col, to_col) = near(g.min_x, g.cell_width, x, g.cols);
     for row in from_row..to_row {
         for col in from_col..to_col {
-            if owners.point(row, col, x, y) {
+            if owns(row, col) {
                 return [1, row as u64, col as u64];
             }
         }

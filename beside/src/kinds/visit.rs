@@ -1,17 +1,19 @@
-//! Visits: whole, in batches, test by test, and tables that do not fit.
+//! Visits: whole, in batches, test by test, and tables that do not fit. The Rust's visit reads no cell size, so it is asked for every grid.
 
 use super::build::Columns;
-use super::{answers, float, rounder, slices, Kind, JUNK};
+use super::{answers, float, rounder, show_grid, slices, Kind, JUNK};
 use crate::cases;
 use crate::model::{self, Standing, Test};
-use crate::oracle;
+use crate::oracle::{self, Built};
 use crate::port;
 use crate::random::Random;
-use crate::{Grid, Line};
+use crate::{Grid, Line, Sizing};
 
 #[derive(Clone)]
 pub struct Case {
     pub lines: Vec<Line>,
+    /// The grid that the lines are placed on; where there is none, a build picks it.
+    pub grid: Option<Grid>,
     /// For batch sizes, bookmarks and damage.
     pub seed: u64,
     pub damage: bool,
@@ -56,29 +58,66 @@ fn test_at(s: &Standing, tests: &[Test], bookmark: u64) -> Result<u32, String> {
     Ok(wanted.unwrap().0)
 }
 
-pub struct Visit;
+impl Case {
+    /// Lines for a visit: by axis sized by a build, or placed on a grid of any two sizes.
+    pub fn draw(r: &mut Random, axes: bool, often: u64) -> (&'static str, Case) {
+        let most = r.pick(&[3, 8, 30, 100, 300]);
+        let (shape, lines, grid) = if !axes {
+            let (shape, lines) = cases::lines(r, most);
+            (shape, lines, None)
+        } else if r.once_in(2) {
+            let (shape, lines) = cases::apart(r, most);
+            (shape, lines, None)
+        } else {
+            // every call checks all cells: few grids of many
+            let small = |g: &Grid| g.cols * g.rows <= 10_000;
+            let grid = std::iter::repeat_with(|| (cases::oblong(r), r.once_in(30))).find(|(g, any)| *any || small(g)).unwrap().0;
+            let n = 1 + r.below(most as u64) as usize;
+            let ends = |line: &Line| model::walk(&grid, line, &mut Vec::new()).is_some();
+            ("on any grid", std::iter::repeat_with(|| cases::segment(r, &grid).1).filter(ends).take(n).collect(), Some(grid))
+        };
+        let damage = r.once_in(often);
+        (if damage { "damaged tables" } else { shape }, Case { lines, grid, seed: r.bits(), damage })
+    }
 
-impl Kind for Visit {
+    /// The tables as the Rust has them: those that it builds, or, where the sizing is by axis, those that the model gives it. None where a walk goes
+    /// beyond the budget.
+    pub fn tables(&self, axes: bool) -> Option<(Grid, Built)> {
+        let columns = Columns::new(&self.lines);
+        let lines = columns.coordinates();
+        if let Some(grid) = self.grid {
+            let t = model::listed_on(&grid, lines).ok()?;
+            return Some((grid, Built::standing(&grid, &t.offsets(), &t.lists.concat(), &t.globals)));
+        }
+        let sizing = if axes { Sizing::Axes } else { Sizing::Square };
+        let t = model::tables(lines, sizing, usize::MAX).ok()?;
+        if axes {
+            return Some((t.grid, Built::standing(&t.grid, &t.offsets, &t.items, &t.globals)));
+        }
+        let built = oracle::build(&oracle::Lines::new(&self.lines));
+        Some((built.grid(), built))
+    }
+}
+
+pub struct Visit<const AXES: bool>;
+
+impl<const AXES: bool> Kind for Visit<AXES> {
     type Case = Case;
-    const NAME: &'static str = "visit";
+    const NAME: &'static str = if AXES { "axes-visit" } else { "visit" };
 
     fn draw(r: &mut Random) -> (&'static str, Case) {
-        let most = r.pick(&[3, 8, 30, 100, 300]);
-        let (shape, lines) = cases::lines(r, most);
-        let damage = r.once_in(4);
-        (if damage { "damaged tables" } else { shape }, Case { lines, seed: r.bits(), damage })
+        Case::draw(r, AXES, 4)
     }
 
     fn check(case: &Case) -> Result<&'static str, String> {
         let columns = Columns::new(&case.lines);
         let lines = columns.coordinates();
-        if model::tables(lines, usize::MAX).is_err() {
+        let Some((grid, built)) = case.tables(AXES) else {
             return Ok("not built");
-        }
+        };
         let rust_lines = oracle::Lines::new(&case.lines);
-        let built = oracle::build(&rust_lines);
         let (offsets, items, globals) = (built.offsets(), built.items(), built.globals());
-        let s = Standing { grid: built.grid(), lines, offsets: &offsets, items, globals: &globals, global_count: globals.len() as u64 };
+        let s = Standing { grid, lines, offsets: &offsets, items, globals: &globals, global_count: globals.len() as u64 };
         let r = &mut Random::new(case.seed);
         if case.damage {
             return damaged(&s, r);
@@ -156,7 +195,8 @@ impl Kind for Visit {
 
     fn show(case: &Case) -> String {
         let lines: Vec<String> = case.lines.iter().take(40).map(|l| format!("  {}", l.map(float).join(", "))).collect();
-        format!("{} lines, seed {}, damage {}\n{}\n", case.lines.len(), case.seed, case.damage, lines.join("\n"))
+        let grid = case.grid.as_ref().map_or(String::new(), show_grid);
+        format!("{grid}{} lines, seed {}, damage {}\n{}\n", case.lines.len(), case.seed, case.damage, lines.join("\n"))
     }
 }
 
@@ -197,7 +237,13 @@ impl Owned {
             7 => *global_count = globals.len() as u64 + 1 + r.pick(&[0, 1, u64::MAX / 2]),
             _ => {
                 let g = *grid;
-                *grid = r.pick(&[Grid { cols: g.cols + 1, ..g }, Grid { rows: 4005, ..g }, Grid { cell_size: 0.0, ..g }, Grid { cols: 0, rows: 0, ..g }]);
+                *grid = r.pick(&[
+                    Grid { cols: g.cols + 1, ..g },
+                    Grid { rows: 4005, ..g },
+                    Grid { cell_width: 0.0, ..g },
+                    Grid { cell_height: 0.0, ..g },
+                    Grid { cols: 0, rows: 0, ..g },
+                ]);
             }
         }
     }

@@ -1,9 +1,9 @@
 //! The cells of one segment, with the scratch that is left.
 
-use super::{answers, float, rounder, slices, word, Kind, JUNK};
+use super::{answers, float, rounder, show_grid, sizes, slices, word, Kind, JUNK, WHERE_SQUARED};
 use crate::cases;
 use crate::model::{self, SCRATCH};
-use crate::oracle;
+use crate::oracle::{self, Squared};
 use crate::random::Random;
 use crate::{Grid, Line};
 
@@ -30,14 +30,15 @@ fn inner(case: &Case, wanted: &(u32, u64, Vec<u32>)) -> Result<(), String> {
     slices("inner walk: scratch", &wanted.2[..settled], &scratch[..settled])
 }
 
-pub struct Walk;
+pub struct Walk<const AXES: bool>;
 
-impl Kind for Walk {
+impl<const AXES: bool> Kind for Walk<AXES> {
     type Case = Case;
-    const NAME: &'static str = "walk";
+    const NAME: &'static str = if AXES { "axes-walk" } else { "walk" };
+    const SIDES: &'static str = if AXES { WHERE_SQUARED } else { "port, Rust and model" };
 
     fn draw(r: &mut Random) -> (&'static str, Case) {
-        let grid = cases::grid(r);
+        let grid = if AXES { cases::oblong(r) } else { cases::grid(r) };
         let (shape, line) = cases::segment(r, &grid);
         let mut case = Case { grid, line, scratch: SCRATCH };
         if !r.once_in(100) {
@@ -48,7 +49,7 @@ impl Kind for Walk {
         match r.below(6) {
             0..=1 => case.line[r.below(4) as usize] = v,
             2 => case.grid.min_x = v,
-            3 => case.grid.cell_size = r.pick(&[0.0, -1.0, 2.4999999999999998e-7, 2.5e-7, 2e9, 2000000000.0000002, f64::NAN, f64::INFINITY]),
+            3 => cases::resize::<AXES>(r, &mut case.grid),
             4 => (case.grid.cols, case.grid.rows) = r.pick(&[(0, 0), (0, 1), (4005, 1), (1, 4005), (4004, 251), (1002, 1001), (u32::MAX, u32::MAX)]),
             _ => case.scratch = r.pick(&[0, 1, SCRATCH - 1, SCRATCH, SCRATCH + 1, 20000]),
         }
@@ -64,10 +65,9 @@ impl Kind for Walk {
             let got = (number, out[0], scratch);
             // the model comes first: it says whether the Rust can be asked
             let wanted = wanted.get_or_insert_with(|| {
-                if got.0 != 0 {
+                let Some(cells) = by_rust(case).filter(|_| got.0 == 0) else {
                     return got.clone();
-                }
-                let cells = oracle::segment_cells(&case.grid, &case.line);
+                };
                 let mut left = vec![0; case.scratch];
                 left[..cells.len()].copy_from_slice(&cells);
                 (0, cells.len() as u64, left)
@@ -78,6 +78,7 @@ impl Kind for Walk {
         inner(case, wanted.as_ref().unwrap())?;
         Ok(match wanted.unwrap().0 {
             7 => "past the budget",
+            0 if AXES && Squared::of(&case.grid).is_some() => "answered, by the Rust too",
             n => word(n),
         })
     }
@@ -95,8 +96,8 @@ impl Kind for Walk {
         for v in rounder(case.grid.min_y) {
             put(&|c| c.grid.min_y = v);
         }
-        for v in rounder(case.grid.cell_size) {
-            put(&|c| c.grid.cell_size = v);
+        for (width, height) in sizes(&case.grid, AXES) {
+            put(&|c| (c.grid.cell_width, c.grid.cell_height) = (width, height));
         }
         for n in [1, case.grid.cols / 2, case.grid.cols.saturating_sub(1)] {
             if n < case.grid.cols {
@@ -118,22 +119,35 @@ impl Kind for Walk {
 
     fn show(case: &Case) -> String {
         let g = &case.grid;
-        let mut text = format!("grid {} by {} at {}, {}, cell size {}\n", g.cols, g.rows, float(g.min_x), float(g.min_y), float(g.cell_size));
+        let mut text = show_grid(g);
         text += &format!("segment {}\n", case.line.map(float).join(", "));
         text += &format!("scratch {}\n", case.scratch);
         let mut cells = Vec::new();
         if model::grid_fits(g) && model::walk(g, &case.line, &mut cells).is_some() {
-            text += &format!("the Rust's cells: {:?}\n", oracle::segment_cells(g, &case.line));
+            match by_rust(case) {
+                Some(cells) => text += &format!("the Rust's cells: {cells:?}\n"),
+                None => text += &format!("the model's cells: {cells:?}\n"),
+            }
         }
         text
     }
 }
 
+/// The cells by the Rust, where it can be asked and the walk ends: on a grid of square cells, or where there is one a power of two away.
+fn by_rust(case: &Case) -> Option<Vec<u32>> {
+    if !model::grid_fits(&case.grid) || !case.line.iter().all(|&v| model::coordinate_fits(v)) {
+        return None;
+    }
+    let squared = Squared::of(&case.grid)?;
+    model::walk(&case.grid, &case.line, &mut Vec::new())?;
+    Some(oracle::segment_cells(squared.grid(), &squared.line(&case.line)))
+}
+
 /// Document 01's measured points, and a walk that never ends in the Rust.
 pub fn fixed() -> Vec<(&'static str, Case)> {
-    let four = Grid { min_x: 0.0, min_y: 0.0, cell_size: 1.0, cols: 4, rows: 4 };
+    let four = Grid { min_x: 0.0, min_y: 0.0, cell_width: 1.0, cell_height: 1.0, cols: 4, rows: 4 };
     let long = Grid { cols: 4004, rows: 1, ..four };
-    let endless = Grid { min_x: -70.00000000000001, min_y: 1.0553831621433073e-7, cell_size: 1.0, cols: 15, rows: 2 };
+    let endless = Grid { min_x: -70.00000000000001, min_y: 1.0553831621433073e-7, cols: 15, rows: 2, ..four };
     let hair = 2f64.powi(-41);
     let at = |x: f64| [x, 0.5, x, 0.5];
     let all = [
@@ -148,4 +162,20 @@ pub fn fixed() -> Vec<(&'static str, Case)> {
         (endless, [0.0, 0.6036785153383751, 5e-324, 1.639504059742847]),
     ];
     all.map(|(grid, line)| ("measured points", Case { grid, line, scratch: SCRATCH })).into()
+}
+
+/// The same points with y in another unit, on cells as much higher: the cells are the same, so the numbers of document 01 stand for these too.
+pub fn fixed_by_axis() -> Vec<(&'static str, Case)> {
+    let mut all = Vec::new();
+    for (_, case) in fixed() {
+        for unit in [2f64.powi(28), 2f64.powi(-20), 1e3, 1e-6, 3.0] {
+            let mut c = case.clone();
+            c.grid.min_y *= unit;
+            c.grid.cell_height *= unit;
+            c.line[1] *= unit;
+            c.line[3] *= unit;
+            all.push(("measured points", c));
+        }
+    }
+    all
 }

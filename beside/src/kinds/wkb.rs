@@ -41,7 +41,7 @@ pub struct Wkb;
 impl Kind for Wkb {
     type Case = Case;
     const NAME: &'static str = "wkb";
-    const RUST: bool = false;
+    const SIDES: &'static str = "port and model";
 
     fn draw(r: &mut Random) -> (&'static str, Case) {
         let n = match r.below(8) {

@@ -29,8 +29,8 @@
 //! # The domain
 //!
 //! At most [`MAX_LINES`] lines; each coordinate finite and at most 1e9 in magnitude. A walk needs [`SCRATCH`] entries of scratch. A [`Grid`] is
-//! fit if both minima obey the coordinate rule, its cell size is from a quarter of 1e-6 to 2e9, and its columns and rows are both 0, or each 1 to
-//! 4,004 with product at most 1,002,001.
+//! fit if both minima obey the coordinate rule, its cells are from a quarter of 1e-6 to 2e9 wide and as much high, and its columns and rows are both
+//! 0, or each 1 to 4,004 with product at most 1,002,001.
 //!
 //! # Refusals
 //!
@@ -45,6 +45,7 @@ pub mod numbers;
 mod place;
 mod read;
 mod refusal;
+mod sizing;
 #[allow(unsafe_code)]
 #[rustfmt::skip]
 pub mod sys;
@@ -55,6 +56,7 @@ pub use lines::{LineVec, Lines};
 pub use place::{overlap_owned, owner, point_owned, snap, Grid, Strategy};
 pub use read::{read_line_string, read_points};
 pub use refusal::Refusal;
+pub use sizing::Sizing;
 pub use tables::{build, Batch, Built, Pairs, Place, Room, Standing, Tables, Test};
 pub use walk::segment_cells;
 

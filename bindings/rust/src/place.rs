@@ -3,18 +3,21 @@
 use crate::refusal::{answer, Refusal};
 use crate::sys;
 
-/// A grid: its lower corner, the size of its cells, and how many columns and rows it has. A cell's number is row * cols + column.
+/// A grid: its lower corner, the width and the height of its cells, and how many columns and rows it has. A cell's number is row * cols + column.
 ///
-/// It is fit if both minima are finite and at most 1e9 in magnitude, `cell_size` is from a quarter of 1e-6 to 2e9, and `cols` and `rows` are both
-/// 0, or each 1 to 4,004 with product at most 1,002,001. An unfit grid is refused by 8. Every grid that a build answers is fit.
+/// It is fit if both minima are finite and at most 1e9 in magnitude, `cell_width` and `cell_height` are each from a quarter of 1e-6 to 2e9, and
+/// `cols` and `rows` are both 0, or each 1 to 4,004 with product at most 1,002,001. An unfit grid is refused by 8. Every grid that a build answers
+/// is fit.
 #[derive(Clone, Copy, PartialEq, Debug)]
 pub struct Grid {
     /// x of the lower corner.
     pub min_x: f64,
     /// y of the lower corner.
     pub min_y: f64,
-    /// Width and height of a cell.
-    pub cell_size: f64,
+    /// Width of a cell, in the unit of x.
+    pub cell_width: f64,
+    /// Height of a cell, in the unit of y.
+    pub cell_height: f64,
     /// The number of columns.
     pub cols: u32,
     /// The number of rows.
@@ -22,28 +25,29 @@ pub struct Grid {
 }
 
 impl Grid {
-    /// The grid of no lines: minima 0, cell size 1, 0 by 0.
-    pub const EMPTY: Grid = Grid { min_x: 0.0, min_y: 0.0, cell_size: 1.0, cols: 0, rows: 0 };
+    /// The grid of no lines: minima 0, cells of 1 by 1, 0 columns and 0 rows.
+    pub const EMPTY: Grid = Grid { min_x: 0.0, min_y: 0.0, cell_width: 1.0, cell_height: 1.0, cols: 0, rows: 0 };
 
-    /// The words by which the library takes a grid, the first that it writes for a build: the bits of `min_x`, `min_y` and `cell_size`, `cols`,
-    /// `rows`.
+    /// The words by which the library takes a grid, the first that it writes for a build: the bits of `min_x`, `min_y`, `cell_width` and
+    /// `cell_height`, then `cols`, `rows`.
     ///
     /// ```
     /// use morelturret::Grid;
     ///
-    /// let grid = Grid { min_x: 0.0, min_y: -0.0, cell_size: 1.0, cols: 4, rows: 3 };
-    /// assert_eq!(grid.words(), [0, 1 << 63, 0x3ff0000000000000, 4, 3]);
+    /// let grid = Grid { min_x: 0.0, min_y: -0.0, cell_width: 1.0, cell_height: 2.0, cols: 4, rows: 3 };
+    /// assert_eq!(grid.words(), [0, 1 << 63, 0x3ff0000000000000, 0x4000000000000000, 4, 3]);
     /// assert_eq!(Grid::from_words(grid.words()), grid);
     /// ```
-    pub fn words(self) -> [u64; 5] {
-        [self.min_x.to_bits(), self.min_y.to_bits(), self.cell_size.to_bits(), self.cols as u64, self.rows as u64]
+    pub fn words(self) -> [u64; 6] {
+        let [min_x, min_y, width, height] = [self.min_x, self.min_y, self.cell_width, self.cell_height].map(f64::to_bits);
+        [min_x, min_y, width, height, self.cols as u64, self.rows as u64]
     }
 
     /// The grid that these words say. A count above `u32::MAX`, which no fit grid has, becomes `u32::MAX`.
-    pub fn from_words([min_x, min_y, cell_size, cols, rows]: [u64; 5]) -> Grid {
+    pub fn from_words([min_x, min_y, cell_width, cell_height, cols, rows]: [u64; 6]) -> Grid {
         let count = |word: u64| word.min(u32::MAX as u64) as u32;
-        let [min_x, min_y, cell_size] = [min_x, min_y, cell_size].map(f64::from_bits);
-        Grid { min_x, min_y, cell_size, cols: count(cols), rows: count(rows) }
+        let [min_x, min_y, cell_width, cell_height] = [min_x, min_y, cell_width, cell_height].map(f64::from_bits);
+        Grid { min_x, min_y, cell_width, cell_height, cols: count(cols), rows: count(rows) }
     }
 }
 
@@ -80,7 +84,7 @@ pub fn snap(x: f64, y: f64, size: f64, strategy: Strategy) -> Result<(f64, f64),
 /// ```
 /// use morelturret::{point_owned, Grid};
 ///
-/// let grid = Grid { min_x: 0.0, min_y: 0.0, cell_size: 1.0, cols: 4, rows: 4 };
+/// let grid = Grid { min_x: 0.0, min_y: 0.0, cell_width: 1.0, cell_height: 1.0, cols: 4, rows: 4 };
 /// assert_eq!(point_owned(grid, 0, 1, 1.0, 0.5), Ok(true));
 /// assert_eq!(point_owned(grid, 0, 0, 1.0, 0.5), Ok(false));
 /// ```
@@ -97,7 +101,7 @@ pub fn point_owned(grid: Grid, row: u32, col: u32, x: f64, y: f64) -> Result<boo
 /// ```
 /// use morelturret::{overlap_owned, Grid, Strategy};
 ///
-/// let grid = Grid { min_x: 0.0, min_y: 0.0, cell_size: 1.0, cols: 4, rows: 4 };
+/// let grid = Grid { min_x: 0.0, min_y: 0.0, cell_width: 1.0, cell_height: 1.0, cols: 4, rows: 4 };
 /// assert_eq!(overlap_owned(grid, 0, 2, 1.75, 0.5, 0.5, Strategy::Grid), Ok(true)); // 1.75 is snapped to 2
 /// assert_eq!(overlap_owned(grid, 0, 1, 1.75, 0.5, 0.5, Strategy::Grid), Ok(false));
 /// ```
@@ -113,7 +117,7 @@ pub fn overlap_owned(grid: Grid, row: u32, col: u32, x: f64, y: f64, size: f64, 
 /// ```
 /// use morelturret::{owner, Grid};
 ///
-/// let grid = Grid { min_x: 0.0, min_y: 0.0, cell_size: 1.0, cols: 4, rows: 4 };
+/// let grid = Grid { min_x: 0.0, min_y: 0.0, cell_width: 1.0, cell_height: 1.0, cols: 4, rows: 4 };
 /// assert_eq!(owner(grid, 2.5, 1.0), Ok(Some((1, 2))));
 /// assert_eq!(owner(grid, 4.5, 1.0), Ok(None));
 /// ```

@@ -86,8 +86,8 @@ impl fmt::Display for Refusal {
 
 impl Error for Refusal {}
 
-/// The words of an answer, or its refusal. `out` has as many words as the success writes, and a grid always its five, so the library's 100 and
-/// 101, "out is short" and "too few words", never come.
+/// The words of an answer, or its refusal. `out` has as many words as the success writes, a grid always its six, and a [`Sizing`](crate::Sizing)
+/// is one that the library has; so its 100, 101 and 102, "out is short", "too few words" and "no such sizing", never come.
 pub(crate) fn answer<const N: usize>(ask: impl FnOnce(&mut [u64]) -> u32) -> Result<[u64; N], Refusal> {
     let mut out = [0; N];
     match ask(&mut out) {

@@ -1,7 +1,7 @@
 //! The build, its tables, and the visit of their tests.
 
 use crate::refusal::{answer, Refusal};
-use crate::{sys, Grid, Lines, MAX_CELLS_OF_LINE, MAX_LINES, MAX_OFFSETS, SCRATCH};
+use crate::{sys, Grid, Lines, Sizing, MAX_CELLS_OF_LINE, MAX_LINES, MAX_OFFSETS, SCRATCH};
 use std::iter::FusedIterator;
 
 /// What a build answers beside the tables that it wrote.
@@ -15,7 +15,8 @@ pub struct Built {
     pub globals: usize,
 }
 
-/// Picks a grid for the lines and writes its tables into lent slices. [`Tables`] does the same with slices of its own.
+/// Picks a grid for the lines, its cells sized as asked for, and writes its tables into lent slices. [`Tables`] does the same with slices of its
+/// own.
 ///
 /// The list of cell c is `items[offsets[c]..offsets[c + 1]]`: the lines, increasing, that visit it. A line that visits more than 2,048 cells is in
 /// no list but in `globals`. Beyond what is written all four slices are zeroed. The scratch has at least [`SCRATCH`] entries; [`Room`] tells what
@@ -25,12 +26,12 @@ pub struct Built {
 /// 6 (globals). Refusals 4 to 7 leave zeros in the four slices, the others change nothing.
 ///
 /// ```
-/// use morelturret::{build, Lines, Standing, SCRATCH};
+/// use morelturret::{build, Lines, Sizing, Standing, SCRATCH};
 ///
 /// let lines = Lines { start_x: &[0.0], start_y: &[0.0], end_x: &[2.0], end_y: &[2.0] };
 /// let (mut offsets, mut items, mut globals, mut scratch) = ([0; 16], [0; 16], [0; 4], [0; SCRATCH]);
-/// let built = build(lines, &mut offsets, &mut items, &mut globals, &mut scratch)?;
-/// assert_eq!((built.grid.cell_size, built.grid.cols, built.grid.rows), (2.0, 2, 2));
+/// let built = build(lines, Sizing::Square, &mut offsets, &mut items, &mut globals, &mut scratch)?;
+/// assert_eq!((built.grid.cell_width, built.grid.cell_height, built.grid.cols, built.grid.rows), (2.0, 2.0, 2, 2));
 /// assert_eq!(offsets[..5], [0, 1, 2, 3, 4]); // the line is in each of the four cells
 ///
 /// // The tables can be asked from now on.
@@ -38,11 +39,18 @@ pub struct Built {
 /// assert_eq!(standing.cell_list(1, 1)?, [0]);
 /// # Ok::<(), morelturret::Refusal>(())
 /// ```
-pub fn build(lines: Lines, offsets: &mut [u32], items: &mut [u32], globals: &mut [u32], scratch: &mut [u32]) -> Result<Built, Refusal> {
+pub fn build(
+    lines: Lines,
+    sizing: Sizing,
+    offsets: &mut [u32],
+    items: &mut [u32],
+    globals: &mut [u32],
+    scratch: &mut [u32],
+) -> Result<Built, Refusal> {
     let Lines { start_x, start_y, end_x, end_y } = lines;
-    let [min_x, min_y, cell_size, cols, rows, items, globals] =
-        answer(|out| sys::build(start_x, start_y, end_x, end_y, offsets, items, globals, scratch, out))?;
-    let grid = Grid::from_words([min_x, min_y, cell_size, cols, rows]);
+    let [min_x, min_y, cell_width, cell_height, cols, rows, items, globals] =
+        answer(|out| sys::build(start_x, start_y, end_x, end_y, sizing as u32, offsets, items, globals, scratch, out))?;
+    let grid = Grid::from_words([min_x, min_y, cell_width, cell_height, cols, rows]);
     Ok(Built { grid, items: items as usize, globals: globals as usize })
 }
 
@@ -69,11 +77,11 @@ impl Room {
 /// The tables of a build, in slices that they own: the grid, the list of each cell, and the global lines.
 ///
 /// ```
-/// use morelturret::{Lines, Room, Tables};
+/// use morelturret::{Lines, Room, Sizing, Tables};
 ///
 /// let lines = Lines { start_x: &[0.0, 0.0], start_y: &[0.0, 2.0], end_x: &[2.0, 2.0], end_y: &[2.0, 0.0] };
 /// let mut tables = Tables::with_room(Room { offsets: 64, items: 64, globals: 4 });
-/// tables.build(lines)?;
+/// tables.build(lines, Sizing::Square)?;
 /// assert_eq!(tables.cell(0, 0), [0, 1]);
 /// assert!(tables.globals().is_empty());
 /// # Ok::<(), morelturret::Refusal>(())
@@ -105,7 +113,7 @@ impl Tables {
         }
     }
 
-    /// The tables of these lines, with as much room as they need: what refusals 4, 5 and 6 ask for is given, and the build made again.
+    /// The tables of these lines on square cells, with as much room as they need: [`Tables::sized`] by [`Sizing::Square`].
     ///
     /// Refuses by 3 (lengths), 2 (too many lines), 1 (a coordinate), 7 (a walk too long).
     ///
@@ -117,11 +125,27 @@ impl Tables {
     /// # Ok::<(), morelturret::Refusal>(())
     /// ```
     pub fn of(lines: Lines) -> Result<Tables, Refusal> {
+        Tables::sized(lines, Sizing::Square)
+    }
+
+    /// The tables of these lines on cells sized as asked for, with as much room as they need: what refusals 4, 5 and 6 ask for is given, and the
+    /// build made again.
+    ///
+    /// Refuses by 3 (lengths), 2 (too many lines), 1 (a coordinate), 7 (a walk too long).
+    ///
+    /// ```
+    /// use morelturret::{Lines, Sizing, Tables};
+    ///
+    /// let tables = Tables::sized(Lines::chain(&[0.0, 2.0], &[0.0, 2e-3]), Sizing::Axes)?;
+    /// assert_eq!((tables.grid().cell_width, tables.grid().cell_height), (2.0, 2e-3));
+    /// # Ok::<(), morelturret::Refusal>(())
+    /// ```
+    pub fn sized(lines: Lines, sizing: Sizing) -> Result<Tables, Refusal> {
         // most grids have about as many cells as there are lines, and most lines visit few cells
         let n = lines.len().min(MAX_LINES);
         let mut tables = Tables::with_room(Room { offsets: 4 * n + 16, items: 8 * n, globals: 0 });
         loop {
-            let Err(refusal) = tables.build(lines) else { return Ok(tables) };
+            let Err(refusal) = tables.build(lines, sizing) else { return Ok(tables) };
             let short = match refusal.number {
                 Refusal::SHORT_OFFSETS => &mut tables.offsets,
                 Refusal::SHORT_ITEMS => &mut tables.items,
@@ -132,13 +156,13 @@ impl Tables {
         }
     }
 
-    /// Builds the tables of these lines in place of those that stood. After refusals 1 to 3 the tables stand as they were; after 4 to 7 they are
-    /// those of no lines.
+    /// Builds the tables of these lines, on cells sized as asked for, in place of those that stood. After refusals 1 to 3 the tables stand as they
+    /// were; after 4 to 7 they are those of no lines.
     ///
     /// Refuses by 3 (lengths), 2 (too many lines), 1 (a coordinate); at each grid tried by 4 (offsets), 7 (a walk too long); then by 5 (items),
     /// 6 (globals).
-    pub fn build(&mut self, lines: Lines) -> Result<(), Refusal> {
-        let built = build(lines, &mut self.offsets, &mut self.items, &mut self.globals, &mut self.scratch);
+    pub fn build(&mut self, lines: Lines, sizing: Sizing) -> Result<(), Refusal> {
+        let built = build(lines, sizing, &mut self.offsets, &mut self.items, &mut self.globals, &mut self.scratch);
         let (now, line_count) = match built {
             Ok(built) => (built, lines.len()),
             Err(refusal) if refusal.number <= Refusal::BAD_LENGTHS => return Err(refusal),
@@ -253,8 +277,7 @@ impl<'a> Standing<'a> {
     /// Refuses by 2 (too many lines), 8 (the grid), 10 (the tables), 9 (the cell).
     pub fn cell_list(&self, row: u32, col: u32) -> Result<&'a [u32], Refusal> {
         let Standing { grid, line_count, offsets, items, globals, global_count } = *self;
-        let [from, length] =
-            answer(|out| sys::cell_list(&grid.words(), line_count, offsets, items, globals, global_count, row, col, out))?;
+        let [from, length] = answer(|out| sys::cell_list(&grid.words(), line_count, offsets, items, globals, global_count, row, col, out))?;
         Ok(&items[from as usize..][..length as usize])
     }
 
@@ -263,8 +286,7 @@ impl<'a> Standing<'a> {
     /// Refuses by 2 (too many lines), 8 (the grid), 10 (the tables), 9 (the position).
     pub fn global_list(&self, position: u64) -> Result<&'a [u32], Refusal> {
         let Standing { grid, line_count, offsets, items, globals, global_count } = *self;
-        let [from, length] =
-            answer(|out| sys::global_list(&grid.words(), line_count, offsets, items, globals, global_count, position, out))?;
+        let [from, length] = answer(|out| sys::global_list(&grid.words(), line_count, offsets, items, globals, global_count, position, out))?;
         Ok(&globals[from as usize..][..length as usize])
     }
 
@@ -284,9 +306,8 @@ impl<'a> Standing<'a> {
     pub fn test_at(&self, lines: Lines, bookmark: u64) -> Result<Option<Test>, Refusal> {
         let Standing { grid, offsets, items, globals, global_count, .. } = *self;
         let Lines { start_x, start_y, end_x, end_y } = lines;
-        let [kind, at, col, first, second, overlap] = answer(|out| {
-            sys::test_at(&grid.words(), start_x, start_y, end_x, end_y, offsets, items, globals, global_count, bookmark, out)
-        })?;
+        let [kind, at, col, first, second, overlap] =
+            answer(|out| sys::test_at(&grid.words(), start_x, start_y, end_x, end_y, offsets, items, globals, global_count, bookmark, out))?;
         let place = match kind {
             0 => Place::Cell { row: at as u32, col: col as u32 },
             1 => Place::Global { position: at },

@@ -11,7 +11,7 @@ use crate::{sys, Grid};
 /// ```
 /// use morelturret::{segment_cells, Grid, SCRATCH};
 ///
-/// let grid = Grid { min_x: 0.0, min_y: 0.0, cell_size: 1.0, cols: 4, rows: 4 };
+/// let grid = Grid { min_x: 0.0, min_y: 0.0, cell_width: 1.0, cell_height: 1.0, cols: 4, rows: 4 };
 /// let mut scratch = vec![0; SCRATCH];
 /// assert_eq!(segment_cells(grid, (0.5, 0.5), (2.5, 0.5), &mut scratch)?, [0, 1, 2]);
 /// # Ok::<(), morelturret::Refusal>(())

@@ -1,9 +1,10 @@
-//! The library's functions as they are exported: what a short `out` and too few words are answered by, and what of a grid's words is read.
+//! The library's functions as they are exported: what a short `out`, too few words and an unknown sizing are answered by, and what of a grid's words
+//! is read.
 
-use morelturret::{sys, Grid, Strategy, SCRATCH};
+use morelturret::{sys, Grid, Sizing, Strategy, SCRATCH};
 
 const JUNK: u64 = 0xdead_beef_dead_beef;
-const FOUR: Grid = Grid { min_x: 0.0, min_y: 0.0, cell_size: 1.0, cols: 4, rows: 4 };
+const FOUR: Grid = Grid { min_x: 0.0, min_y: 0.0, cell_width: 1.0, cell_height: 1.0, cols: 4, rows: 4 };
 
 /// A function that takes a grid's words and `out`, and how many words a success writes.
 type Asked = (&'static str, fn(&[u64], &mut [u64]) -> u32, usize);
@@ -26,7 +27,7 @@ fn too_few_words_after_a_short_out() {
     let words = FOUR.words();
     for (name, ask, needed) in TAKEN {
         let mut out = [JUNK; 6];
-        for few in 0..5 {
+        for few in 0..6 {
             assert_eq!(ask(&words[..few], &mut out[..needed]), 101, "{name} with {few} words");
             assert_eq!(ask(&words[..few], &mut out[..needed - 1]), 100, "{name}: a short out comes first");
         }
@@ -39,7 +40,7 @@ fn too_few_words_after_a_short_out() {
 #[test]
 fn further_words_are_not_read() {
     let mut words = [JUNK; 8];
-    words[..5].copy_from_slice(&FOUR.words());
+    words[..6].copy_from_slice(&FOUR.words());
     for (name, ask, needed) in TAKEN {
         let (mut out, mut again) = ([JUNK; 6], [JUNK; 6]);
         assert_eq!(ask(&FOUR.words(), &mut out[..needed]), 0, "{name}");
@@ -50,7 +51,7 @@ fn further_words_are_not_read() {
 
 #[test]
 fn counts_beyond_32_bits_are_unfit() {
-    for at in [3, 4] {
+    for at in [4, 5] {
         for count in [1 << 32, (1 << 32) + 4, u64::MAX] {
             let mut words = FOUR.words();
             words[at] = count;
@@ -66,12 +67,60 @@ fn counts_beyond_32_bits_are_unfit() {
 fn a_built_grid_is_handed_on_as_it_comes() {
     let (x, y) = ([0.0, 2.0, 2.0, 0.0, 0.0], [0.0, 0.0, 2.0, 2.0, 0.0]);
     let (mut offsets, mut items, mut globals, mut scratch) = ([0; 16], [0; 32], [0; 4], vec![0; SCRATCH]);
-    let (mut built, mut out) = ([0; 7], [0; 3]);
-    assert_eq!(sys::build(&x[..4], &y[..4], &x[1..], &y[1..], &mut offsets, &mut items, &mut globals, &mut scratch, &mut built), 0);
-    let (mut first, mut second) = ([0; 16], [0; 16]);
-    let visit = |first: &mut [u32], second: &mut [u32], out: &mut [u64]| {
-        sys::batch(&built, &x[..4], &y[..4], &x[1..], &y[1..], &offsets, &items, &globals, built[6], 0, first, second, out)
-    };
-    assert_eq!(visit(&mut first, &mut second, &mut out), 0);
-    assert_eq!(out, [9, 9, 9]);
+    for sizing in [Sizing::Square, Sizing::Axes] {
+        let (mut built, mut out) = ([0; 8], [0; 3]);
+        let number = sys::build(&x[..4], &y[..4], &x[1..], &y[1..], sizing as u32, &mut offsets, &mut items, &mut globals, &mut scratch, &mut built);
+        assert_eq!(number, 0, "{sizing:?}");
+        let (mut first, mut second) = ([0; 16], [0; 16]);
+        let visit = |first: &mut [u32], second: &mut [u32], out: &mut [u64]| {
+            sys::batch(&built, &x[..4], &y[..4], &x[1..], &y[1..], &offsets, &items, &globals, built[7], 0, first, second, out)
+        };
+        assert_eq!(visit(&mut first, &mut second, &mut out), 0, "{sizing:?}");
+        assert_eq!(out, [9, 9, 9], "{sizing:?}");
+    }
+}
+
+/// Every word of the grid goes to its own place: width before height.
+#[test]
+fn the_words_of_a_build() {
+    let (x, y) = ([0.0, 2000.0, 2000.0, 0.0, 0.0], [0.5, 0.5, 2.5, 2.5, 0.5]);
+    let (mut offsets, mut items, mut globals, mut scratch) = ([0; 16], [0; 32], [0; 4], vec![0; SCRATCH]);
+    let mut built = [JUNK; 9];
+    let number = sys::build(&x[..4], &y[..4], &x[1..], &y[1..], 1, &mut offsets, &mut items, &mut globals, &mut scratch, &mut built);
+    let [width, height] = [1000.0f64, 1.0].map(f64::to_bits);
+    assert_eq!((number, built), (0, [0, 0.5f64.to_bits(), width, height, 3, 3, 18, 0, JUNK]), "the ninth word stays");
+    // row 0 reaches from 0.5 to 1.5, column 0 from 0 to 1000
+    for (row, col, x, y) in [(0, 0, 999.0, 1.25), (1, 0, 999.0, 1.5), (0, 1, 1000.0, 1.25), (2, 2, 2500.0, 3.0)] {
+        let mut out = [JUNK; 3];
+        assert_eq!((sys::owner(&built, x, y, &mut out), out), (0, [1, row, col]), "{x} {y}");
+    }
+}
+
+/// A build of one line into junk, with so many ends, entries of scratch and words of `out`: its number, and whether nothing at all was written.
+fn built(line: [f64; 4], sizing: u32, ends: usize, scratch: usize, words: usize) -> (u32, bool) {
+    let [start_x, start_y, end_x, end_y] = line.map(|v| [v]);
+    let [mut offsets, mut items, mut globals] = [[7; 8]; 3];
+    let (mut scratch, mut out) = (vec![7; scratch], [JUNK; 9]);
+    let (offsets, items, globals) = (&mut offsets[..], &mut items[..], &mut globals[..]);
+    let number = sys::build(&start_x, &start_y, &end_x[..ends], &end_y, sizing, offsets, items, globals, &mut scratch, &mut out[..words]);
+    let left = [&*offsets, items, globals, &scratch].iter().all(|slice| slice.iter().all(|&entry| entry == 7));
+    (number, left && out == [JUNK; 9])
+}
+
+#[test]
+fn an_unknown_sizing_after_a_short_out() {
+    let line = [0.0, 0.0, 2.0, 2.0];
+    for sizing in [0, 1, 2, 3, 256, 1 << 31, u32::MAX] {
+        for words in 0..8 {
+            assert_eq!(built(line, sizing, 1, SCRATCH, words), (100, true), "sizing {sizing}, {words} words");
+        }
+        let (number, left) = built(line, sizing, 1, SCRATCH, 8);
+        assert_eq!((number, left), if sizing < 2 { (0, false) } else { (102, true) }, "sizing {sizing}");
+        if sizing > 1 {
+            // before every refusal: lengths, the scratch, a coordinate
+            assert_eq!(built(line, sizing, 0, SCRATCH, 9), (102, true));
+            assert_eq!(built(line, sizing, 1, SCRATCH - 1, 8), (102, true));
+            assert_eq!(built([0.0, f64::NAN, 2.0, 2.0], sizing, 1, SCRATCH, 8), (102, true));
+        }
+    }
 }

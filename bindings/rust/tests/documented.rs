@@ -1,8 +1,8 @@
-//! Document 01's values: the sample, the measured points, the two small builds. And what each function leaves in lent slices.
+//! Document 01's values: the sample, the measured points, the two small builds, each in both sizings. And what each function leaves in lent slices.
 
 use morelturret::*;
 
-const FOUR: Grid = Grid { min_x: 0.0, min_y: 0.0, cell_size: 1.0, cols: 4, rows: 4 };
+const FOUR: Grid = Grid { min_x: 0.0, min_y: 0.0, cell_width: 1.0, cell_height: 1.0, cols: 4, rows: 4 };
 
 /// Entries that no call writes by itself: one that is left alone shows.
 const JUNK: u32 = 0xdead_beef;
@@ -112,8 +112,10 @@ fn numbers_as_std_has_them() {
     assert_eq!(greatest(-0.0, 0.0).to_bits(), (-0.0f64).to_bits(), "the first of two that are equal");
 }
 
-/// Document 01's sample, in the program's words.
-const SQUARE: &str = "grid 3 3 3ff0000000000000 18 0
+const SIZINGS: [Sizing; 2] = [Sizing::Square, Sizing::Axes];
+
+/// Document 01's sample, in the program's words: the width of a cell, and then its height.
+const SQUARE: &str = "grid 3 3 3ff0000000000000 3ff0000000000000 18 0
 cell 0 0 0 3
 cell 0 1 0 1
 cell 0 2 0 1
@@ -128,8 +130,9 @@ visit 9 9
 
 fn report(tables: &Tables, lines: Lines) -> String {
     let grid = tables.grid();
-    let bits = grid.cell_size.to_bits();
-    let mut text = format!("grid {} {} {bits:016x} {} {}\n", grid.cols, grid.rows, tables.items().len(), tables.globals().len());
+    let (width, height) = (grid.cell_width.to_bits(), grid.cell_height.to_bits());
+    let (items, globals) = (tables.items().len(), tables.globals().len());
+    let mut text = format!("grid {} {} {width:016x} {height:016x} {items} {globals}\n", grid.cols, grid.rows);
     for (row, col) in (0..grid.rows).flat_map(|row| (0..grid.cols).map(move |col| (row, col))) {
         let list = tables.cell(row, col);
         assert_eq!(tables.standing().cell_list(row, col).unwrap(), list);
@@ -155,23 +158,68 @@ fn the_square() {
         let lines = Lines::chain(&x, &y);
         assert_eq!(report(&Tables::of(lines).unwrap(), lines), SQUARE);
         let mut tables = Tables::with_room(Room::enough_for(lines.len()));
-        tables.build(lines).unwrap();
-        assert_eq!(report(&tables, lines), SQUARE);
+        for sizing in SIZINGS {
+            tables.build(lines, sizing).unwrap();
+            assert_eq!(report(&tables, lines), SQUARE, "{sizing:?}");
+            assert_eq!(report(&Tables::sized(lines, sizing).unwrap(), lines), SQUARE, "{sizing:?}");
+        }
     }
+}
+
+/// By axis the unit of an axis changes its own size, and no list. In the square sizing it changes the grid.
+#[test]
+fn another_unit() {
+    let (x, y) = ([0.0, 2.0, 2.0, 0.0, 0.0], [0.0, 0.0, 2.0, 2.0, 0.0]);
+    let text = |text: &str| text.split_once('\n').unwrap().1.to_string();
+    for unit in [1000.0, 1e6, 1024.0, 0.125] {
+        let scaled = x.map(|v| v * unit);
+        let lines = Lines::chain(&scaled, &y);
+        let tables = Tables::sized(lines, Sizing::Axes).unwrap();
+        assert_eq!(tables.grid(), Grid { min_x: 0.0, min_y: 0.0, cell_width: unit, cell_height: 1.0, cols: 3, rows: 3 });
+        assert_eq!(text(&report(&tables, lines)), text(SQUARE), "{unit}");
+        let lines = Lines::chain(&y, &scaled);
+        let tables = Tables::sized(lines, Sizing::Axes).unwrap();
+        assert_eq!(tables.grid(), Grid { min_x: 0.0, min_y: 0.0, cell_width: 1.0, cell_height: unit, cols: 3, rows: 3 });
+        let square = Tables::of(lines).unwrap().grid();
+        assert!(square.cell_width == square.cell_height && (square.cols, square.rows) != (3, 3), "{square:?}");
+    }
+}
+
+/// Walks and owners on cells that are wider than they are high.
+#[test]
+fn two_sizes() {
+    let wide = Grid { cell_width: 1000.0, cell_height: 0.25, ..FOUR };
+    let on = |[a, b, c, d]: [f64; 4]| cells(wide, [a * 1000.0, b * 0.25, c * 1000.0, d * 0.25]);
+    assert_eq!(on([0.5, 0.5, 2.5, 0.5]), [0, 1, 2], "P1");
+    assert_eq!(on([1.0, 0.5, 1.0, 2.5]), [0, 1, 4, 5, 8, 9], "P2");
+    assert_eq!(on([1.0; 4]), [0, 1, 4, 5], "P3");
+    assert_eq!(on([0.0, 0.0, 2.0, 2.0]), cells(FOUR, [0.0, 0.0, 2.0, 2.0]), "a diagonal through the corners");
+    assert_eq!(owner(wide, 2500.0, 0.375), Ok(Some((1, 2))));
+    assert_eq!(owner(wide, 4000.0, 1.0), Ok(Some((3, 3))), "P8");
+    assert_eq!(owner(wide, 0.5, 1.5), Ok(None));
+    assert_eq!((point_owned(wide, 0, 1, 1000.0, 0.125), point_owned(wide, 0, 0, 1000.0, 0.125)), (Ok(true), Ok(false)), "P7");
+    assert_eq!(overlap_owned(wide, 2, 1, 1001.0, 0.6, 0.25, Strategy::Grid), Ok(true), "0.6 is snapped to 0.5");
 }
 
 #[test]
 fn small_builds() {
-    let one = |line: [f64; 4]| Tables::of([line].into_iter().collect::<LineVec>().lines()).unwrap();
-    let diagonal = one([0.0, 0.0, 2.0, 2.0]);
-    assert_eq!(diagonal.grid(), Grid { min_x: 0.0, min_y: 0.0, cell_size: 2.0, cols: 2, rows: 2 });
-    assert_eq!(diagonal.items(), [0, 0, 0, 0]);
-    assert!((0..2).all(|row| (0..2).all(|col| diagonal.cell(row, col) == [0])));
-    assert!(diagonal.cell(2, 0).is_empty() && diagonal.cell(0, 2).is_empty());
-    let point = one([0.0; 4]);
-    assert_eq!((point.grid().cols, point.grid().rows, point.items()), (1, 1, &[0][..]));
+    for sizing in SIZINGS {
+        let one = |line: [f64; 4]| Tables::sized([line].into_iter().collect::<LineVec>().lines(), sizing).unwrap();
+        let diagonal = one([0.0, 0.0, 2.0, 2.0]);
+        assert_eq!(diagonal.grid(), Grid { min_x: 0.0, min_y: 0.0, cell_width: 2.0, cell_height: 2.0, cols: 2, rows: 2 });
+        assert_eq!(diagonal.items(), [0, 0, 0, 0]);
+        assert!((0..2).all(|row| (0..2).all(|col| diagonal.cell(row, col) == [0])));
+        assert!(diagonal.cell(2, 0).is_empty() && diagonal.cell(0, 2).is_empty());
+        let point = one([0.0; 4]);
+        assert_eq!((point.grid().cols, point.grid().rows, point.items()), (1, 1, &[0][..]));
+        // an area of 0 counts as the number of lines; by axis there is no such rule
+        let size = if sizing == Sizing::Square { 1.0 } else { 1e-6 };
+        assert_eq!((point.grid().cell_width, point.grid().cell_height), (size, size));
+        let none = Tables::sized(Lines::default(), sizing).unwrap();
+        assert_eq!((none.grid(), none.line_count(), none.items().len(), none.globals().len()), (Grid::EMPTY, 0, 0, 0));
+    }
+    assert_eq!(Sizing::default(), Sizing::Square);
     let none = Tables::of(Lines::default()).unwrap();
-    assert_eq!((none.grid(), none.line_count(), none.items().len(), none.globals().len()), (Grid::EMPTY, 0, 0, 0));
     assert_eq!(none.pairs(Lines::default(), 4).unwrap().count(), 0);
     assert_eq!(none.test_at(Lines::default(), 0), Ok(None));
     // one point makes no line
@@ -182,17 +230,20 @@ fn small_builds() {
 fn a_build_into_lent_slices() {
     let (x, y) = ([0.0, 2.0, 2.0, 0.0, 0.0], [0.0, 0.0, 2.0, 2.0, 0.0]);
     let lines = Lines::chain(&x, &y);
-    let (mut offsets, mut items, mut globals, mut scratch) = ([JUNK; 12], [JUNK; 20], [JUNK; 2], [JUNK; SCRATCH]);
-    let built = build(lines, &mut offsets, &mut items, &mut globals, &mut scratch).unwrap();
-    assert_eq!(built, Built { grid: Grid { min_x: 0.0, min_y: 0.0, cell_size: 1.0, cols: 3, rows: 3 }, items: 18, globals: 0 });
-    assert_eq!(offsets, [0, 2, 4, 6, 8, 10, 12, 14, 16, 18, 0, 0]);
-    assert_eq!(items, [0, 3, 0, 1, 0, 1, 2, 3, 1, 2, 1, 2, 2, 3, 1, 2, 1, 2, 0, 0]);
-    assert!(globals.iter().chain(&scratch).all(|&entry| entry == 0));
-    let standing = Standing { grid: built.grid, line_count: 4, offsets: &offsets, items: &items, globals: &globals, global_count: 0 };
-    assert_eq!(standing.check_tables(), Ok(()));
-    // the list is the very part of the items
-    let list = standing.cell_list(1, 0).unwrap();
-    assert_eq!((list, list.as_ptr()), (&[2, 3][..], items[6..].as_ptr()));
+    for sizing in SIZINGS {
+        let (mut offsets, mut items, mut globals, mut scratch) = ([JUNK; 12], [JUNK; 20], [JUNK; 2], [JUNK; SCRATCH]);
+        let built = build(lines, sizing, &mut offsets, &mut items, &mut globals, &mut scratch).unwrap();
+        let grid = Grid { min_x: 0.0, min_y: 0.0, cell_width: 1.0, cell_height: 1.0, cols: 3, rows: 3 };
+        assert_eq!(built, Built { grid, items: 18, globals: 0 }, "{sizing:?}");
+        assert_eq!(offsets, [0, 2, 4, 6, 8, 10, 12, 14, 16, 18, 0, 0]);
+        assert_eq!(items, [0, 3, 0, 1, 0, 1, 2, 3, 1, 2, 1, 2, 2, 3, 1, 2, 1, 2, 0, 0]);
+        assert!(globals.iter().chain(&scratch).all(|&entry| entry == 0));
+        let standing = Standing { grid, line_count: 4, offsets: &offsets, items: &items, globals: &globals, global_count: 0 };
+        assert_eq!(standing.check_tables(), Ok(()));
+        // the list is the very part of the items
+        let list = standing.cell_list(1, 0).unwrap();
+        assert_eq!((list, list.as_ptr()), (&[2, 3][..], items[6..].as_ptr()));
+    }
 }
 
 #[test]

@@ -2,8 +2,8 @@
 
 use morelturret::*;
 
-const FOUR: Grid = Grid { min_x: 0.0, min_y: 0.0, cell_size: 1.0, cols: 4, rows: 4 };
-const UNFIT: Grid = Grid { cell_size: 0.0, ..FOUR };
+const FOUR: Grid = Grid { min_x: 0.0, min_y: 0.0, cell_width: 1.0, cell_height: 1.0, cols: 4, rows: 4 };
+const UNFIT: Grid = Grid { cell_width: 0.0, cell_height: 0.0, ..FOUR };
 const JUNK: u32 = 0xdead_beef;
 
 /// The refusal of an answer, as number and value.
@@ -23,11 +23,20 @@ fn with_globals() -> LineVec {
     lines
 }
 
-/// A build into slices full of junk: its refusal, and what the slices hold then, each that holds one value throughout as that value.
+/// A build into slices full of junk: its refusal, and what the slices hold then, each that holds one value throughout as that value. Both sizings
+/// are refused alike, but where cells are counted.
 fn refused_build(lines: Lines, room: Room, scratch: usize) -> ((u32, u64), [Option<u32>; 4]) {
+    let square = refused_sized(lines, Sizing::Square, room, scratch);
+    if square.0 .0 <= Refusal::BAD_LENGTHS {
+        assert_eq!(refused_sized(lines, Sizing::Axes, room, scratch), square);
+    }
+    square
+}
+
+fn refused_sized(lines: Lines, sizing: Sizing, room: Room, scratch: usize) -> ((u32, u64), [Option<u32>; 4]) {
     let mut slices = [room.offsets, room.items, room.globals, scratch].map(|length| vec![JUNK; length]);
     let [offsets, items, globals, scratch] = &mut slices;
-    let refusal = of(build(lines, offsets, items, globals, scratch));
+    let refusal = of(build(lines, sizing, offsets, items, globals, scratch));
     (refusal, slices.map(|s| s.first().copied().filter(|v| s.iter().all(|w| w == v))))
 }
 
@@ -112,9 +121,13 @@ fn four_five_six_room() {
     assert_eq!(refused_build(lines, Room { offsets: 9, ..ROOM }, SCRATCH), ((4, 10), ZEROED));
     assert_eq!(refused_build(lines, Room { items: 17, ..ROOM }, SCRATCH), ((5, 18), ZEROED));
     assert_eq!(refused_build(Lines::default(), Room { offsets: 0, ..ROOM }, SCRATCH), ((4, 1), [None, Some(0), Some(0), Some(0)]));
-    let mut tables = Tables::with_room(exact);
-    assert_eq!((tables.build(lines), tables.room()), (Ok(()), exact), "just enough is enough");
-    assert_eq!(of(Tables::with_room(Room { offsets: 9, ..exact }).build(lines)), (4, 10));
+    for sizing in [Sizing::Square, Sizing::Axes] {
+        let mut tables = Tables::with_room(exact);
+        assert_eq!((tables.build(lines, sizing), tables.room()), (Ok(()), exact), "just enough is enough");
+        assert_eq!(of(Tables::with_room(Room { offsets: 9, ..exact }).build(lines, sizing)), (4, 10));
+        assert_eq!(refused_sized(lines, sizing, Room { offsets: 9, ..ROOM }, SCRATCH), ((4, 10), ZEROED));
+        assert_eq!(refused_sized(lines, sizing, Room { items: 17, ..ROOM }, SCRATCH), ((5, 18), ZEROED));
+    }
 
     let owned = with_globals();
     let lines = owned.lines();
@@ -126,17 +139,17 @@ fn four_five_six_room() {
     let square = square();
     let mut tables = Tables::with_room(room);
     for _ in 0..2 {
-        tables.build(square.lines()).unwrap();
+        tables.build(square.lines(), Sizing::Square).unwrap();
         assert_eq!((tables.cell(0, 0), tables.line_count()), (&[0, 3][..], 4));
-        assert_eq!(of(tables.build(lines)), (6, 2));
+        assert_eq!(of(tables.build(lines, Sizing::Square)), (6, 2));
         assert_eq!((tables.grid(), tables.line_count(), tables.items().len(), tables.globals().len()), (Grid::EMPTY, 0, 0, 0));
         assert!(tables.cell(0, 0).is_empty());
         assert_eq!(tables.standing().check_tables(), Ok(()));
     }
-    tables.build(square.lines()).unwrap();
+    tables.build(square.lines(), Sizing::Square).unwrap();
     // refusals 1 to 3 let them stand
     let bad: LineVec = [[0.0, 0.0, f64::NAN, 0.0]].into_iter().collect();
-    assert_eq!(of(tables.build(bad.lines())), (1, 0));
+    assert_eq!(of(tables.build(bad.lines(), Sizing::Axes)), (1, 0));
     assert_eq!((tables.cell(0, 0), tables.line_count()), (&[0, 3][..], 4));
 }
 
@@ -161,8 +174,12 @@ fn eight_an_unfit_grid() {
     let mut scratch = vec![JUNK; SCRATCH];
     let unfit = [
         UNFIT,
-        Grid { cell_size: f64::NAN, ..FOUR },
-        Grid { cell_size: 2.5e9, ..FOUR },
+        Grid { cell_width: f64::NAN, ..FOUR },
+        Grid { cell_height: f64::NAN, ..FOUR },
+        Grid { cell_width: 2.5e9, ..FOUR },
+        Grid { cell_height: 2000000000.0000002, ..FOUR },
+        Grid { cell_width: 2.4999999999999994e-7, ..FOUR },
+        Grid { cell_height: -1.0, ..FOUR },
         Grid { min_x: f64::INFINITY, ..FOUR },
         Grid { min_y: -1.5e9, ..FOUR },
         Grid { cols: 0, ..FOUR },
@@ -184,6 +201,8 @@ fn eight_an_unfit_grid() {
         assert_eq!(of(standing.test_at(owned.lines(), 0)), (8, 0));
         assert_eq!(of(standing.pairs(owned.lines(), 4)), (8, 0));
     }
+    let widest = Grid { cell_width: 2e9, cell_height: 2.5e-7, ..FOUR };
+    assert_eq!(owner(widest, 0.5, 6e-7), Ok(Some((2, 0))), "the ends of the range are fit, each for itself");
 }
 
 #[test]

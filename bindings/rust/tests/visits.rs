@@ -33,6 +33,14 @@ fn samples() -> Vec<(&'static str, LineVec)> {
     vec![("spread", spread), ("chain", chain), ("lattice", lattice), ("globals", globals), ("none", LineVec::new())]
 }
 
+/// The samples in both sizings, with the tables of each.
+fn built() -> Vec<(&'static str, Sizing, LineVec, Tables)> {
+    let sized = |(name, lines): (&'static str, LineVec)| {
+        [Sizing::Square, Sizing::Axes].map(|sizing| (name, sizing, lines.clone(), Tables::sized(lines.lines(), sizing).unwrap()))
+    };
+    samples().into_iter().flat_map(sized).collect()
+}
+
 fn boxes_overlap(a: [f64; 4], b: [f64; 4]) -> bool {
     let span = |p: f64, q: f64| (p.min(q), p.max(q));
     let meet = |(low, high): (f64, f64), (other_low, other_high): (f64, f64)| low <= other_high && other_low <= high;
@@ -67,13 +75,13 @@ fn tests_of(tables: &Tables, lines: Lines) -> Vec<Test> {
 
 #[test]
 fn batches_end_to_end_are_the_visit() {
-    for (name, owned) in samples() {
+    for (name, sizing, owned, tables) in built() {
         let lines = owned.lines();
-        let tables = Tables::of(lines).unwrap();
         let tests = tests_of(&tables, lines);
         let wanted: Vec<(u32, u32)> = tests.iter().filter(|t| t.overlap).map(|t| (t.first, t.second)).collect();
         if name != "none" {
-            assert!(wanted.len() > 100 && (name == "globals" || wanted.len() < tests.len()), "{name}: {} of {}", wanted.len(), tests.len());
+            let (found, all) = (wanted.len(), tests.len());
+            assert!(found > 100 && (name == "globals" || found < all), "{name} {sizing:?}: {found} of {all}");
         }
         // batches of one are many: they are made of the shorter visits alone
         for room in [1, 2, 3, 7, 256, wanted.len(), wanted.len() + 1, 200_000] {
@@ -95,7 +103,7 @@ fn batches_end_to_end_are_the_visit() {
                     break;
                 }
             }
-            assert!(joined == wanted, "{name}: batches of {room} joined");
+            assert!(joined == wanted, "{name} {sizing:?}: batches of {room} joined");
             assert_eq!(made, tests.len() as u64, "{name} {room}");
             let mut pairs = tables.pairs(lines, room).unwrap();
             assert!(pairs.by_ref().eq(wanted.iter().copied()), "{name}: pairs in batches of {room}");
@@ -107,14 +115,13 @@ fn batches_end_to_end_are_the_visit() {
 
 #[test]
 fn each_test_by_its_bookmark() {
-    for (name, owned) in samples() {
+    for (name, sizing, owned, tables) in built() {
         let lines = owned.lines();
-        let tables = Tables::of(lines).unwrap();
         let tests = tests_of(&tables, lines);
         // every one of the first and the last, where the globals are, and some between
         let some = (0..tests.len()).filter(|k| *k < 500 || k + 1500 > tests.len() || k % 997 == 0);
         for k in some {
-            assert_eq!(tables.test_at(lines, k as u64), Ok(Some(tests[k])), "{name}: test {k}");
+            assert_eq!(tables.test_at(lines, k as u64), Ok(Some(tests[k])), "{name} {sizing:?}: test {k}");
         }
         let total = tests.len() as u64;
         assert_eq!(tables.test_at(lines, total), Ok(None), "{name}: the end mark");
@@ -146,8 +153,10 @@ fn empty_slices() {
     assert_eq!(standing.batch(Lines::default(), 0, &mut [], &mut []), Ok(Batch { tests: 0, overlaps: 0, bookmark: 0 }));
     assert_eq!(standing.cell_list(0, 0), Err(Refusal { number: 9, value: 0 }));
     let mut scratch = vec![7; SCRATCH];
-    let built = build(Lines::default(), &mut [9], &mut [], &mut [], &mut scratch);
-    assert_eq!(built, Ok(Built { grid: Grid::EMPTY, items: 0, globals: 0 }));
+    for sizing in [Sizing::Square, Sizing::Axes] {
+        let built = build(Lines::default(), sizing, &mut [9], &mut [], &mut [], &mut scratch);
+        assert_eq!(built, Ok(Built { grid: Grid::EMPTY, items: 0, globals: 0 }));
+    }
     assert_eq!(segment_cells(Grid::EMPTY, (0.0, 0.0), (1.0, 1.0), &mut []), Err(Refusal { number: 3, value: 0 }));
     assert_eq!(read_line_string(&[], &mut [], &mut []), Err(Refusal { number: 3, value: 0 }));
 }

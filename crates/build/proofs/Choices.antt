@@ -21,6 +21,7 @@ use Rattle.tables.specs.Lists.{itemsOf, offsetsOf}
 use Rattle.tables.proofs.Laws.{lines-few}
 use Rattle.sizing.specs.declared.Extent.{Extent}
 use Rattle.sizing.specs.declared.Size.{Size}
+use Rattle.sizing.specs.declared.Sizing.{Sizing}
 use Rattle.sizing.specs.Bounds.{extentOf}
 use Rattle.sizing.specs.Size.{firstSize, halfOf}
 use Rattle.sizing.specs.Counts.{gridOf, emptyGrid}
@@ -37,6 +38,7 @@ use Rattle.fill.proofs.Sums.{above-never}
 use Rattle.build.specs.declared.Built.{Built}
 use Rattle.build.specs.declared.Built.the-variants as built
 use Rattle.build.specs.declared.Attempt.{Attempt}
+use Rattle.build.specs.declared.Plan.{Plan}
 use Rattle.build.specs.declared.Attempt.the-variants as attempt
 use Rattle.build.specs.Choice.{crowded, chosen, chosenFirst, chosenNone, choice}
 use Rattle.build.specs.Build.{roomOn, endOf, builtOn, answerOf, BuildIs}
@@ -254,25 +256,24 @@ room-clears : (ls : Lines) (items globals : ℕ) (g : Grid) → Clears (roomOn l
 unfolding roomOn
 room-clears ls items globals g = clears-then (space-clears g ls items globals) clears-gives
 
-pub record Choosing (ls : Lines) (o₀ t₀ gs₀ s₀ : List ℕ) (e : Extent) (o t gs s : List ℕ) (size : Size) (left : ℕ) : Type 0 where
-  pub is : endOf ls (length o₀) (length t₀) (length gs₀) (length s₀) ≡ endFrom left e size ls (length o₀) (length t₀) (length gs₀) (length s₀)
+pub record Choosing (ls : Lines) (o₀ t₀ gs₀ s₀ : List ℕ) (e : Extent) (size₀ : Size) (o t gs s : List ℕ) (size : Size) (left : ℕ) : Type 0 where
+  pub is : endFrom 2 e size₀ ls (length o₀) (length t₀) (length gs₀) (length s₀) ≡ endFrom left e size ls (length o₀) (length t₀) (length gs₀) (length s₀)
   pub fits : lentOf ls (length s₀) ≡ Fine → AllFit left e size
   pub len : length o ≡ length o₀
   pub len-items : length t ≡ length t₀
   pub len-globals : length gs ≡ length gs₀
   pub len-scratch : length s ≡ length s₀
-  pub offsets : Same (endOf ls (length o₀) (length t₀) (length gs₀) (length s₀)) o₀ o
-  pub items : Same (endOf ls (length o₀) (length t₀) (length gs₀) (length s₀)) t₀ t
-  pub globals : Same (endOf ls (length o₀) (length t₀) (length gs₀) (length s₀)) gs₀ gs
-  pub scratch : Same (endOf ls (length o₀) (length t₀) (length gs₀) (length s₀)) s₀ s
+  pub offsets : Same (endFrom 2 e size₀ ls (length o₀) (length t₀) (length gs₀) (length s₀)) o₀ o
+  pub items : Same (endFrom 2 e size₀ ls (length o₀) (length t₀) (length gs₀) (length s₀)) t₀ t
+  pub globals : Same (endFrom 2 e size₀ ls (length o₀) (length t₀) (length gs₀) (length s₀)) gs₀ gs
+  pub scratch : Same (endFrom 2 e size₀ ls (length o₀) (length t₀) (length gs₀) (length s₀)) s₀ s
 
-pub choosing-first : {ls : Lines} {o t gs s : List ℕ} {e : Extent} {size : Size} → (count ls ≡ 0 → ⊥) → e ≡ extentOf ls → size ≡ firstSize e (count ls) → Choosing ls o t gs s e o t gs s size 2
-unfolding endOf choice chosenFirst
-choosing-first {ls} {o} {t} {gs} {s} {e} {size} n d z =
-    let l : 1 ≤ count ls = omega arith in
+pub choosing-first : (z : Sizing) {ls : Lines} {o t gs s : List ℕ} {e : Extent} {size : Size} → (count ls ≡ 0 → ⊥) → e ≡ extentOf ls → size ≡ firstSize z e (count ls)
+    → Choosing ls o t gs s e size o t gs s size 2
+choosing-first z {ls} {o} {t} {gs} {s} {e} {size} n d q =
     record {
-      is = rw (z, d, le-leb 1 (count ls) l);
-      fits = λ h. rw (z, d) (all-fit ls (lines-fine ls (andThen-right (scratchCheck (length s)) (linesCheck ls) h)) l);
+      is = refl;
+      fits = λ h. rw (q, d) (all-fit z ls (lines-fine ls (andThen-right (scratchCheck (length s)) (linesCheck ls) h)) (omega arith));
       len = refl;
       len-items = refl;
       len-globals = refl;
@@ -283,17 +284,23 @@ choosing-first {ls} {o} {t} {gs} {s} {e} {size} n d z =
       scratch = λ on. refl;
     }
 
-module _ {ls : Lines} {o₀ t₀ gs₀ s₀ : List ℕ} {e : Extent} {o t gs s : List ℕ} {size : Size} {left : ℕ} (k : Choosing ls o₀ t₀ gs₀ s₀ e o t gs s size left) where
+-- from the first size of a plan on: the end of its build
+pub end-first : (plan : Plan) (ls : Lines) (offsets items globals scratch : ℕ) {e : Extent} {size : Size} → (count ls ≡ 0 → ⊥) → e ≡ extentOf ls
+    → size ≡ firstSize (plan .sizing) e (count ls) → endFrom 2 e size ls offsets items globals scratch ≡ endOf plan ls offsets items globals scratch
+unfolding endOf choice chosenFirst
+end-first plan ls offsets items globals scratch n d q = let l : 1 ≤ count ls = omega arith in rw (q, d, le-leb 1 (count ls) l)
+
+module _ {ls : Lines} {o₀ t₀ gs₀ s₀ : List ℕ} {e : Extent} {size₀ : Size} {o t gs s : List ℕ} {size : Size} {left : ℕ} (k : Choosing ls o₀ t₀ gs₀ s₀ e size₀ o t gs s size left) where
   pub choosing-asks : AttemptAsks ls e size s
   choosing-asks = record { fits = λ h. fit-now left e size (k .fits (rw (k .len-scratch) at h)) }
 
   pub choosing-next : {o′ t′ gs′ s′ : List ℕ} {half : Size} → Halved left e size ls (length o) (length s) → half ≡ halfOf size → length o′ ≡ length o → length t′ ≡ length t → length gs′ ≡ length gs → length s′ ≡ length s
-      → Choosing ls o₀ t₀ gs₀ s₀ e o′ t′ gs′ s′ half (left - 1)
+      → Choosing ls o₀ t₀ gs₀ s₀ e size₀ o′ t′ gs′ s′ half (left - 1)
   unfolding _then_
   choosing-next {o′} {t′} {gs′} {s′} h z a b c d =
       let lent : lentOf ls (length s₀) ≡ Fine = rw (k .len-scratch) at (h .lent) in
       let again : chosen left e size ls (length o₀) ≡ chosen (left - 1) e (halfOf size) ls (length o₀) = rw (k .len) at (h .next) in
-      let E = endOf ls (length o₀) (length t₀) (length gs₀) (length s₀) in
+      let E = endFrom 2 e size₀ ls (length o₀) (length t₀) (length gs₀) (length s₀) in
       let by : E ≡ (chosen left e size ls (length o₀) into roomOn ls (length t₀) (length gs₀)) = k .is ∙ rw lent in
       let clear : Clears E = rw by (clears-into (chosen-clears left e size ls (length o₀)) (room-clears ls (length t₀) (length gs₀))) in
       record {
@@ -309,19 +316,20 @@ module _ {ls : Lines} {o₀ t₀ gs₀ s₀ : List ℕ} {e : Extent} {o t gs s :
         scratch = λ on. in-alike 0 E s₀ s′ on clear (d ∙ k .len-scratch);
       }
 
-  pub choosing-done : {b : Built} {o′ t′ gs′ s′ : List ℕ} → BuildIs ls o t gs s b o′ t′ gs′ s′ (endFrom left e size ls (length o) (length t) (length gs) (length s))
-      → BuildIs ls o₀ t₀ gs₀ s₀ b o′ t′ gs′ s′ (endOf ls (length o₀) (length t₀) (length gs₀) (length s₀))
-  choosing-done {b} {o′} {t′} {gs′} {s′} h =
-      let q : endFrom left e size ls (length o) (length t) (length gs) (length s) ≡ endOf ls (length o₀) (length t₀) (length gs₀) (length s₀) =
+  pub choosing-done : {b : Built} {o′ t′ gs′ s′ : List ℕ} {E : Answer Grid} → BuildIs ls o t gs s b o′ t′ gs′ s′ (endFrom left e size ls (length o) (length t) (length gs) (length s))
+      → endFrom 2 e size₀ ls (length o₀) (length t₀) (length gs₀) (length s₀) ≡ E → BuildIs ls o₀ t₀ gs₀ s₀ b o′ t′ gs′ s′ E
+  choosing-done {b} {o′} {t′} {gs′} {s′} h end =
+      let q : endFrom left e size ls (length o) (length t) (length gs) (length s) ≡ endFrom 2 e size₀ ls (length o₀) (length t₀) (length gs₀) (length s₀) =
       rw (k .len, k .len-items, k .len-globals, k .len-scratch) (sym (k .is)) in
-      let d : BuildIs ls o t gs s b o′ t′ gs′ s′ (endOf ls (length o₀) (length t₀) (length gs₀) (length s₀)) = subst (λ (x : Answer Grid). BuildIs ls o t gs s b o′ t′ gs′ s′ x) q h in
-      record {
+      let d = subst (λ (x : Answer Grid). BuildIs ls o t gs s b o′ t′ gs′ s′ x) q h in
+      rw (← end)
+      (record {
         answer = d .answer;
         «cell_offsets» = d .«cell_offsets» ∙ k .offsets (λ n g. offsetsOf (listOn g ls) (cells g) n);
         «cell_items» = d .«cell_items» ∙ k .items (λ n g. itemsOf (listOn g ls) (cells g) n);
         «global_lines» = d .«global_lines» ∙ k .globals (λ n g. zeroBeyond 0 n (globalsOn g ls));
         scratch-is = d .scratch-is ∙ k .scratch (λ n g. replicate {A = ℕ} n 0);
-      }
+      })
 
 -- ---- no lines
 
@@ -330,11 +338,11 @@ module _ {ls : Lines} (none : count ls ≡ 0) {g : Grid} (is : g ≡ emptyGrid) 
   none-comes : Tried ls emptyGrid 65536 (gives emptyGrid) o t gs s w o′ t′ gs′ s′
   none-comes = comes ls emptyGrid 65536 (gives emptyGrid) (rw is at k) (λ _. empty-fits) (λ _ _. refl)
 
-  pub none-ends : (b : Built) → r ≡ attempt.Ended b → BuildIs ls o t gs s b o′ t′ gs′ s′ (endOf ls (length o) (length t) (length gs) (length s))
+  pub none-ends : (b : Built) (plan : Plan) → r ≡ attempt.Ended b → BuildIs ls o t gs s b o′ t′ gs′ s′ (endOf plan ls (length o) (length t) (length gs) (length s))
   unfolding endOf choice chosenNone
-  none-ends b q = go none-comes
+  none-ends b plan q = go none-comes
     where
-      go : Tried ls emptyGrid 65536 (gives emptyGrid) o t gs s w o′ t′ gs′ s′ → BuildIs ls o t gs s b o′ t′ gs′ s′ (endOf ls (length o) (length t) (length gs) (length s))
+      go : Tried ls emptyGrid 65536 (gives emptyGrid) o t gs s w o′ t′ gs′ s′ → BuildIs ls o t gs s b o′ t′ gs′ s′ (endOf plan ls (length o) (length t) (length gs) (length s))
       go (ended d e h) =
           let l : count ls < 1 = omega arith in
           let x : attempt.Ended b ≡ attempt.Ended d = sym q ∙ (rw is at p) ∙ e in

@@ -26,6 +26,7 @@ use Rattle.sizing.proofs.FitLaws.{AllFit, all-fit, empty-fits}
 use Rattle.fill.specs.OnGrid.{cells, listOn, globalsOn, total}
 use Rattle.fill.specs.Checks.{roomCheck, turnsCheck, triedCheck, spaceCheck}
 use Rattle.fill.specs.Fill.{above}
+use Rattle.build.specs.declared.Plan.{Plan}
 use Rattle.build.specs.Choice.{crowded, chosenFirst, chosenNone, choice}
 use Rattle.build.specs.Choice as choosing
 use Rattle.build.specs.Build.{roomOn, endOf}
@@ -62,11 +63,11 @@ chosen-settled e ls room g (suc left) s f h =
     (λ c n. chosen-settled e ls room g left (halfOf s) (f .1 (crowded-few (gridOf e s) ls c)) n)
     (λ n. settled-here (gridOf e s) g ls room (f .0) (u .0) n) (u .1)
 
-choice-settled : (ls : Lines) (room : ℕ) (g : Grid) → LinesFit ls → choice ls room ≡ gives g → SettledOn g ls room
+choice-settled : (plan : Plan) (ls : Lines) (room : ℕ) (g : Grid) → LinesFit ls → choice plan ls room ≡ gives g → SettledOn g ls room
 unfolding choice chosenFirst chosenNone
-choice-settled ls room g f h =
-    if-settled (SettledOn g ls room) (leb 1 (count ls)) (chosenFirst ls room) (chosenNone ls room) g
-    (λ b n. chosen-settled (extentOf ls) ls room g 2 (firstSize (extentOf ls) (count ls)) (all-fit ls f (leb-true 1 (count ls) b)) n)
+choice-settled plan ls room g f h =
+    if-settled (SettledOn g ls room) (leb 1 (count ls)) (chosenFirst plan ls room) (chosenNone ls room) g
+    (λ b n. chosen-settled (extentOf ls) ls room g 2 (firstSize (plan .sizing) (extentOf ls) (count ls)) (all-fit (plan .sizing) ls f (leb-true 1 (count ls) b)) n)
     (λ n.
     let u = then-passed (triedCheck emptyGrid ls room) (gives emptyGrid) n in
     settled-here emptyGrid g ls room empty-fits (u .0) (u .1)) h
@@ -101,16 +102,16 @@ pub record Made (ls : Lines) (offsets items globals : ℕ) (g : Grid) : Type 0 w
   pub space : total g ls ≤ items
   pub listed : length (globalsOn g ls) ≤ globals
 
-pub made-says : (ls : Lines) (offsets items globals scratch : ℕ) (g : Grid) → endOf ls offsets items globals scratch ≡ gives g → Made ls offsets items globals g
+pub made-says : (plan : Plan) (ls : Lines) (offsets items globals scratch : ℕ) (g : Grid) → endOf plan ls offsets items globals scratch ≡ gives g → Made ls offsets items globals g
 unfolding endOf roomOn
-made-says ls offsets items globals scratch g h =
-    let a = then-passed (andThen (scratchCheck scratch) (linesCheck ls)) (choice ls offsets into roomOn ls items globals) h in
+made-says plan ls offsets items globals scratch g h =
+    let a = then-passed (andThen (scratchCheck scratch) (linesCheck ls)) (choice plan ls offsets into roomOn ls items globals) h in
     let f : LinesFit ls = lines-fine ls (andThen-right (scratchCheck scratch) (linesCheck ls) (a .0)) in
-    into-passed (choice ls offsets) (roomOn ls items globals) (a .1)
+    into-passed (choice plan ls offsets) (roomOn ls items globals) (a .1)
     (λ k c d.
     let b = then-passed (spaceCheck k ls items globals) (gives k) d in
     let e : k ≡ g = cc in
-    let s : SettledOn k ls offsets = choice-settled ls offsets k f c in
+    let s : SettledOn k ls offsets = choice-settled plan ls offsets k f c in
     rw (← e)
     (record {
       lines-fit = f;

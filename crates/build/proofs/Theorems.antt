@@ -24,6 +24,7 @@ use Rattle.build.specs.declared.Built.the-variants as built
 use Rattle.fill.specs.OnGrid.{cells, walkOn, ends, visited, cellsOn, listOn, globalsOn, total}
 use Rattle.fill.specs.Checks.{turnsCheck}
 use Rattle.fill.proofs.Walks.{cells-walk}
+use Rattle.build.specs.declared.Plan.{Plan}
 use Rattle.build.specs.Choice.{choice}
 use Rattle.build.specs.Build.{roomOn, endOf, builtOn, answerOf, BuildIs}
 use Rattle.build.proofs.Settled.{Made, made-says}
@@ -70,23 +71,23 @@ left-made : (e : Answer Grid) (g : Grid) (was : List ℕ) (on : Grid → List �
 unfolding leftIn
 left-made e g was on h = rw h
 
-made-passed : (ls : Lines) (offsets items globals scratch : ℕ) (g : Grid) → endOf ls offsets items globals scratch ≡ gives g → linesCheck ls ≡ Fine
+made-passed : (plan : Plan) (ls : Lines) (offsets items globals scratch : ℕ) (g : Grid) → endOf plan ls offsets items globals scratch ≡ gives g → linesCheck ls ≡ Fine
 unfolding endOf
-made-passed ls offsets items globals scratch g h =
+made-passed plan ls offsets items globals scratch g h =
     andThen-right (scratchCheck scratch) (linesCheck ls)
-    (then-passed (andThen (scratchCheck scratch) (linesCheck ls)) (choice ls offsets into roomOn ls items globals) h .0)
+    (then-passed (andThen (scratchCheck scratch) (linesCheck ls)) (choice plan ls offsets into roomOn ls items globals) h .0)
 
 length-globe : (xs : List ℕ) (n : ℕ) → length xs ≤ n → length (xs ++ replicate (n - length xs) 0) ≡ n
 length-globe xs n l = rw (length-append, length-replicate) (omega arith)
 
-success : {ls : Lines} {o t gs s : List ℕ} {r : Built} {o′ t′ gs′ s′ : List ℕ} {st : Standing}
-    → BuildIs ls o t gs s r o′ t′ gs′ s′ (endOf ls (length o) (length t) (length gs) (length s)) → r ≡ built.Tables st → Success ls st o′ t′ gs′
+success : (plan : Plan) {ls : Lines} {o t gs s : List ℕ} {r : Built} {o′ t′ gs′ s′ : List ℕ} {st : Standing}
+    → BuildIs ls o t gs s r o′ t′ gs′ s′ (endOf plan ls (length o) (length t) (length gs) (length s)) → r ≡ built.Tables st → Success ls st o′ t′ gs′
 unfolding total listOn globalsOn zeroBeyond
-success {ls} {o} {t} {gs} {s} {r} {o′} {t′} {gs′} {s′} {st} h ok =
+success plan {ls} {o} {t} {gs} {s} {r} {o′} {t′} {gs′} {s′} {st} h ok =
     let g : Grid = st .grid in
-    let e = endOf ls (length o) (length t) (length gs) (length s) in
+    let e = endOf plan ls (length o) (length t) (length gs) (length s) in
     let a = answer-made e ls st (sym (h .answer) ∙ ok) in
-    let m : Made ls (length o) (length t) (length gs) g = made-says ls (length o) (length t) (length gs) (length s) g (a .0) in
+    let m : Made ls (length o) (length t) (length gs) g = made-says plan ls (length o) (length t) (length gs) (length s) g (a .0) in
     let x : o′ ≡ offsetsOf (listOn g ls) (cells g) (length o) = h .«cell_offsets» ∙ left-made e g o (λ g. offsetsOf (listOn g ls) (cells g) (length o)) (a .0) in
     let y : t′ ≡ itemsOf (listOn g ls) (cells g) (length t) = h .«cell_items» ∙ left-made e g t (λ g. itemsOf (listOn g ls) (cells g) (length t)) (a .0) in
     let z : gs′ ≡ globalsOn g ls ++ replicate (length gs - length (globalsOn g ls)) 0 =
@@ -96,7 +97,7 @@ success {ls} {o} {t} {gs} {s} {r} {o′} {t′} {gs′} {s′} {st} h ok =
     let q : length t′ ≡ length t = ap length y ∙ length-items (listOn g ls) (cells g) (length t) (m .space) in
     let v : length gs′ ≡ length gs = ap length z ∙ length-globe (globalsOn g ls) (length gs) (m .listed) in
     record {
-      passed = made-passed ls (length o) (length t) (length gs) (length s) g (a .0);
+      passed = made-passed plan ls (length o) (length t) (length gs) (length s) g (a .0);
       turns = m .turns;
       items-are = a .1;
       laid =
@@ -118,24 +119,24 @@ ended-found (gives xs) h = refl
 
 -- ---- THE THEOREMS
 
-module _ {ls : Lines} {o t gs s : List ℕ} {r : Built} {o′ t′ gs′ s′ : List ℕ} {st : Standing} (h : BuildIs ls o t gs s r o′ t′ gs′ s′ (endOf ls (length o) (length t) (length gs) (length s))) (ok : r ≡ built.Tables st) where
+module _ (plan : Plan) {ls : Lines} {o t gs s : List ℕ} {r : Built} {o′ t′ gs′ s′ : List ℕ} {st : Standing} (h : BuildIs ls o t gs s r o′ t′ gs′ s′ (endOf plan ls (length o) (length t) (length gs) (length s))) (ok : r ≡ built.Tables st) where
   -- WHAT A BUILD LEAVES STANDS, on its final grid, for the walks of its lines
   pub build-stands : Stands (cellsOn (st .grid) ls) (count ls) (st .grid) (tables (st .grid) (count ls) o′ t′ gs′ (st .globals))
-  build-stands = laid-stands (success h ok .laid)
+  build-stands = laid-stands (success plan h ok .laid)
 
   -- EVERY WALK ENDS within its turns, so that these cells are what it visits
   pub walks-end : (k : ℕ) → k < count ls → walkOn (st .grid) ls k ≡ gives (cellsOn (st .grid) ls k)
   unfolding turnsCheck cellsOn
   walks-end k l =
-      ended-found (walkOn (st .grid) ls k) (each-says (λ i. ends (walkOn (st .grid) ls i)) 7 (count ls) 0 k (success h ok .turns) (omega arith) (omega arith))
+      ended-found (walkOn (st .grid) ls k) (each-says (λ i. ends (walkOn (st .grid) ls i)) 7 (count ls) 0 k (success plan h ok .turns) (omega arith) (omega arith))
 
   -- the lines passed the checks 3, 2 and 1
   pub lines-passed : linesCheck ls ≡ Fine
-  lines-passed = success h ok .passed
+  lines-passed = success plan h ok .passed
 
   -- "invented .. item counts": the number of items is the sum of the lengths of the lists
   pub items-counted : st .items ≡ sum (λ c. length (listIn o′ t′ c)) (cells (st .grid))
   unfolding total listOn
   items-counted =
-      success h ok .items-are
+      success plan h ok .items-are
       ∙ sym (sum-same (λ c. length (listIn o′ t′ c)) (λ c. length (listOn (st .grid) ls c)) (cells (st .grid)) (λ c l. ap length (build-stands .lists c l)))

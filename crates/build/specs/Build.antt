@@ -11,15 +11,16 @@ use Rattle.build.specs.declared.Built.{Built}
 use Rattle.build.specs.declared.Built.the-variants as built
 use Rattle.fill.specs.OnGrid.{cells, listOn, globalsOn, total}
 use Rattle.fill.specs.Checks.{spaceCheck}
+use Rattle.build.specs.declared.Plan.{Plan}
 use Rattle.build.specs.Choice.{choice}
 
 -- 5, then 6, on the grid that was settled on
 unfoldable pub roomOn : Lines → ℕ → ℕ → Grid → Answer Grid
 roomOn ls items globals g = spaceCheck g ls items globals then gives g
 
--- How a build ends, by the lines and the lengths of the lent slices: 3, 2, 1; then at each grid tried 4, 7; then 5, 6; else the grid of its tables.
-unfoldable pub endOf : Lines → ℕ → ℕ → ℕ → ℕ → Answer Grid
-endOf ls offsets items globals scratch = andThen (scratchCheck scratch) (linesCheck ls) then (choice ls offsets into roomOn ls items globals)
+-- How a build ends, by the plan, the lines and the lengths of the lent slices: 3, 2, 1; then at each grid tried 4, 7; then 5, 6; else the grid of its tables.
+unfoldable pub endOf : Plan → Lines → ℕ → ℕ → ℕ → ℕ → Answer Grid
+endOf plan ls offsets items globals scratch = andThen (scratchCheck scratch) (linesCheck ls) then (choice plan ls offsets into roomOn ls items globals)
 
 -- tables on a grid: with the number of items and of globals
 unfoldable pub builtOn : Lines → Grid → Built

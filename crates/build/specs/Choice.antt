@@ -15,6 +15,7 @@ use Rattle.sizing.specs.Counts.{gridOf, emptyGrid}
 use Rattle.fill.specs.OnGrid.{cells, listOn}
 use Rattle.fill.specs.Checks.{triedCheck}
 use Rattle.fill.specs.Fill.{above}
+use Rattle.build.specs.declared.Plan.{Plan}
 
 -- the grid is to be refined: some cell has more than 500, and cells x 4 is below 1,000,000
 unfoldable pub crowded : Grid → Lines → Bool
@@ -27,13 +28,13 @@ chosen (suc halvings) e size ls room =
     triedCheck (gridOf e size) ls room
     then cond (crowded (gridOf e size) ls) (chosen halvings e (halfOf size) ls room) (gives (gridOf e size))
 
--- the choice for some lines: from the first size on, with two halvings
-unfoldable pub chosenFirst : Lines → ℕ → Answer Grid
-chosenFirst ls room = chosen 2 (extentOf ls) (firstSize (extentOf ls) (count ls)) ls room
+-- the choice for some lines: from the first size of the plan's sizing on, with two halvings
+unfoldable pub chosenFirst : Plan → Lines → ℕ → Answer Grid
+chosenFirst plan ls room = chosen 2 (extentOf ls) (firstSize (plan .sizing) (extentOf ls) (count ls)) ls room
 
 -- no lines settle on the empty grid, where 4 still applies
 unfoldable pub chosenNone : Lines → ℕ → Answer Grid
 chosenNone ls room = triedCheck emptyGrid ls room then gives emptyGrid
 
-unfoldable pub choice : Lines → ℕ → Answer Grid
-choice ls room = cond (leb 1 (count ls)) (chosenFirst ls room) (chosenNone ls room)
+unfoldable pub choice : Plan → Lines → ℕ → Answer Grid
+choice plan ls room = cond (leb 1 (count ls)) (chosenFirst plan ls room) (chosenNone ls room)

@@ -1,11 +1,13 @@
-// Which grid a build settles on: that of the first size, halved at most twice while some cell is crowded.
+// Which grid a build settles on: that of the first size of its plan, halved at most twice while some cell is crowded.
 ghost use mathlib.Core.Path.{_≡_};
 ghost use lib.ListN.{length};
 ghost use Rattle.grid.specs.Domain.{lines, count};
+ghost use Rattle.build.specs.declared.Plan.{Plan};
 ghost use Rattle.build.specs.Build.{endOf, BuildIs};
 ghost use Rattle.build.specs.Inside.{mostOn, attemptBy, AttemptAsks, AttemptIs};
 use crate::Attempt;
 use crate::Built;
+use crate::Plan;
 use crate::Standing;
 use fill::Filled;
 use grid::Grid;
@@ -89,6 +91,7 @@ pub(crate) fn build_some(
     start_y: &[f64],
     end_x: &[f64],
     end_y: &[f64],
+    plan: Plan,
     offsets: &mut [u32],
     items: &mut [u32],
     globals: &mut [u32],
@@ -101,11 +104,12 @@ pub(crate) fn build_some(
         let t = now (items .entry) in
         let gs = now (globals .entry) in
         let s = now (scratch .entry) in
-        let e = endOf ls (length o) (length t) (length gs) (length s) in
+        let e = endOf plan ls (length o) (length t) (length gs) (length s) in
         ⌜ BuildIs ls o t gs s r (now (offsets .exit)) (now (items .exit)) (now (globals .exit)) (now (scratch .exit)) e ⌝ }
 {
     let extent = sizing::serial_bounds(start_x, start_y, end_x, end_y);
-    let mut size = sizing::first_size(extent, start_x.len());
+    let sizing = plan.sizing;
+    let mut size = sizing::first_size(sizing, extent, start_x.len());
     let mut left = 2u32;
     loop {
         let tried = attempt_size(
@@ -147,8 +151,7 @@ pub(crate) fn build_none(
         let t = now (items .entry) in
         let gs = now (globals .entry) in
         let s = now (scratch .entry) in
-        let e = endOf ls (length o) (length t) (length gs) (length s) in
-        ⌜ BuildIs ls o t gs s r (now (offsets .exit)) (now (items .exit)) (now (globals .exit)) (now (scratch .exit)) e ⌝ }
+        ⌜ ((plan : Plan) → BuildIs ls o t gs s r (now (offsets .exit)) (now (items .exit)) (now (globals .exit)) (now (scratch .exit)) (endOf plan ls (length o) (length t) (length gs) (length s))) ⌝ }
 {
     let grid = sizing::empty_grid();
     let filled = fill::fill_on(

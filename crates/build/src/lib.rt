@@ -8,6 +8,12 @@ use crate::choose::build_none;
 use crate::choose::build_some;
 use grid::Grid;
 use refusals::Refusal;
+use sizing::Sizing;
+
+// What a build is asked for.
+pub struct Plan {
+    pub sizing: Sizing,
+}
 
 // The tables that stand after a build: their grid, and how many items and global lines there are.
 pub struct Standing {
@@ -34,6 +40,7 @@ pub fn build(
     start_y: &[f64],
     end_x: &[f64],
     end_y: &[f64],
+    plan: Plan,
     cell_offsets: &mut [u32],
     cell_items: &mut [u32],
     global_lines: &mut [u32],
@@ -44,7 +51,7 @@ pub fn build(
         let t = now («cell_items» .entry) in
         let gs = now («global_lines» .entry) in
         let s = now (scratch .entry) in
-        let e = endOf ls (length o) (length t) (length gs) (length s) in
+        let e = endOf plan ls (length o) (length t) (length gs) (length s) in
         ⌜ BuildIs ls o t gs s r (now («cell_offsets» .exit)) (now («cell_items» .exit)) (now («global_lines» .exit)) (now (scratch .exit)) e ⌝ }
 {
     if start_x.len() == 0 {
@@ -64,6 +71,7 @@ pub fn build(
         start_y,
         end_x,
         end_y,
+        plan,
         cell_offsets,
         cell_items,
         global_lines,

@@ -12,6 +12,7 @@ use Rattle.replies.specs.Replies.{Reply, Replies}
 use Rattle.replies.specs.Answers.{ofPart}
 use Rattle.replies.proofs.Handing.{bare-replies, replied}
 use Rattle.capi.specs.Few.{unlessFew}
+use Rattle.capi.specs.Unknown.{unlessUnknown}
 
 -- ---- words that are too few to say a grid, and words that say one
 
@@ -31,6 +32,19 @@ few-replies n words a out h k = replied n (few-answer words a k) (bare-replies n
 pub asked : (n : ℕ) (words : List ℕ) {a b : Reply} {out : List ℕ} {r : ℕ} {out′ : List ℕ} →
     gridWords ≤ length words → b ≡ a → Replies n b out r out′ → Replies n (unlessFew words a) out r out′
 asked n words {a} k e d = replied n (e ∙ grid-answer words a k) d
+
+-- ---- a number that names no sizing, and one that does
+
+unknown-answer : (sizing : ℕ) (a : Reply) → 1 < sizing → record { number = 102; values = [] } ≡ unlessUnknown sizing a
+unfolding unlessUnknown
+unknown-answer sizing a h = rw (lt-leb sizing 1 h)
+
+pub known-answer : (sizing : ℕ) (a : Reply) → sizing ≤ 1 → a ≡ unlessUnknown sizing a
+unfolding unlessUnknown
+known-answer sizing a h = rw (le-leb sizing 1 h)
+
+pub unknown-replies : (n sizing : ℕ) (a : Reply) (out : List ℕ) → n ≤ length out → 1 < sizing → Replies n (unlessUnknown sizing a) out 102 out
+unknown-replies n sizing a out h k = replied n (unknown-answer sizing a k) (bare-replies n 102 out h)
 
 -- ---- a list by its place: `list` is what was returned for it, and xs the list at the place. Where a list ends counts only where it is given.
 

@@ -54,18 +54,33 @@ walk-one-outcome {words} {out = out} h k =
       by-words 1 out words (λ l m. walk.one-outcome (h .called l m) (k .called l m) .1) (λ l. h .short l ∙ sym (k .short l)) (λ m. h .few m ∙ sym (k .few m)),
     )
 
-pub build-one-outcome : {ls : Lines} {o o′ o₁ t t′ t₁ gs gs′ gs₁ s s′ s₁ out out′ out₁ : List ℕ} {r r₁ : ℕ}
-    → BuildReplies ls o t gs s out r o′ t′ gs′ s′ out′ → BuildReplies ls o t gs s out r₁ o₁ t₁ gs₁ s₁ out₁
+-- a number names a sizing, or does not
+by-sizing : (sizing : ℕ) {P : Type 0} → (sizing ≤ 1 → P) → (1 < sizing → P) → P
+by-sizing sizing {P} known unknown = go (leb sizing 1) refl
+  where
+    go : (b : Bool) → leb sizing 1 ≡ b → P
+    go true e = known (leb-true sizing 1 e)
+    go false e = unknown (leb-false sizing 1 e)
+
+pub build-one-outcome : {sizing : ℕ} {ls : Lines} {o o′ o₁ t t′ t₁ gs gs′ gs₁ s s′ s₁ out out′ out₁ : List ℕ} {r r₁ : ℕ}
+    → BuildReplies sizing ls o t gs s out r o′ t′ gs′ s′ out′ → BuildReplies sizing ls o t gs s out r₁ o₁ t₁ gs₁ s₁ out₁
     → (r ≡ r₁) × (out′ ≡ out₁) × (o′ ≡ o₁) × (t′ ≡ t₁) × (gs′ ≡ gs₁) × (s′ ≡ s₁)
-build-one-outcome {out = out} h k =
-    let a = one-outcome (h .replies) (k .replies) in (
-      a .0,
-      a .1,
-      by-room 7 out (λ l. build.one-outcome (h .called l) (k .called l) .offsets) (λ l. h .short l .0 ∙ sym (k .short l .0)),
-      by-room 7 out (λ l. build.one-outcome (h .called l) (k .called l) .items) (λ l. h .short l .1 ∙ sym (k .short l .1)),
-      by-room 7 out (λ l. build.one-outcome (h .called l) (k .called l) .globals) (λ l. h .short l .2 ∙ sym (k .short l .2)),
-      by-room 7 out (λ l. build.one-outcome (h .called l) (k .called l) .scratch) (λ l. h .short l .3 ∙ sym (k .short l .3)),
-    )
+build-one-outcome {sizing} {out = out} h k =
+    let a = one-outcome (h .replies) (k .replies) in
+    let lent =
+    by-room 8 out
+    (λ l.
+    by-sizing sizing
+    (λ n.
+    let b = build.one-outcome (h .called l n) (k .called l n) in
+    (b .offsets, b .items, b .globals, b .scratch))
+    (λ n. alike (h .unknown n) (k .unknown n)))
+    (λ l. alike (h .short l) (k .short l)) in
+    (a .0, a .1, lent .0, lent .1, lent .2, lent .3)
+  where
+    alike : {o o′ o₁ t t′ t₁ gs gs′ gs₁ s s′ s₁ : List ℕ} → (o′ ≡ o) × (t′ ≡ t) × (gs′ ≡ gs) × (s′ ≡ s) → (o₁ ≡ o) × (t₁ ≡ t) × (gs₁ ≡ gs) × (s₁ ≡ s)
+        → (o′ ≡ o₁) × (t′ ≡ t₁) × (gs′ ≡ gs₁) × (s′ ≡ s₁)
+    alike x y = (x .0 ∙ sym (y .0), x .1 ∙ sym (y .1), x .2 ∙ sym (y .2), x .3 ∙ sym (y .3))
 
 pub batch-one-outcome : {words : List ℕ} {ls : Lines} {g : Grid} {t : Tables} {b : ℕ} {first first′ first₁ second second′ second₁ out out′ out₁ : List ℕ} {r r₁ : ℕ}
     → BatchReplies words ls g t b first second out r first′ second′ out′ → BatchReplies words ls g t b first second out r₁ first₁ second₁ out₁

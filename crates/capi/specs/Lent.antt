@@ -1,5 +1,6 @@
 -- The promises of exported functions that are lent slices to write beside `out`. Where `out` has the words of a result, the entry is called, and
--- its own promise holds of those slices; where it is short, they stay as they were, and so they do where words are too few to say a grid. Definitions only.
+-- its own promise holds of those slices; where it is short, they stay as they were, and so they do where words are too few to say a grid or a number names no sizing.
+-- Definitions only.
 use Prim.Native.Nat.{ℕ, _≤_, _<_}
 use mathlib.Core.Path.{_≡_}
 use mathlib.Core.List.{List}
@@ -19,6 +20,7 @@ use Rattle.visit.specs.Entries.{batchAnswer, BatchIs}
 use Rattle.replies.specs.Replies.{Replies}
 use Rattle.replies.specs.Answers.{ofRead, ofCells, ofBuilt, ofBatch}
 use Rattle.capi.specs.Few.{unlessFew}
+use Rattle.capi.specs.Unknown.{planBy, unlessUnknown}
 
 -- what the reader answers
 abbrev pub readAnswer : List ℕ → List Float → List Float → Read
@@ -36,16 +38,17 @@ pub record WalkReplies (words : List ℕ) (o : Outcome) (scratch out : List ℕ)
   pub short : length out < 1 → scratch′ ≡ scratch
   pub few : length words < gridWords → scratch′ ≡ scratch
 
--- what a build into these slices ends in
-abbrev pub buildEnd : Lines → List ℕ → List ℕ → List ℕ → List ℕ → Answer Grid
-buildEnd ls offsets items globals scratch = build.endOf ls (length offsets) (length items) (length globals) (length scratch)
+-- what a build into these slices ends in, in the sizing that a number names
+abbrev pub buildEnd : ℕ → Lines → List ℕ → List ℕ → List ℕ → List ℕ → Answer Grid
+buildEnd sizing ls offsets items globals scratch = build.endOf (planBy sizing) ls (length offsets) (length items) (length globals) (length scratch)
 
-pub record BuildReplies (ls : Lines) (offsets items globals scratch out : List ℕ) (r : ℕ) (offsets′ items′ globals′ scratch′ out′ : List ℕ) : Type 0 where
-  pub replies : Replies 7 (ofBuilt (build.answerOf (buildEnd ls offsets items globals scratch) ls)) out r out′
+pub record BuildReplies (sizing : ℕ) (ls : Lines) (offsets items globals scratch out : List ℕ) (r : ℕ) (offsets′ items′ globals′ scratch′ out′ : List ℕ) : Type 0 where
+  pub replies : Replies 8 (unlessUnknown sizing (ofBuilt (build.answerOf (buildEnd sizing ls offsets items globals scratch) ls))) out r out′
   pub called :
-      let e = buildEnd ls offsets items globals scratch in
-      7 ≤ length out → build.BuildIs ls offsets items globals scratch (build.answerOf e ls) offsets′ items′ globals′ scratch′ e
-  pub short : length out < 7 → (offsets′ ≡ offsets) × (items′ ≡ items) × (globals′ ≡ globals) × (scratch′ ≡ scratch)
+      let e = buildEnd sizing ls offsets items globals scratch in
+      8 ≤ length out → sizing ≤ 1 → build.BuildIs ls offsets items globals scratch (build.answerOf e ls) offsets′ items′ globals′ scratch′ e
+  pub short : length out < 8 → (offsets′ ≡ offsets) × (items′ ≡ items) × (globals′ ≡ globals) × (scratch′ ≡ scratch)
+  pub unknown : 1 < sizing → (offsets′ ≡ offsets) × (items′ ≡ items) × (globals′ ≡ globals) × (scratch′ ≡ scratch)
 
 -- a batch from the bookmark b, on the grid g that words say
 pub record BatchReplies (words : List ℕ) (ls : Lines) (g : Grid) (t : Tables) (b : ℕ) (first second out : List ℕ) (r : ℕ) (first′ second′ out′ : List ℕ) : Type 0 where

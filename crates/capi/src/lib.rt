@@ -1,7 +1,8 @@
 // The exported functions: each public entry under a plain name, with numbers and slices alone, for a program in C or Rust to link.
-// A grid goes in as 64-bit words, the first five that `mt_build` writes to `out`; further words are not read. An entry that can refuse answers
+// A grid goes in as 64-bit words, the first six that `mt_build` writes to `out`; further words are not read. An entry that can refuse answers
 // as `replies` says: by document 01's number, with its values at the start of the lent `out`. Where `out` has fewer words than a success writes, or
-// none, the function answers 100 before all else; next, where a grid has fewer than five words, 101. Both change nothing.
+// none, the function answers 100 before all else; next, where a grid has fewer than six words, 101, and where a number names no sizing, 102. All three
+// change nothing.
 pub mod building;
 pub mod number;
 pub mod ownership;
@@ -13,3 +14,6 @@ pub mod walking;
 
 // The number of a function that is handed too few words to say a grid.
 pub(crate) const FEW: u32 = 101;
+
+// The number of a build in a sizing that there is not.
+pub(crate) const UNKNOWN: u32 = 102;

@@ -13,6 +13,7 @@ use Rattle.grid.specs.declared.Grid.{Grid}
 use Rattle.grid.specs.Domain.{Lines}
 use Rattle.tables.specs.Lists.{itemsOf, offsetsOf}
 use Rattle.fill.specs.OnGrid.{listOn, globalsOn, total}
+use Rattle.build.specs.declared.Plan.{Plan}
 use Rattle.build.specs.Build.{endOf, builtOn, answerOf, BuildIs}
 use Rattle.build.specs.declared.Standing.{Standing}
 use Rattle.build.specs.declared.Built.{Built}
@@ -67,8 +68,8 @@ tables-counted ls g t items {x} {tests} {overlaps} v e = go (allTests ls g t) re
 
 -- ---- the build
 
-module _ (ls : Lines) {o i gs s o′ i′ gs′ s′ : List ℕ} {r : Built} (eo : length o ≡ 4096) (ei : length i ≡ 4096) (eg : length gs ≡ 64) (es : length s ≡ 16384) where
-  at-end : (e : Answer Grid) → endOf ls 4096 4096 64 16384 ≡ e → BuildIs ls o i gs s r o′ i′ gs′ s′ (endOf ls (length o) (length i) (length gs) (length s)) → BuildIs ls o i gs s r o′ i′ gs′ s′ e
+module _ (plan : Plan) (ls : Lines) {o i gs s o′ i′ gs′ s′ : List ℕ} {r : Built} (eo : length o ≡ 4096) (ei : length i ≡ 4096) (eg : length gs ≡ 64) (es : length s ≡ 16384) where
+  at-end : (e : Answer Grid) → endOf plan ls 4096 4096 64 16384 ≡ e → BuildIs ls o i gs s r o′ i′ gs′ s′ (endOf plan ls (length o) (length i) (length gs) (length s)) → BuildIs ls o i gs s r o′ i′ gs′ s′ e
   at-end e h b = rw (eo, ei, eg, es, h) at b
 
   refused-end : (e : Answer Grid) → BuildIs ls o i gs s r o′ i′ gs′ s′ e → (q : Refusal) → r ≡ built.Refused q → refusedLine (q .number) ≡ answerBy refusedText (printedOn ls) e
@@ -76,7 +77,7 @@ module _ (ls : Lines) {o i gs s o′ i′ gs′ s′ : List ℕ} {r : Built} (eo
   refused-end (refused p) b q x = let w : q ≡ p = cc (b .answer) in ap refusedText w
   refused-end (gives g) b q x = absurd (let z : _≡_ {A = ℕ} 0 1 = cc (b .answer) in omega arith)
 
-  pub lines-refused : BuildIs ls o i gs s r o′ i′ gs′ s′ (endOf ls (length o) (length i) (length gs) (length s)) → {q : Refusal} → r ≡ built.Refused q → refusedLine (q .number) ≡ printedLines ls
+  pub lines-refused : BuildIs ls o i gs s r o′ i′ gs′ s′ (endOf plan ls (length o) (length i) (length gs) (length s)) → {q : Refusal} → r ≡ built.Refused q → refusedLine (q .number) ≡ printedLines plan ls
   unfolding printedLines
   lines-refused b {q} x = refused-end _ (at-end _ refl b) q x
 
@@ -87,7 +88,7 @@ module _ (ls : Lines) {o i gs s o′ i′ gs′ s′ : List ℕ} {r : Built} (eo
       let w : st ≡ record { grid = g; items = total g ls; globals = length (globalsOn g ls) } = cc (b .answer) in
       rw (w, b .«cell_offsets», b .«cell_items», b .«global_lines», eo, ei, eg)
 
-  pub lines-made : BuildIs ls o i gs s r o′ i′ gs′ s′ (endOf ls (length o) (length i) (length gs) (length s)) → {st : Standing} → r ≡ built.Tables st → printedTables ls (st .grid) (beside ls (st .grid) o′ i′ gs′ (st .globals)) (st .items) ≡ printedLines ls
+  pub lines-made : BuildIs ls o i gs s r o′ i′ gs′ s′ (endOf plan ls (length o) (length i) (length gs) (length s)) → {st : Standing} → r ≡ built.Tables st → printedTables ls (st .grid) (beside ls (st .grid) o′ i′ gs′ (st .globals)) (st .items) ≡ printedLines plan ls
   unfolding printedLines
   lines-made b {st} x = made-end _ (at-end _ refl b) st x
 

@@ -13,6 +13,7 @@ use Rattle.wkb.specs.Bytes.{Point, LineString}
 use Rattle.wkb.specs.Reading.{outcome, found, slicesCheck, readOf, pointsLeft, nought, ReadAs}
 use Rattle.wkb.specs.declared.Read.{Read}
 use Rattle.wkb.specs.declared.Read.the-variants.{Points, Refused}
+use Rattle.build.specs.declared.Plan.{Plan}
 use Rattle.report.specs.Lines.{refusedLine}
 use Rattle.chain.specs.Printed.{chainOf, printedLines, refusedText, printedPoints, printed}
 
@@ -58,16 +59,16 @@ pub record PointsRead (bs : List ℕ) (n : ℕ) (x y : List Float) : Type 0 wher
   pub some : 1 ≤ n
   pub in-x : n ≤ length x
   pub in-y : n ≤ length y
-  pub text : printedLines (chainOf (take n x) (take n y)) ≡ printed bs
+  pub text : (plan : Plan) → printedLines plan (chainOf (take n x) (take n y)) ≡ printed plan bs
 
 module _ (bs : List ℕ) where
-  printed-points : (ps : List Point) → found bs ≡ gives ps → printedLines (chainOf (coordinates (λ p. p .x) ps) (coordinates (λ p. p .y) ps)) ≡ printed bs
+  printed-points : (ps : List Point) → found bs ≡ gives ps → (plan : Plan) → printedLines plan (chainOf (coordinates (λ p. p .x) ps) (coordinates (λ p. p .y) ps)) ≡ printed plan bs
   unfolding printed printedPoints answerBy coordinates
-  printed-points ps e = rw e
+  printed-points ps e plan = rw e
 
-  printed-refused : (r : Refusal) → found bs ≡ refused r → refusedLine (r .number) ≡ printed bs
+  printed-refused : (r : Refusal) → found bs ≡ refused r → (plan : Plan) → refusedLine (r .number) ≡ printed plan bs
   unfolding printed answerBy
-  printed-refused r e = rw e
+  printed-refused r e plan = rw e
 
 module _ (bs : List ℕ) (x₀ y₀ x y : List Float) (lx : length x₀ ≡ 1024) (ly : length y₀ ≡ 1024) where
   read-is : {r : Read} → ReadAs bs x₀ y₀ r x y → outcome (length x₀) (length y₀) bs ≡ found bs
@@ -87,13 +88,13 @@ module _ (bs : List ℕ) (x₀ y₀ x y : List Float) (lx : length x₀ ≡ 1024
             in-x = rw (ex, n-is) (left-long (λ p. p .x) ps x₀);
             in-y = rw (ey, n-is) (left-long (λ p. p .y) ps y₀);
             text =
-                rw (ex, ey, n-is, left-points (λ p. p .x) ps x₀, left-points (λ p. p .y) ps y₀) (printed-points bs ps e);
+                λ plan. rw (ex, ey, n-is, left-points (λ p. p .x) ps x₀, left-points (λ p. p .y) ps y₀) (printed-points bs ps e plan);
           }
 
-  pub refused-read : (q : Refusal) → ReadAs bs x₀ y₀ (Refused q) x y → refusedLine (q .number) ≡ printed bs
+  pub refused-read : (q : Refusal) → ReadAs bs x₀ y₀ (Refused q) x y → (plan : Plan) → refusedLine (q .number) ≡ printed plan bs
   unfolding readOf answerBy
-  refused-read q a = go (found bs) refl (a .answer ∙ ap readOf (read-is a))
+  refused-read q a plan = go (found bs) refl (a .answer ∙ ap readOf (read-is a))
     where
-      go : (f : Answer (List Point)) → found bs ≡ f → Refused q ≡ readOf f → refusedLine (q .number) ≡ printed bs
+      go : (f : Answer (List Point)) → found bs ≡ f → Refused q ≡ readOf f → refusedLine (q .number) ≡ printed plan bs
       go (gives ps) e r = absurd (let z : _≡_ {A = ℕ} 0 1 = cc in omega arith)
-      go (refused p) e r = let w : q ≡ p = cc in rw w (printed-refused bs p e)
+      go (refused p) e r = let w : q ≡ p = cc in rw w (printed-refused bs p e plan)

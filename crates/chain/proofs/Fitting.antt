@@ -1,4 +1,4 @@
--- How long a text can be: 280,000 bytes hold every one. At most 4,095 cells with at most 4,096 items and 64 globals are shown. Assumes nothing.
+-- How long a text can be: 281,000 bytes hold every one. At most 4,095 cells with at most 4,096 items and 64 globals are shown. Assumes nothing.
 use mathlib.Core.Path.{_≡_, refl, sym, ap, _∙_}
 use mathlib.Core.Bool.{Bool, true, false}
 use mathlib.Core.List.{List, [], _∷_, _++_}
@@ -16,6 +16,7 @@ use Rattle.grid.specs.Domain.{Lines, count, scratchCheck, linesCheck}
 use Rattle.tables.specs.Lists.{concat, sum, start, itemsOf, offsetsOf}
 use Rattle.fill.specs.OnGrid as on
 use Rattle.fill.specs.OnGrid.{total}
+use Rattle.build.specs.declared.Plan.{Plan}
 use Rattle.build.specs.Build.{endOf}
 use Rattle.build.proofs.Settled.{Made, made-says}
 use Rattle.tables.specs.Tables.{Tables, cells, listOf, globalsOf}
@@ -44,10 +45,10 @@ cells-size t f (suc c) h =
     let l : length (listOf t c) ≡ getD (t .offsets) (suc c) 0 - getD (t .offsets) c 0 = length-slice (getD (t .offsets) c 0) (getD (t .offsets) (suc c) 0) (t .items) w in
     simp length-append (omega arith)
 
-report-size : (g : Grid) (t : Tables) (items tests overlaps : ℕ) → TablesFit t → cells t ≤ 4095 → length (t .items) ≤ 4096 → t .«global_count» ≤ 64 → length (reportOf g t items tests overlaps) ≤ 280000
+report-size : (g : Grid) (t : Tables) (items tests overlaps : ℕ) → TablesFit t → cells t ≤ 4095 → length (t .items) ≤ 4096 → t .«global_count» ≤ 64 → length (reportOf g t items tests overlaps) ≤ 281000
 unfolding reportOf
 report-size g t items tests overlaps f c i m =
-    let a = grid-size (g .cols) (g .rows) (toBits binary64 (g .«cell_size»)) items (t .«global_count») in
+    let a = grid-size (g .cols) (g .rows) (toBits binary64 (g .«cell_width»)) (toBits binary64 (g .«cell_height»)) items (t .«global_count») in
     let b = cells-size t f (cells t) (omega arith) in
     let w = all-within (cells t) (t .lines) (t .offsets) (t .items) (f .lists) (cells t) (omega arith) in
     let d = global-size (globalsOf t) in
@@ -55,11 +56,11 @@ report-size g t items tests overlaps f c i m =
     let v = visit-size tests overlaps in
     simp length-append (omega arith)
 
-tables-size : (ls : Lines) (g : Grid) (t : Tables) (items : ℕ) → cells t ≤ 4095 → length (t .items) ≤ 4096 → t .«global_count» ≤ 64 → length (printedTables ls g t items) ≤ 280000
+tables-size : (ls : Lines) (g : Grid) (t : Tables) (items : ℕ) → cells t ≤ 4095 → length (t .items) ≤ 4096 → t .«global_count» ≤ 64 → length (printedTables ls g t items) ≤ 281000
 unfolding printedTables allTests answerBy
 tables-size ls g t items c i m = go (allTests ls g t) refl
   where
-    go : (o : Answer (List Pair)) → allTests ls g t ≡ o → length (answerBy refusedText (λ ps. reportOf g t items (length ps) (length (overlapping ls ps))) o) ≤ 280000
+    go : (o : Answer (List Pair)) → allTests ls g t ≡ o → length (answerBy refusedText (λ ps. reportOf g t items (length ps) (length (overlapping ls ps))) o) ≤ 281000
     go (refused r) e = let s = refused-size (r .number) in omega arith
     go (gives ps) e = report-size g t items (length ps) (length (overlapping ls ps)) (stands ls g t (then-passed (visitCheck ls g t) _ e .0) .tables) c i m
 
@@ -74,19 +75,19 @@ items-size : (F : ℕ → List ℕ) (n : ℕ) → start F n ≤ 4096 → length 
 unfolding itemsOf
 items-size F n h = let e = length-concat F n in simp (length-append, length-replicate) (omega arith)
 
-end-size : (e : Answer Grid) (ls : Lines) → endOf ls 4096 4096 64 16384 ≡ e → length (answerBy refusedText (printedOn ls) e) ≤ 280000
+end-size : (plan : Plan) (e : Answer Grid) (ls : Lines) → endOf plan ls 4096 4096 64 16384 ≡ e → length (answerBy refusedText (printedOn ls) e) ≤ 281000
 unfolding answerBy printedOn tablesOn total zeroBeyond
-end-size (refused r) ls h = let s = refused-size (r .number) in omega arith
-end-size (gives g) ls h =
-    let m : Made ls 4096 4096 64 g = made-says ls 4096 4096 64 16384 g h in
+end-size plan (refused r) ls h = let s = refused-size (r .number) in omega arith
+end-size plan (gives g) ls h =
+    let m : Made ls 4096 4096 64 g = made-says plan ls 4096 4096 64 16384 g h in
     tables-size ls g (tablesOn ls g) (total g ls) (let o = m .room in omega arith) (items-size (on.listOn g ls) (g .rows * g .cols) (m .space)) (m .listed)
 
-found-size : (f : Answer (List Point)) → length (answerBy refusedText printedPoints f) ≤ 280000
+found-size : (plan : Plan) (f : Answer (List Point)) → length (answerBy refusedText (printedPoints plan) f) ≤ 281000
 unfolding answerBy printedPoints printedLines
-found-size (gives ps) = end-size _ _ refl
-found-size (refused r) = let s = refused-size (r .number) in omega arith
+found-size plan (gives ps) = end-size plan _ _ refl
+found-size plan (refused r) = let s = refused-size (r .number) in omega arith
 
--- 280,000 bytes hold every text
-pub printed-fits : (bs : List ℕ) → length (printed bs) ≤ 280000
+-- 281,000 bytes hold every text
+pub printed-fits : (plan : Plan) (bs : List ℕ) → length (printed plan bs) ≤ 281000
 unfolding printed
-printed-fits bs = found-size (found bs)
+printed-fits plan bs = found-size plan (found bs)

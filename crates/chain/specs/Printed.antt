@@ -12,6 +12,7 @@ use Rattle.grid.specs.declared.Grid.{Grid}
 use Rattle.grid.specs.Domain.{Lines, lines}
 use Rattle.tables.specs.Lists.{itemsOf, offsetsOf}
 use Rattle.fill.specs.OnGrid.{listOn, globalsOn, total}
+use Rattle.build.specs.declared.Plan.{Plan}
 use Rattle.build.specs.Build.{endOf}
 use Rattle.tables.specs.Tables.{Tables, cells, listOf, globalsOf}
 use Rattle.visit.specs.Tests.{Pair, testsOf}
@@ -33,7 +34,7 @@ cellLines t (suc c) = cellLines t c ++ cellLine (c / t .cols) (c % t .cols) (lis
 -- the grid, the cells, the globals, the visit
 unfoldable pub reportOf : Grid → Tables → ℕ → ℕ → ℕ → List ℕ
 reportOf g t items tests overlaps =
-    gridLine (g .cols) (g .rows) (toBits binary64 (g .«cell_size»)) items (t .«global_count»)
+    gridLine (g .cols) (g .rows) (toBits binary64 (g .«cell_width»)) (toBits binary64 (g .«cell_height»)) items (t .«global_count»)
     ++ (cellLines t (cells t) ++ (globalLine (globalsOf t) ++ visitLine tests overlaps))
 
 -- a full visit: all tests
@@ -55,8 +56,8 @@ tablesOn ls g =
 unfoldable pub printedOn : Lines → Grid → List ℕ
 printedOn ls g = printedTables ls g (tablesOn ls g) (total g ls)
 
-unfoldable pub printedLines : Lines → List ℕ
-printedLines ls = answerBy refusedText (printedOn ls) (endOf ls 4096 4096 64 16384)
+unfoldable pub printedLines : Plan → Lines → List ℕ
+printedLines plan ls = answerBy refusedText (printedOn ls) (endOf plan ls 4096 4096 64 16384)
 
 -- ---- the input
 
@@ -64,14 +65,14 @@ printedLines ls = answerBy refusedText (printedOn ls) (endOf ls 4096 4096 64 163
 unfoldable pub chainOf : List Float → List Float → Lines
 chainOf xs ys = lines (take (length xs - 1) xs) (take (length ys - 1) ys) (drop 1 xs) (drop 1 ys)
 
-unfoldable pub printedPoints : List Point → List ℕ
-printedPoints ps = printedLines (chainOf (map (λ (p : Point). ofBits binary64 (p .x)) ps) (map (λ (p : Point). ofBits binary64 (p .y)) ps))
+unfoldable pub printedPoints : Plan → List Point → List ℕ
+printedPoints plan ps = printedLines plan (chainOf (map (λ (p : Point). ofBits binary64 (p .x)) ps) (map (λ (p : Point). ofBits binary64 (p .y)) ps))
 
--- WHAT THE PROGRAM PRINTS for the bytes of its input
-unfoldable pub printed : List ℕ → List ℕ
-printed bs = answerBy refusedText printedPoints (found bs)
+-- WHAT THE PROGRAM OF A PLAN PRINTS for the bytes of its input
+unfoldable pub printed : Plan → List ℕ → List ℕ
+printed plan bs = answerBy refusedText (printedPoints plan) (found bs)
 
--- the promise: as much of the text as there is room for, its end, and zero beyond (`printed-fits`: 280,000 bytes hold every text)
+-- the promise: as much of the text as there is room for, its end, and zero beyond (`printed-fits`: 281,000 bytes hold every text)
 pub record Prints (text out out′ : List ℕ) (r : ℕ) : Type 0 where
   pub end : r ≡ length (take (length out) text)
   pub is : out′ ≡ take (length out) text ++ replicate (length out - r) 0

@@ -7,6 +7,7 @@ ghost use Rattle.visit.specs.Entries.{beside};
 ghost use Rattle.report.specs.Pages.{page, Puts};
 ghost use Rattle.chain.specs.Printed.{printedTables, printedLines, chainOf, printed, Prints};
 use build::Built;
+use build::Plan;
 use grid::Grid;
 use refusals::Refusal;
 use wkb::Read;
@@ -71,9 +72,10 @@ fn put_lines(
     start_y: &[f64],
     end_x: &[f64],
     end_y: &[f64],
+    plan: Plan,
     out: &mut [u8],
 ) -> usize
-    ensures { λ r. ⌜ Puts (printedLines (lines (now («start_x» .entry)) (now («start_y» .entry)) (now («end_x» .entry)) (now («end_y» .entry)))) (page (now (out .entry)) 0) (page (now (out .exit)) r) ⌝ }
+    ensures { λ r. ⌜ Puts (printedLines plan (lines (now («start_x» .entry)) (now («start_y» .entry)) (now («end_x» .entry)) (now («end_y» .entry)))) (page (now (out .entry)) 0) (page (now (out .exit)) r) ⌝ }
 {
     let mut offsets = [0u32; 4096];
     let mut items = [0u32; 4096];
@@ -84,6 +86,7 @@ fn put_lines(
         start_y,
         end_x,
         end_y,
+        plan,
         &mut offsets,
         &mut items,
         &mut globals,
@@ -108,24 +111,24 @@ fn put_lines(
 }
 
 // The report of a chain of n points, the first of two slices. Consecutive points make lines.
-fn put_points(x: &[f64], y: &[f64], n: usize, out: &mut [u8]) -> usize
+fn put_points(x: &[f64], y: &[f64], n: usize, plan: Plan, out: &mut [u8]) -> usize
     requires { ⌜ (1 ≤ n) × (n ≤ length (now x)) × (n ≤ length (now y)) ⌝ }
-    ensures { λ r. ⌜ Puts (printedLines (chainOf (take n (now (x .entry))) (take n (now (y .entry))))) (page (now (out .entry)) 0) (page (now (out .exit)) r) ⌝ }
+    ensures { λ r. ⌜ Puts (printedLines plan (chainOf (take n (now (x .entry))) (take n (now (y .entry))))) (page (now (out .entry)) 0) (page (now (out .exit)) r) ⌝ }
 {
     let last = n - 1;
-    put_lines(&x[..last], &y[..last], &x[1..n], &y[1..n], out)
+    put_lines(&x[..last], &y[..last], &x[1..n], &y[1..n], plan, out)
 }
 
 // The report of the chain that stands in bytes.
-fn put_chain(bytes: &[u8], out: &mut [u8]) -> usize
-    ensures { λ r. ⌜ Puts (printed (now (bytes .entry))) (page (now (out .entry)) 0) (page (now (out .exit)) r) ⌝ }
+fn put_chain(bytes: &[u8], plan: Plan, out: &mut [u8]) -> usize
+    ensures { λ r. ⌜ Puts (printed plan (now (bytes .entry))) (page (now (out .entry)) 0) (page (now (out .exit)) r) ⌝ }
 {
     let mut x = [0.0f64; 1024];
     let mut y = [0.0f64; 1024];
     let read = wkb::read_line_string(bytes, &mut x, &mut y);
     match read {
         Read::Refused(r) => report::refused_line(r.number, out, 0),
-        Read::Points(n) => put_points(&x, &y, n, out),
+        Read::Points(n) => put_points(&x, &y, n, plan, out),
     }
 }
 
@@ -140,11 +143,11 @@ fn clear(s: &mut [u8])
     }
 }
 
-// Writes what the program prints for the bytes of its input, as far as there is room, and zero beyond; answers where it ends.
-pub fn print_chain(bytes: &[u8], out: &mut [u8]) -> usize
-    ensures { λ r. ⌜ Prints (printed (now (bytes .entry))) (now (out .entry)) (now (out .exit)) r ⌝ }
+// Writes what the program of a plan prints for the bytes of its input, as far as there is room, and zero beyond; answers where it ends.
+pub fn print_chain(bytes: &[u8], plan: Plan, out: &mut [u8]) -> usize
+    ensures { λ r. ⌜ Prints (printed plan (now (bytes .entry))) (now (out .entry)) (now (out .exit)) r ⌝ }
 {
-    let end = put_chain(bytes, out);
+    let end = put_chain(bytes, plan, out);
     clear(&mut out[end..]);
     end
 }

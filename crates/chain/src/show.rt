@@ -1,7 +1,5 @@
 // The report of standing tables.
 ghost use mathlib.Core.Path.{_≡_};
-ghost use mathlib.Core.Bool.{false};
-ghost use lib.Ieee.{isNan};
 ghost use Rattle.tables.specs.Tables.{tables, cells};
 ghost use Rattle.report.specs.Pages.{page, Puts};
 ghost use Rattle.report.specs.Lines.{cellLine};
@@ -10,6 +8,7 @@ ghost use Rattle.chain.specs.Inside.{CellAsks, TablesAsk};
 ghost use Rattle.tables.specs.Tables.{listOf};
 ghost use Prim.Native.Nat.{_/_, _%_};
 use grid::Grid;
+use numbers::bits::to_bits;
 
 fn wide(x: u32) -> usize
     ensures { λ r. ⌜ r ≡ x ⌝ }
@@ -92,14 +91,14 @@ pub(crate) fn put_report(
     out: &mut [u8],
     at: usize,
 ) -> usize
-    requires { ⌜ TablesAsk (tables grid lines (now offsets) (now items) (now globals) «global_count») ⌝ ∗ ⌜ isNan (grid .«cell_size») ≡ false ⌝ }
+    requires { ⌜ TablesAsk (tables grid lines (now offsets) (now items) (now globals) «global_count») ⌝ }
     ensures { λ r. ⌜ Puts (reportOf grid (tables grid lines (now (offsets .entry)) (now (items .entry)) (now (globals .entry)) «global_count») «item_count» tests overlaps) (page (now (out .entry)) at) (page (now (out .exit)) r) ⌝ }
 {
-    let bits = f64::to_bits(grid.cell_size);
     let at = report::grid_line(
         grid.cols,
         grid.rows,
-        bits,
+        to_bits(grid.cell_width),
+        to_bits(grid.cell_height),
         item_count,
         global_count,
         out,

@@ -1,14 +1,13 @@
 -- What a fit grid's counts say. Assumes nothing.
-use mathlib.Core.Path.{_≡_, refl, sym, ap, _∙_}
+use mathlib.Core.Path.{_≡_, refl, sym}
 use mathlib.Core.Bool.{Bool, true, false, _&&_, _||_}
-use Prim.Native.Nat.{ℕ, zero, suc, _+_, _*_, _^_, _≤_, _<_}
+use Prim.Native.Nat.{ℕ, _*_, _^_, _≤_, _<_}
 use native.Mathlib.Nat.{mul-le-mul-left, mul-le-mul-right, le-trans}
 use native.Mathlib.Omega.{arith}
 use borrow.Author.Tests.{eqb-true, leb-true, ne-eqb}
 use lib.Dec.{leb, eqb}
-use lib.Ieee.{Float, binary64, round, le}
 use Rattle.grid.specs.declared.Grid.{Grid}
-use Rattle.grid.specs.Domain.{coordinate, point, counts, shape, sizeFits, fit}
+use Rattle.grid.specs.Domain.{coordinate, point, counts, shape, sizeFits, sizesFit, fit}
 use Rattle.grid.proofs.Bools.{and-left, and-right, or-false}
 
 -- two counts within 4,004 have a product of 32 bits
@@ -72,20 +71,24 @@ shape-says cols rows h = go (eqb cols 0 && eqb rows 0) refl h
 pub record Fit (g : Grid) : Type 0 where
   pub «min-x» : coordinate (g .«min_x») ≡ true
   pub «min-y» : coordinate (g .«min_y») ≡ true
-  pub size : sizeFits (g .«cell_size») ≡ true
+  pub «cell-width» : sizeFits (g .«cell_width») ≡ true
+  pub «cell-height» : sizeFits (g .«cell_height») ≡ true
   pub counts : Shape (g .cols) (g .rows)
 
 pub fit-says : (g : Grid) → fit g ≡ true → Fit g
-unfolding fit point
+unfolding fit point sizesFit
 fit-says g h =
     let p = coordinate (g .«min_x») && coordinate (g .«min_y») in
-    let s = sizeFits (g .«cell_size») in
+    let w = sizeFits (g .«cell_width») in
+    let h' = sizeFits (g .«cell_height») in
+    let s = w && h' in
     let k : (s && shape (g .cols) (g .rows)) ≡ true = and-right p (s && shape (g .cols) (g .rows)) h in
     let m : p ≡ true = and-left p (s && shape (g .cols) (g .rows)) h in
     record {
       «min-x» = and-left (coordinate (g .«min_x»)) (coordinate (g .«min_y»)) m;
       «min-y» = and-right (coordinate (g .«min_x»)) (coordinate (g .«min_y»)) m;
-      size = and-left s (shape (g .cols) (g .rows)) k;
+      «cell-width» = and-left w h' (and-left s (shape (g .cols) (g .rows)) k);
+      «cell-height» = and-right w h' (and-left s (shape (g .cols) (g .rows)) k);
       counts = shape-says (g .cols) (g .rows) (and-right s (shape (g .cols) (g .rows)) k);
     }
 
@@ -93,5 +96,5 @@ fit-says g h =
 pub fit-shape : (g : Grid) → fit g ≡ true → shape (g .cols) (g .rows) ≡ true
 unfolding fit
 fit-shape g h =
-    and-right (sizeFits (g .«cell_size»)) (shape (g .cols) (g .rows))
-    (and-right (point (g .«min_x») (g .«min_y»)) (sizeFits (g .«cell_size») && shape (g .cols) (g .rows)) h)
+    and-right (sizesFit (g .«cell_width») (g .«cell_height»)) (shape (g .cols) (g .rows))
+    (and-right (point (g .«min_x») (g .«min_y»)) (sizesFit (g .«cell_width») (g .«cell_height») && shape (g .cols) (g .rows)) h)

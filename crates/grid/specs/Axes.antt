@@ -9,14 +9,14 @@ use Rattle.numbers.specs.Away.{roundAway}
 use Rattle.grid.specs.declared.Grid.{Grid}
 use Rattle.grid.specs.declared.Axis.{Axis}
 
--- the two axes of a grid
+-- the two axes of a grid: columns go by the width of a cell, rows by its height
 abbrev pub xAxis : Grid → Axis
-xAxis g = record { low = g .«min_x»; size = g .«cell_size»; count = g .cols }
+xAxis g = record { low = g .«min_x»; size = g .«cell_width»; count = g .cols }
 
 abbrev pub yAxis : Grid → Axis
-yAxis g = record { low = g .«min_y»; size = g .«cell_size»; count = g .rows }
+yAxis g = record { low = g .«min_y»; size = g .«cell_height»; count = g .rows }
 
--- (coordinate - min) / cell_size
+-- (coordinate - min) / cell size, which is that of the axis
 unfoldable pub scaledOn : Axis → Float → Float
 scaledOn a v = div binary64 (sub binary64 v (a .low)) (a .size)
 
@@ -24,11 +24,11 @@ scaledOn a v = div binary64 (sub binary64 v (a .low)) (a .size)
 unfoldable pub indexOn : Axis → Float → ℕ
 indexOn a v = clampedFloor (scaledOn a v) (a .count)
 
--- the boundary i, which is the low edge of index i: min + i x cell_size
+-- the boundary i, which is the low edge of index i: min + i x cell size
 unfoldable pub lowOn : Axis → ℕ → Float
 lowOn a i = add binary64 (a .low) (mul binary64 (ofInt binary64 (pos i)) (a .size))
 
--- the high edge of index i: its low edge + cell_size
+-- the high edge of index i: its low edge + cell size
 unfoldable pub highOn : Axis → ℕ → Float
 highOn a i = add binary64 (lowOn a i) (a .size)
 

@@ -1,7 +1,7 @@
 -- Document 01, "Domain", and the checks of its refusals 1, 2, 3, 8, 9 and 12, in its words. Definitions only.
 use mathlib.Core.Path.{_≡_}
 use Prim.Native.Nat.{ℕ, _*_}
-use mathlib.Core.Bool.{Bool, true, false, _&&_, _||_}
+use mathlib.Core.Bool.{Bool, false, _&&_, _||_}
 use mathlib.Core.List.{List}
 use lib.ListN.{length, getD}
 use lib.Dec.{leb, ltb, eqb}
@@ -70,13 +70,17 @@ counts n = leb 1 n && leb n 4004
 unfoldable pub shape : ℕ → ℕ → Bool
 shape cols rows = (eqb cols 0 && eqb rows 0) || (counts cols && (counts rows && leb (rows * cols) 1002001))
 
--- a cell size: from a quarter of 1e-6 to 2e9
+-- the size of a cell on an axis: from a quarter of 1e-6 to 2e9
 unfoldable pub sizeFits : Float → Bool
 sizeFits s = le (round binary64 false 1 4000000) s && le s (round binary64 false 2000000000 1)
 
--- fit: both minima obey the coordinate rule, the cell size and the counts are as above
+-- on both axes
+unfoldable pub sizesFit : Float → Float → Bool
+sizesFit width height = sizeFits width && sizeFits height
+
+-- fit: both minima obey the coordinate rule, the width and the height of a cell and the counts are as above
 unfoldable pub fit : Grid → Bool
-fit g = point (g .«min_x») (g .«min_y») && (sizeFits (g .«cell_size») && shape (g .cols) (g .rows))
+fit g = point (g .«min_x») (g .«min_y») && (sizesFit (g .«cell_width») (g .«cell_height») && shape (g .cols) (g .rows))
 
 -- ---- the checks, each with document 01's number and value
 

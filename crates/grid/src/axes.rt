@@ -10,7 +10,7 @@ impl Grid {
     {
         Axis {
             low: self.min_x,
-            size: self.cell_size,
+            size: self.cell_width,
             count: self.cols,
         }
     }
@@ -20,7 +20,7 @@ impl Grid {
     {
         Axis {
             low: self.min_y,
-            size: self.cell_size,
+            size: self.cell_height,
             count: self.rows,
         }
     }

@@ -7,11 +7,11 @@ use refusals::Refusal;
 use refusals::refuse_unless;
 ghost use mathlib.Core.Path.{_≡_};
 ghost use mathlib.Core.Bool.{false, _&&_};
-ghost use Prim.Native.Nat.{_≤_};
 ghost use lib.Dec.{leb, ltb, eqb};
-ghost use lib.Ieee.{binary64, round, le};
 ghost use lib.ListN.{length};
-ghost use Rattle.grid.specs.Domain.{coordinate, point, segment, lines, Alike, lineFits, counts, shape, sizeFits, fit, lengthsCheck, scratchCheck, countCheck, coordinatesCheck, pointCheck, segmentCheck, gridCheck, snapSize, snapCheck, cellCheck, linesCheck};
+ghost use Rattle.grid.specs.Domain.{coordinate, point, segment, lines, Alike, counts, shape, sizeFits, sizesFit, fit};
+ghost use Rattle.grid.specs.Domain.{lengthsCheck, scratchCheck, countCheck, coordinatesCheck, pointCheck, segmentCheck, gridCheck};
+ghost use Rattle.grid.specs.Domain.{snapSize, snapCheck, cellCheck, linesCheck};
 
 // The most lines of a call, and the least scratch.
 pub const MOST_LINES: usize = 65536;
@@ -68,7 +68,7 @@ pub fn is_shape(cols: u32, rows: u32) -> bool
     false
 }
 
-// The largest and the smallest cell size of a fit grid.
+// The smallest and the largest size of a cell on an axis of a fit grid.
 fn is_cell_size(v: f64) -> bool
     ensures { λ r. ⌜ r ≡ sizeFits v ⌝ }
 {
@@ -78,11 +78,20 @@ fn is_cell_size(v: f64) -> bool
     false
 }
 
+fn are_cell_sizes(width: f64, height: f64) -> bool
+    ensures { λ r. ⌜ r ≡ sizesFit width height ⌝ }
+{
+    if is_cell_size(width) {
+        return is_cell_size(height);
+    }
+    false
+}
+
 pub fn is_fit(grid: Grid) -> bool
     ensures { λ r. ⌜ r ≡ fit grid ⌝ }
 {
     if is_point(grid.min_x, grid.min_y) {
-        if is_cell_size(grid.cell_size) {
+        if are_cell_sizes(grid.cell_width, grid.cell_height) {
             return is_shape(grid.cols, grid.rows);
         }
         return false;

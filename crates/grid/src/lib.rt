@@ -4,16 +4,17 @@ pub mod checks;
 pub mod segments;
 pub mod words;
 
-// A uniform grid: its lower corner, the size of its cells, and how many there are each way.
+// A uniform grid: its lower corner, the width and the height of its cells, and how many there are each way.
 pub struct Grid {
     pub min_x: f64,
     pub min_y: f64,
-    pub cell_size: f64,
+    pub cell_width: f64,
+    pub cell_height: f64,
     pub cols: u32,
     pub rows: u32,
 }
 
-// One axis of a grid.
+// One axis of a grid: where it begins, the size of a cell on it, and how many there are.
 pub struct Axis {
     pub low: f64,
     pub size: f64,

@@ -22,9 +22,9 @@ part a b = round binary64 false a b
 abbrev pub minus : ℕ → ℕ → Float
 minus a b = round binary64 true a b
 
--- "Grid at 0, 0, cell_size 1, 4 by 4"
+-- "Grid at 0, 0, cell_size 1, 4 by 4": cells as high as wide
 abbrev pub four : Grid
-four = record { «min_x» = part 0 1; «min_y» = part 0 1; «cell_size» = part 1 1; cols = 4; rows = 4 }
+four = record { «min_x» = part 0 1; «min_y» = part 0 1; «cell_width» = part 1 1; «cell_height» = part 1 1; cols = 4; rows = 4 }
 
 -- ---- a row
 

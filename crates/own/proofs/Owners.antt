@@ -59,6 +59,6 @@ unfolding placeCheck pointCheck gridCheck point
 searchable g x y h =
     let xy = unless-fine (coordinate x && coordinate y) 1 0 (andThen-left _ _ h) in
     let fits = fit-says g (unless-fine (fit g) 8 0 (andThen-right _ _ h)) in (
-      record { low = fits .«min-x»; size = fits .size; few = fits .counts .wide; point = and-left (coordinate x) (coordinate y) xy },
-      record { low = fits .«min-y»; size = fits .size; few = fits .counts .high; point = and-right (coordinate x) (coordinate y) xy },
+      record { low = fits .«min-x»; size = fits .«cell-width»; few = fits .counts .wide; point = and-left (coordinate x) (coordinate y) xy },
+      record { low = fits .«min-y»; size = fits .«cell-height»; few = fits .counts .high; point = and-right (coordinate x) (coordinate y) xy },
     )

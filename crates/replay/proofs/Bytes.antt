@@ -47,6 +47,6 @@ unfolding wordsOf
 words-are n out bs e h =
     ext-getD 0 out (wordsFrom n 0 bs) (e ∙ sym (length-words n 0 bs))
     (λ k b.
-      let f : 8 * k ≡ 0 + 8 * k = omega arith in
-      let l : k < n = omega (arith, e, b) in
-      h k l ∙ ap (λ (m : ℕ). littleAt 8 m bs) f ∙ sym (words-at n 0 k bs l))
+    let f : 8 * k ≡ 0 + 8 * k = omega arith in
+    let l : k < n = omega (arith, e, b) in
+    h k l ∙ ap (λ (m : ℕ). littleAt 8 m bs) f ∙ sym (words-at n 0 k bs l))

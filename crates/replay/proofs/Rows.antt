@@ -78,8 +78,9 @@ next at [] h = absurd (omega (arith, h))
 next at (x ∷ []) h = absurd (omega (arith, h))
 next at (x ∷ q ∷ []) h = absurd (omega (arith, h))
 next at (x ∷ q ∷ a ∷ w) h = elim (decLe (q + a) (length w)) [
-    yes g ↦ (rw (le-leb (q + a) (length w) g) (whole at x q a w g))
-  | no g ↦ absurd (let z = rw (lt-leb (q + a) (length w) (omega (arith, g))) at h in omega (arith, z)) ]
+  | yes g ↦ (rw (le-leb (q + a) (length w) g) (whole at x q a w g))
+  | no g ↦ absurd (let z = rw (lt-leb (q + a) (length w) (omega (arith, g))) at h in omega (arith, z))
+]
 
 last : (at : ℕ) (w : List ℕ) → sizeOf w ≡ 0 → recordsFrom at 0 w ≡ []
 unfolding sizeOf recordsFrom
@@ -87,8 +88,9 @@ last at [] h = refl
 last at (x ∷ []) h = refl
 last at (x ∷ q ∷ []) h = refl
 last at (x ∷ q ∷ a ∷ w) h = elim (decLe (q + a) (length w)) [
-    yes g ↦ absurd (let z = rw (le-leb (q + a) (length w) g) at h in omega (arith, z))
-  | no g ↦ (rw (lt-leb (q + a) (length w) (omega (arith, g)))) ]
+  | yes g ↦ absurd (let z = rw (le-leb (q + a) (length w) g) at h in omega (arith, z))
+  | no g ↦ (rw (lt-leb (q + a) (length w) (omega (arith, g))))
+]
 
 -- the same at a place of a longer row
 pub next-at : (at : ℕ) (w : List ℕ) → 0 < sizeOf (drop at w) →
@@ -116,8 +118,9 @@ opened : {r : Record} (at kind q a : ℕ) (w : List ℕ) → In r at 0 (kind ∷
     (q + a ≤ length w) × ((r ≡ headed at kind q a) ⊎ In r (at + 3) (q + a) w)
 unfolding recordsFrom
 opened at kind q a w m = elim (decLe (q + a) (length w)) [
-    yes h ↦ (h, List·Memᴰ·cases-cons (rw (le-leb (q + a) (length w) h) at m))
-  | no h ↦ absurd (List·Memᴰ·not-nil (rw (lt-leb (q + a) (length w) (omega (arith, h))) at m)) ]
+  | yes h ↦ (h, List·Memᴰ·cases-cons (rw (le-leb (q + a) (length w) h) at m))
+  | no h ↦ absurd (List·Memᴰ·not-nil (rw (lt-leb (q + a) (length w) (omega (arith, h))) at m))
+]
 
 shut : {r : Record} (at kind q a : ℕ) (w : List ℕ) → q + a ≤ length w →
     (r ≡ headed at kind q a) ⊎ In r (at + 3) (q + a) w → In r at 0 (kind ∷ q ∷ a ∷ w)
@@ -187,7 +190,7 @@ of-first {r} at zero (suc (suc (suc k))) (x ∷ q ∷ a ∷ w) m h =
     ⊎-elim
     (λ e. let f = ap (λ (s : Record). s .end) e in shut at x q a (take k w) (omega (arith, h, l, f, length-take k w)) (inl e))
     (λ p. let f = ends-after (at + 3) (q + a) w p in
-      shut at x q a (take k w) (omega (arith, h, l, f, length-take k w)) (inr (of-first (at + 3) (q + a) k w p (omega (arith, h)))))
+    shut at x q a (take k w) (omega (arith, h, l, f, length-take k w)) (inr (of-first (at + 3) (q + a) k w p (omega (arith, h)))))
     (o .1)
 
 pub first-records : (at n k : ℕ) (w : List ℕ) (r : Record) →

@@ -28,8 +28,9 @@ unfolding sameTo
 same-within [] b = omega arith
 same-within (x ∷ a) [] = omega arith
 same-within (x ∷ a) (y ∷ b) = elim (ℕ-discrete x y) [
-    yes e ↦ (rw (same-more x y a b e) (omega (arith, same-within a b)))
-  | no h ↦ (rw (same-none x y a b h) (omega arith)) ]
+  | yes e ↦ (rw (same-more x y a b e) (omega (arith, same-within a b)))
+  | no h ↦ (rw (same-none x y a b h) (omega arith))
+]
 
 -- the first n words are the same in both, up to that place and no further
 same-take : (n : ℕ) (a b : List ℕ) → n ≤ sameTo a b → take n a ≡ take n b
@@ -38,8 +39,9 @@ same-take zero a b h = refl
 same-take (suc n) [] b h = absurd (omega (arith, h))
 same-take (suc n) (x ∷ a) [] h = absurd (omega (arith, h))
 same-take (suc n) (x ∷ a) (y ∷ b) h = elim (ℕ-discrete x y) [
-    yes e ↦ (let g = rw (same-more x y a b e) at h in rw (e, same-take n a b (omega (arith, g))))
-  | no d ↦ absurd (let g = rw (same-none x y a b d) at h in omega (arith, g)) ]
+  | yes e ↦ (let g = rw (same-more x y a b e) at h in rw (e, same-take n a b (omega (arith, g))))
+  | no d ↦ absurd (let g = rw (same-none x y a b d) at h in omega (arith, g))
+]
 
 take-same : (n : ℕ) (a b : List ℕ) → n ≤ length a → take n a ≡ take n b → n ≤ sameTo a b
 unfolding sameTo
@@ -56,15 +58,16 @@ pub same-exactly : (a b : List ℕ) (r : Record) →
     List·Memᴰ r (recordsOf (take (sameTo a b) a)) ↔ (List·Memᴰ r (recordsOf a) × (take (r .end) a ≡ take (r .end) b))
 unfolding recordsOf
 same-exactly a b r =
-    let f = first-records 0 0 (sameTo a b) a r in
-    (λ m.
-      let p = f .0 m in
-      let h = p .1 in
-      (p .0, same-take (r .end) a b (omega (arith, h)))
-    , λ p.
-      let h = ends-within 0 0 a (p .0) in
-      let k = take-same (r .end) a b (omega (arith, h)) (p .1) in
-      f .1 (p .0, omega (arith, k)))
+    let f = first-records 0 0 (sameTo a b) a r in (
+      λ m.
+          let p = f .0 m in
+          let h = p .1 in
+          (p .0, same-take (r .end) a b (omega (arith, h))),
+      λ p.
+          let h = ends-within 0 0 a (p .0) in
+          let k = take-same (r .end) a b (omega (arith, h)) (p .1) in
+          f .1 (p .0, omega (arith, k)),
+    )
 
 -- ---- word by word
 

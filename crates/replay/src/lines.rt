@@ -41,12 +41,13 @@ fn built(
 ) -> usize
     requires { ⌜ length (now q) ≤ length (now floats) ⌝ }
 {
-    let mut out = [0u64; 7];
+    let mut out = [0u64; 8];
     let number = capi::building::mt_build(
-        question::floats(q, 4, 0, floats),
-        question::floats(q, 4, 1, floats),
-        question::floats(q, 4, 2, floats),
-        question::floats(q, 4, 3, floats),
+        question::floats(q, 5, 0, floats),
+        question::floats(q, 5, 1, floats),
+        question::floats(q, 5, 2, floats),
+        question::floats(q, 5, 3, floats),
+        question::short(q, 0),
         offsets,
         items,
         globals,
@@ -63,19 +64,19 @@ fn built(
 pub(crate) fn build(q: &[u64], answer: &mut [u64]) -> usize
     requires { ⌜ length (now q) ≤ 16384 ⌝ }
 {
-    let offsets_lent = question::lent(q, 0);
+    let offsets_lent = question::lent(q, 1);
     if 4096 < offsets_lent {
         return 0;
     }
-    let items_lent = question::lent(q, 1);
+    let items_lent = question::lent(q, 2);
     if 8192 < items_lent {
         return 0;
     }
-    let globals_lent = question::lent(q, 2);
+    let globals_lent = question::lent(q, 3);
     if 64 < globals_lent {
         return 0;
     }
-    let scratch_lent = question::lent(q, 3);
+    let scratch_lent = question::lent(q, 4);
     if 16384 < scratch_lent {
         return 0;
     }

@@ -36,16 +36,17 @@ stored-six (x ∷ y ∷ z ∷ u ∷ []) a b c d e f h = absurd (omega arith)
 stored-six (x ∷ y ∷ z ∷ u ∷ v ∷ []) a b c d e f h = absurd (omega arith)
 stored-six (x ∷ y ∷ z ∷ u ∷ v ∷ w ∷ xs) a b c d e f h = refl
 
-pub stored-seven : (out : List ℕ) (a b c d e f g : ℕ) → 7 ≤ length out →
-    set (set (set (set (set (set (set out 0 a) 1 b) 2 c) 3 d) 4 e) 5 f) 6 g ≡ (a ∷ b ∷ c ∷ d ∷ e ∷ f ∷ g ∷ []) ++ drop 7 out
-stored-seven [] a b c d e f g h = absurd (omega arith)
-stored-seven (x ∷ []) a b c d e f g h = absurd (omega arith)
-stored-seven (x ∷ y ∷ []) a b c d e f g h = absurd (omega arith)
-stored-seven (x ∷ y ∷ z ∷ []) a b c d e f g h = absurd (omega arith)
-stored-seven (x ∷ y ∷ z ∷ u ∷ []) a b c d e f g h = absurd (omega arith)
-stored-seven (x ∷ y ∷ z ∷ u ∷ v ∷ []) a b c d e f g h = absurd (omega arith)
-stored-seven (x ∷ y ∷ z ∷ u ∷ v ∷ w ∷ []) a b c d e f g h = absurd (omega arith)
-stored-seven (x ∷ y ∷ z ∷ u ∷ v ∷ w ∷ t ∷ xs) a b c d e f g h = refl
+pub stored-eight : (out : List ℕ) (a b c d e f g h : ℕ) → 8 ≤ length out →
+    set (set (set (set (set (set (set (set out 0 a) 1 b) 2 c) 3 d) 4 e) 5 f) 6 g) 7 h ≡ (a ∷ b ∷ c ∷ d ∷ e ∷ f ∷ g ∷ h ∷ []) ++ drop 8 out
+stored-eight [] a b c d e f g h l = absurd (omega arith)
+stored-eight (x ∷ []) a b c d e f g h l = absurd (omega arith)
+stored-eight (x ∷ y ∷ []) a b c d e f g h l = absurd (omega arith)
+stored-eight (x ∷ y ∷ z ∷ []) a b c d e f g h l = absurd (omega arith)
+stored-eight (x ∷ y ∷ z ∷ u ∷ []) a b c d e f g h l = absurd (omega arith)
+stored-eight (x ∷ y ∷ z ∷ u ∷ v ∷ []) a b c d e f g h l = absurd (omega arith)
+stored-eight (x ∷ y ∷ z ∷ u ∷ v ∷ w ∷ []) a b c d e f g h l = absurd (omega arith)
+stored-eight (x ∷ y ∷ z ∷ u ∷ v ∷ w ∷ t ∷ []) a b c d e f g h l = absurd (omega arith)
+stored-eight (x ∷ y ∷ z ∷ u ∷ v ∷ w ∷ t ∷ s ∷ xs) a b c d e f g h l = refl
 
 -- ---- promises
 

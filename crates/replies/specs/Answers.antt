@@ -68,7 +68,8 @@ ofBuilt (built.Tables t) =
     success
     (toBits binary64 (t .grid .«min_x»)
     ∷ toBits binary64 (t .grid .«min_y»)
-    ∷ toBits binary64 (t .grid .«cell_size»)
+    ∷ toBits binary64 (t .grid .«cell_width»)
+    ∷ toBits binary64 (t .grid .«cell_height»)
     ∷ t .grid .cols
     ∷ t .grid .rows
     ∷ t .items

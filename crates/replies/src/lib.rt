@@ -9,9 +9,9 @@ use own::Owned;
 use own::Owner;
 use refusals::Check;
 use snap::Snapped;
+use stores::eight;
 use stores::one;
 use stores::refused;
-use stores::seven;
 use stores::six;
 use stores::three;
 use stores::two;
@@ -114,18 +114,19 @@ pub fn cells(answer: Cells, out: &mut [u64]) -> u32
 }
 
 pub fn built(answer: Built, out: &mut [u64]) -> u32
-    ensures { λ r. ⌜ Replies 7 (ofBuilt answer) (now (out .entry)) r (now (out .exit)) ⌝ }
+    ensures { λ r. ⌜ Replies 8 (ofBuilt answer) (now (out .entry)) r (now (out .exit)) ⌝ }
 {
-    if out.len() < 7 {
+    if out.len() < 8 {
         return SHORT;
     }
     match answer {
         Built::Tables(t) => {
             let grid = t.grid;
-            seven(
+            eight(
                 to_bits(grid.min_x),
                 to_bits(grid.min_y),
-                to_bits(grid.cell_size),
+                to_bits(grid.cell_width),
+                to_bits(grid.cell_height),
                 grid.cols as u64,
                 grid.rows as u64,
                 t.items as u64,

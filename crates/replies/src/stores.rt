@@ -54,9 +54,19 @@ pub(crate) fn six(a: u64, b: u64, c: u64, d: u64, e: u64, f: u64, out: &mut [u64
     0
 }
 
-pub(crate) fn seven(a: u64, b: u64, c: u64, d: u64, e: u64, f: u64, g: u64, out: &mut [u64]) -> u32
-    requires { ⌜ 7 ≤ length (now out) ⌝ }
-    ensures { λ r. ⌜ Handed (success (a ∷ b ∷ c ∷ d ∷ e ∷ f ∷ g ∷ [])) (now (out .entry)) r (now (out .exit)) ⌝ }
+pub(crate) fn eight(
+    a: u64,
+    b: u64,
+    c: u64,
+    d: u64,
+    e: u64,
+    f: u64,
+    g: u64,
+    h: u64,
+    out: &mut [u64],
+) -> u32
+    requires { ⌜ 8 ≤ length (now out) ⌝ }
+    ensures { λ r. ⌜ Handed (success (a ∷ b ∷ c ∷ d ∷ e ∷ f ∷ g ∷ h ∷ [])) (now (out .entry)) r (now (out .exit)) ⌝ }
 {
     out[0] = a;
     out[1] = b;
@@ -65,5 +75,6 @@ pub(crate) fn seven(a: u64, b: u64, c: u64, d: u64, e: u64, f: u64, g: u64, out:
     out[4] = e;
     out[5] = f;
     out[6] = g;
+    out[7] = h;
     0
 }

@@ -39,11 +39,12 @@ line-size : (word rest : List ℕ) → length (line word rest) ≡ length word +
 unfolding line
 line-size word rest = simp length-append (omega arith)
 
-pub grid-size : (cols rows bits items globals : ℕ) → length (gridLine cols rows bits items globals) ≤ 106
+pub grid-size : (cols rows width height items globals : ℕ) → length (gridLine cols rows width height items globals) ≤ 123
 unfolding gridLine
-grid-size cols rows bits items globals =
+grid-size cols rows width height items globals =
     let a = spaced-size (cols ∷ rows ∷ []) in
-    let b = hex-size 16 bits in
+    let b = hex-size 16 width in
+    let c = hex-size 16 height in
     let d = spaced-size (items ∷ globals ∷ []) in
     simp (line-size, length-append) (omega arith)
 

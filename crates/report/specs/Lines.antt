@@ -1,4 +1,4 @@
--- Document 01, "The program": the lines that it prints, as bytes in ASCII. Definitions only.
+-- Document 01, "The program", with document 02's two sizes: the lines that it prints, as bytes in ASCII. Definitions only.
 use Prim.Native.Nat.{ℕ}
 use mathlib.Core.List.{List, [], _∷_, _++_}
 use Rattle.report.specs.Numbers.{decimal, hex}
@@ -12,10 +12,11 @@ spaced (n ∷ ns) = (32 ∷ decimal n) ++ spaced ns
 unfoldable pub line : List ℕ → List ℕ → List ℕ
 line word rest = word ++ (rest ++ (10 ∷ []))
 
--- `grid` cols rows, bits of cell_size in 16 hex digits, items, globals
-unfoldable pub gridLine : ℕ → ℕ → ℕ → ℕ → ℕ → List ℕ
-gridLine cols rows bits items globals =
-    line (103 ∷ 114 ∷ 105 ∷ 100 ∷ []) (spaced (cols ∷ rows ∷ []) ++ ((32 ∷ hex 16 bits) ++ spaced (items ∷ globals ∷ [])))
+-- `grid` cols rows, the bits of cell_width and of cell_height in 16 hex digits each, items, globals
+unfoldable pub gridLine : ℕ → ℕ → ℕ → ℕ → ℕ → ℕ → List ℕ
+gridLine cols rows width height items globals =
+    line (103 ∷ 114 ∷ 105 ∷ 100 ∷ [])
+    (spaced (cols ∷ rows ∷ []) ++ ((32 ∷ hex 16 width) ++ ((32 ∷ hex 16 height) ++ spaced (items ∷ globals ∷ []))))
 
 -- `cell` row column and its lines, for a nonempty cell
 unfoldable pub cellLine : ℕ → ℕ → List ℕ → List ℕ

@@ -108,22 +108,31 @@ fn wide(x: u32) -> u64
     x as u64
 }
 
-// `grid` cols rows, the bits of the cell size, items, globals.
+// A space and a bit pattern.
+fn put_pattern(bits: u64, out: &mut [u8], at: usize) -> usize
+    ensures { λ r. ⌜ Puts (32 ∷ hex 16 bits) (page (now (out .entry)) at) (page (now (out .exit)) r) ⌝ }
+{
+    let at = put(b' ', out, at);
+    put_hex(bits, out, at)
+}
+
+// `grid` cols rows, the bits of the cells' width and height, items, globals.
 pub fn grid_line(
     cols: u32,
     rows: u32,
-    bits: u64,
+    width: u64,
+    height: u64,
     items: usize,
     globals: usize,
     out: &mut [u8],
     at: usize,
 ) -> usize
-    ensures { λ r. ⌜ Puts (gridLine cols rows bits items globals) (page (now (out .entry)) at) (page (now (out .exit)) r) ⌝ }
+    ensures { λ r. ⌜ Puts (gridLine cols rows width height items globals) (page (now (out .entry)) at) (page (now (out .exit)) r) ⌝ }
 {
     let at = put_all(b"grid", out, at);
     let at = put_two(cols as u64, rows as u64, out, at);
-    let at = put(b' ', out, at);
-    let at = put_hex(bits, out, at);
+    let at = put_pattern(width, out, at);
+    let at = put_pattern(height, out, at);
     let at = put_two(items as u64, globals as u64, out, at);
     put(b'\n', out, at)
 }

@@ -128,20 +128,21 @@ module _ (x s : Float) (j K : ℕ) (p : Stretched x) (z : Sized j s) (few : j �
 
 -- ---- the counts of an axis
 
--- a width that is at most 1,001 times j sizes
+-- an axis of this width, and the length of its cells after halvings by j: the width is at most 1,001 times j lengths
 pub record Across (w : Float) (j : ℕ) (s : Float) : Type 0 where
   pub spans : Spans w
+  pub sized : Sized j s
   pub times : Times (stretched w) s (1001 * j)
 
-module _ (w s : Float) (j : ℕ) (a : Across w j s) (z : Sized j s) (few : j ≤ 4) where
+module _ (w s : Float) (j : ℕ) (a : Across w j s) (few : j ≤ 4) where
   small4 : 1001 * j ≤ 2 ^ 53
   small4 = omega arith
 
   most : ceilingOf (div binary64 (stretched w) s) ≤ 1001 * j
-  most = quot-most-ceiling (stretched w) s j (1001 * j) (stretched-is w (a .spans)) z small4 (a .times)
+  most = quot-most-ceiling (stretched w) s j (1001 * j) (stretched-is w (a .spans)) (a .sized) small4 (a .times)
 
   some : 1 ≤ ceilingOf (div binary64 (stretched w) s)
-  some = quot-some-ceiling (stretched w) s j (1001 * j) (stretched-is w (a .spans)) z small4 (a .times)
+  some = quot-some-ceiling (stretched w) s j (1001 * j) (stretched-is w (a .spans)) (a .sized) small4 (a .times)
 
   -- 32 bits are enough: the count is the ceiling
   pub count-exact : countOn w s ≡ ceilingOf (div binary64 (stretched w) s)
@@ -154,11 +155,16 @@ module _ (w s : Float) (j : ℕ) (a : Across w j s) (z : Sized j s) (few : j ≤
   pub count-some : 1 ≤ countOn w s
   count-some = rw count-exact some
 
-module _ (w s : Float) (j : ℕ) (a : Across w j s) (z : Sized j s) (few : j ≤ 2) where
+module _ (w s : Float) (j : ℕ) (a : Across w j s) (few : j ≤ 2) where
   pub half-across : Across w (2 * j) (half s)
-  half-across = record { spans = a .spans; times = subst (λ (k : ℕ). Times (stretched w) (half s) k) (omega arith) (times-half j s z few (stretched w) (1001 * j) (a .times)) }
+  half-across =
+      record {
+        spans = a .spans;
+        sized = half-sized j s (a .sized) few;
+        times = subst (λ (k : ℕ). Times (stretched w) (half s) k) (omega arith) (times-half j s (a .sized) few (stretched w) (1001 * j) (a .times));
+      }
 
   pub count-twice : countOn w (half s) ≤ 2 * countOn w s
   count-twice =
-      rw (count-exact w (half s) (2 * j) half-across (half-sized j s z few) (omega arith), count-exact w s j a z (omega arith))
-      (ceiling-twice (stretched w) s j (1001 * j) (stretched-is w (a .spans)) z few (omega arith) (a .times))
+      rw (count-exact w (half s) (2 * j) half-across (omega arith), count-exact w s j a (omega arith))
+      (ceiling-twice (stretched w) s j (1001 * j) (stretched-is w (a .spans)) (a .sized) few (omega arith) (a .times))

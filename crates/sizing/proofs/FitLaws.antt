@@ -1,5 +1,6 @@
 -- The grids that a build tries are fit: the first one, and each that comes of halving the size where four times the cells are below 1,000,000.
--- So no caller sees refusal 8 on a grid that a build returns. `all-fit` says it in one statement, for whoever tries them. Assumes nothing.
+-- So no caller sees refusal 8 on a grid that a build returns. `all-fit` says it in one statement, for whoever tries them; which sizing it was is asked for
+-- the first size alone. Assumes nothing.
 use mathlib.Core.Path.{_≡_, refl, sym, ap, _∙_, subst}
 use mathlib.Core.Bool.{Bool, true, false, _&&_}
 use Prim.Native.Nat.{ℕ, zero, suc, _+_, _-_, _*_, _^_, _≤_, _<_}
@@ -14,20 +15,21 @@ use lib.Ieee.{Float, nan, fin, binary64, round, div, le}
 use lib.Ieee.Positive.{num, den}
 use Rattle.numbers.specs.Order.{magnitudeOf}
 use Rattle.numbers.specs.Ceiling.{ceilingOf}
-use Rattle.grid.specs.Domain.{Lines, count, coordinate, point, segment, lineFits, counts, shape, sizeFits, fit}
+use Rattle.grid.specs.Domain.{Lines, count, coordinate, point, segment, lineFits, counts, shape, sizeFits, sizesFit, fit}
 use Rattle.grid.proofs.Bools.{and-left, and-right, and-both}
 use Rattle.grid.proofs.Shapes.{shape-cells}
 use Rattle.grid.proofs.Fine.{LinesFit}
+use Rattle.sizing.specs.declared.Sizing.{Sizing}
 use Rattle.sizing.specs.declared.Extent.{Extent}
 use Rattle.sizing.specs.declared.Size.{Size}
 use Rattle.sizing.specs.Bounds.{lowest, reach, whole, extentOf}
-use Rattle.sizing.specs.Size.{firstSide, firstSize, half, halfOf}
+use Rattle.sizing.specs.Size.{firstSize, halfOf}
 use Rattle.sizing.specs.Counts.{countOn, gridOf, emptyGrid}
 use Rattle.sizing.proofs.Constants.{quarter, quarter-is, 2e9, 2e9-is}
 use Rattle.sizing.proofs.Reach.{Lie, Spans, lowest-obeys, reach-spans}
 use Rattle.sizing.proofs.Plain.{nonneg-of-positive, cross→le}
 use Rattle.sizing.proofs.Width.{stretched}
-use Rattle.sizing.proofs.Halving.{Sized, half-sized}
+use Rattle.sizing.proofs.Halving.{Sized}
 use Rattle.sizing.proofs.CountLaws.{count-exact, count-most, count-some, count-twice, half-across}
 use Rattle.sizing.proofs.SizeLaws.{SizedOn, first-sized}
 
@@ -107,33 +109,45 @@ size-fits j s z few =
     let b : num s * 1 ≤ 2000000000 * den s = let m = z .most in omega arith in
     rw (quarter-is, 2e9-is) (and-both (le quarter s) (le s 2e9) (holds (le quarter s) (cross→le quarter s tt s+ a)) (holds (le s 2e9) (cross→le s 2e9 s+ tt b)))
 
-module _ (e : Extent) (w : Within e) (j : ℕ) (s : Float) (z : SizedOn e j s) (few : j ≤ 4) where
-  cols-most : countOn (e .width) s ≤ 1001 * j
-  cols-most = count-most (e .width) s j (z .wide) (z .sized) few
+module _ (e : Extent) (w : Within e) (j : ℕ) (s : Size) (z : SizedOn e j s) (few : j ≤ 4) where
+  abbrev cols : ℕ
+  cols = countOn (e .width) (s .«cell_width»)
 
-  rows-most : countOn (e .height) s ≤ 1001 * j
-  rows-most = count-most (e .height) s j (z .high) (z .sized) few
+  abbrev rows : ℕ
+  rows = countOn (e .height) (s .«cell_height»)
 
-  cols-some : 1 ≤ countOn (e .width) s
-  cols-some = count-some (e .width) s j (z .wide) (z .sized) few
+  cols-most : cols ≤ 1001 * j
+  cols-most = count-most (e .width) (s .«cell_width») j (z .wide) few
 
-  rows-some : 1 ≤ countOn (e .height) s
-  rows-some = count-some (e .height) s j (z .high) (z .sized) few
+  rows-most : rows ≤ 1001 * j
+  rows-most = count-most (e .height) (s .«cell_height») j (z .high) few
 
-  grid-fits : countOn (e .height) s * countOn (e .width) s ≤ 1002001 → fit (gridOf e (record { «cell_size» = s })) ≡ true
+  cols-some : 1 ≤ cols
+  cols-some = count-some (e .width) (s .«cell_width») j (z .wide) few
+
+  rows-some : 1 ≤ rows
+  rows-some = count-some (e .height) (s .«cell_height») j (z .high) few
+
+  sizes-fit : sizesFit (s .«cell_width») (s .«cell_height») ≡ true
+  unfolding sizesFit
+  sizes-fit =
+      and-both (sizeFits (s .«cell_width»)) (sizeFits (s .«cell_height»))
+      (size-fits j (s .«cell_width») (z .wide .sized) few) (size-fits j (s .«cell_height») (z .high .sized) few)
+
+  grid-fits : gridOf e s .rows * gridOf e s .cols ≤ 1002001 → fit (gridOf e s) ≡ true
   unfolding fit gridOf point
   grid-fits h =
-      and-both (coordinate (e .«min_x») && coordinate (e .«min_y»)) (sizeFits s && shape (countOn (e .width) s) (countOn (e .height) s))
+      and-both (coordinate (e .«min_x») && coordinate (e .«min_y»)) (sizesFit (s .«cell_width») (s .«cell_height») && shape cols rows)
       (and-both (coordinate (e .«min_x»)) (coordinate (e .«min_y»)) (w .«min-x») (w .«min-y»))
-      (and-both (sizeFits s) (shape (countOn (e .width) s) (countOn (e .height) s)) (size-fits j s (z .sized) few)
-      (shape-fits (countOn (e .width) s) (countOn (e .height) s) cols-some (omega (arith, cols-most)) rows-some (omega (arith, rows-most)) h))
+      (and-both (sizesFit (s .«cell_width») (s .«cell_height»)) (shape cols rows) sizes-fit
+      (shape-fits cols rows cols-some (omega (arith, cols-most)) rows-some (omega (arith, rows-most)) h))
 
 -- ---- the grids that a build tries
 
 -- the size s, after k halvings: its grid is fit
 pub record Tried (e : Extent) (k : ℕ) (s : Size) : Type 0 where
   pub few : k ≤ 2
-  pub sized : SizedOn e (2 ^ k) (s .«cell_size»)
+  pub sized : SizedOn e (2 ^ k) s
   pub fits : fit (gridOf e s) ≡ true
 
 power-within : (k : ℕ) → k ≤ 2 → 2 ^ k ≤ 4
@@ -148,34 +162,39 @@ power-below (suc zero) h = omega arith
 power-below (suc (suc k)) h = absurd (omega arith)
 
 -- the first one: 1,001 by 1,001 at most
-pub first-tried : (e : Extent) (n : ℕ) → Within e → 1 ≤ n → n ≤ 65536 → Tried e 0 (firstSize e n)
-unfolding firstSize
-first-tried e n w N most =
-    let s = firstSide e n in
-    let z = first-sized e n (w .wide) (w .high) N most in
-    record { few = omega arith; sized = z; fits = grid-fits e w 1 s z (omega arith) (mul-le-mul (rows-most e w 1 s z (omega arith)) (cols-most e w 1 s z (omega arith))) }
+pub first-tried : (z : Sizing) (e : Extent) (n : ℕ) → Within e → 1 ≤ n → n ≤ 65536 → Tried e 0 (firstSize z e n)
+unfolding gridOf
+first-tried z e n w N most =
+    let s = firstSize z e n in
+    let f = first-sized z e n (w .wide) (w .high) N most in
+    let cells : gridOf e s .rows * gridOf e s .cols ≤ 1002001 = mul-le-mul (rows-most e w 1 s f (omega arith)) (cols-most e w 1 s f (omega arith)) in
+    record { few = omega arith; sized = f; fits = grid-fits e w 1 s f (omega arith) cells }
 
 -- each count at most doubles, so the cells are at most four times as many
 fourfold : (r c r' c' : ℕ) → r' ≤ 2 * r → c' ≤ 2 * c → r * c * 4 < 1000000 → r' * c' ≤ 1002001
 fourfold r c r' c' a b h = omega (arith, mul-le-mul a b)
 
+half-sized-on : (e : Extent) (j : ℕ) (s : Size) → SizedOn e j s → j ≤ 2 → SizedOn e (2 * j) (halfOf s)
+unfolding halfOf
+half-sized-on e j s z few =
+    record { wide = half-across (e .width) (s .«cell_width») j (z .wide) few; high = half-across (e .height) (s .«cell_height») j (z .high) few }
+
 -- and after a halving
 pub again-tried : (e : Extent) (k : ℕ) (s : Size) → Within e → Tried e k s → k < 2 → gridOf e s .rows * gridOf e s .cols * 4 < 1000000 → Tried e (k + 1) (halfOf s)
 unfolding gridOf halfOf
 again-tried e k s w t l h =
-    let v : Float = s .«cell_size» in
     let few : 2 ^ k ≤ 2 = power-below k l in
     let z = t .sized in
-    let z' : SizedOn e (2 * 2 ^ k) (half v) =
-    record { sized = half-sized (2 ^ k) v (z .sized) few; wide = half-across (e .width) v (2 ^ k) (z .wide) (z .sized) few; high = half-across (e .height) v (2 ^ k) (z .high) (z .sized) few } in
+    let z' : SizedOn e (2 * 2 ^ k) (halfOf s) = half-sized-on e (2 ^ k) s z few in
     let p : 2 ^ (k + 1) ≡ 2 * 2 ^ k = ap (λ (m : ℕ). 2 ^ m) (add-one k) ∙ pow-succ' 2 k in
+    let g = gridOf e s in
+    let g' = gridOf e (halfOf s) in
+    let c : g' .cols ≤ 2 * g .cols = count-twice (e .width) (s .«cell_width») (2 ^ k) (z .wide) few in
+    let r : g' .rows ≤ 2 * g .rows = count-twice (e .height) (s .«cell_height») (2 ^ k) (z .high) few in
     record {
       few = omega arith;
-      sized = subst (λ (m : ℕ). SizedOn e m (half v)) (sym p) z';
-      fits =
-          grid-fits e w (2 * 2 ^ k) (half v) z' (omega arith)
-          (fourfold (countOn (e .height) v) (countOn (e .width) v) (countOn (e .height) (half v)) (countOn (e .width) (half v))
-          (count-twice (e .height) v (2 ^ k) (z .high) (z .sized) few) (count-twice (e .width) v (2 ^ k) (z .wide) (z .sized) few) h);
+      sized = subst (λ (m : ℕ). SizedOn e m (halfOf s)) (sym p) z';
+      fits = grid-fits e w (2 * 2 ^ k) (halfOf s) z' (omega arith) (fourfold (g .rows) (g .cols) (g' .rows) (g' .cols) r c h);
     }
 
 -- ---- all that can be tried
@@ -198,19 +217,19 @@ tried-all : (left : ℕ) (e : Extent) (k : ℕ) (s : Size) → Within e → k + 
 tried-all zero e k s w z t = t .fits
 tried-all (suc left) e k s w z t = (t .fits, λ few. tried-all left e (k + 1) (halfOf s) w (omega arith) (again-tried e k s w t (omega arith) few))
 
--- every grid that can be tried from the first size on is fit
-pub all-fit : (ls : Lines) → LinesFit ls → 1 ≤ count ls → AllFit 2 (extentOf ls) (firstSize (extentOf ls) (count ls))
-all-fit ls f N =
+-- every grid that can be tried from the first size on is fit, in either sizing
+pub all-fit : (z : Sizing) (ls : Lines) → LinesFit ls → 1 ≤ count ls → AllFit 2 (extentOf ls) (firstSize z (extentOf ls) (count ls))
+all-fit z ls f N =
     let e = extentOf ls in
     let w : Within e = lines-within ls f N in
-    tried-all 2 e 0 (firstSize e (count ls)) w refl (first-tried e (count ls) w N (f .few))
+    tried-all 2 e 0 (firstSize z e (count ls)) w refl (first-tried z e (count ls) w N (f .few))
 
 -- ---- what the counts and the size of a tried grid are
 
 pub record Counted (e : Extent) (k : ℕ) (s : Size) : Type 0 where
   -- 32 bits are enough: the counts are the ceilings
-  pub «cols-are» : gridOf e s .cols ≡ ceilingOf (div binary64 (stretched (e .width)) (s .«cell_size»))
-  pub «rows-are» : gridOf e s .rows ≡ ceilingOf (div binary64 (stretched (e .height)) (s .«cell_size»))
+  pub «cols-are» : gridOf e s .cols ≡ ceilingOf (div binary64 (stretched (e .width)) (s .«cell_width»))
+  pub «rows-are» : gridOf e s .rows ≡ ceilingOf (div binary64 (stretched (e .height)) (s .«cell_height»))
   -- within 1,001, 2,002, 4,004
   pub «cols-most» : gridOf e s .cols ≤ 1001 * 2 ^ k
   pub «rows-most» : gridOf e s .rows ≤ 1001 * 2 ^ k
@@ -218,17 +237,16 @@ pub record Counted (e : Extent) (k : ℕ) (s : Size) : Type 0 where
 pub tried-counted : (e : Extent) (k : ℕ) (s : Size) → Within e → Tried e k s → Counted e k s
 unfolding gridOf
 tried-counted e k s w t =
-    let v : Float = s .«cell_size» in
     let few : 2 ^ k ≤ 4 = power-within k (t .few) in
     let z = t .sized in
     record {
-      «cols-are» = count-exact (e .width) v (2 ^ k) (z .wide) (z .sized) few;
-      «rows-are» = count-exact (e .height) v (2 ^ k) (z .high) (z .sized) few;
-      «cols-most» = cols-most e w (2 ^ k) v z few;
-      «rows-most» = rows-most e w (2 ^ k) v z few;
+      «cols-are» = count-exact (e .width) (s .«cell_width») (2 ^ k) (z .wide) few;
+      «rows-are» = count-exact (e .height) (s .«cell_height») (2 ^ k) (z .high) few;
+      «cols-most» = cols-most e w (2 ^ k) s z few;
+      «rows-most» = rows-most e w (2 ^ k) s z few;
     }
 
--- the size is at least 1e-6, a half, a quarter of that, and at most 2e9
+-- each length is at least 1e-6, a half, a quarter of that, and at most 2e9
 least-size : (k : ℕ) (s : Float) → k ≤ 2 → Sized (2 ^ k) s → T (le (round binary64 false 1 (1000000 * 2 ^ k)) s)
 unfolding round
 least-size zero s h z = cross→le (fin false 4722366482869645 (negsuc 71)) s tt (nonneg-of-positive s (z .above)) (z .least)
@@ -236,15 +254,19 @@ least-size (suc zero) s h z = cross→le (fin false 4722366482869645 (negsuc 72)
 least-size (suc (suc zero)) s h z = cross→le (fin false 4722366482869645 (negsuc 73)) s tt (nonneg-of-positive s (z .above)) (z .least)
 least-size (suc (suc (suc k))) s h z = absurd (omega arith)
 
-pub tried-size : (e : Extent) (k : ℕ) (s : Size) → Tried e k s → T (le (round binary64 false 1 (1000000 * 2 ^ k)) (s .«cell_size»)) × T (le (s .«cell_size») (round binary64 false 2000000000 1))
-tried-size e k s t =
-    let v : Float = s .«cell_size» in
-    let z = t .sized .sized in
+abbrev pub Length : ℕ → Float → Type 0
+Length k v = T (le (round binary64 false 1 (1000000 * 2 ^ k)) v) × T (le v (round binary64 false 2000000000 1))
+
+length-is : (k : ℕ) (v : Float) → k ≤ 2 → Sized (2 ^ k) v → Length k v
+length-is k v few z =
     let b : num v * 1 ≤ 2000000000 * den v = let m = z .most in omega arith in
-    (least-size k v (t .few) z, rw 2e9-is (cross→le v 2e9 (nonneg-of-positive v (z .above)) tt b))
+    (least-size k v few z, rw 2e9-is (cross→le v 2e9 (nonneg-of-positive v (z .above)) tt b))
+
+pub tried-size : (e : Extent) (k : ℕ) (s : Size) → Tried e k s → Length k (s .«cell_width») × Length k (s .«cell_height»)
+tried-size e k s t = (length-is k (s .«cell_width») (t .few) (t .sized .wide .sized), length-is k (s .«cell_height») (t .few) (t .sized .high .sized))
 
 -- ---- no lines
 
 pub empty-fits : fit emptyGrid ≡ true
-unfolding fit point coordinate magnitudeOf sizeFits shape emptyGrid round le
+unfolding fit point coordinate magnitudeOf sizeFits sizesFit shape emptyGrid round le
 empty-fits = refl

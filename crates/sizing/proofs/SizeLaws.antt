@@ -1,5 +1,5 @@
--- The first cell size of lines that reach from 0 to 2e9 each way: from 1e-6 to 2e9, and at least a thousandth of the width and of the height.
--- Assumes nothing.
+-- The first size of lines that reach from 0 to 2e9 each way, in either sizing: each length is from 1e-6 to 2e9, and at least a thousandth of what its axis
+-- reaches. Assumes nothing.
 use mathlib.Core.Path.{_≡_, refl, sym, subst}
 use mathlib.Core.Bool.{Bool, true, false, cond}
 use Prim.Native.Nat.{ℕ, zero, suc, _*_, _^_, _≤_, _<_}
@@ -12,7 +12,7 @@ use lib.Ieee.{Float, nan, inf, fin, binary64, up, down, unlike, fits, round, ofI
 use lib.Ieee.Exact.{HasValue}
 use lib.Ieee.Back.{round-whole}
 use lib.Ieee.Order.{round-mono, le-of-values}
-use lib.Ieee.Fits.{div-fits}
+use lib.Ieee.Fits.{div-fits, ofInt-fits}
 use lib.Ieee.Scale.{finite}
 use lib.Ieee.Positive.{num, den, den-pos, positive, positive-of-value, between}
 use Rattle.numbers.specs.Order.{greatestOf}
@@ -20,12 +20,15 @@ use Rattle.numbers.specs.Root.{root}
 use Rattle.numbers.specs.Nearer.{plain, above}
 use Rattle.numbers.proofs.Correct.{root-above}
 use Rattle.numbers.proofs.RootFacts.{root-order, root-square}
-use Rattle.numbers.proofs.FloatOrder.{number, float-le-trans, at-most, le-number}
+use Rattle.numbers.proofs.FloatOrder.{number, float-le-trans, at-most, le-self, le-number}
 use Rattle.numbers.proofs.FloatSum.{below-zero, round-number}
-use Rattle.numbers.proofs.FloatQuotient.{div-mono}
+use Rattle.numbers.proofs.FloatQuotient.{num-pos, div-mono}
+use Rattle.sizing.specs.declared.Sizing.{Sizing}
+use Rattle.sizing.specs.declared.Sizing.the-variants.{Square, Axes}
 use Rattle.sizing.specs.declared.Extent.{Extent}
-use Rattle.sizing.specs.Size.{areaOf, firstSide}
-use Rattle.sizing.proofs.Constants.{nought, 1e-9, 1e-9-is, 1e-6, 1e-6-is, thousand, thousand-is, 2e9}
+use Rattle.sizing.specs.declared.Size.{Size}
+use Rattle.sizing.specs.Size.{largest, areaOf, squareSide, sideOn, firstSize}
+use Rattle.sizing.proofs.Constants.{nought, 1e-9, 1e-9-is, 1e-6, 1e-6-is, thousand, thousand-is, 2e9, 2e9-is}
 use Rattle.sizing.proofs.Extremes.{greatest-one, greatest-over}
 use Rattle.sizing.proofs.Reach.{Spans}
 use Rattle.sizing.proofs.Plain.{own-value, nonneg-of-positive, le→cross, div-at, neg-zero-of}
@@ -40,6 +43,23 @@ abbrev 4e18 : Float
 
 root-of-4e18 : root 4e18 ≡ 2e9
 root-of-4e18 = root-square 4e18 2e9 (unfold fits in tt) tt (unfold fits in tt) tt refl
+
+-- and that of a number of lines, from 1 to 65,536, is from 1 to 256
+
+abbrev one : Float
+one = fin false 1 (pos 0)
+
+abbrev 65536f : Float
+65536f = fin false 1 (pos 16)
+
+abbrev 256f : Float
+256f = fin false 1 (pos 8)
+
+root-of-1 : root one ≡ one
+root-of-1 = root-square one one (unfold fits in tt) tt (unfold fits in tt) tt refl
+
+root-of-65536 : root 65536f ≡ 256f
+root-of-65536 = root-square 65536f 256f (unfold fits in tt) tt (unfold fits in tt) tt refl
 
 record Rooted (v : Float) : Type 0 where
   above-zero : T (positive v)
@@ -164,15 +184,44 @@ module _ (n : ℕ) (N : 1 ≤ n) (few : n ≤ 65536) where
       let l : T (le (fin false 1 (negsuc 59)) (div binary64 a lines)) = rw is (subst (λ (z : Float). T (le z (round binary64 false (num a * 1) (n * den a)))) tiny-is (round-mono binary64 1 (2 ^ 60) (num a * 1) (n * den a) (pow-pos 60) C+ (share-least (num a) (den a) (le→cross 1e-9 a tt a≥ (h .least))))) in
       record { above-zero = between (fin false 1 (negsuc 59)) (div binary64 a lines) 4e18 tt tt l m; most = m }
 
--- ---- the first size
+  -- ---- their root: at least 1
 
-across-target : (m : Float) → Spans m → Target (div binary64 m thousand)
-across-target m p =
-    record {
-      held = div-fits binary64 m thousand;
-      real = le-number (div binary64 nought thousand) (div binary64 m thousand) (div-mono binary64 nought m thousand tt (p .fine) tt (p .above));
-      most = float-le-trans (div binary64 m thousand) (div binary64 2e9 thousand) 2e9 (div-mono binary64 m 2e9 thousand (p .fine) tt tt (p .below)) (unfold div le in tt);
-    }
+  lines-rooted : T (positive (root (ofInt binary64 (pos n)))) × T (le one (root (ofInt binary64 (pos n))))
+  lines-rooted =
+      let lines = ofInt binary64 (pos n) in
+      let held : T (fits binary64 lines) = ofInt-fits binary64 (pos n) in
+      let a : T (above lines) = above-is lines (positive-of-value lines n 1 lines-is N) in
+      let l : T (le one lines) = le-of-values one lines 1 1 n 1 (lit< tt) (lit< tt) (refl, refl) lines-is (omega arith) in
+      let m : T (le lines 65536f) = le-of-values lines 65536f n 1 65536 1 (lit< tt) (lit< tt) lines-is (refl, refl) (omega arith) in
+      let least : T (le one (root lines)) = subst (λ (z : Float). T (le z (root lines))) root-of-1 (root-order one lines (unfold fits in tt) tt held a l) in
+      let most : T (le (root lines) 256f) =
+      subst (λ (z : Float). T (le (root lines) z)) root-of-65536 (root-order lines 65536f held a (unfold fits in tt) tt m) in
+      (between one (root lines) 256f tt tt least most, least)
+
+-- ---- the largest of three: from 1e-6 to 2e9, and at least a thousandth of a width
+
+-- a width over what is at least 1 is at most 2e9
+module _ (w s : Float) (p : Spans w) (s+ : T (positive s)) (least : T (le one s)) where
+  under : T (le (div binary64 2e9 s) 2e9)
+  under =
+      let is : div binary64 2e9 s ≡ round binary64 false (2000000000 * den s) (num s * 1) =
+      div-at binary64 2e9 s 2000000000 1 (num s) (den s) s+ (lit< tt) (num-pos s s+) (refl, refl) (own-value s (nonneg-of-positive s s+)) in
+      let d : 0 < num s * 1 = mul-pos (num-pos s s+) (lit< tt) in
+      let o : 2000000000 * den s * 1 ≤ 2000000000 * (num s * 1) = over (num s) (den s) (le→cross one s tt (nonneg-of-positive s s+) least) in
+      rw is
+      (subst (λ (z : Float). T (le (round binary64 false (2000000000 * den s) (num s * 1)) z)) 2e9-is
+      (round-mono binary64 (2000000000 * den s) (num s * 1) 2000000000 1 d (lit< tt) o))
+    where
+      over : (S D : ℕ) → 1 * D ≤ S * 1 → 2000000000 * D * 1 ≤ 2000000000 * (S * 1)
+      over S D h = omega arith
+
+  quotient-target : Target (div binary64 w s)
+  quotient-target =
+      record {
+        held = div-fits binary64 w s;
+        real = le-number (div binary64 nought s) (div binary64 w s) (div-mono binary64 nought w s tt (p .fine) s+ (p .above));
+        most = float-le-trans (div binary64 w s) (div binary64 2e9 s) 2e9 (div-mono binary64 w 2e9 s (p .fine) tt s+ (p .below)) under;
+      }
 
 least-target : Target 1e-6
 least-target = record { held = unfold fits in tt; real = tt; most = unfold le in tt }
@@ -180,34 +229,28 @@ least-target = record { held = unfold fits in tt; real = tt; most = unfold le in
 span-number : (w : Float) → Spans w → T (number w)
 span-number w p = le-number nought w (p .above)
 
-module _ (e : Extent) (p : Spans (e .width)) (q : Spans (e .height)) (r : Float) (t : Target r) where
-  -- the larger of the width and the height, and the size of a thousand cells across it
-  abbrev larger : Float
-  larger = greatestOf (e .width) (e .height)
-
+module _ (v m : Float) (t : Target v) (p : Spans m) where
+  -- the size of a thousand cells across m
   abbrev across : Float
-  across = div binary64 larger thousand
+  across = div binary64 m thousand
 
   abbrev made : Float
-  made = greatestOf (greatestOf r across) 1e-6
+  made = greatestOf (greatestOf v across) 1e-6
 
-  larger-spans : Spans larger
-  larger-spans = greatest-one Spans (e .width) (e .height) p q
+  across-target : Target across
+  across-target = quotient-target m thousand p tt (unfold le in tt)
 
-  over-both : T (le (e .width) larger) × T (le (e .height) larger)
-  over-both = greatest-over (e .width) (e .height) (span-number (e .width) p) (span-number (e .height) q)
-
-  inner-target : Target (greatestOf r across)
-  inner-target = greatest-one Target r across t (across-target larger larger-spans)
+  inner-target : Target (greatestOf v across)
+  inner-target = greatest-one Target v across t across-target
 
   made-target : Target made
-  made-target = greatest-one Target (greatestOf r across) 1e-6 inner-target least-target
+  made-target = greatest-one Target (greatestOf v across) 1e-6 inner-target least-target
 
-  over-inner : T (le (greatestOf r across) made) × T (le 1e-6 made)
-  over-inner = greatest-over (greatestOf r across) 1e-6 (inner-target .real) tt
+  over-inner : T (le (greatestOf v across) made) × T (le 1e-6 made)
+  over-inner = greatest-over (greatestOf v across) 1e-6 (inner-target .real) tt
 
   over-across : T (le across made)
-  over-across = float-le-trans across (greatestOf r across) made (greatest-over r across (t .real) (across-target larger larger-spans .real) .1) (over-inner .0)
+  over-across = float-le-trans across (greatestOf v across) made (greatest-over v across (t .real) (across-target .real) .1) (over-inner .0)
 
   made-positive : T (positive made)
   made-positive = between 1e-6 made 2e9 tt tt (over-inner .1) (made-target .most)
@@ -221,27 +264,41 @@ module _ (e : Extent) (p : Spans (e .width)) (q : Spans (e .height)) (r : Float)
         most = le-trans (le-of-eq (sym (mul-one (num made)))) (le→cross made 2e9 (nonneg-of-positive made made-positive) tt (made-target .most));
       }
 
-  made-across : (w : Float) → Spans w → T (le w larger) → Across w 1 made
+  made-across : (w : Float) → Spans w → T (le w m) → Across w 1 made
   made-across w s l =
+      let under : T (le (div binary64 w thousand) across) = div-mono binary64 w m thousand (s .fine) (p .fine) tt l in
       record {
         spans = s;
-        times = width-times w made s made-positive (float-le-trans (div binary64 w thousand) across made (div-mono binary64 w larger thousand (s .fine) (larger-spans .fine) tt l) over-across) (over-inner .1);
+        sized = made-sized;
+        times = width-times w made s made-positive (float-le-trans (div binary64 w thousand) across made under over-across) (over-inner .1);
       }
 
--- a cell size on both axes, after halvings by j
-pub record SizedOn (e : Extent) (j : ℕ) (s : Float) : Type 0 where
-  pub sized : Sized j s
-  pub wide : Across (e .width) j s
-  pub high : Across (e .height) j s
+  -- a width that is at most m
+  largest-across : (w : Float) → Spans w → T (le w m) → Across w 1 (largest v m)
+  unfolding largest
+  largest-across w s l = rw (thousand-is, 1e-6-is) (made-across w s l)
 
-pub first-sized : (e : Extent) (n : ℕ) → Spans (e .width) → Spans (e .height) → 1 ≤ n → n ≤ 65536 → SizedOn e 1 (firstSide e n)
-unfolding firstSide
-first-sized e n p q N few =
+-- ---- the first size, in either sizing
+
+-- both lengths of a size, after halvings by j
+pub record SizedOn (e : Extent) (j : ℕ) (s : Size) : Type 0 where
+  pub wide : Across (e .width) j (s .«cell_width»)
+  pub high : Across (e .height) j (s .«cell_height»)
+
+side-across : (w s : Float) → Spans w → T (positive s) → T (le one s) → Across w 1 (sideOn w s)
+unfolding sideOn
+side-across w s p s+ l = largest-across (div binary64 w s) w (quotient-target w s p s+ l) p w p (le-self w (span-number w p))
+
+pub first-sized : (z : Sizing) (e : Extent) (n : ℕ) → Spans (e .width) → Spans (e .height) → 1 ≤ n → n ≤ 65536 → SizedOn e 1 (firstSize z e n)
+unfolding firstSize squareSide
+first-sized Square e n p q N few =
     let v = div binary64 (areaOf e n) (ofInt binary64 (pos n)) in
     let t : Target (root v) = root-target v (div-fits binary64 (areaOf e n) (ofInt binary64 (pos n))) (share-rooted n N few (areaOf e n) (area-is n N few e p q)) in
-    rw (thousand-is, 1e-6-is)
-    (record {
-      sized = made-sized e p q (root v) t;
-      wide = made-across e p q (root v) t (e .width) p (over-both e p q (root v) t .0);
-      high = made-across e p q (root v) t (e .height) q (over-both e p q (root v) t .1);
-    })
+    let larger : Float = greatestOf (e .width) (e .height) in
+    let o = greatest-over (e .width) (e .height) (span-number (e .width) p) (span-number (e .height) q) in
+    let m : Spans larger = greatest-one Spans (e .width) (e .height) p q in
+    record { wide = largest-across (root v) larger t m (e .width) p (o .0); high = largest-across (root v) larger t m (e .height) q (o .1) }
+first-sized Axes e n p q N few =
+    let s = root (ofInt binary64 (pos n)) in
+    let r = lines-rooted n N few in
+    record { wide = side-across (e .width) s p (r .0) (r .1); high = side-across (e .height) s q (r .0) (r .1) }

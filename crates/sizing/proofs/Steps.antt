@@ -14,9 +14,11 @@ use Rattle.numbers.specs.Root.{root}
 use Rattle.grid.specs.declared.Grid.{Grid}
 use Rattle.grid.specs.Domain.{Lines}
 use Rattle.sizing.specs.declared.Extent.{Extent}
+use Rattle.sizing.specs.declared.Sizing.{Sizing}
+use Rattle.sizing.specs.declared.Sizing.the-variants.{Square, Axes}
 use Rattle.sizing.specs.declared.Size.{Size}
 use Rattle.sizing.specs.Bounds.{picked, lowest, highest, reach, whole, extentOf}
-use Rattle.sizing.specs.Size.{areaOf, firstSide, firstSize}
+use Rattle.sizing.specs.Size.{largest, areaOf, squareSide, sideOn, firstSize}
 use Rattle.sizing.specs.Counts.{countOn, gridOf}
 
 -- ---- the literals
@@ -81,10 +83,25 @@ module _ (e : Extent) (n : ℕ) where
 
   -- ---- the first size
 
-  pub size-made : {k a t w v r : Float} → k ≡ ofInt binary64 (pos n) → a ≡ areaOf e n → t ≡ root (div binary64 a k) → w ≡ greatestOf (e .width) (e .height)
-      → v ≡ greatestOf t (div binary64 w (ofBits binary64 4652007308841189376)) → r ≡ greatestOf v (ofBits binary64 4517329193108106637) → _≡_ {A = Size} (record { «cell_size» = r }) (firstSize e n)
-  unfolding firstSide firstSize
-  size-made p q s u x y = rw (← literal-1e-6, ← literal-1000) (cc)
+  pub square-made : {k a t w r : Float} → k ≡ ofInt binary64 (pos n) → a ≡ areaOf e n → t ≡ root (div binary64 a k) → w ≡ greatestOf (e .width) (e .height)
+      → r ≡ largest t w → r ≡ squareSide e n
+  unfolding squareSide
+  square-made p q s u x = cc
+
+  module _ (z : Sizing) where
+    pub size-square : {r : Float} → z ≡ Square → r ≡ squareSide e n → _≡_ {A = Size} (record { «cell_width» = r; «cell_height» = r }) (firstSize z e n)
+    unfolding firstSize
+    size-square is p = rw is (cc)
+
+    pub size-axes : {k s w h : Float} → z ≡ Axes → k ≡ ofInt binary64 (pos n) → s ≡ root k → w ≡ sideOn (e .width) s → h ≡ sideOn (e .height) s
+        → _≡_ {A = Size} (record { «cell_width» = w; «cell_height» = h }) (firstSize z e n)
+    unfolding firstSize
+    size-axes is p q u v = rw is (cc)
+
+pub largest-made : (v reach : Float) {a r : Float} → a ≡ greatestOf v (div binary64 reach (ofBits binary64 4652007308841189376))
+    → r ≡ greatestOf a (ofBits binary64 4517329193108106637) → r ≡ largest v reach
+unfolding largest
+largest-made v reach p q = rw (← literal-1e-6, ← literal-1000) (cc)
 
 -- ---- the counts: the ceiling, or the largest that 32 bits hold
 
@@ -97,7 +114,9 @@ module _ (width size : Float) (n : ℕ) (e : n ≡ ceilingOf (div binary64 (add 
   unfolding countOn
   count-largest h = let k : 4294967295 ≡ min n (2 ^ 32 - 1) = omega arith in k ∙ ap (λ (m : ℕ). min m (2 ^ 32 - 1)) (rw literal-1e-9 at e)
 
-pub grid-made : (e : Extent) (s : Size) {c r : ℕ} → c ≡ countOn (e .width) (s .«cell_size») → r ≡ countOn (e .height) (s .«cell_size»)
-    → _≡_ {A = Grid} (record { «min_x» = e .«min_x»; «min_y» = e .«min_y»; «cell_size» = s .«cell_size»; cols = c; rows = r }) (gridOf e s)
+pub grid-made : (e : Extent) (s : Size) {c r : ℕ} → c ≡ countOn (e .width) (s .«cell_width») → r ≡ countOn (e .height) (s .«cell_height»)
+    → _≡_ {A = Grid}
+    (record { «min_x» = e .«min_x»; «min_y» = e .«min_y»; «cell_width» = s .«cell_width»; «cell_height» = s .«cell_height»; cols = c; rows = r })
+    (gridOf e s)
 unfolding gridOf
 grid-made e s p q = cc

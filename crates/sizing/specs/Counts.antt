@@ -7,23 +7,32 @@ use Rattle.grid.specs.declared.Grid.{Grid}
 use Rattle.sizing.specs.declared.Extent.{Extent}
 use Rattle.sizing.specs.declared.Size.{Size}
 
--- How many cells of a length an axis takes: the ceiling of (width + 1e-9) / cell_size. A count has 32 bits, which is more than a build needs: on document
+-- How many cells of a length an axis takes: the ceiling of (width + 1e-9) / cell size. A count has 32 bits, which is more than a build needs: on document
 -- 01's domain it is the ceiling itself (`tried-counted`).
 unfoldable pub countOn : Float → Float → ℕ
 countOn width size = min (ceilingOf (div binary64 (add binary64 width (round binary64 false 1 1000000000)) size)) (2 ^ 32 - 1)
 
--- the grid of a size: rows as columns
+-- the grid of a size: columns from the width and cell_width, rows from the height and cell_height
 unfoldable pub gridOf : Extent → Size → Grid
 unfolding countOn
 gridOf e s =
     record {
       «min_x» = e .«min_x»;
       «min_y» = e .«min_y»;
-      «cell_size» = s .«cell_size»;
-      cols = countOn (e .width) (s .«cell_size»);
-      rows = countOn (e .height) (s .«cell_size»);
+      «cell_width» = s .«cell_width»;
+      «cell_height» = s .«cell_height»;
+      cols = countOn (e .width) (s .«cell_width»);
+      rows = countOn (e .height) (s .«cell_height»);
     }
 
--- no lines: minima 0, cell_size 1, 0 by 0
+-- no lines: minima 0, sizes 1 and 1, 0 by 0
 unfoldable pub emptyGrid : Grid
-emptyGrid = record { «min_x» = round binary64 false 0 1; «min_y» = round binary64 false 0 1; «cell_size» = round binary64 false 1 1; cols = 0; rows = 0 }
+emptyGrid =
+    record {
+      «min_x» = round binary64 false 0 1;
+      «min_y» = round binary64 false 0 1;
+      «cell_width» = round binary64 false 1 1;
+      «cell_height» = round binary64 false 1 1;
+      cols = 0;
+      rows = 0;
+    }

@@ -1,10 +1,11 @@
-// The first half of document 01's "The build": the bounds over all endpoints, the first size of the cells, the grid of a size, and half of a size.
+// The first half of document 01's "The build", in either sizing: the bounds over all endpoints, the first size of the cells, the grid of a size, and half
+// of a size.
 ghost use mathlib.Core.Path.{_≡_};
 ghost use Prim.Native.Nat.{_≤_, min};
 ghost use lib.ListN.{length};
 ghost use Rattle.grid.specs.Domain.{lines};
 ghost use Rattle.sizing.specs.Bounds.{lowest, highest, extentOf};
-ghost use Rattle.sizing.specs.Size.{areaOf, firstSize, halfOf};
+ghost use Rattle.sizing.specs.Size.{largest, areaOf, squareSide, sideOn, firstSize, halfOf};
 ghost use Rattle.sizing.specs.Counts.{countOn, gridOf, emptyGrid};
 use grid::Grid;
 use numbers::ceiling::ceiling;
@@ -20,9 +21,16 @@ pub struct Extent {
     pub height: f64,
 }
 
+// How the first size is found: one length for both axes, or for each axis its own.
+pub enum Sizing {
+    Square,
+    Axes,
+}
+
 // The size of a grid's cells. Whoever tries one size after another hands it on, and never looks inside.
 pub struct Size {
-    pub cell_size: f64,
+    pub cell_width: f64,
+    pub cell_height: f64,
 }
 
 // The bounds on one axis.
@@ -87,30 +95,65 @@ fn area_of(extent: Extent, lines: usize) -> f64
     area
 }
 
-// About one line to a cell, but at most a thousand cells across, and no cell smaller than 1e-6.
-pub fn first_size(extent: Extent, lines: usize) -> Size
-    ensures { λ r. ⌜ r ≡ firstSize extent lines ⌝ }
+// A length, but at most a thousand cells across the reach, and no cell smaller than 1e-6.
+fn largest_of(v: f64, reach: f64) -> f64
+    ensures { λ r. ⌜ r ≡ largest v reach ⌝ }
+{
+    greatest(greatest(v, reach / 1000.0), 1e-6)
+}
+
+// About one line to a square cell.
+fn square_side(extent: Extent, lines: usize) -> f64
+    ensures { λ r. ⌜ r ≡ squareSide extent lines ⌝ }
 {
     let n = std::num::nearest_u64_to_f64(lines as u64);
     let target = square_root(area_of(extent, lines) / n);
-    let across = greatest(extent.width, extent.height) / 1000.0;
-    let cell_size = greatest(greatest(target, across), 1e-6);
-    Size { cell_size }
+    largest_of(target, greatest(extent.width, extent.height))
+}
+
+// About s cells across an axis.
+fn side_on(width: f64, s: f64) -> f64
+    ensures { λ r. ⌜ r ≡ sideOn width s ⌝ }
+{
+    largest_of(width / s, width)
+}
+
+// About one line to a cell.
+pub fn first_size(sizing: Sizing, extent: Extent, lines: usize) -> Size
+    ensures { λ r. ⌜ r ≡ firstSize sizing extent lines ⌝ }
+{
+    match sizing {
+        Sizing::Square => {
+            let side = square_side(extent, lines);
+            Size {
+                cell_width: side,
+                cell_height: side,
+            }
+        }
+        Sizing::Axes => {
+            let s = square_root(std::num::nearest_u64_to_f64(lines as u64));
+            Size {
+                cell_width: side_on(extent.width, s),
+                cell_height: side_on(extent.height, s),
+            }
+        }
+    }
 }
 
 pub fn half_of(size: Size) -> Size
     ensures { λ r. ⌜ r ≡ halfOf size ⌝ }
 {
     Size {
-        cell_size: size.cell_size / 2.0,
+        cell_width: size.cell_width / 2.0,
+        cell_height: size.cell_height / 2.0,
     }
 }
 
 // The 1e-9 makes room for the upper end, which would else lie on the far edge of the last cell.
-fn count_on(width: f64, cell_size: f64) -> u32
-    ensures { λ r. ⌜ r ≡ countOn width «cell_size» ⌝ }
+fn count_on(width: f64, size: f64) -> u32
+    ensures { λ r. ⌜ r ≡ countOn width size ⌝ }
 {
-    let n = ceiling((width + 1e-9) / cell_size);
+    let n = ceiling((width + 1e-9) / size);
     if n <= 4294967295 {
         return n as u32;
     }
@@ -120,15 +163,13 @@ fn count_on(width: f64, cell_size: f64) -> u32
 pub fn grid_of(extent: Extent, size: Size) -> Grid
     ensures { λ r. ⌜ r ≡ gridOf extent size ⌝ }
 {
-    let cell_size = size.cell_size;
-    let cols = count_on(extent.width, cell_size);
-    let rows = count_on(extent.height, cell_size);
     Grid {
         min_x: extent.min_x,
         min_y: extent.min_y,
-        cell_size,
-        cols,
-        rows,
+        cell_width: size.cell_width,
+        cell_height: size.cell_height,
+        cols: count_on(extent.width, size.cell_width),
+        rows: count_on(extent.height, size.cell_height),
     }
 }
 
@@ -139,7 +180,8 @@ pub fn empty_grid() -> Grid
     Grid {
         min_x: 0.0,
         min_y: 0.0,
-        cell_size: 1.0,
+        cell_width: 1.0,
+        cell_height: 1.0,
         cols: 0,
         rows: 0,
     }

@@ -33,11 +33,11 @@ finiteOf (fin s m e) = true
 unfoldable pub signOf : Float → ℤ
 signOf d = cond (lt nought d) (pos 1) (cond (lt d nought) (negsuc 0) (pos 0))
 
--- t_delta = cell_size / |d|; infinite where d = 0
+-- t_delta = cell size / |d|; infinite where d = 0
 unfoldable pub deltaOf : Float → Float → Float
 deltaOf size d = cond (eq d nought) infinite (div binary64 size (magnitudeOf d))
 
--- the next boundary: min + i x cell_size, where i is the start index, one more if d > 0
+-- the next boundary: min + i x cell size, where i is the start index, one more if d > 0
 unfoldable pub nextOn : Axis → Float → Float → Float
 nextOn a start d = lowOn a (cond (lt nought d) (indexOn a start + 1) (indexOn a start))
 

@@ -64,6 +64,19 @@ impl Clock {
         Times(times)
     }
 
+    /// The least time of one party alone, in seconds: over as many rounds as take about `most` seconds, two at least. Where nobody takes turns with
+    /// it, what else runs only adds.
+    pub fn alone(&self, most: f64, party: &mut dyn FnMut()) -> f64 {
+        let mut timed = || {
+            let begun = Instant::now();
+            party();
+            begun.elapsed().as_secs_f64()
+        };
+        let first = timed();
+        let rounds = ((most / first) as usize).clamp(1, self.rounds);
+        (0..rounds).map(|_| timed()).fold(first, f64::min)
+    }
+
     /// Times the port and the Rust, and prints them.
     pub fn both(&self, name: &str, unit: &str, units: usize, bar: Option<f64>, port: &mut dyn FnMut(), rust: &mut dyn FnMut()) {
         self.show(name, unit, units, bar, &self.turns(&mut [port, rust]), &[]);

@@ -1,10 +1,11 @@
-//! bench [--seed S] [--rounds R]: times of the port and of the Rust, in one process, turn by turn, and the bytes that each uses.
-//! Prints medians, port / Rust, and beside a ratio that has a bar, the bar and whether it is met.
+//! bench [--seed S] [--rounds R] [STAGE..]: times of the port and of the Rust, in one process, turn by turn, and the bytes that each uses.
+//! Prints medians, port / Rust, and beside a ratio that has a bar, the bar and whether it is met. Without stages, all of them.
 
 mod clock;
 mod heap;
 mod numbers;
 mod points;
+mod sizings;
 mod walks;
 mod year;
 
@@ -12,28 +13,51 @@ use beside::random::Random;
 
 fn main() {
     let mut words = std::env::args().skip(1);
-    let (mut seed, mut rounds) = (1, 15);
+    let (mut seed, mut rounds, mut asked) = (1, 15, Vec::new());
     while let Some(word) = words.next() {
-        let number = words.next().and_then(|w| w.parse::<u64>().ok());
-        match (word.as_str(), number) {
-            ("--seed", Some(n)) => seed = n,
-            ("--rounds", Some(n)) => rounds = n.max(1) as usize,
-            _ => {
-                eprintln!("bench [--seed S] [--rounds R]");
-                std::process::exit(2);
-            }
+        let mut number = || words.next().and_then(|w| w.parse::<u64>().ok()).unwrap_or_else(|| stop());
+        match word.as_str() {
+            "--seed" => seed = number(),
+            "--rounds" => rounds = number().max(1) as usize,
+            stage if STAGES.contains(&stage) => asked.push(word),
+            _ => stop(),
         }
     }
     println!("seed {seed}, {rounds} rounds, medians");
     let clock = &clock::Clock::new(rounds);
+    let wanted = |stage: &str| asked.is_empty() || asked.iter().any(|a| a == stage);
     let r = &mut Random::new(seed);
-    numbers::times(clock, r);
-    walks::times(clock, r);
-    let years = [1023, 8192, 65536].map(|n| year::Year::new(r, n));
-    year::builds(clock, &years);
-    year::visits(clock, &years);
-    points::owners(clock, r);
-    points::snaps(clock, r);
-    year::memory(clock, &years[2]);
+    if wanted("numbers") {
+        numbers::times(clock, r);
+    }
+    if wanted("walks") {
+        walks::times(clock, r);
+    }
+    if ["builds", "visits", "memory"].into_iter().any(wanted) {
+        let years = [1023, 8192, 65536].map(|n| year::Year::new(r, n));
+        if wanted("builds") {
+            year::builds(clock, &years);
+        }
+        if wanted("visits") {
+            year::visits(clock, &years);
+        }
+        if wanted("memory") {
+            year::memory(clock, &years[2]);
+        }
+    }
+    if wanted("points") {
+        points::owners(clock, r);
+        points::snaps(clock, r);
+    }
+    if wanted("sizings") {
+        sizings::times(clock, seed);
+    }
     clock.end();
+}
+
+const STAGES: [&str; 7] = ["numbers", "walks", "builds", "visits", "memory", "points", "sizings"];
+
+fn stop() -> ! {
+    eprintln!("bench [--seed S] [--rounds R] [STAGE..], with STAGE one of {}", STAGES.join(" "));
+    std::process::exit(2)
 }

@@ -23,11 +23,14 @@ fn coordinate(r: &mut Random, low: f64, size: f64, count: u32) -> f64 {
 }
 
 pub fn owners(clock: &Clock, r: &mut Random) {
-    clock.head("Owner of a point: against a plain binary search in Rust with the same float steps. The port also checks the point and the grid, and both are called.");
+    clock.head(
+        "Owner of a point: against a plain binary search in Rust with the same float steps. The port also checks the point and the grid, and both \
+         are called.",
+    );
     for (cols, rows) in [(1001, 1001), (4004, 250)] {
-        let grid = Grid { min_x: 271.03, min_y: 29.7, cell_size: 0.0237, cols, rows };
+        let grid = Grid { min_x: 271.03, min_y: 29.7, cell_width: 0.0237, cell_height: 0.0237, cols, rows };
         let points: Vec<(f64, f64)> =
-            (0..POINTS).map(|_| (coordinate(r, grid.min_x, grid.cell_size, cols), coordinate(r, grid.min_y, grid.cell_size, rows))).collect();
+            (0..POINTS).map(|_| (coordinate(r, grid.min_x, grid.cell_width, cols), coordinate(r, grid.min_y, grid.cell_height, rows))).collect();
         // a caller hands a grid's words on as they are
         let words = grid.words();
         let mut out = [0u64; 3];
@@ -45,11 +48,11 @@ pub fn owners(clock: &Clock, r: &mut Random) {
         );
     }
     clock.head("Ownership by one cell: against the Rust's process_cell_candidate, whose intersection is laid down.");
-    let grid = Grid { min_x: 271.03, min_y: 29.7, cell_size: 0.237, cols: 64, rows: 64 };
+    let grid = Grid { min_x: 271.03, min_y: 29.7, cell_width: 0.237, cell_height: 0.237, cols: 64, rows: 64 };
     let points: Vec<(u32, u32, f64, f64)> = (0..4096)
         .map(|_| {
             let (x, y) = (r.between(0.0, 64.0), r.between(0.0, 64.0));
-            (y as u32, x as u32, grid.min_x + x * grid.cell_size, grid.min_y + y * grid.cell_size)
+            (y as u32, x as u32, grid.min_x + x * grid.cell_width, grid.min_y + y * grid.cell_height)
         })
         .collect();
     let words = grid.words();
@@ -63,7 +66,10 @@ pub fn owners(clock: &Clock, r: &mut Random) {
 }
 
 pub fn snaps(clock: &Clock, r: &mut Random) {
-    clock.head("Snap: against SnapNoder::snap, both called, both with an out slice. The port also checks the point, the size and the strategy.\n  In brackets: against a Rust that hands the point back in registers.");
+    clock.head(
+        "Snap: against SnapNoder::snap, both called, both with an out slice. The port also checks the point, the size and the strategy.\n  \
+         In brackets: against a Rust that hands the point back in registers.",
+    );
     let points: Vec<(f64, f64)> = (0..POINTS).map(|_| (r.between(-1000.0, 1000.0), r.between(-1000.0, 1000.0))).collect();
     for (name, strategy) in [("Grid", 0), ("GeosCompat", 1)] {
         let (mut of_port, mut of_rust) = ([0u64; 2], [0u64; 2]);

@@ -11,7 +11,7 @@ use std::hint::black_box;
 const BAR: Option<f64> = Some(1.0);
 
 /// A grid like a build's largest.
-const GRID: Grid = Grid { min_x: 271.03, min_y: 29.7, cell_size: 0.0237, cols: 1001, rows: 1001 };
+const GRID: Grid = Grid { min_x: 271.03, min_y: 29.7, cell_width: 0.0237, cell_height: 0.0237, cols: 1001, rows: 1001 };
 
 /// The directions, and whether x and y fall.
 const DIRECTIONS: [(&str, bool, bool); 4] = [("up right", false, false), ("down right", false, true), ("up left", true, false), ("down left", true, true)];
@@ -22,16 +22,16 @@ const LENGTHS: [(&str, f64, f64, usize); 3] =
 
 /// Lines inside the grid that span `least` to `most` columns and rows.
 fn lines(r: &mut Random, least: f64, most: f64, n: usize, left: bool, down: bool) -> Vec<Line> {
-    let mut axis = |low: f64, falls: bool| {
+    let mut axis = |low: f64, size: f64, falls: bool| {
         let span = r.between(least, most);
         let from = r.between(0.0, 1001.0 - span);
         let (a, b) = if falls { (from + span, from) } else { (from, from + span) };
-        (low + a * GRID.cell_size, low + b * GRID.cell_size)
+        (low + a * size, low + b * size)
     };
     (0..n)
         .map(|_| {
-            let (x0, x1) = axis(GRID.min_x, left);
-            let (y0, y1) = axis(GRID.min_y, down);
+            let (x0, x1) = axis(GRID.min_x, GRID.cell_width, left);
+            let (y0, y1) = axis(GRID.min_y, GRID.cell_height, down);
             [x0, y0, x1, y1]
         })
         .collect()
@@ -81,12 +81,16 @@ fn compared(clock: &Clock, r: &mut Random, walk: Walk, bar: Option<f64>) {
         let each: Vec<String> = ratios.iter().map(|(ratio, direction)| format!("{direction} {ratio:.3}")).collect();
         let worst = ratios.iter().max_by(|a, b| a.0.total_cmp(&b.0)).unwrap();
         let name = format!("{name} ({:.1})", cells as f64 / all as f64);
-        println!("  {name:<44} port {:>9.2}  Rust {:>9.2} ns a line   port/Rust {}; worst {}{}", ns(port), ns(rust), each.join(", "), worst.1, clock.held(worst.0, bar));
+        let (port, rust, each, held) = (ns(port), ns(rust), each.join(", "), clock.held(worst.0, bar));
+        println!("  {name:<44} port {port:>9.2}  Rust {rust:>9.2} ns a line   port/Rust {each}; worst {}{held}", worst.1);
     }
 }
 
 pub fn times(clock: &Clock, r: &mut Random) {
-    clock.head("Walk, as a build takes it (mt_inner_walk): the port also checks the segment and the grid, and neither side clears anything. In brackets the cells of a line on average.");
+    clock.head(
+        "Walk, as a build takes it (mt_inner_walk): the port also checks the segment and the grid, and neither side clears anything. In brackets the \
+         cells of a line on average.",
+    );
     compared(clock, r, inner::inner_walk, BAR);
     clock.head("Walk of one segment (mt_segment_cells): the port also clears 16,384 entries of scratch.");
     compared(clock, r, sys::segment_cells, None);

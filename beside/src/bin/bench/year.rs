@@ -1,4 +1,4 @@
-//! Builds and visits of data in the shape of a year's chain, and the bytes that they use.
+//! Builds and visits of data in the shape of a year's chain, on square cells, and the bytes that they use.
 
 use super::clock::Clock;
 use super::heap;
@@ -6,7 +6,7 @@ use beside::kinds::build::Columns;
 use beside::model::{Standing, SCRATCH};
 use beside::oracle::{self, Built, Lines};
 use beside::random::Random;
-use beside::{cases, port};
+use beside::{cases, port, Sizing};
 use std::hint::black_box;
 
 const BAR: Option<f64> = Some(1.0);
@@ -68,8 +68,9 @@ impl Lent {
 }
 
 fn port_build(y: &Year, lent: &mut Lent) {
-    let mut out = [0u64; 7];
-    let number = port::build(y.columns.coordinates(), &mut lent.offsets, &mut lent.items, &mut lent.globals, &mut lent.scratch, &mut out);
+    let mut out = [0u64; 8];
+    let square = Sizing::Square as u32;
+    let number = port::build(y.columns.coordinates(), square, &mut lent.offsets, &mut lent.items, &mut lent.globals, &mut lent.scratch, &mut out);
     assert_eq!(number, 0);
     black_box((&*lent, &out));
 }
@@ -153,8 +154,10 @@ fn rust_stored(y: &Year, pairs: &mut Pairs, cleared: bool) {
 
 pub fn visits(clock: &Clock, years: &[Year]) {
     clock.head(
-        "Visit: each call of the port checks lines, grid and tables, seeks its bookmark, and leaves zero beyond its pairs. The Rust makes its boxes once and checks nothing.\n  \
-         Outputs cleared on both sides: the Rust, too, stores the pairs and leaves zero beyond the last; the bar speaks of this. In brackets the same time of the port\n  \
+        "Visit: each call of the port checks lines, grid and tables, seeks its bookmark, and leaves zero beyond its pairs. The Rust makes its boxes \
+         once and checks nothing.\n  \
+         Outputs cleared on both sides: the Rust, too, stores the pairs and leaves zero beyond the last; the bar speaks of this. In brackets the same \
+         time of the port\n  \
          against a Rust that leaves what stood beyond its pairs (stored), and against one that only counts them (counted).",
     );
     for y in years {
@@ -198,14 +201,16 @@ pub fn memory(clock: &Clock, y: &Year) {
     let (building, built) = heap::peak(|| oracle::build(&y.rust_lines));
     let kept = built.bytes();
     let (boxes, _) = heap::peak(|| rust_counted(y));
-    println!("  Rust: lines {lines} ({} each, with z and an id), {building} more at the peak of the build, tables kept {kept}, boxes of the visit {boxes}", lines / y.n);
+    let each = lines / y.n;
+    println!("  Rust: lines {lines} ({each} each, with z and an id), {building} more at the peak of the build, tables kept {kept}, boxes of the visit {boxes}");
     let rust_build = lines + building;
     println!("  {:<44} port {port_build:>9}  Rust {rust_build:>9}            port/Rust {:.3}", "build", port_build as f64 / rust_build as f64);
     for room in ROOMS {
         // pairs are stored alike on both sides
         let output = 2 * word * room;
         let (port, rust) = (coordinates + tables + output, lines + kept + boxes + output);
-        println!("  {:<44} port {port:>9}  Rust {rust:>9}            port/Rust {:.3}", format!("visit, output of {room} on both sides"), port as f64 / rust as f64);
+        let name = format!("visit, output of {room} on both sides");
+        println!("  {name:<44} port {port:>9}  Rust {rust:>9}            port/Rust {:.3}", port as f64 / rust as f64);
         let (port, rust) = (port.max(port_build), rust.max(rust_build));
         let ratio = port as f64 / rust as f64;
         let bar = if room == ROOMS[0] { MEMORY_BAR } else { None };

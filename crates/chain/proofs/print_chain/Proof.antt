@@ -14,11 +14,11 @@ put-chain-requires c κs = search needs
 
 -- src/lib.rt:148:11
 sub-clear : tie.Need-sub-clear
-sub-clear c = end-within _ (c .before .before .before .before .before .before .args .out .now) _ _ (c .before .before .put-chain .ensures) (c .before .before .put-chain .kept .1 .0)
+sub-clear c = end-within _ (c .before .before .before .before .before .before .args .out .now) _ _ (c .before .before .put-chain .ensures) (c .before .before .put-chain .kept .1 .1 .0)
 
 -- src/lib.rt:148:11
 part-clear-start : tie.Need-part-clear-start
-part-clear-start c = end-within _ (c .before .before .before .before .before .before .args .out .now) _ _ (c .before .before .put-chain .ensures) (c .before .before .put-chain .kept .1 .0)
+part-clear-start c = end-within _ (c .before .before .before .before .before .before .args .out .now) _ _ (c .before .before .put-chain .ensures) (c .before .before .put-chain .kept .1 .1 .0)
 
 -- src/lib.rt:148:11
 part-clear-end : tie.Need-part-clear-end
@@ -34,7 +34,7 @@ same-length c = search needs
 
 -- src/lib.rt:144:1
 returns : tie.Need-returns
-returns c = prints _ (c .before .before .before .before .before .before .before .before .before .before .args .out .now) _ _ _ (c .before .before .before .before .before .before .put-chain .ensures) (c .before .before .before .before .before .before .put-chain .kept .1 .0) (c .before .before .clear .ensures)
+returns c = prints _ (c .before .before .before .before .before .before .before .before .before .before .args .out .now) _ _ _ (c .before .before .before .before .before .before .put-chain .ensures) (c .before .before .before .before .before .before .put-chain .kept .1 .1 .0) (c .before .before .clear .ensures)
 
 pub print-chain-spec : {M : Type 1} → statement M
 print-chain-spec =

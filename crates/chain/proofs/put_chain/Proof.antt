@@ -57,7 +57,7 @@ same-length c = search needs
 -- src/lib.rt:121:1
 returns : tie.Need-returns
 returns c =
-    puts-text (refused-read _ _ _ _ _ (length-replicate 1024 nought) (length-replicate 1024 nought) _ (rw (c .before .before .before .before .before .read .given .1) at (c .before .before .before .before .before .before .before .before .before .read-line-string .ensures))) (c .before .before .refused-line .ensures)
+    puts-text (refused-read _ _ _ _ _ (length-replicate 1024 nought) (length-replicate 1024 nought) _ (rw (c .before .before .before .before .before .read .given .1) at (c .before .before .before .before .before .before .before .before .before .read-line-string .ensures)) _) (c .before .before .refused-line .ensures)
 
 -- src/lib.rt:121:1
 same-length-2 : tie.Need-same-length-2
@@ -66,7 +66,7 @@ same-length-2 c = search needs
 -- src/lib.rt:121:1
 returns-2 : tie.Need-returns-2
 returns-2 c =
-    puts-text (points-read _ _ _ _ _ (length-replicate 1024 nought) (length-replicate 1024 nought) _ (rw (c .before .before .before .before .before .before .before .read2 .given .1) at (c .before .before .before .before .before .before .before .before .before .before .before .read-line-string .ensures)) .text) (c .before .before .put-points .ensures)
+    puts-text (points-read _ _ _ _ _ (length-replicate 1024 nought) (length-replicate 1024 nought) _ (rw (c .before .before .before .before .before .before .before .read2 .given .1) at (c .before .before .before .before .before .before .before .before .before .before .before .read-line-string .ensures)) .text _) (c .before .before .put-points .ensures)
 
 pub put-chain-spec : {M : Type 1} → statement M
 put-chain-spec =

@@ -68,7 +68,7 @@ same-length c = search needs
 returns : tie.Need-returns
 returns c =
     puts-text
-    (lines-refused _ (length-replicate {A = ℕ} 4096 0) (length-replicate {A = ℕ} 4096 0) (length-replicate {A = ℕ} 64 0) (length-replicate {A = ℕ} 16384 0) (c .before .before .before .before .before .before .before .before .before .before .before .build .ensures) (c .before .before .before .before .before .built .given .1))
+    (lines-refused _ _ (length-replicate {A = ℕ} 4096 0) (length-replicate {A = ℕ} 4096 0) (length-replicate {A = ℕ} 64 0) (length-replicate {A = ℕ} 16384 0) (c .before .before .before .before .before .before .before .before .before .before .before .build .ensures) (c .before .before .before .before .before .built .given .1))
     (c .before .before .refused-line .ensures)
 
 -- src/lib.rt:70:1
@@ -79,7 +79,7 @@ same-length-2 c = search needs
 returns-2 : tie.Need-returns-2
 returns-2 c =
     puts-text
-    (lines-made _ (length-replicate {A = ℕ} 4096 0) (length-replicate {A = ℕ} 4096 0) (length-replicate {A = ℕ} 64 0) (length-replicate {A = ℕ} 16384 0) (c .before .before .before .before .before .before .before .before .before .before .before .before .before .before .build .ensures) (c .before .before .before .before .before .before .before .before .built2 .given .1))
+    (lines-made _ _ (length-replicate {A = ℕ} 4096 0) (length-replicate {A = ℕ} 4096 0) (length-replicate {A = ℕ} 64 0) (length-replicate {A = ℕ} 16384 0) (c .before .before .before .before .before .before .before .before .before .before .before .before .before .before .build .ensures) (c .before .before .before .before .before .before .before .before .built2 .given .1))
     (c .before .before .put-tables .ensures)
 
 pub put-lines-spec : {M : Type 1} → statement M

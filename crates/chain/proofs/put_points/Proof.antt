@@ -60,7 +60,7 @@ same-length c = search needs
 returns : tie.Need-returns
 returns c =
     let s = c .before .before .before .before .before .before .before .before .before .before .before in
-    puts-text (ap printedLines (chain-parts (s .args .n) (s .args .x .now) (s .args .y .now) (s .pre .0) (s .pre .1) (s .pre .2))) (c .before .before .put-lines .ensures)
+    puts-text (ap (printedLines (s .args .plan)) (chain-parts (s .args .n) (s .args .x .now) (s .args .y .now) (s .pre .0) (s .pre .1) (s .pre .2))) (c .before .before .put-lines .ensures)
 
 pub put-points-spec : {M : Type 1} → statement M
 put-points-spec =

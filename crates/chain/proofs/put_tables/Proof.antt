@@ -2,7 +2,7 @@
 use mathlib.Core.Path.{refl}
 use Rattle.report.proofs.Putting.{puts-text}
 use Rattle.chain.proofs.Answers.{tables-refused, tables-counted}
-use Rattle.chain.proofs.Standing.{number-of, shown}
+use Rattle.chain.proofs.Standing.{shown}
 use borrow.Author.Needs.{needs}
 use Rattle.chain.proofs.put_tables.Statement.{statement}
 use Rattle.chain.proofs.put_tables.Tie as tie
@@ -32,7 +32,7 @@ enum-known-visited-2 c = search needs
 put-report-requires : tie.Need-put-report-requires
 put-report-requires c κs =
     let s = tables-counted _ _ _ 0 (c .before .before .before .before .visit .ensures) (c .before .before .visited2 .given .1) in
-    (shown _ _ _ (s .fine) refl refl, number-of _ _ _ (s .fine))
+    shown _ _ _ (s .fine) refl refl
 
 -- src/lib.rt:25:1
 same-length : tie.Need-same-length

@@ -10,8 +10,9 @@ unfolding gridLine
 returns c =
     puts-line (c .before .before .before .before .before .before .before .before .before .before .before .before .before .before .before .before .before .before .before .before .before .before .put-all .ensures)
     (puts-then (c .before .before .before .before .before .before .before .before .before .before .before .before .before .before .before .before .before .before .put-two .ensures)
-    (puts-then (puts-then (c .before .before .before .before .before .before .before .before .before .before .before .before .before .before .put .ensures) (c .before .before .before .before .before .before .before .before .before .before .put-hex .ensures)) (c .before .before .before .before .before .before .put-two2 .ensures)))
-    (c .before .before .put2 .ensures)
+    (puts-then (c .before .before .before .before .before .before .before .before .before .before .before .before .before .before .put-pattern .ensures)
+    (puts-then (c .before .before .before .before .before .before .before .before .before .before .put-pattern2 .ensures) (c .before .before .before .before .before .before .put-two2 .ensures))))
+    (c .before .before .put .ensures)
 
 pub grid-line-spec : {M : Type 1} → statement M
 grid-line-spec = tie.close (tie.spec (λ c. search needs) (λ c κs. tt) (λ c κs. tt) (λ c κs. tt) (λ c κs. tt) (λ c κs. tt) (λ c κs. tt) (λ c. search needs) returns)

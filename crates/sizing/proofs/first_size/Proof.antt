@@ -1,40 +1,27 @@
 -- `sizing::first_size` meets its contract. Assumes nothing.
+use Rattle.sizing.proofs.Steps.{size-square, size-axes}
 use borrow.Author.Needs.{needs}
-use Rattle.sizing.proofs.Steps.{size-made}
 use Rattle.sizing.proofs.first_size.Statement.{statement}
 use Rattle.sizing.proofs.first_size.Tie as tie
 
-nearest-u64-to-f64-requires : tie.Need-nearest-u64-to-f64-requires
-nearest-u64-to-f64-requires c κs = search needs
-
-area-of-requires : tie.Need-area-of-requires
-area-of-requires c κs = search needs
-
-square-root-requires : tie.Need-square-root-requires
-square-root-requires c κs = search needs
-
-greatest-requires : tie.Need-greatest-requires
-greatest-requires c κs = search needs
-
-greatest-requires-2 : tie.Need-greatest-requires-2
-greatest-requires-2 c κs = search needs
-
-greatest-requires-3 : tie.Need-greatest-requires-3
-greatest-requires-3 c κs = search needs
-
 returns : tie.Need-returns
-returns c =
-    size-made _ _ (c .before .before .before .before .before .nearest-u64-to-f64 .ensures) (c .before .before .before .before .area-of .ensures) (c .before .before .before .square-root .ensures)
-    (c .before .before .greatest .ensures) (c .before .greatest2 .ensures) (c .greatest3 .ensures)
+returns c = size-square _ _ _ (c .before .enum-told .given .1) (c .square-side .ensures)
+
+returns-2 : tie.Need-returns-2
+returns-2 c =
+    size-axes _ _ _ (c .before .before .before .before .enum-told2 .given .1) (c .before .before .before .nearest-u64-to-f64 .ensures)
+    (c .before .before .square-root .ensures) (c .before .side-on .ensures) (c .side-on2 .ensures)
 
 pub first-size-spec : {M : Type 1} → statement M
 first-size-spec =
     tie.close
     (tie.spec
-    nearest-u64-to-f64-requires
-    area-of-requires
-    square-root-requires
-    greatest-requires
-    greatest-requires-2
-    greatest-requires-3
-    returns)
+    (λ c. search needs)
+    (λ c κs. search needs)
+    (λ c. search needs)
+    (λ c κs. search needs)
+    (λ c κs. search needs)
+    (λ c κs. search needs)
+    (λ c κs. search needs)
+    returns
+    returns-2)

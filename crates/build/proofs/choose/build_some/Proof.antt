@@ -3,20 +3,20 @@ use native.Mathlib.Omega.{arith}
 use borrow.Author.Needs.{needs}
 use mathlib.Core.Path.{_∙_}
 use Rattle.grid.specs.Domain.{lines}
-use Rattle.build.proofs.Choices.{Choosing, choosing-first, choosing-asks, choosing-next, choosing-done}
+use Rattle.build.proofs.Choices.{Choosing, end-first, choosing-first, choosing-asks, choosing-next, choosing-done}
 use Rattle.build.proofs.choose.build_some.Statement.{statement}
 use Rattle.build.proofs.choose.build_some.Tie as tie
 
 abbrev Inv-loop : tie.InvT-loop
 Inv-loop start-x start-y end-x end-y offsets₀ items₀ globals₀ scratch₀ extent size₀ left₀ offsets items globals scratch size left =
-    Choosing (lines start-x start-y end-x end-y) offsets₀ items₀ globals₀ scratch₀ extent offsets items globals scratch size left
+    Choosing (lines start-x start-y end-x end-y) offsets₀ items₀ globals₀ scratch₀ extent size₀ offsets items globals scratch size left
 
 abbrev μ-loop : tie.MeasureT-loop
 μ-loop start-x start-y end-x end-y offsets₀ items₀ globals₀ scratch₀ extent size₀ left₀ offsets items globals scratch size left =
     left
 
 loop-holds : tie.Need-loop-holds Inv-loop μ-loop
-loop-holds c = choosing-first (c .before .before .before .before .before .before .before .before .before .before .pre) (c .before .serial-bounds .ensures) (c .first-size .ensures)
+loop-holds c = choosing-first _ (c .before .before .before .before .before .before .before .before .before .before .pre) (c .before .serial-bounds .ensures) (c .first-size .ensures)
 
 attempt-size-requires : tie.Need-attempt-size-requires Inv-loop μ-loop
 attempt-size-requires c κs = choosing-asks (c .before .before .before .before .loop .inv)
@@ -34,7 +34,10 @@ same-length-4 : tie.Need-same-length-4 Inv-loop μ-loop
 same-length-4 c = c .before .before .before .before .before .before .before .before .before .before .before .attempt-size .kept .1 .1 .1 .1 .1 .1 .1 .1 .1 .1 .0 ∙ c .before .before .before .before .before .before .before .before .before .before .before .before .before .before .before .before .loop .inv .len-scratch
 
 returns : tie.Need-returns Inv-loop μ-loop
-returns c = choosing-done (c .before .before .before .before .before .before .before .before .before .before .before .before .before .before .before .before .loop .inv) (rw (c .before .tried .given .1) at (c .before .before .before .before .before .before .before .before .before .before .before .attempt-size .ensures))
+returns c =
+    let s = c .before .before .before .before .before .before .before .before .before .before .before .before .before .before .before .before in
+    choosing-done (s .loop .inv) (rw (c .before .tried .given .1) at (c .before .before .before .before .before .before .before .before .before .before .before .attempt-size .ensures))
+    (end-first _ _ _ _ _ _ (s .before .before .before .before .before .before .before .before .before .before .before .pre) (s .before .before .serial-bounds .ensures) (s .before .first-size .ensures))
 
 sub-left : tie.Need-sub-left Inv-loop μ-loop
 sub-left c = let h = rw (c .before .enum-told .given .1) at (c .before .before .before .before .before .before .before .before .before .before .before .attempt-size .ensures) in omega (arith, h .some)

@@ -1,9 +1,10 @@
--- `capi::building::mt_build` meets its contract: an `out` that is short, or what the entry answers and leaves. Assumes nothing.
-use mathlib.Core.Path.{refl, ap}
+-- `capi::building::mt_build` meets its contract: an `out` that is short, a number that names no sizing, or what the entry answers and leaves.
+-- Assumes nothing.
+use mathlib.Core.Path.{refl, ap, _∙_}
 use native.Mathlib.Omega.{arith}
-use Rattle.build.specs.Build.{BuildIs}
 use Rattle.replies.specs.Answers.{ofBuilt}
 use Rattle.replies.proofs.Handing.{short-replies, replied}
+use Rattle.capi.proofs.Handing.{known-answer, unknown-replies}
 use borrow.Author.Needs.{needs}
 use Rattle.capi.proofs.building.mt_build.Statement.{statement}
 use Rattle.capi.proofs.building.mt_build.Tie as tie
@@ -11,16 +12,34 @@ use Rattle.capi.proofs.building.mt_build.Tie as tie
 returns : tie.Need-returns
 returns c =
     let s = c .if1 .taken in
-    record { replies = short-replies 7 _ _ s; called = λ h. absurd (omega (arith, h)); short = λ h. (refl, refl, refl, refl) }
+    record {
+      replies = short-replies 8 _ _ s;
+      called = λ h k. absurd (omega (arith, h));
+      short = λ h. (refl, refl, refl, refl);
+      unknown = λ h. (refl, refl, refl, refl);
+    }
 
 returns-2 : tie.Need-returns-2
 returns-2 c =
-    let h = c .before .before .before .before .before .before .before .before .before .before .before .before .before .before .before .before .before .if1 .left in
-    let e = c .before .before .before .before .before .before .before .before .before .before .before .before .build .ensures in
+    let s = c .if2 .taken in
     record {
-      replies = replied 7 (ap ofBuilt (e .answer)) (c .before .before .built .ensures);
-      called = λ _. record { answer = refl; «cell_offsets» = e .«cell_offsets»; «cell_items» = e .«cell_items»; «global_lines» = e .«global_lines»; scratch-is = e .scratch-is };
-      short = λ s. absurd (omega (arith, s));
+      replies = unknown-replies 8 _ _ _ (c .before .if1 .left) s;
+      called = λ h k. absurd (omega (arith, k));
+      short = λ h. (refl, refl, refl, refl);
+      unknown = λ h. (refl, refl, refl, refl);
+    }
+
+returns-3 : tie.Need-returns-3
+returns-3 c =
+    let s = c .before .before .before .before .before .before .before .before .before .before .before .before .before .before .before .before .before .before in
+    let h = s .before .if1 .left in
+    let k = s .if2 .left in
+    let e = rw (c .before .before .before .before .before .before .before .before .before .before .before .before .before .before .before .before .before .plan-by .ensures) at (c .before .before .before .before .before .before .before .before .before .before .before .before .build .ensures) in
+    record {
+      replies = replied 8 (ap ofBuilt (e .answer) ∙ known-answer _ _ k) (c .before .before .built .ensures);
+      called = λ _ _. record { answer = refl; «cell_offsets» = e .«cell_offsets»; «cell_items» = e .«cell_items»; «global_lines» = e .«global_lines»; scratch-is = e .scratch-is };
+      short = λ l. absurd (omega (arith, l));
+      unknown = λ l. absurd (omega (arith, l));
     }
 
 pub mt-build-spec : {M : Type 1} → statement M
@@ -28,6 +47,8 @@ mt-build-spec =
     tie.close
     (tie.spec
     returns
+    returns-2
+    (λ c κs. tt)
     (λ c κs. search needs)
     (λ c κs. search needs)
     (λ c. search needs)
@@ -35,4 +56,4 @@ mt-build-spec =
     (λ c. search needs)
     (λ c. search needs)
     (λ c. search needs)
-    returns-2)
+    returns-3)

@@ -7,25 +7,25 @@ use Rattle.chain.specs.Printed.{reportOf}
 use Rattle.chain.proofs.show.put_report.Statement.{statement}
 use Rattle.chain.proofs.show.put_report.Tie as tie
 
-float-to-bits-bits : tie.Need-float-to-bits-bits
-float-to-bits-bits c = rw (c .before .before .before .before .before .pre .1) tt
-
 slice-aggregate-global-line : tie.Need-slice-aggregate-global-line
-slice-aggregate-global-line c = sym (length-take-le _ _ (c .before .before .before .before .before .before .before .before .before .before .before .before .before .before .pre .0 .counted))
+slice-aggregate-global-line c = sym (length-take-le _ _ (c .before .before .before .before .before .before .before .before .before .before .before .before .before .before .before .pre .counted))
 
 returns : tie.Need-returns
 unfolding reportOf
 returns c =
-    puts-then (c .before .before .before .before .before .before .before .before .before .before .before .before .before .before .before .grid-line .ensures)
-    (puts-then (c .before .before .before .before .before .before .before .before .before .before .before .put-cells .ensures) (puts-then (c .before .before .before .before .before .before .global-line .ensures) (c .before .before .visit-line .ensures)))
+    let s = c .before .before .before .before .before .before .before .before .before .before .before .before .before .before .before in
+    rw (← s .before .before .before .to-bits .ensures, ← s .before .before .to-bits2 .ensures)
+    (puts-then (s .grid-line .ensures)
+    (puts-then (c .before .before .before .before .before .before .before .before .before .before .before .put-cells .ensures) (puts-then (c .before .before .before .before .before .before .global-line .ensures) (c .before .before .visit-line .ensures))))
 
 pub put-report-spec : {M : Type 1} → statement M
 put-report-spec =
     tie.close
     (tie.spec
-    float-to-bits-bits
     (λ c κs. tt)
-    (λ c κs. c .before .before .before .before .before .before .before .before .before .before .pre .0)
+    (λ c κs. tt)
+    (λ c κs. tt)
+    (λ c κs. c .before .before .before .before .before .before .before .before .before .before .before .pre)
     slice-aggregate-global-line
     (λ c κs. tt)
     (λ c κs. tt)

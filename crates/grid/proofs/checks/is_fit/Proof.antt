@@ -7,19 +7,21 @@ use Rattle.grid.proofs.checks.is_fit.Tie as tie
 is-point-requires : tie.Need-is-point-requires
 is-point-requires c κs = search needs
 
-is-cell-size-requires : tie.Need-is-cell-size-requires
-is-cell-size-requires c κs = search needs
+are-cell-sizes-requires : tie.Need-are-cell-sizes-requires
+are-cell-sizes-requires c κs = search needs
 
 is-shape-requires : tie.Need-is-shape-requires
 is-shape-requires c κs = search needs
 
 returns : tie.Need-returns
 unfolding fit
-returns c = rw (← c .before .before .before .before .is-point .ensures, c .before .before .before .if1 .taken, ← c .before .before .is-cell-size .ensures, c .before .if2 .taken) (c .is-shape .ensures)
+returns c =
+    let p = c .before .before .before .before .is-point .ensures in
+    rw (← p, c .before .before .before .if1 .taken, ← c .before .before .are-cell-sizes .ensures, c .before .if2 .taken) (c .is-shape .ensures)
 
 returns-2 : tie.Need-returns-2
 unfolding fit
-returns-2 c = rw (← c .before .before .before .is-point .ensures, c .before .before .if1 .taken, ← c .before .is-cell-size .ensures, c .if2 .left)
+returns-2 c = rw (← c .before .before .before .is-point .ensures, c .before .before .if1 .taken, ← c .before .are-cell-sizes .ensures, c .if2 .left)
 
 returns-3 : tie.Need-returns-3
 unfolding fit
@@ -30,7 +32,7 @@ is-fit-spec =
     tie.close
     (tie.spec
     is-point-requires
-    is-cell-size-requires
+    are-cell-sizes-requires
     is-shape-requires
     returns
     returns-2

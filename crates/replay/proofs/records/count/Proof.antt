@@ -58,7 +58,7 @@ count-spec =
     (λ c. omega arith)
     (λ c. omega arith)
     (λ c.
-      let e = c .before .before .before .size-at .ensures in
-      let o = c .one-if .ensures in
-      more (c .before .before .before .before .before .loop .inv) (e .0) (e .1) (c .before .before .if1 .left) (o .0) (o .1))
+    let e = c .before .before .before .size-at .ensures in
+    let o = c .one-if .ensures in
+    more (c .before .before .before .before .before .loop .inv) (e .0) (e .1) (c .before .before .if1 .left) (o .0) (o .1))
     (λ c. ended (c .before .loop .inv) (short-at (c .before .loop .at) (c .before .before .before .args .w .now) (omega arith))))

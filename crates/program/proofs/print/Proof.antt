@@ -1,12 +1,12 @@
--- `chain_grid::print` is safe and ends. Assumes nothing.
+-- `program::print` is safe and ends. Assumes nothing.
 use native.Mathlib.Omega.{arith}
 use lib.ListN.{length-take}
 use Rattle.chain.proofs.Answers.{prints-within}
 use borrow.Author.Needs.{needs}
-use Rattle.chain_grid.proofs.print.Statement.{statement}
-use Rattle.chain_grid.proofs.print.Tie as tie
-use Rattle.chain_grid.proofs.print.Reads as reads
-use Rattle.chain_grid.proofs.print.Lts as lts
+use Rattle.program.proofs.print.Statement.{statement}
+use Rattle.program.proofs.print.Tie as tie
+use Rattle.program.proofs.print.Reads as reads
+use Rattle.program.proofs.print.Lts as lts
 use Rattle.chain.proofs.print_chain.Reads as print-chain-reads
 use Rattle.io.proofs.write_all.Reads as write-all-reads
 
@@ -22,7 +22,7 @@ print-chain-requires c κs = search needs
 array-share-prefix-out : tie.Need-array-share-prefix-out
 array-share-prefix-out c =
     let e = prints-within (c .before .print-chain .ensures) in
-    let l = length-take (c .before .print-chain .result) (c .before .print-chain .last .1 .0) in
+    let l = length-take (c .before .print-chain .result) (c .before .print-chain .last .1 .1 .0) in
     omega arith
 
 -- src/main.rt:37:38

@@ -1,11 +1,11 @@
--- `chain_grid::main` is safe and ends. Assumes nothing.
+-- `program::run` is safe and ends. Assumes nothing.
 use borrow.Author.Needs.{needs}
-use Rattle.chain_grid.proofs.main.Statement.{statement}
-use Rattle.chain_grid.proofs.main.Tie as tie
-use Rattle.chain_grid.proofs.main.Reads as reads
-use Rattle.chain_grid.proofs.main.Lts as lts
-use Rattle.chain_grid.proofs.print.Reads as print-reads
-use Rattle.chain_grid.proofs.read_input.Reads as read-input-reads
+use Rattle.program.proofs.run.Statement.{statement}
+use Rattle.program.proofs.run.Tie as tie
+use Rattle.program.proofs.run.Reads as reads
+use Rattle.program.proofs.run.Lts as lts
+use Rattle.program.proofs.print.Reads as print-reads
+use Rattle.program.proofs.read_input.Reads as read-input-reads
 use Rattle.io.proofs.write_all.Reads as write-all-reads
 
 -- src/main.rt:46:42
@@ -52,8 +52,8 @@ returns c = search needs
 returns-2 : tie.Need-returns-2
 returns-2 c = search needs
 
-pub main-spec : {M : Type 1} → statement M
-main-spec =
+pub run-spec : {M : Type 1} → statement M
+run-spec =
     tie.close
     (tie.spec
     slice-aggregate-read-input

@@ -1,0 +1,23 @@
+-- `grid::checks::are_cell_sizes` meets its contract. Assumes nothing.
+use Rattle.grid.specs.Domain.{sizesFit}
+use borrow.Author.Needs.{needs}
+use Rattle.grid.proofs.checks.are_cell_sizes.Statement.{statement}
+use Rattle.grid.proofs.checks.are_cell_sizes.Tie as tie
+
+is-cell-size-requires : tie.Need-is-cell-size-requires
+is-cell-size-requires c κs = search needs
+
+is-cell-size-requires-2 : tie.Need-is-cell-size-requires-2
+is-cell-size-requires-2 c κs = search needs
+
+returns : tie.Need-returns
+unfolding sizesFit
+returns c = rw (← c .before .before .is-cell-size .ensures, c .before .if1 .taken) (c .is-cell-size2 .ensures)
+
+returns-2 : tie.Need-returns-2
+unfolding sizesFit
+returns-2 c = rw (← c .before .is-cell-size .ensures, c .if1 .left)
+
+pub are-cell-sizes-spec : {M : Type 1} → statement M
+are-cell-sizes-spec =
+    tie.close (tie.spec is-cell-size-requires is-cell-size-requires-2 returns returns-2)

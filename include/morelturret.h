@@ -30,11 +30,17 @@
 #include <stddef.h>
 #include <stdint.h>
 
+/* The version, as text and in numbers. CHANGELOG.md has what each brought; "-dev" stands where it is not released yet. */
+#define MT_VERSION "0.2.0-dev"
+#define MT_VERSION_MAJOR 0
+#define MT_VERSION_MINOR 2
+#define MT_VERSION_PATCH 0
+
 #ifdef __cplusplus
 extern "C" {
 #endif
 
-/* What is returned, and the value that is then in out[0]. */
+/* What is returned, and the value that is then in out[0]. README.md, "Refusals", has the same as a table, with what to do about each. */
 enum {
     MT_OK = 0,
     MT_BAD_COORDINATE = 1,  /* a coordinate is not finite or above 1e9 in magnitude: the first such line (0 for a point or one segment) */

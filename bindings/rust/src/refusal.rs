@@ -5,20 +5,7 @@ use std::fmt;
 
 /// A call that was refused: by which number, and the value that goes with it.
 ///
-/// | number | given exactly when | value |
-/// |---|---|---|
-/// | 1 | a coordinate is not finite, or above 1e9 in magnitude | the first such line (0 for a point or one segment) |
-/// | 2 | more than 65,536 lines | the number of lines |
-/// | 3 | slices that belong together differ in length, or one is too short | 0 |
-/// | 4 | a grid tried has more cells + 1 than the lent offsets | that cells + 1 |
-/// | 5 | items lent are fewer than the total | the total |
-/// | 6 | globals lent are fewer than found | the number found |
-/// | 7 | a walk made 5,000 turns and would make another | the line (0 for one segment) |
-/// | 8 | the grid is unfit | 0 |
-/// | 9 | a cell, global position or bookmark is beyond its end | the cell's row, the position or the bookmark |
-/// | 10 | the tables do not fit | 0 |
-/// | 11 | the bytes are no LineString that the reader takes | the byte position |
-/// | 12 | snap size or strategy unfit | 0 |
+/// The constants below say when each number is given, and what its value is. README.md, "Refusals", has them in one table, with what to do.
 ///
 /// ```
 /// use morelturret::{snap, Refusal, Strategy};

@@ -151,7 +151,8 @@ pub(crate) fn build_none(
         let t = now (items .entry) in
         let gs = now (globals .entry) in
         let s = now (scratch .entry) in
-        ⌜ ((plan : Plan) → BuildIs ls o t gs s r (now (offsets .exit)) (now (items .exit)) (now (globals .exit)) (now (scratch .exit)) (endOf plan ls (length o) (length t) (length gs) (length s))) ⌝ }
+        ⌜ ((plan : Plan) → let e = endOf plan ls (length o) (length t) (length gs) (length s) in
+        BuildIs ls o t gs s r (now (offsets .exit)) (now (items .exit)) (now (globals .exit)) (now (scratch .exit)) e) ⌝ }
 {
     let grid = sizing::empty_grid();
     let filled = fill::fill_on(

@@ -35,7 +35,9 @@ fn put_tables(
     global_count: usize,
     out: &mut [u8],
 ) -> usize
-    ensures { λ r. ⌜ Puts (printedTables (lines (now («start_x» .entry)) (now («start_y» .entry)) (now («end_x» .entry)) (now («end_y» .entry))) grid (beside (lines (now («start_x» .entry)) (now («start_y» .entry)) (now («end_x» .entry)) (now («end_y» .entry))) grid (now (offsets .entry)) (now (items .entry)) (now (globals .entry)) «global_count») «item_count») (page (now (out .entry)) 0) (page (now (out .exit)) r) ⌝ }
+    ensures { λ r. let ls = lines (now («start_x» .entry)) (now («start_y» .entry)) (now («end_x» .entry)) (now («end_y» .entry)) in
+        let t = beside ls grid (now (offsets .entry)) (now (items .entry)) (now (globals .entry)) «global_count» in
+        ⌜ Puts (printedTables ls grid t «item_count») (page (now (out .entry)) 0) (page (now (out .exit)) r) ⌝ }
 {
     let visited = whole::visit(
         start_x,
@@ -75,7 +77,8 @@ fn put_lines(
     plan: Plan,
     out: &mut [u8],
 ) -> usize
-    ensures { λ r. ⌜ Puts (printedLines plan (lines (now («start_x» .entry)) (now («start_y» .entry)) (now («end_x» .entry)) (now («end_y» .entry)))) (page (now (out .entry)) 0) (page (now (out .exit)) r) ⌝ }
+    ensures { λ r. let ls = lines (now («start_x» .entry)) (now («start_y» .entry)) (now («end_x» .entry)) (now («end_y» .entry)) in
+        ⌜ Puts (printedLines plan ls) (page (now (out .entry)) 0) (page (now (out .exit)) r) ⌝ }
 {
     let mut offsets = [0u32; 4096];
     let mut items = [0u32; 4096];

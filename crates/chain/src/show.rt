@@ -29,7 +29,8 @@ fn put_cell(
     at: usize,
 ) -> usize
     requires { ⌜ CellAsks (tables grid lines (now offsets) (now items) (now globals) «global_count») cell ⌝ }
-    ensures { λ r. ⌜ Puts (cellLine (cell / grid .cols) (cell % grid .cols) (listOf (tables grid lines (now (offsets .entry)) (now (items .entry)) (now (globals .entry)) «global_count») cell)) (page (now (out .entry)) at) (page (now (out .exit)) r) ⌝ }
+    ensures { λ r. let t = tables grid lines (now (offsets .entry)) (now (items .entry)) (now (globals .entry)) «global_count» in
+        ⌜ Puts (cellLine (cell / grid .cols) (cell % grid .cols) (listOf t cell)) (page (now (out .entry)) at) (page (now (out .exit)) r) ⌝ }
 {
     let c = wide(cell);
     let from = wide(offsets[c]);
@@ -55,7 +56,8 @@ fn put_cells(
     at: usize,
 ) -> usize
     requires { ⌜ TablesAsk (tables grid lines (now offsets) (now items) (now globals) «global_count») ⌝ }
-    ensures { λ r. ⌜ Puts (cellLines (tables grid lines (now (offsets .entry)) (now (items .entry)) (now (globals .entry)) «global_count») (cells (tables grid lines (now (offsets .entry)) (now (items .entry)) (now (globals .entry)) «global_count»))) (page (now (out .entry)) at) (page (now (out .exit)) r) ⌝ }
+    ensures { λ r. let t = tables grid lines (now (offsets .entry)) (now (items .entry)) (now (globals .entry)) «global_count» in
+        ⌜ Puts (cellLines t (cells t)) (page (now (out .entry)) at) (page (now (out .exit)) r) ⌝ }
 {
     let cells = grid.rows * grid.cols;
     let mut at = at;
@@ -92,7 +94,8 @@ pub(crate) fn put_report(
     at: usize,
 ) -> usize
     requires { ⌜ TablesAsk (tables grid lines (now offsets) (now items) (now globals) «global_count») ⌝ }
-    ensures { λ r. ⌜ Puts (reportOf grid (tables grid lines (now (offsets .entry)) (now (items .entry)) (now (globals .entry)) «global_count») «item_count» tests overlaps) (page (now (out .entry)) at) (page (now (out .exit)) r) ⌝ }
+    ensures { λ r. let t = tables grid lines (now (offsets .entry)) (now (items .entry)) (now (globals .entry)) «global_count» in
+        ⌜ Puts (reportOf grid t «item_count» tests overlaps) (page (now (out .entry)) at) (page (now (out .exit)) r) ⌝ }
 {
     let at = report::grid_line(
         grid.cols,

@@ -20,7 +20,9 @@ fn batch_from(
     global_count: usize,
     bookmark: u64,
 ) -> BatchAnswer
-    ensures { λ r. ⌜ r ≡ batchFrom (lines (now («start_x» .entry)) (now («start_y» .entry)) (now («end_x» .entry)) (now («end_y» .entry))) grid (beside (lines (now («start_x» .entry)) (now («start_y» .entry)) (now («end_x» .entry)) (now («end_y» .entry))) grid (now (offsets .entry)) (now (items .entry)) (now (globals .entry)) «global_count») bookmark ⌝ }
+    ensures { λ r. let ls = lines (now («start_x» .entry)) (now («start_y» .entry)) (now («end_x» .entry)) (now («end_y» .entry)) in
+        let t = beside ls grid (now (offsets .entry)) (now (items .entry)) (now (globals .entry)) «global_count» in
+        ⌜ r ≡ batchFrom ls grid t bookmark ⌝ }
 {
     let mut first = [0u32; 1024];
     let mut second = [0u32; 1024];
@@ -52,7 +54,9 @@ pub(crate) fn visit(
     globals: &[u32],
     global_count: usize,
 ) -> Visited
-    ensures { λ r. ⌜ r ≡ fullVisit (lines (now («start_x» .entry)) (now («start_y» .entry)) (now («end_x» .entry)) (now («end_y» .entry))) grid (beside (lines (now («start_x» .entry)) (now («start_y» .entry)) (now («end_x» .entry)) (now («end_y» .entry))) grid (now (offsets .entry)) (now (items .entry)) (now (globals .entry)) «global_count») ⌝ }
+    ensures { λ r. let ls = lines (now («start_x» .entry)) (now («start_y» .entry)) (now («end_x» .entry)) (now («end_y» .entry)) in
+        let t = beside ls grid (now (offsets .entry)) (now (items .entry)) (now (globals .entry)) «global_count» in
+        ⌜ r ≡ fullVisit ls grid t ⌝ }
 {
     let mut tests = 0;
     let mut overlaps = 0;

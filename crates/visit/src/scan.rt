@@ -111,7 +111,8 @@ fn test_in(
     end_y: &[f64],
 ) -> Step
     requires { ⌜ TestInAsks (lines (now «start_x») (now «start_y») (now «end_x») (now «end_y»)) row (now list) ⌝ }
-    ensures { λ r. ⌜ r ≡ nextStep (lines (now («start_x» .entry)) (now («start_y» .entry)) (now («end_x» .entry)) (now («end_y» .entry))) (withEach (row .place) (row .first) (drop j (now (list .entry)))) ⌝ }
+    ensures { λ r. let ls = lines (now («start_x» .entry)) (now («start_y» .entry)) (now («end_x» .entry)) (now («end_y» .entry)) in
+        ⌜ r ≡ nextStep ls (withEach (row .place) (row .first) (drop j (now (list .entry)))) ⌝ }
 {
     if list.len() <= j {
         return Step::End;
@@ -130,7 +131,8 @@ fn test_before(
     end_y: &[f64],
 ) -> Step
     requires { ⌜ TestBeforeAsks (lines (now «start_x») (now «start_y») (now «end_x») (now «end_y»)) row stop ⌝ }
-    ensures { λ r. ⌜ r ≡ nextStep (lines (now («start_x» .entry)) (now («start_y» .entry)) (now («end_x» .entry)) (now («end_y» .entry))) (withEach (row .place) (row .first) (numbers (stop - k) k)) ⌝ }
+    ensures { λ r. let ls = lines (now («start_x» .entry)) (now («start_y» .entry)) (now («end_x» .entry)) (now («end_y» .entry)) in
+        ⌜ r ≡ nextStep ls (withEach (row .place) (row .first) (numbers (stop - k) k)) ⌝ }
 {
     if stop <= k {
         return Step::End;
@@ -152,7 +154,8 @@ fn scan_list(
     hits: usize,
 ) -> ListEnd
     requires { ⌜ ListAsks (lines (now «start_x») (now «start_y») (now «end_x») (now «end_y»)) row (now list) j (now first) (now second) hits ⌝ }
-    ensures { λ r. ⌜ InList (lines (now («start_x» .entry)) (now («start_y» .entry)) (now («end_x» .entry)) (now («end_y» .entry))) row (now (list .entry)) j (now (first .entry)) (now (second .entry)) hits (now (first .exit)) (now (second .exit)) r ⌝ }
+    ensures { λ r. let ls = lines (now («start_x» .entry)) (now («start_y» .entry)) (now («end_x» .entry)) (now («end_y» .entry)) in
+        ⌜ InList ls row (now (list .entry)) j (now (first .entry)) (now (second .entry)) hits (now (first .exit)) (now (second .exit)) r ⌝ }
 {
     let mut j = j;
     let mut hits = hits;
@@ -184,7 +187,8 @@ fn scan_lines(
     hits: usize,
 ) -> LinesEnd
     requires { ⌜ LinesAsk (lines (now «start_x») (now «start_y») (now «end_x») (now «end_y»)) row k stop (now first) (now second) hits ⌝ }
-    ensures { λ r. ⌜ InLines (lines (now («start_x» .entry)) (now («start_y» .entry)) (now («end_x» .entry)) (now («end_y» .entry))) row k stop (now (first .entry)) (now (second .entry)) hits (now (first .exit)) (now (second .exit)) r ⌝ }
+    ensures { λ r. let ls = lines (now («start_x» .entry)) (now («start_y» .entry)) (now («end_x» .entry)) (now («end_y» .entry)) in
+        ⌜ InLines ls row k stop (now (first .entry)) (now (second .entry)) hits (now (first .exit)) (now (second .exit)) r ⌝ }
 {
     let mut k = k;
     let mut hits = hits;
@@ -219,7 +223,8 @@ fn run_cells(
     second: &mut [u32],
 ) -> Ran
     requires { ⌜ CellsAsk (lines (now «start_x») (now «start_y») (now «end_x») (now «end_y»)) cols cells (now offsets) (now items) cell i j (now first) (now second) ⌝ }
-    ensures { λ r. ⌜ CellsRan (lines (now («start_x» .entry)) (now («start_y» .entry)) (now («end_x» .entry)) (now («end_y» .entry))) cols cells (now (offsets .entry)) (now (items .entry)) cell i j (now (first .entry)) (now (second .entry)) (now (first .exit)) (now (second .exit)) r ⌝ }
+    ensures { λ r. let ls = lines (now («start_x» .entry)) (now («start_y» .entry)) (now («end_x» .entry)) (now («end_y» .entry)) in
+        ⌜ CellsRan ls cols cells (now (offsets .entry)) (now (items .entry)) cell i j (now (first .entry)) (now (second .entry)) (now (first .exit)) (now (second .exit)) r ⌝ }
 {
     let mut cell = cell;
     let mut i = i;
@@ -277,7 +282,8 @@ fn run_globals(
     hits: usize,
 ) -> Ran
     requires { ⌜ GlobalsAsk (lines (now «start_x») (now «start_y») (now «end_x») (now «end_y»)) count (now globals) p q k (now first) (now second) hits ⌝ }
-    ensures { λ r. ⌜ GlobalsRan (lines (now («start_x» .entry)) (now («start_y» .entry)) (now («end_x» .entry)) (now («end_y» .entry))) count (now (globals .entry)) p k (now (first .entry)) (now (second .entry)) hits (now (first .exit)) (now (second .exit)) r ⌝ }
+    ensures { λ r. let ls = lines (now («start_x» .entry)) (now («start_y» .entry)) (now («end_x» .entry)) (now («end_y» .entry)) in
+        ⌜ GlobalsRan ls count (now (globals .entry)) p k (now (first .entry)) (now (second .entry)) hits (now (first .exit)) (now (second .exit)) r ⌝ }
 {
     let n = start_x.len() as u32;
     let mut p = p;
@@ -332,8 +338,12 @@ pub(crate) fn run(
     first: &mut [u32],
     second: &mut [u32],
 ) -> Ran
-    requires { ⌜ RunAsks (lines (now «start_x») (now «start_y») (now «end_x») (now «end_y»)) grid (beside (lines (now «start_x») (now «start_y») (now «end_x») (now «end_y»)) grid (now offsets) (now items) (now globals) «global_count») cursor (now first) (now second) ⌝ }
-    ensures { λ r. ⌜ RanAll (lines (now («start_x» .entry)) (now («start_y» .entry)) (now («end_x» .entry)) (now («end_y» .entry))) (beside (lines (now («start_x» .entry)) (now («start_y» .entry)) (now («end_x» .entry)) (now («end_y» .entry))) grid (now (offsets .entry)) (now (items .entry)) (now (globals .entry)) «global_count») cursor (now (first .entry)) (now (second .entry)) (now (first .exit)) (now (second .exit)) r ⌝ }
+    requires { let ls = lines (now «start_x») (now «start_y») (now «end_x») (now «end_y») in
+        let t = beside ls grid (now offsets) (now items) (now globals) «global_count» in
+        ⌜ RunAsks ls grid t cursor (now first) (now second) ⌝ }
+    ensures { λ r. let ls = lines (now («start_x» .entry)) (now («start_y» .entry)) (now («end_x» .entry)) (now («end_y» .entry)) in
+        let t = beside ls grid (now (offsets .entry)) (now (items .entry)) (now (globals .entry)) «global_count» in
+        ⌜ RanAll ls t cursor (now (first .entry)) (now (second .entry)) (now (first .exit)) (now (second .exit)) r ⌝ }
 {
     let cells = wide(grid.rows) * wide(grid.cols);
     let listed = run_cells(
@@ -384,8 +394,12 @@ pub(crate) fn test_from(
     globals: &[u32],
     global_count: usize,
 ) -> Step
-    requires { ⌜ Ready (lines (now «start_x») (now «start_y») (now «end_x») (now «end_y»)) grid (beside (lines (now «start_x») (now «start_y») (now «end_x») (now «end_y»)) grid (now offsets) (now items) (now globals) «global_count») cursor ⌝ }
-    ensures { λ r. ⌜ r ≡ nextStep (lines (now («start_x» .entry)) (now («start_y» .entry)) (now («end_x» .entry)) (now («end_y» .entry))) (restOf (beside (lines (now («start_x» .entry)) (now («start_y» .entry)) (now («end_x» .entry)) (now («end_y» .entry))) grid (now (offsets .entry)) (now (items .entry)) (now (globals .entry)) «global_count») cursor) ⌝ }
+    requires { let ls = lines (now «start_x») (now «start_y») (now «end_x») (now «end_y») in
+        let t = beside ls grid (now offsets) (now items) (now globals) «global_count» in
+        ⌜ Ready ls grid t cursor ⌝ }
+    ensures { λ r. let ls = lines (now («start_x» .entry)) (now («start_y» .entry)) (now («end_x» .entry)) (now («end_y» .entry)) in
+        let t = beside ls grid (now (offsets .entry)) (now (items .entry)) (now (globals .entry)) «global_count» in
+        ⌜ r ≡ nextStep ls (restOf t cursor) ⌝ }
 {
     let cells = wide(grid.rows) * wide(grid.cols);
     let found = cursor::settle_cell(cells, offsets, items, cursor.cell, cursor.i, cursor.j);

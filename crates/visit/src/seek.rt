@@ -127,8 +127,12 @@ pub(crate) fn seek(
     globals: &[u32],
     global_count: usize,
 ) -> Sought
-    requires { ⌜ visitCheck (lines (now «start_x») (now «start_y») (now «end_x») (now «end_y»)) grid (beside (lines (now «start_x») (now «start_y») (now «end_x») (now «end_y»)) grid (now offsets) (now items) (now globals) «global_count») ≡ Fine ⌝ }
-    ensures { λ r. ⌜ SeekIs (lines (now («start_x» .entry)) (now («start_y» .entry)) (now («end_x» .entry)) (now («end_y» .entry))) grid (beside (lines (now («start_x» .entry)) (now («start_y» .entry)) (now («end_x» .entry)) (now («end_y» .entry))) grid (now (offsets .entry)) (now (items .entry)) (now (globals .entry)) «global_count») bookmark r ⌝ }
+    requires { let ls = lines (now «start_x») (now «start_y») (now «end_x») (now «end_y») in
+        let t = beside ls grid (now offsets) (now items) (now globals) «global_count» in
+        ⌜ visitCheck ls grid t ≡ Fine ⌝ }
+    ensures { λ r. let ls = lines (now («start_x» .entry)) (now («start_y» .entry)) (now («end_x» .entry)) (now («end_y» .entry)) in
+        let t = beside ls grid (now (offsets .entry)) (now (items .entry)) (now (globals .entry)) «global_count» in
+        ⌜ SeekIs ls grid t bookmark r ⌝ }
 {
     let cells = wide(grid.rows) * wide(grid.cols);
     let found = seek_cell(bookmark, cells, offsets, items);

@@ -26,7 +26,9 @@ fn check_visit(
     globals: &[u32],
     global_count: usize,
 ) -> Check
-    ensures { λ r. ⌜ r ≡ visitCheck (lines (now («start_x» .entry)) (now («start_y» .entry)) (now («end_x» .entry)) (now («end_y» .entry))) grid (beside (lines (now («start_x» .entry)) (now («start_y» .entry)) (now («end_x» .entry)) (now («end_y» .entry))) grid (now (offsets .entry)) (now (items .entry)) (now (globals .entry)) «global_count») ⌝ }
+    ensures { λ r. let ls = lines (now («start_x» .entry)) (now («start_y» .entry)) (now («end_x» .entry)) (now («end_y» .entry)) in
+        let t = beside ls grid (now (offsets .entry)) (now (items .entry)) (now (globals .entry)) «global_count» in
+        ⌜ r ≡ visitCheck ls grid t ⌝ }
 {
     let lines = grid::checks::check_lines(start_x, start_y, end_x, end_y);
     if let Check::Refused(r) = lines {
@@ -48,7 +50,9 @@ pub fn test_at(
     global_count: usize,
     bookmark: u64,
 ) -> TestAnswer
-    ensures { λ r. ⌜ r ≡ testAt (lines (now («start_x» .entry)) (now («start_y» .entry)) (now («end_x» .entry)) (now («end_y» .entry))) grid (beside (lines (now («start_x» .entry)) (now («start_y» .entry)) (now («end_x» .entry)) (now («end_y» .entry))) grid (now (offsets .entry)) (now (items .entry)) (now (globals .entry)) «global_count») bookmark ⌝ }
+    ensures { λ r. let ls = lines (now («start_x» .entry)) (now («start_y» .entry)) (now («end_x» .entry)) (now («end_y» .entry)) in
+        let t = beside ls grid (now (offsets .entry)) (now (items .entry)) (now (globals .entry)) «global_count» in
+        ⌜ r ≡ testAt ls grid t bookmark ⌝ }
 {
     let check = check_visit(
         start_x,
@@ -115,7 +119,9 @@ pub fn batch(
     first: &mut [u32],
     second: &mut [u32],
 ) -> BatchAnswer
-    ensures { λ r. ⌜ BatchIs (lines (now («start_x» .entry)) (now («start_y» .entry)) (now («end_x» .entry)) (now («end_y» .entry))) grid (beside (lines (now («start_x» .entry)) (now («start_y» .entry)) (now («end_x» .entry)) (now («end_y» .entry))) grid (now (offsets .entry)) (now (items .entry)) (now (globals .entry)) «global_count») bookmark (now (first .entry)) (now (second .entry)) (now (first .exit)) (now (second .exit)) r ⌝ }
+    ensures { λ r. let ls = lines (now («start_x» .entry)) (now («start_y» .entry)) (now («end_x» .entry)) (now («end_y» .entry)) in
+        let t = beside ls grid (now (offsets .entry)) (now (items .entry)) (now (globals .entry)) «global_count» in
+        ⌜ BatchIs ls grid t bookmark (now (first .entry)) (now (second .entry)) (now (first .exit)) (now (second .exit)) r ⌝ }
 {
     let lent = refusals::refuse_unless(first.len() == second.len(), 3, 0);
     if let Check::Refused(r) = lent {

@@ -3,7 +3,7 @@
 //! The port takes part in every kind: --port may be said, and changes nothing.
 //! Ends with status 1 at the first difference.
 
-use beside::kinds::{self, build, lists, numbers, own, snap, visit, walk, wkb};
+use compare::kinds::{self, build, lists, numbers, own, snap, visit, walk, wkb};
 
 /// The kinds, with the cases of a full run.
 const KINDS: [(&str, u64); 14] = [
@@ -71,7 +71,7 @@ fn stop(text: &str) -> ! {
 
 /// Document 01's sample and measured points, by the Rust alone: they show that the Rust at hand is the one that the document speaks of.
 fn sample() -> bool {
-    use beside::{oracle, Grid};
+    use compare::{oracle, Grid};
     let four = Grid { min_x: 0.0, min_y: 0.0, cell_width: 1.0, cell_height: 1.0, cols: 4, rows: 4 };
     let cells = |line| oracle::segment_cells(&four, &line);
     let at = |x| cells([x, 0.5, x, 0.5]);
@@ -133,8 +133,8 @@ visit 9 9
 
 /// Document 02's sizing by axis, by the model alone, at values that are worked out by hand: columns, rows, cell width, cell height, items.
 fn by_axis() -> bool {
-    use beside::kinds::build::Columns;
-    use beside::{model, Line, Sizing};
+    use compare::kinds::build::Columns;
+    use compare::{model, Line, Sizing};
     let square = [[0.0, 0.0, 2.0, 0.0], [2.0, 0.0, 2.0, 2.0], [2.0, 2.0, 0.0, 2.0], [0.0, 2.0, 0.0, 0.0]];
     let milli = square.map(|[a, b, c, d]| [a * 1000.0, b, c * 1000.0, d]);
     let wide = [[-1e9, 0.0, 1e9, 0.0], [0.0, 0.0, 0.0, 1e-9], [0.0; 4], [0.0; 4]];

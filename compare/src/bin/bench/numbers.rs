@@ -1,9 +1,9 @@
 //! The number functions, one call each.
 
 use super::clock::Clock;
-use beside::plain::numbers as rust;
-use beside::port::numbers as port;
-use beside::random::Random;
+use compare::plain::numbers as rust;
+use compare::port::numbers as port;
+use compare::random::Random;
 use std::hint::black_box;
 
 const BAR: Option<f64> = Some(2.0);

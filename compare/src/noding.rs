@@ -31,7 +31,7 @@ pub mod snap {
 pub mod grid {
     use crate::stand_in::{geo, wide};
 
-    include!(env!("BESIDE_GRID"));
+    include!(env!("COMPARE_GRID"));
 
     pub mod reach {
         use super::*;

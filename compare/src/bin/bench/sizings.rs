@@ -2,10 +2,10 @@
 //! in a thousandth and in a millionth of a kelvin, and of lines that all lie along one axis.
 
 use super::clock::Clock;
-use beside::cases;
-use beside::kinds::build::Columns;
-use beside::random::Random;
-use beside::Line;
+use compare::cases;
+use compare::kinds::build::Columns;
+use compare::random::Random;
+use compare::Line;
 use morelturret::{Lines, Sizing, Tables};
 use std::hint::black_box;
 

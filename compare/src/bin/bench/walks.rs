@@ -1,10 +1,10 @@
 //! Walks of about so many cells in each of the four directions.
 
 use super::clock::Clock;
-use beside::model::SCRATCH;
-use beside::oracle::Lines;
-use beside::random::Random;
-use beside::{inner, Grid, Line};
+use compare::model::SCRATCH;
+use compare::oracle::Lines;
+use compare::random::Random;
+use compare::{inner, Grid, Line};
 use morelturret::sys;
 use std::hint::black_box;
 

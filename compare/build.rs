@@ -13,8 +13,8 @@ fn main() {
 
     let grid = core.join("noding/grid.rs");
     let soa = core.join("utils/soa.rs");
-    println!("cargo:rustc-env=BESIDE_GRID={}", watched(&grid).display());
-    println!("cargo:rustc-env=BESIDE_SOA={}", watched(&soa).display());
+    println!("cargo:rustc-env=COMPARE_GRID={}", watched(&grid).display());
+    println!("cargo:rustc-env=COMPARE_SOA={}", watched(&soa).display());
 
     // `SnapNoder::snap`: from its first line to the line that closes it.
     let snap = read(&core.join("noding/snap.rs"));

@@ -1,4 +1,4 @@
-# Builds the programs of beside/ into target/beside. Sourced by tools/compare, tools/record and tools/bench, at the top of the repository.
+# Builds the programs of compare/ into target/compare. Sourced by tools/compare, tools/record and tools/bench, at the top of the repository.
 # Where the Rust source, a Rust compiler or Debian's smallvec is missing, says so in one line and ends with status 0.
 # Leaves: $programs, the folder of the programs.
 
@@ -20,7 +20,7 @@ if ! ls -d "$registry"/smallvec-1.* >/dev/null 2>&1; then
 fi
 
 # The port's library, the one that C and Rust programs link, and the inner walk, which is no part of it: built again when a crate has changed.
-built=$PWD/target/beside
+built=$PWD/target/compare
 mkdir -p "$built"
 tools/build_library >"$built/library.log" 2>&1 || { cat "$built/library.log"; echo "${0##*/}: the port's library was not built"; exit 1; }
 export MORELTURRET_LIB=$PWD/target/library MORELTURRET_INNER_LIB=$built/libinner_walk.a
@@ -31,9 +31,9 @@ fi
 # cargo writes its lock file beside the manifest, so the package is laid out under target/.
 package=$built/package
 mkdir -p "$package"
-cmp -s beside/Cargo.toml "$package/Cargo.toml" || cp beside/Cargo.toml "$package/Cargo.toml"
-ln -sfn "$PWD/beside/build.rs" "$package/build.rs"
-ln -sfn "$PWD/beside/src" "$package/src"
+cmp -s compare/Cargo.toml "$package/Cargo.toml" || cp compare/Cargo.toml "$package/Cargo.toml"
+ln -sfn "$PWD/compare/build.rs" "$package/build.rs"
+ln -sfn "$PWD/compare/src" "$package/src"
 ln -sfn "$PWD/bindings/rust" "$package/morelturret"
 MORELTURRET_RUST_SRC=$(cd "$rust_source" && pwd) cargo build --quiet --release --offline --manifest-path "$package/Cargo.toml" --target-dir "$built" \
     --config 'source.crates-io.replace-with="debian"' --config "source.debian.directory=\"$registry\""

@@ -1,9 +1,9 @@
 //! Ownership and snapping of points.
 
 use super::clock::Clock;
-use beside::oracle::Owners;
-use beside::random::Random;
-use beside::{plain, port, Grid};
+use compare::oracle::Owners;
+use compare::random::Random;
+use compare::{plain, port, Grid};
 use morelturret::sys;
 use std::hint::black_box;
 

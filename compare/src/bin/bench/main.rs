@@ -9,7 +9,7 @@ mod sizings;
 mod walks;
 mod year;
 
-use beside::random::Random;
+use compare::random::Random;
 
 fn main() {
     let mut words = std::env::args().skip(1);

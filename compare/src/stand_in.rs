@@ -269,6 +269,6 @@ pub mod utils {
     #[allow(dead_code)]
     pub mod soa {
         use crate::stand_in::wide;
-        include!(env!("BESIDE_SOA"));
+        include!(env!("COMPARE_SOA"));
     }
 }

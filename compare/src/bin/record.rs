@@ -1,12 +1,12 @@
 //! record [--seed S] OUT: writes a sample of the Rust's answers of every kind, and of the model's where cells are sized by axis. REPLAY.md has the
 //! form.
 
-use beside::kinds::build::Columns;
-use beside::kinds::{numbers, own, walk};
-use beside::model::{self, Standing, Test, SCRATCH};
-use beside::oracle::{self, Built, Squared};
-use beside::random::{nudged, Random};
-use beside::{cases, Grid, Line, Sizing};
+use compare::kinds::build::Columns;
+use compare::kinds::{numbers, own, walk};
+use compare::model::{self, Standing, Test, SCRATCH};
+use compare::oracle::{self, Built, Squared};
+use compare::random::{nudged, Random};
+use compare::{cases, Grid, Line, Sizing};
 
 // What the program `replay` has room for.
 const OFFSETS: usize = 4096;
@@ -130,7 +130,7 @@ impl File {
     }
 
     fn walks(&mut self, r: &mut Random) {
-        use beside::kinds::Kind;
+        use compare::kinds::Kind;
         for (_, c) in walk::fixed() {
             self.walk(&c.grid, &c.line, c.scratch);
         }
@@ -288,7 +288,7 @@ impl File {
 
     /// What turns on a width and a height that are kept apart: walks, builds, visits and owners.
     fn axes(&mut self, r: &mut Random) {
-        use beside::kinds::Kind;
+        use compare::kinds::Kind;
         self.drawn_walks(r, 60, walk::Walk::<true>::draw);
         self.sized(r, Sizing::Axes, 16, (12, 60), 1, cases::apart);
         let ample = [OFFSETS, ITEMS, GLOBALS];
@@ -340,7 +340,7 @@ impl File {
     }
 
     fn owners(&mut self, r: &mut Random) {
-        use beside::kinds::Kind;
+        use compare::kinds::Kind;
         self.drawn_owners(r, 220, own::Own::<false>::draw);
     }
 
@@ -368,7 +368,7 @@ impl File {
     }
 
     fn snaps(&mut self, r: &mut Random) {
-        use beside::kinds::{snap, Kind};
+        use compare::kinds::{snap, Kind};
         let fixed = [(0.49999999999999994, -2.5, 1.0, 0), (0.49999999999999994, -2.5, 1.0, 1), (-0.0, 0.0, 1.0, 0), (-0.0, 0.0, 1.0, 1)];
         let drawn: Vec<_> = (0..300).map(|_| snap::Snap::draw(r).1).map(|c| (c.x, c.y, c.size, c.strategy)).collect();
         for (x, y, size, strategy) in fixed.into_iter().chain(drawn) {

@@ -2,11 +2,11 @@
 
 use super::clock::Clock;
 use super::heap;
-use beside::kinds::build::Columns;
-use beside::model::{Standing, SCRATCH};
-use beside::oracle::{self, Built, Lines};
-use beside::random::Random;
-use beside::{cases, port, Sizing};
+use compare::kinds::build::Columns;
+use compare::model::{Standing, SCRATCH};
+use compare::oracle::{self, Built, Lines};
+use compare::random::Random;
+use compare::{cases, port, Sizing};
 use std::hint::black_box;
 
 const BAR: Option<f64> = Some(1.0);

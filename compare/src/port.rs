@@ -1,5 +1,6 @@
-//! The port: the functions of the library, as `bindings/rust` declares them, and the inner walk, which is no part of it. Here they take what the
-//! model takes. The answer is document 01's number, 0 for success, with values in `out`. A wrapper is inlined, so that what is timed is one call.
+//! The port: the functions of the library, as `bindings/rust` declares them, and the inner walk with its ordering, which are no part of it. Here they
+//! take what the model takes. The answer is document 01's number, 0 for success, with values in `out`. A wrapper is inlined, so that what is timed is
+//! one call.
 
 #![allow(clippy::too_many_arguments)]
 
@@ -26,6 +27,12 @@ pub fn segment_cells(g: &Grid, line: &Line, scratch: &mut [u32], out: &mut [u64]
 pub fn inner_walk(g: &Grid, line: &Line, scratch: &mut [u32], out: &mut [u64]) -> u32 {
     let [x0, y0, x1, y1] = *line;
     inner::inner_walk(&g.words(), x0, y0, x1, y1, scratch, out)
+}
+
+/// The ordering of a walk's cells.
+#[inline]
+pub fn order(entries: &mut [u32]) -> u32 {
+    inner::inner_order(entries)
 }
 
 /// The sizing is asked for by its number: 0 square, 1 by axis. out: the words of the grid, the number of items, the number of globals.

@@ -1,4 +1,4 @@
-// The walk of one line as a build takes it, for whoever times it. It is no part of the library.
+// The walk of one line as a build takes it, and the ordering of its cells, for whoever times them. They are no part of the library.
 use grid::Segment;
 use grid::words::grid_by;
 use walk::Cells;
@@ -6,6 +6,7 @@ ghost use mathlib.Core.Path.{_≡_};
 ghost use lib.ListN.{length, set};
 ghost use Rattle.grid.specs.Domain.{segmentBy};
 ghost use Rattle.grid.specs.Words.{gridBy};
+ghost use Rattle.slices.specs.Slices.{sorted};
 ghost use Rattle.walk.specs.Segment.{entryOf};
 ghost use Rattle.inner_walk.specs.Replies.{WalkReplies};
 
@@ -17,6 +18,15 @@ fn put(value: u64, out: &mut [u64])
         return;
     }
     out[0] = value;
+}
+
+// Puts the entries in order. Answers 0.
+#[no_mangle]
+pub extern "C" fn mt_inner_order(entries: &mut [u32]) -> u32
+    ensures { λ r. ⌜ (r ≡ 0) × (now (entries .exit) ≡ sorted (now (entries .entry))) ⌝ }
+{
+    slices::order(entries);
+    0
 }
 
 // The grid is said by its words. Answers 0 or the refusal's number. Out: the number of cells, or the refusal's value. The cells stand at the

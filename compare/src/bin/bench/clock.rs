@@ -25,6 +25,16 @@ impl Times {
         median(self.0[party].clone())
     }
 
+    /// The time of one party without what another takes, which it does too.
+    pub fn beyond(&self, party: usize, part: usize) -> f64 {
+        median(self.0[party].iter().zip(&self.0[part]).map(|(a, c)| a - c).collect())
+    }
+
+    /// The time of one party by that of another, both without what a third takes, which they do too.
+    pub fn ratio_beyond(&self, party: usize, other: usize, part: usize) -> f64 {
+        median((0..self.0[part].len()).map(|i| (self.0[party][i] - self.0[part][i]) / (self.0[other][i] - self.0[part][i])).collect())
+    }
+
     /// The time of one party by that of another, taken round by round.
     pub fn ratio(&self, party: usize, other: usize) -> f64 {
         median(self.0[party].iter().zip(&self.0[other]).map(|(a, b)| a / b).collect())
@@ -89,6 +99,13 @@ impl Clock {
         let others: Vec<String> = others.iter().zip(2..).map(|(what, k)| format!("{what} {:.2} ns, {:.3}", ns(k), times.ratio(0, k))).collect();
         let others = if others.is_empty() { String::new() } else { format!("  ({})", others.join("; ")) };
         println!("  {name:<44} port {:>9.2}  Rust {:>9.2} ns a {unit:<6} port/Rust {ratio:.3}{}{others}", ns(0), ns(1), self.held(ratio, bar));
+    }
+
+    /// The same of the first two parties, without what the third takes, which they do too.
+    pub fn show_beyond(&self, name: &str, unit: &str, units: usize, bar: Option<f64>, times: &Times) {
+        let ns = |party: usize| times.beyond(party, 2) * 1e9 / units as f64;
+        let ratio = times.ratio_beyond(0, 1, 2);
+        println!("  {name:<44} port {:>9.2}  Rust {:>9.2} ns a {unit:<6} port/Rust {ratio:.3}{}", ns(0), ns(1), self.held(ratio, bar));
     }
 
     /// The bar of a ratio, and whether it is met. Each is counted.

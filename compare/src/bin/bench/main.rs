@@ -4,6 +4,7 @@
 mod clock;
 mod heap;
 mod numbers;
+mod orderings;
 mod points;
 mod sizings;
 mod walks;
@@ -33,6 +34,9 @@ fn main() {
     if wanted("walks") {
         walks::times(clock, r);
     }
+    if wanted("orderings") {
+        orderings::times(clock, &mut Random::new(seed));
+    }
     if ["builds", "visits", "memory"].into_iter().any(wanted) {
         let years = [1023, 8192, 65536].map(|n| year::Year::new(r, n));
         if wanted("builds") {
@@ -55,7 +59,7 @@ fn main() {
     clock.end();
 }
 
-const STAGES: [&str; 7] = ["numbers", "walks", "builds", "visits", "memory", "points", "sizings"];
+const STAGES: [&str; 8] = ["numbers", "walks", "orderings", "builds", "visits", "memory", "points", "sizings"];
 
 fn stop() -> ! {
     eprintln!("bench [--seed S] [--rounds R] [STAGE..], with STAGE one of {}", STAGES.join(" "));

@@ -11,6 +11,7 @@ pub mod lists;
 pub mod numbers;
 pub mod own;
 pub mod snap;
+pub mod straight;
 pub mod visit;
 pub mod walk;
 pub mod wkb;

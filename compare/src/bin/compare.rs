@@ -3,13 +3,14 @@
 //! The port takes part in every kind: --port may be said, and changes nothing.
 //! Ends with status 1 at the first difference.
 
-use compare::kinds::{self, build, lists, numbers, own, snap, visit, walk, wkb};
+use compare::kinds::{self, build, lists, numbers, own, snap, straight, visit, walk, wkb};
 
 /// The kinds, with the cases of a full run.
-const KINDS: [(&str, u64); 14] = [
+const KINDS: [(&str, u64); 15] = [
     ("sample", 1),
     ("numbers", 10_000_000),
     ("walk", 1_000_000),
+    ("straight", 1_000_000),
     ("build", 2_000),
     ("visit", 2_000),
     ("lists", 10_000),
@@ -45,6 +46,7 @@ fn main() {
             "sample" => sample() & by_axis(),
             "numbers" => numbers::run(seed, n),
             "walk" => kinds::run::<walk::Walk<false>>(seed, n, walk::fixed()),
+            "straight" => kinds::run::<straight::Straight>(seed, n, straight::fixed()),
             "build" => kinds::run::<build::Build<false>>(seed, n, build::fixed(seed)),
             "visit" => kinds::run::<visit::Visit<false>>(seed, n, vec![]),
             "lists" => kinds::run::<lists::Lists<false>>(seed, n, vec![]),

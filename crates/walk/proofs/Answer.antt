@@ -48,7 +48,7 @@ use Rattle.slices.proofs.Distinct.{same-members}
 -- ---- an axis with d = 0
 
 module _ (a : Axis) (start end : Float) (p : eq (sub binary64 end start) nought ≡ true) where
-  first-far : firstOn a start (sub binary64 end start) ≡ inf false
+  pub first-far : firstOn a start (sub binary64 end start) ≡ inf false
   unfolding firstOn
   first-far = rw p
 
@@ -113,7 +113,7 @@ module _ (g : Grid) (line : Segment) where
 
   module _ (n : ℕ) where
     -- none of them refuses by 4 to 7
-    entry-spares : Clearing false (entryCheck n g line)
+    pub entry-spares : Clearing false (entryCheck n g line)
     unfolding entryCheck segmentCheck clears
     entry-spares = clearing-then (scratch-spares n) (clearing-then (clearing-unless _ 1 0 refl) (grid-spares g))
 

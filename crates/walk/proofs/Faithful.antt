@@ -15,7 +15,7 @@ use Rattle.grid.specs.declared.Segment.{Segment}
 use Rattle.grid.specs.Axes.{xAxis, yAxis}
 use Rattle.walk.specs.Segment.{besideOf, addedOf, alongOn, pushesOf}
 
-any-added : (v h : Bool) (cols : ℕ) (f : ℕ → Bool) (l : List ℕ) → any f (addedOf v h cols l) ≡ any (λ c. any f (besideOf v h cols c)) l
+pub any-added : (v h : Bool) (cols : ℕ) (f : ℕ → Bool) (l : List ℕ) → any f (addedOf v h cols l) ≡ any (λ c. any f (besideOf v h cols c)) l
 unfolding addedOf
 any-added v h cols f [] = refl
 any-added v h cols f (x ∷ l) = any-append f (besideOf v h cols x) (addedOf v h cols l) ∙ ap (λ (b : Bool). any f (besideOf v h cols x) || b) (any-added v h cols f l)

@@ -96,7 +96,7 @@ before-before a b (gives c) = ap gives (sym (append-assoc a b c))
 
 -- ---- a line along an axis never turns both ways
 
-near-far : (tx ty tol : Float) → (tx ≡ inf false) ⊎ (ty ≡ inf false) → nearOf tx ty tol ≡ false
+pub near-far : (tx ty tol : Float) → (tx ≡ inf false) ⊎ (ty ≡ inf false) → nearOf tx ty tol ≡ false
 unfolding nearOf finiteOf
 near-far tx ty tol (inl e) = rw e
 near-far tx ty tol (inr e) = rw e (go (finiteOf tx) (le (magnitudeOf (sub binary64 tx (inf false))) tol))

@@ -68,13 +68,13 @@ nan-last nan = refl
 nan-last (inf s) = refl
 nan-last (fin s m e) = refl
 
-top-first : (x : Float) → greatestOf (inf false) x ≡ inf false
+pub top-first : (x : Float) → greatestOf (inf false) x ≡ inf false
 unfolding greatestOf lt isNan
 top-first nan = refl
 top-first (inf t) = refl
 top-first (fin t n d) = refl
 
-top-last : (x : Float) → greatestOf x (inf false) ≡ inf false
+pub top-last : (x : Float) → greatestOf x (inf false) ≡ inf false
 unfolding greatestOf lt isNan
 top-last nan = refl
 top-last (inf true) = refl
@@ -178,7 +178,7 @@ largest (fin s m e) (inf t) = alike-by (ap (λ (z : Float). greatestOf z one) (t
 largest (fin s m e) (fin t n d) = both-finite m e n d
 
 -- 8 times 2^-52 is exact
-constant : mul binary64 (round binary64 false 8 1) (round binary64 false 1 (2 ^ 52)) ≡ fin false 1 (negsuc 48)
+pub constant : mul binary64 (round binary64 false 8 1) (round binary64 false 1 (2 ^ 52)) ≡ fin false 1 (negsuc 48)
 unfolding mul round
 constant = refl
 

@@ -1,0 +1,343 @@
+-- From what the floats of a line say to its answer: the cells that the sentence describes. Assumes nothing.
+use mathlib.Core.Path.{_≡_, refl, sym, ap, _∙_}
+use Prim.Native.Nat.{ℕ, suc, _+_, _-_, _*_, _≤_, _<_}
+use native.Mathlib.Nat.{le-trans}
+use native.Mathlib.Omega.{arith}
+use mathlib.Core.Bool.{Bool, true, false, _&&_, _||_}
+use mathlib.Core.Logic.{_⊎_, inl, inr}
+use mathlib.Core.List.{List, _++_, map}
+use lib.IntN.{pos}
+use lib.Dec.{leb, ltb, eqb}
+use lib.Ieee.{Float, binary64, sub, eq}
+use borrow.Author.Tests.{leb-true, le-leb, eqb-true, eq-eqb, lt-ltb}
+use Rattle.slices.specs.Slices.{sorted, distinctOf}
+use Rattle.slices.specs.Lists.{any, elem, Rising}
+use Rattle.slices.proofs.Members.{any-append, elem-one-of-each, below-elem}
+use Rattle.slices.proofs.Laws.{le-or}
+use Rattle.slices.proofs.Distinct.{one-of-each-rising, rising-members}
+use Rattle.refusals.specs.Refusals.{gives, _into_}
+use Rattle.grid.specs.declared.Axis.{Axis}
+use Rattle.grid.specs.declared.Grid.{Grid}
+use Rattle.grid.specs.declared.Segment.{Segment}
+use Rattle.grid.specs.Axes.{xAxis, yAxis, indexOn, boundaryOn}
+use Rattle.grid.specs.Domain.{shape}
+use Rattle.grid.proofs.Bools.{and-left, and-right, and-both}
+use Rattle.grid.proofs.Shapes.{Shape, shape-says}
+use Rattle.walk.specs.Turns.{nought, signOf, deltaOf, firstOn, strideOn, progressOn, Ray, rayOf, startOf}
+use Rattle.walk.specs.Pushes.{walkedOf}
+use Rattle.walk.specs.Segment.{addedOf, alongOn, cellOf, endOf, pushesOf, answered, segmentOf}
+use Rattle.walk.proofs.Floats.{index-le}
+use Rattle.walk.proofs.Faithful.{any-added}
+use Rattle.walk.proofs.Answer.{first-far, segment-is}
+use Rattle.walk.proofs.Visits.{segment-visits}
+use Rattle.straight.specs.Sentence.{between, sentence, verticalCells, horizontalCells}
+use Rattle.straight.proofs.Walking.{stateBy, rayBy, cellBy, Inside, stepBy, Ahead, stops, along, at, Finite, walked-all}
+use Rattle.straight.proofs.Listed.{by-facts, or-cases, or-left, or-right, heldIndex, runIndex, besideBy, adds, cell-by, beside-by, stops-are, any-map, any-same, any-and, any-adds, pushed-said, those-rising, those-are}
+
+-- ---- a line by the axis that it keeps to
+
+abbrev pub heldOf : Bool → Grid → Axis
+heldOf true g = xAxis g
+heldOf false g = yAxis g
+
+abbrev pub runOf : Bool → Grid → Axis
+runOf true g = yAxis g
+runOf false g = xAxis g
+
+abbrev pub heldStart : Bool → Segment → Float
+heldStart true line = line .«start_x»
+heldStart false line = line .«start_y»
+
+abbrev pub heldEnd : Bool → Segment → Float
+heldEnd true line = line .«end_x»
+heldEnd false line = line .«end_y»
+
+abbrev pub runStart : Bool → Segment → Float
+runStart true line = line .«start_y»
+runStart false line = line .«start_x»
+
+abbrev pub runEnd : Bool → Segment → Float
+runEnd true line = line .«end_y»
+runEnd false line = line .«end_x»
+
+abbrev pub cellsBy : Bool → Grid → Segment → List ℕ
+cellsBy true g line = verticalCells g line
+cellsBy false g line = horizontalCells g line
+
+abbrev difference : Float → Float → Float
+difference start end = sub binary64 end start
+
+-- what the floats say: on the axis that the line keeps to nothing changes; on the other its end is n moves ahead, in the sign of d
+pub record Keeps (a : Axis) (start end : Float) : Type 0 where
+  pub none : eq (difference start end) nought ≡ true
+  pub index : indexOn a start ≡ indexOn a end
+  pub boundary : boundaryOn a start ≡ boundaryOn a end
+
+pub record Goes (a : Axis) (start end : Float) : Type 0 where
+  pub up : Bool
+  pub n : ℕ
+  pub ahead : Ahead up n (indexOn a start) (indexOn a end)
+  pub sign : 0 < n → signOf (difference start end) ≡ stepBy up
+  pub still : eq (difference start end) nought ≡ true → indexOn a start ≡ indexOn a end
+
+-- t_max stays finite on the way
+abbrev pub StaysFinite : (a : Axis) (start end : Float) → Goes a start end → Type 0
+StaysFinite a start end k = Finite (k .n) (firstOn a start (difference start end)) (deltaOf (a .size) (difference start end))
+
+-- ---- the indices are inside
+
+below-count : (a : Axis) (v : Float) → 0 < a .count → indexOn a v < a .count
+below-count a v h = omega (arith, index-le a v)
+
+inside-of : (v : Bool) (g : Grid) (i j : ℕ) → i < heldOf v g .count → j < runOf v g .count → Inside v (g .cols) (g .rows) i j
+inside-of true g i j h k = (h, k)
+inside-of false g i j h k = (k, h)
+
+counts-of : (v : Bool) (g : Grid) → 0 < g .cols → 0 < g .rows → (0 < heldOf v g .count) × (0 < runOf v g .count)
+counts-of true g c r = (c, r)
+counts-of false g c r = (r, c)
+
+few-of : (v : Bool) (g : Grid) → Shape (g .cols) (g .rows) → runOf v g .count ≤ 4004
+few-of true g s = s .high
+few-of false g s = s .wide
+
+-- ---- the walk
+
+-- the ray and the state at the start, by the axis that the line keeps to
+ray-by : (v : Bool) (g : Grid) (line : Segment)
+    → rayOf g line ≡ rayBy v (strideOn (heldOf v g) (heldStart v line) (heldEnd v line)) (strideOn (runOf v g) (runStart v line) (runEnd v line))
+unfolding rayOf
+ray-by true g line = refl
+ray-by false g line = refl
+
+start-by : (v : Bool) (g : Grid) (line : Segment)
+    → startOf g line ≡ stateBy v (progressOn (heldOf v g) (heldStart v line) (heldEnd v line)) (progressOn (runOf v g) (runStart v line) (runEnd v line))
+unfolding startOf
+start-by true g line = refl
+start-by false g line = refl
+
+-- what is pushed, too: the walked cells, what they add, and what the two ends add
+abbrev addedBy : Bool → Grid → Segment → ℕ → List ℕ
+addedBy v g line c =
+    besideBy v (alongOn (heldOf v g) (heldStart v line) (heldEnd v line)) (alongOn (runOf v g) (runStart v line) (runEnd v line)) (g .cols) c
+
+abbrev endBy : Bool → Grid → Float → Float → List ℕ
+endBy v g h r =
+    besideBy v (boundaryOn (heldOf v g) h) (boundaryOn (runOf v g) r) (g .cols) (cellBy v (g .cols) (indexOn (heldOf v g) h) (indexOn (runOf v g) r))
+
+abbrev allPushed : Bool → Grid → Segment → List ℕ → ℕ → Bool
+allPushed v g line walked u =
+    elem u walked
+    || ((any (λ c. elem u (addedBy v g line c)) walked || elem u (endBy v g (heldStart v line) (runStart v line)))
+    || elem u (endBy v g (heldEnd v line) (runEnd v line)))
+
+pushes-by : (v : Bool) (g : Grid) (line : Segment) (walked : List ℕ) (u : ℕ) → elem u (pushesOf g line walked) ≡ allPushed v g line walked u
+unfolding pushesOf endOf cellOf
+pushes-by v g line walked u = go v
+  where
+    x : Bool
+    x = alongOn (xAxis g) (line .«start_x») (line .«end_x»)
+
+    y : Bool
+    y = alongOn (yAxis g) (line .«start_y») (line .«end_y»)
+
+    go : (v : Bool) → elem u (pushesOf g line walked) ≡ allPushed v g line walked u
+    go true = simp any-append (rw (any-added x y (g .cols) (eqb u) walked))
+    go false = simp any-append (rw (any-added x y (g .cols) (eqb u) walked))
+
+-- ---- between
+
+between-start : (j e k : ℕ) → eqb k j ≡ true → between j e k ≡ true
+between-start j e k h = let q = eqb-true k j h in go (le-or j e)
+  where
+    go : (j ≤ e) ⊎ (e < j) → between j e k ≡ true
+    go (inl l) =
+        let q = eqb-true k j h in or-left (leb j k && leb k e) (leb e k && leb k j)
+        (and-both (leb j k) (leb k e) (le-leb j k (omega arith)) (le-leb k e (omega arith)))
+    go (inr l) =
+        let q = eqb-true k j h in or-right (leb j k && leb k e) (leb e k && leb k j)
+        (and-both (leb e k) (leb k j) (le-leb e k (omega arith)) (le-leb k j (omega arith)))
+
+between-swap : (j e k : ℕ) → between j e k ≡ between e j k
+between-swap j e k = go (leb j k && leb k e) (leb e k && leb k j)
+  where
+    go : (p q : Bool) → (p || q) ≡ (q || p)
+    go true true = refl
+    go true false = refl
+    go false true = refl
+    go false false = refl
+
+between-end : (j e k : ℕ) → eqb k e ≡ true → between j e k ≡ true
+between-end j e k h = between-swap j e k ∙ between-start e j k h
+
+between-one : (j e k : ℕ) → j ≡ e → between j e k ≡ eqb k j
+between-one j e k h = by-facts (between j e k) (eqb k j) (λ t. elim (or-cases (leb j k && leb k e) (leb e k && leb k j) t) [
+  | inl p ↦ eq-eqb k j (omega (arith, leb-true j k (and-left (leb j k) (leb k e) p), leb-true k e (and-right (leb j k) (leb k e) p)))
+  | inr p ↦ eq-eqb k j (omega (arith, leb-true e k (and-left (leb e k) (leb k j) p), leb-true k j (and-right (leb e k) (leb k j) p)))
+]) (between-start j e k)
+
+between-within : (j e k c : ℕ) → j < c → e < c → between j e k ≡ true → k < c
+between-within j e k c p q h = elim (or-cases (leb j k && leb k e) (leb e k && leb k j) h) [
+  | inl t ↦ omega (arith, leb-true k e (and-right (leb j k) (leb k e) t))
+  | inr t ↦ omega (arith, leb-true k j (and-right (leb e k) (leb k j) t))
+]
+
+ahead-few : (up : Bool) (n j e c : ℕ) → Ahead up n j e → j < c → e < c → n ≤ c
+ahead-few true n j e c a p q = omega arith
+ahead-few false n j e c a p q = omega arith
+
+-- ---- the answer
+
+module _ (v : Bool) (g : Grid) (line : Segment)
+    (keeps : Keeps (heldOf v g) (heldStart v line) (heldEnd v line))
+    (goes : Goes (runOf v g) (runStart v line) (runEnd v line))
+    (fine : v ≡ false → StaysFinite (runOf v g) (runStart v line) (runEnd v line) goes)
+    (shaped : shape (g .cols) (g .rows) ≡ true) (some : 0 < g .cols) where
+  i : ℕ
+  i = indexOn (heldOf v g) (heldStart v line)
+
+  j : ℕ
+  j = indexOn (runOf v g) (runStart v line)
+
+  e : ℕ
+  e = indexOn (runOf v g) (runEnd v line)
+
+  walks : List ℕ
+  walks = map (cellBy v (g .cols) i) (stops (goes .up) (goes .n) j e)
+
+  ray-is : rayOf g line
+      ≡ along v i e (signOf (difference (heldStart v line) (heldEnd v line))) (deltaOf (heldOf v g .size) (difference (heldStart v line) (heldEnd v line)))
+      (signOf (difference (runStart v line) (runEnd v line))) (deltaOf (runOf v g .size) (difference (runStart v line) (runEnd v line)))
+  unfolding strideOn i e
+  ray-is = ray-by v g line ∙ rw (keeps .index)
+
+  start-is : startOf g line ≡ at v i (pos j) (firstOn (runOf v g) (runStart v line) (difference (runStart v line) (runEnd v line)))
+  unfolding progressOn i j
+  start-is = start-by v g line ∙ rw (first-far (heldOf v g) (heldStart v line) (heldEnd v line) (keeps .none))
+
+  shape′ : Shape (g .cols) (g .rows)
+  shape′ = shape-says (g .cols) (g .rows) shaped
+
+  held-in : i < heldOf v g .count
+  unfolding i
+  held-in = below-count (heldOf v g) (heldStart v line) (counts-of v g some (shape′ .alike some) .0)
+
+  run-in : (t : Float) → indexOn (runOf v g) t < runOf v g .count
+  run-in t = below-count (runOf v g) t (counts-of v g some (shape′ .alike some) .1)
+
+  inside-at : (k : ℕ) → k < runOf v g .count → Inside v (g .cols) (g .rows) i k
+  inside-at k h = inside-of v g i k held-in h
+
+  walked-is : walkedOf (g .cols) (g .rows) (rayOf g line) (startOf g line) ≡ gives walks
+  unfolding walks j e
+  walked-is =
+      ap (λ (r : Ray). walkedOf (g .cols) (g .rows) r (startOf g line)) ray-is
+      ∙ ap (walkedOf (g .cols) (g .rows) _) start-is
+      ∙ walked-all v (g .cols) (g .rows) i e _ _ _ _ (goes .up) (inside-at e (run-in (runEnd v line))) (goes .n) j _
+      (le-trans (ahead-few (goes .up) (goes .n) j e (runOf v g .count) (goes .ahead) (run-in (runStart v line)) (run-in (runEnd v line)))
+      (le-trans (few-of v g shape′) (omega arith)))
+      (goes .sign) (goes .ahead) (inside-at j (run-in (runStart v line))) fine
+
+  module _ (u : ℕ) where
+    hu : ℕ
+    hu = heldIndex v (g .cols) u
+
+    ru : ℕ
+    ru = runIndex v (g .cols) u
+
+    stops′ : List ℕ
+    stops′ = stops (goes .up) (goes .n) j e
+
+    stop-in : (k : ℕ) → elem k stops′ ≡ true → Inside v (g .cols) (g .rows) i k
+    unfolding stops′ j e
+    stop-in k h =
+        inside-at k
+        (between-within j e k (runOf v g .count) (run-in (runStart v line)) (run-in (runEnd v line))
+        (sym (stops-are (goes .up) (goes .n) j e k (goes .ahead)) ∙ h))
+
+    stops-between : (k : ℕ) → elem k stops′ ≡ between j e k
+    unfolding stops′ j e
+    stops-between k = stops-are (goes .up) (goes .n) j e k (goes .ahead)
+
+    walked-in : elem u walks ≡ (eqb hu i && between j e ru)
+    unfolding walks hu ru stops′
+    walked-in =
+        any-map (eqb u) (cellBy v (g .cols) i) stops′
+        ∙ any-same (λ k. eqb u (cellBy v (g .cols) i k)) (λ k. eqb hu i && eqb ru k) stops′ (λ k h. cell-by (g .cols) some u v (g .rows) i k (stop-in k h))
+        ∙ any-and (eqb hu i) ru stops′
+        ∙ ap (λ (b : Bool). eqb hu i && b) (stops-between ru)
+
+    added-in : (a b : Bool)
+        → any (λ c. elem u (besideBy v a b (g .cols) c)) walks ≡ adds a b (eqb hu i) (eqb (suc hu) i) (between j e ru) (between j e (suc ru))
+    unfolding walks hu ru stops′
+    added-in a b =
+        any-map (λ c. elem u (besideBy v a b (g .cols) c)) (cellBy v (g .cols) i) stops′
+        ∙ any-same (λ k. elem u (besideBy v a b (g .cols) (cellBy v (g .cols) i k)))
+        (λ k. adds a b (eqb hu i) (eqb (suc hu) i) (eqb ru k) (eqb (suc ru) k)) stops′
+        (λ k h. beside-by (g .cols) some u v a b (g .rows) i k (stop-in k h))
+        ∙ any-adds a b (eqb hu i) (eqb (suc hu) i) ru (suc ru) stops′
+        ∙ ap (λ (c : Bool). adds a b (eqb hu i) (eqb (suc hu) i) c (elem (suc ru) stops′)) (stops-between ru)
+        ∙ ap (λ (c : Bool). adds a b (eqb hu i) (eqb (suc hu) i) (between j e ru) c) (stops-between (suc ru))
+
+    end-in : (a b : Bool) (k : ℕ) → k < runOf v g .count
+        → elem u (besideBy v a b (g .cols) (cellBy v (g .cols) i k)) ≡ adds a b (eqb hu i) (eqb (suc hu) i) (eqb ru k) (eqb (suc ru) k)
+    unfolding hu ru
+    end-in a b k h = beside-by (g .cols) some u v a b (g .rows) i k (inside-at k h)
+
+    members : elem u (pushesOf g line walks) ≡ sentence (heldOf v g) (heldStart v line) (runOf v g) (runStart v line) (runEnd v line) hu ru
+    unfolding sentence alongOn i j e
+    members =
+        pushes-by v g line walks u
+        ∙ rw (
+          keeps .none,
+          ← keeps .index,
+          ← keeps .boundary,
+          walked-in,
+          added-in (boundaryOn (heldOf v g) (heldStart v line))
+              (eq (difference (runStart v line) (runEnd v line)) nought && boundaryOn (runOf v g) (runStart v line)),
+          end-in (boundaryOn (heldOf v g) (heldStart v line)) (boundaryOn (runOf v g) (runStart v line)) j (run-in (runStart v line)),
+          end-in (boundaryOn (heldOf v g) (heldStart v line)) (boundaryOn (runOf v g) (runEnd v line)) e (run-in (runEnd v line)),
+        )
+        (pushed-said (boundaryOn (heldOf v g) (heldStart v line)) (boundaryOn (runOf v g) (runStart v line)) (boundaryOn (runOf v g) (runEnd v line))
+        (eq (difference (runStart v line) (runEnd v line)) nought) (eqb hu i) (eqb (suc hu) i) (between j e ru) (between j e (suc ru)) (eqb ru j)
+        (eqb (suc ru) j) (eqb ru e) (eqb (suc ru) e)
+        (between-start j e ru) (between-end j e ru) (λ z. between-one j e (suc ru) (goes .still z)))
+
+  found : segmentOf g line ≡ gives (distinctOf (sorted (pushesOf g line walks)))
+  unfolding answered _into_
+  found = segment-is g line (λ z. omega (arith, some)) ∙ ap (answered g line) walked-is
+
+  only : (p q : Bool) → (p ≡ true → q ≡ true) → p ≡ (q && p)
+  only true q h = rw (h refl)
+  only false true h = refl
+  only false false h = refl
+
+  pub answer : segmentOf g line ≡ gives (cellsBy v g line)
+  answer = found ∙ ap gives (rising-members 0 0 xs (cellsBy v g line) (one-of-each-rising (pushesOf g line walks)) (rising v) same)
+    where
+      xs : List ℕ
+      xs = distinctOf (sorted (pushesOf g line walks))
+
+      test : ℕ → Bool
+      test u = sentence (heldOf v g) (heldStart v line) (runOf v g) (runStart v line) (runEnd v line) (heldIndex v (g .cols) u) (runIndex v (g .cols) u)
+
+      rising : (v : Bool) → Rising 0 (cellsBy v g line)
+      rising true = unfold verticalCells in those-rising _ (g .rows * g .cols)
+      rising false = unfold horizontalCells in those-rising _ (g .rows * g .cols)
+
+      listed : (v : Bool) (u : ℕ) → elem u (cellsBy v g line)
+          ≡
+          (ltb u (g .rows * g .cols) && sentence (heldOf v g) (heldStart v line) (runOf v g) (runStart v line) (runEnd v line) (heldIndex v (g .cols) u)
+          (runIndex v (g .cols) u))
+      listed true u = unfold verticalCells in those-are _ (g .rows * g .cols) u
+      listed false u = unfold horizontalCells in those-are _ (g .rows * g .cols) u
+
+      held : (u : ℕ) → elem u xs ≡ test u
+      held u = unfold hu ru in elem-one-of-each u (pushesOf g line walks) ∙ members u
+
+      same : (u : ℕ) → elem u xs ≡ elem u (cellsBy v g line)
+      same u =
+          held u
+          ∙ only (test u) (ltb u (g .rows * g .cols))
+          (λ t. lt-ltb u (g .rows * g .cols) (below-elem (g .rows * g .cols) u xs (segment-visits g line xs shaped found .inside) (held u ∙ t)))
+          ∙ sym (listed v u)

@@ -1,0 +1,209 @@
+-- THE LAW OF A BUILD: where every line is parallel to an axis, no walk meets refusal 7, on any fit grid; so no build of such lines is refused with 7.
+-- Assumes nothing.
+use mathlib.Core.Path.{_≡_, refl, sym, ap, _∙_, subst}
+use mathlib.Core.Logic.{inl, inr}
+use Prim.Native.Nat.{ℕ, zero, suc, _+_, _-_, _*_, _≤_, _<_}
+use native.Mathlib.Omega.{arith}
+use mathlib.Core.Bool.{Bool, true, false, cond}
+use mathlib.Core.List.{List}
+use lib.Dec.{T, leb, ltb, eqb}
+use lib.ListN.{length, getD}
+use lib.Ieee.{Float, nan, binary64, fits}
+use borrow.Author.Tests.{leb-true, leb-false, ltb-true, eqb-false}
+use Rattle.refusals.specs.declared.Refusal.{Refusal}
+use Rattle.refusals.specs.declared.Check.{Check}
+use Rattle.refusals.specs.declared.Check.the-variants.{Fine, Refused}
+use Rattle.refusals.specs.Refusals.{refusal, unless, andThen, eachFrom, Answer, refused, gives, _then_, _into_, answerBy}
+use Rattle.refusals.proofs.Checks.{andThen-right}
+use Rattle.grid.specs.declared.Grid.{Grid}
+use Rattle.grid.specs.Domain.{Lines, count, segmentAt, lineFits, fit, scratchCheck, linesCheck, lengthsCheck, countCheck, coordinatesCheck}
+use Rattle.grid.proofs.Bools.{and-right}
+use Rattle.grid.proofs.Fine.{LinesFit, lines-fine}
+use Rattle.sizing.specs.declared.Size.{Size}
+use Rattle.sizing.specs.Bounds.{whole, lowest, extentOf}
+use Rattle.sizing.specs.Size.{firstSize, halfOf}
+use Rattle.sizing.specs.Counts.{gridOf, emptyGrid}
+use Rattle.sizing.proofs.Reach.{Lie, Among, lowest-among}
+use Rattle.sizing.proofs.FitLaws.{whole-count, lie-x, lie-y, AllFit, all-fit}
+use Rattle.walk.specs.Pushes.{Outcome}
+use Rattle.walk.specs.Segment.{segmentOf}
+use Rattle.fill.specs.OnGrid.{cells, walkOn, ends, listOn, globalsOn, total}
+use Rattle.fill.specs.Checks.{roomCheck, turnsCheck, triedCheck, spaceCheck}
+use Rattle.fill.specs.Fill.{above}
+use Rattle.build.specs.declared.Built.{Built}
+use Rattle.build.specs.declared.Built.the-variants as built
+use Rattle.build.specs.declared.Plan.{Plan}
+use Rattle.build.specs.Choice.{crowded, chosen, chosenFirst, chosenNone, choice}
+use Rattle.build.specs.Build.{roomOn, endOf, builtOn, answerOf, BuildIs}
+use Rattle.straight.specs.Lines.{GridInFormat, AllStraight, AllInFormat}
+use Rattle.straight.proofs.Laws.{not-refused, same-refusal}
+
+-- ---- what is not refused with 7
+
+-- a check, and an answer
+pub record Spares (c : Check) : Type 0 where
+  pub says : (value : ℕ) → c ≡ Refused (refusal 7 value) → ⊥
+
+pub record Spared {A : Type 0} (o : Answer A) : Type 0 where
+  pub says : (value : ℕ) → o ≡ refused (refusal 7 value) → ⊥
+
+unfined : {r : Refusal} → Fine ≡ Refused r → ⊥
+unfined h = let z : _≡_ {A = ℕ} 0 1 = cc in omega arith
+
+same-number : {n m v w : ℕ} → Refused (refusal n v) ≡ Refused (refusal m w) → n ≡ m
+same-number {n} {m} {v} {w} h = ap (λ (r : Refusal). r .number) (same h)
+  where
+    same : {p q : Refusal} → Refused p ≡ Refused q → p ≡ q
+    same d = cc
+
+spares-fine : (c : Check) → c ≡ Fine → Spares c
+spares-fine c e = record { says = λ v h. unfined (sym e ∙ h) }
+
+spares-unless : (ok : Bool) (n v : ℕ) → eqb n 7 ≡ false → Spares (unless ok n v)
+unfolding unless
+spares-unless true n v h = spares-fine Fine refl
+spares-unless false n v h = record { says = λ w e. eqb-false n 7 h (same-number e) }
+
+spares-then : (a b : Check) → Spares a → Spares b → Spares (andThen a b)
+unfolding andThen
+spares-then Fine b s t = t
+spares-then (Refused r) b s t = s
+
+spares-each : (ok : ℕ → Bool) (n left i : ℕ) → eqb n 7 ≡ false → Spares (eachFrom ok n left i)
+unfolding eachFrom
+spares-each ok n zero i h = spares-fine Fine refl
+spares-each ok n (suc left) i h = spares-then (unless (ok i) n i) (eachFrom ok n left (suc i)) (spares-unless (ok i) n i h) (spares-each ok n left (suc i) h)
+
+spared-gives : {A : Type 0} (a : A) → Spared (gives a)
+spared-gives a = record { says = λ v h. let z : _≡_ {A = ℕ} 0 1 = cc in omega arith }
+
+spared-then : {A : Type 0} (c : Check) (o : Answer A) → Spares c → (c ≡ Fine → Spared o) → Spared (c then o)
+unfolding _then_
+spared-then Fine o s t = t refl
+spared-then {A} (Refused r) o s t = record { says = λ v h. s .says v (ap Refused (same-refusal h)) }
+
+spared-into : {A B : Type 0} (o : Answer A) (next : A → Answer B) → Spared o → ((a : A) → Spared (next a)) → Spared (o into next)
+unfolding _into_
+spared-into (gives a) next s t = t a
+spared-into {A} {B} (refused r) next s t = record { says = λ v h. s .says v (ap refused (same-refusal h)) }
+
+spared-if : {A : Type 0} (b : Bool) (x y : Answer A) → (b ≡ true → Spared x) → Spared y → Spared (cond b x y)
+spared-if true x y s t = s refl
+spared-if false x y s t = t
+
+-- ---- on a fit grid every walk ends
+
+ends-of : (o : Outcome) → ((why : Refusal) → o ≡ refused why → ⊥) → ends o ≡ true
+ends-of (refused why) h = absurd (h why refl)
+ends-of (gives xs) h = refl
+
+each-fine : (ok : ℕ → Bool) (n left i : ℕ) → ((k : ℕ) → i ≤ k → k < i + left → ok k ≡ true) → eachFrom ok n left i ≡ Fine
+unfolding eachFrom unless andThen
+each-fine ok n zero i h = refl
+each-fine ok n (suc left) i h = rw (h i (omega arith) (omega arith)) (each-fine ok n left (suc i) (λ k l m. h k (omega arith) (omega arith)))
+
+module _ (ls : Lines) (lines-fit : LinesFit ls) (straight : AllStraight ls) (in-format : AllInFormat ls) where
+  pub turns-fine : (g : Grid) → fit g ≡ true → GridInFormat g → turnsCheck g ls ≡ Fine
+  unfolding turnsCheck walkOn
+  turns-fine g ok m =
+      each-fine (λ i. ends (walkOn g ls i)) 7 (count ls) 0
+      (λ k l h. ends-of (segmentOf g (segmentAt ls k)) (not-refused g (segmentAt ls k) ok (unfold lineFits in lines-fit .each k (omega arith))
+      (in-format k (omega arith)) m (straight k (omega arith))))
+
+  tried-spares : (g : Grid) (room : ℕ) → turnsCheck g ls ≡ Fine → Spares (triedCheck g ls room)
+  unfolding triedCheck roomCheck
+  tried-spares g room h =
+      spares-then (roomCheck g room) (turnsCheck g ls) (spares-unless (leb (cells g + 1) room) 4 (cells g + 1) refl) (spares-fine (turnsCheck g ls) h)
+
+  -- ---- the grids of a build hold values of the format: a minimum is some line's coordinate
+
+  among-in-format : (starts ends : List Float) (n : ℕ) (v : Float)
+      → ((i : ℕ) → i < n → T (fits binary64 (getD starts i nan)) × T (fits binary64 (getD ends i nan))) → Among starts ends n v → T (fits binary64 v)
+  among-in-format starts ends n v h (i, l, inl e) = subst (λ (x : Float). T (fits binary64 x)) (sym e) (h i l .0)
+  among-in-format starts ends n v h (i, l, inr e) = subst (λ (x : Float). T (fits binary64 x)) (sym e) (h i l .1)
+
+  holds-at : (n : ℕ) → whole ls ≡ suc n → count ls ≡ suc n → (size : Size) → GridInFormat (gridOf (extentOf ls) size)
+  unfolding gridOf extentOf
+  holds-at n k c size =
+      let x : Lie (ls .«start_x») (ls .«end_x») (suc n) = subst (λ (m : ℕ). Lie (ls .«start_x») (ls .«end_x») m) c (lie-x ls lines-fit) in
+      let y : Lie (ls .«start_y») (ls .«end_y») (suc n) = subst (λ (m : ℕ). Lie (ls .«start_y») (ls .«end_y») m) c (lie-y ls lines-fit) in
+      record {
+        «min-x» =
+            subst (λ (m : ℕ). T (fits binary64 (lowest (ls .«start_x») (ls .«end_x») m))) (sym k)
+            (among-in-format (ls .«start_x») (ls .«end_x») (suc n) (lowest (ls .«start_x») (ls .«end_x») (suc n))
+            (λ i l. (in-format i (omega arith) .«start-x», in-format i (omega arith) .«end-x»))
+            (lowest-among (ls .«start_x») (ls .«end_x») n x));
+        «min-y» =
+            subst (λ (m : ℕ). T (fits binary64 (lowest (ls .«start_y») (ls .«end_y») m))) (sym k)
+            (among-in-format (ls .«start_y») (ls .«end_y») (suc n) (lowest (ls .«start_y») (ls .«end_y») (suc n))
+            (λ i l. (in-format i (omega arith) .«start-y», in-format i (omega arith) .«end-y»))
+            (lowest-among (ls .«start_y») (ls .«end_y») n y));
+      }
+
+  holds-of : 1 ≤ count ls → (size : Size) → GridInFormat (gridOf (extentOf ls) size)
+  holds-of h = let c : count ls ≡ suc (count ls - 1) = omega arith in holds-at (count ls - 1) (whole-count ls lines-fit ∙ c) c
+
+  -- ---- the choice of a grid
+
+  chosen-spared : 1 ≤ count ls → (left : ℕ) (size : Size) (room : ℕ) → AllFit left (extentOf ls) size → Spared (chosen left (extentOf ls) size ls room)
+  unfolding chosen
+  chosen-spared h zero size room f =
+      let g = gridOf (extentOf ls) size in
+      spared-then (triedCheck g ls room) (gives g) (tried-spares g room (turns-fine g f (holds-of h size))) (λ z. spared-gives g)
+  chosen-spared h (suc left) size room f =
+      let g = gridOf (extentOf ls) size in
+      spared-then (triedCheck g ls room) (cond (crowded g ls) (chosen left (extentOf ls) (halfOf size) ls room) (gives g))
+      (tried-spares g room (turns-fine g (f .0) (holds-of h size)))
+      (λ z. spared-if (crowded g ls) (chosen left (extentOf ls) (halfOf size) ls room) (gives g) (λ c. chosen-spared h left (halfOf size) room (f .1 (few g c)))
+      (spared-gives g))
+    where
+      few : (g : Grid) → crowded g ls ≡ true → g .rows * g .cols * 4 < 1000000
+      few g c = unfold crowded in ltb-true (cells g * 4) 1000000 (and-right (above 500 (λ c. length (listOn g ls c)) (cells g)) (ltb (cells g * 4) 1000000) c)
+
+  choice-spared : (plan : Plan) (room : ℕ) → Spared (choice plan ls room)
+  unfolding choice chosenFirst chosenNone
+  choice-spared plan room = go (leb 1 (count ls)) refl
+    where
+      none : leb 1 (count ls) ≡ false → turnsCheck emptyGrid ls ≡ Fine
+      none h = unfold turnsCheck in each-fine (λ i. ends (walkOn emptyGrid ls i)) 7 (count ls) 0 (λ k l m. absurd (omega (arith, leb-false 1 (count ls) h)))
+
+      go : (b : Bool) → leb 1 (count ls) ≡ b → Spared (cond b (chosenFirst plan ls room) (chosenNone ls room))
+      go true h =
+          chosen-spared (leb-true 1 (count ls) h) 2 (firstSize (plan .sizing) (extentOf ls) (count ls)) room
+          (all-fit (plan .sizing) ls lines-fit (leb-true 1 (count ls) h))
+      go false h = spared-then (triedCheck emptyGrid ls room) (gives emptyGrid) (tried-spares emptyGrid room (none h)) (λ z. spared-gives emptyGrid)
+
+-- ---- 3, 2, 1 before, 5 and 6 after
+
+lines-spare-7 : (ls : Lines) → Spares (linesCheck ls)
+unfolding linesCheck lengthsCheck countCheck coordinatesCheck
+lines-spare-7 ls =
+    spares-then _ _ (spares-unless _ 3 0 refl) (spares-then _ _ (spares-unless _ 2 (count ls) refl) (spares-each (lineFits ls) 1 (count ls) 0 refl))
+
+room-spared : (ls : Lines) (items globals : ℕ) (g : Grid) → Spared (roomOn ls items globals g)
+unfolding roomOn spaceCheck
+room-spared ls items globals g =
+    spared-then (spaceCheck g ls items globals) (gives g)
+    (spares-then _ _ (spares-unless (leb (total g ls) items) 5 (total g ls) refl)
+    (spares-unless (leb (length (globalsOn g ls)) globals) 6 (length (globalsOn g ls)) refl)) (λ z. spared-gives g)
+
+module _ (plan : Plan) (ls : Lines) (straight : AllStraight ls) (in-format : AllInFormat ls) where
+  pub build-spared : (offsets items globals scratch : ℕ) → Spared (endOf plan ls offsets items globals scratch)
+  unfolding endOf scratchCheck
+  build-spared offsets items globals scratch =
+      spared-then (andThen (scratchCheck scratch) (linesCheck ls)) (choice plan ls offsets into roomOn ls items globals)
+      (spares-then (scratchCheck scratch) (linesCheck ls) (spares-unless (leb 16384 scratch) 3 0 refl) (lines-spare-7 ls))
+      (λ h. spared-into (choice plan ls offsets) (roomOn ls items globals)
+      (choice-spared ls (lines-fine ls (andThen-right (scratchCheck scratch) (linesCheck ls) h)) straight in-format plan offsets) (room-spared ls items globals))
+
+answer-refused : (a : Answer Grid) (ls : Lines) (why : Refusal) → answerOf a ls ≡ built.Refused why → a ≡ refused why
+unfolding answerOf answerBy builtOn
+answer-refused (refused w) ls why d = let e : w ≡ why = cc in ap refused e
+answer-refused (gives g) ls why d = let z : _≡_ {A = ℕ} 0 1 = cc in absurd (omega arith)
+
+-- straight from what `build::build` ensures: its answer is no refusal with 7
+pub build-not-7 : (plan : Plan) {ls : Lines} {o t gs s : List ℕ} {r : Built} {o′ t′ gs′ s′ : List ℕ} → AllStraight ls → AllInFormat ls
+    → BuildIs ls o t gs s r o′ t′ gs′ s′ (endOf plan ls (length o) (length t) (length gs) (length s)) → (value : ℕ) → r ≡ built.Refused (refusal 7 value) → ⊥
+build-not-7 plan {ls} {o} {t} {gs} {s} {r} straight in-format h value e =
+    let a = endOf plan ls (length o) (length t) (length gs) (length s) in
+    build-spared plan ls straight in-format (length o) (length t) (length gs) (length s) .says value (answer-refused a ls (refusal 7 value) (sym (h .answer) ∙ e))

@@ -25,7 +25,7 @@ fn put(value: u64, out: &mut [u64])
 pub extern "C" fn mt_inner_order(entries: &mut [u32]) -> u32
     ensures { λ r. ⌜ (r ≡ 0) × (now (entries .exit) ≡ sorted (now (entries .entry))) ⌝ }
 {
-    slices::order(entries);
+    ordering::order(entries);
     0
 }
 

@@ -1,4 +1,4 @@
--- `Slices` is what the public promises cite; `Lists` has the words of the laws; `Inside` is what the private functions promise.
+-- `Slices` and `Moves` are what the public promises cite; `Lists` has the words of the laws.
 pub mod Slices
+pub mod Moves
 pub mod Lists
-pub mod Inside

@@ -89,7 +89,7 @@ pub fn segment_cells(grid: Grid, line: Segment, scratch: &mut [u32]) -> Cells
     match r {
         Ran::Done(n) => {
             let m = completed(scratch, n, grid, line);
-            let count = slices::order_and_keep(scratch, m);
+            let count = ordering::order_and_keep(scratch, m);
             Cells::Found(count)
         },
         Ran::Over => {

@@ -27,7 +27,7 @@ fn rows(r: &mut Random) -> Vec<(&'static str, bool, Vec<u32>)> {
         ("organ pipe: up to the middle, and down", true, by_place(&|i| i.min(n - i))),
         ("1,000 different numbers", true, drawn(&mut |r| (r.below(1000) * CELLS / 1000) as u32)),
         ("random", true, drawn(&mut |r| r.below(CELLS) as u32)),
-        ("16 different numbers", false, drawn(&mut |r| (r.below(16) * CELLS / 16) as u32)),
+        ("16 different numbers", true, drawn(&mut |r| (r.below(16) * CELLS / 16) as u32)),
         ("crowded: each power of 2 as likely", false, drawn(&mut |r| r.between(0.0, 32.0).exp2() as u32)),
     ]
 }

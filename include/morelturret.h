@@ -68,8 +68,8 @@ enum {
  *               1e-9 that a grid reaches beyond the lines is not lost. */
 enum { MT_SQUARE = 0, MT_AXES = 1 };
 
-/* Snap strategies. */
-enum { MT_GRID = 0, MT_GEOS_COMPAT = 1 };
+/* The snap strategy. Any other number is refused by 12. */
+enum { MT_GRID = 0 };
 
 /* ---- numbers: total on every double, nothing is refused ----
  *
@@ -101,10 +101,18 @@ double mt_square_root(double v);
 
 /* ---- snapping and ownership ---- */
 
-/* Snaps a point to multiples of `size` (0, or 1e-6 to 1e6; 0 returns the point) by a strategy (MT_GRID or MT_GEOS_COMPAT).
+/* Snaps a point to multiples of `size` (0, or 1e-6 to 1e6; 0 returns the point) by a strategy, which is MT_GRID: v / size rounded half away
+ * from zero, times size; a zero has the sign of v / size.
  * out (2 words): the bits of x and of y.
  * Refuses by 1, 12. */
 uint32_t mt_snap(double x, double y, double size, uint32_t strategy, uint64_t *out, size_t out_len);
+
+/* Whether GeosCompat, the strategy that had the number 1, gave the coordinate v the same bits as MT_GRID at this size (0, or 1e-6 to 1e6). It was the
+ * floor of (|v / size| + 0.5), with the sign of v / size, times size. The two differ where |v / size| is 0.49999999999999994, and nowhere else: so
+ * results that were stored with it can be sorted, coordinate by coordinate.
+ * out (1 word): 1 where they are the same, else 0.
+ * Refuses by 1, 12. */
+uint32_t mt_strategies_agree(double v, double size, uint64_t *out, size_t out_len);
 
 /* Whether the cell (row, col) owns the point (x, y): low <= p < high on both axes; in the last column or row p = high counts too.
  * out (1 word): 1 where it does, else 0.

@@ -12,6 +12,7 @@ pub mod numbers;
 pub mod own;
 pub mod snap;
 pub mod straight;
+pub mod strategies;
 pub mod visit;
 pub mod walk;
 pub mod wkb;

@@ -155,8 +155,12 @@ pub fn grid_fits(g: &Grid) -> bool {
     coordinate_fits(g.min_x) && coordinate_fits(g.min_y) && sizes && counts
 }
 
+pub fn snap_size_fits(size: f64) -> bool {
+    size == 0.0 || (1e-6..=1e6).contains(&size)
+}
+
 pub fn snap_fits(size: f64, strategy: u32) -> bool {
-    (size == 0.0 || (1e-6..=1e6).contains(&size)) && strategy <= 1
+    snap_size_fits(size) && strategy == 0
 }
 
 // ---- the walk ----
@@ -785,7 +789,7 @@ pub fn overlap_owned(g: &Grid, row: u32, col: u32, x: f64, y: f64, size: f64, st
         return number;
     }
     let (across, up) = axes(g);
-    let (px, py) = (snapped(x, size, strategy), snapped(y, size, strategy));
+    let (px, py) = (snapped(x, size), snapped(y, size));
     let inside = across.owns(col as i64, px, false) && up.owns(row as i64, py, false);
     out[0] = (inside || (row == 0 && col == 0)) as u64;
     0
@@ -808,14 +812,19 @@ pub fn owner(g: &Grid, x: f64, y: f64, out: &mut [u64]) -> u32 {
     0
 }
 
-fn snapped(v: f64, size: f64, strategy: u32) -> f64 {
+fn snapped(v: f64, size: f64) -> f64 {
+    if size == 0.0 {
+        return v;
+    }
+    round_half_away(v / size) * size
+}
+
+/// Document 01's second strategy.
+fn snapped_by_geos(v: f64, size: f64) -> f64 {
     if size == 0.0 {
         return v;
     }
     let scaled = v / size;
-    if strategy == 0 {
-        return round_half_away(scaled) * size;
-    }
     let sign = if scaled.to_bits() >> 63 == 1 { -1.0 } else { 1.0 };
     floor(magnitude(scaled) + 0.5) * sign * size
 }
@@ -833,9 +842,22 @@ pub fn snap(x: f64, y: f64, size: f64, strategy: u32, out: &mut [u64]) -> u32 {
         out[0] = 0;
         return number;
     }
-    out[0] = snapped(x, size, strategy).to_bits();
-    out[1] = snapped(y, size, strategy).to_bits();
+    out[0] = snapped(x, size).to_bits();
+    out[1] = snapped(y, size).to_bits();
     0
+}
+
+/// out: 1 where document 01's two strategies give the coordinate the same bits, else 0. Both are worked out.
+pub fn strategies_agree(v: f64, size: f64, out: &mut [u64]) -> u32 {
+    let number = if !coordinate_fits(v) {
+        1
+    } else if !snap_size_fits(size) {
+        12
+    } else {
+        0
+    };
+    out[0] = (number == 0 && snapped(v, size).to_bits() == snapped_by_geos(v, size).to_bits()) as u64;
+    number
 }
 
 // ---- the reader ----

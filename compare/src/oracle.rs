@@ -152,10 +152,10 @@ impl Owners {
 
     /// Whether the cell owns a collinear overlap whose first end is (x, y), snapped.
     #[inline]
-    pub fn overlap(&mut self, row: u32, col: u32, x: f64, y: f64, size: f64, strategy: u32) -> bool {
+    pub fn overlap(&mut self, row: u32, col: u32, x: f64, y: f64, size: f64) -> bool {
         let p = geo::Coord { x, y };
         let at = LineIntersection::Collinear { intersection: geo::Line { start: p, end: p } };
-        self.ask(row, col, at, &noder(size, strategy))
+        self.ask(row, col, at, &SnapNoder { grid_size: size, snap_strategy: SnapStrategy::Grid })
     }
 
     #[inline]
@@ -164,13 +164,19 @@ impl Owners {
     }
 }
 
-fn noder(size: f64, strategy: u32) -> SnapNoder {
-    SnapNoder { grid_size: size, snap_strategy: if strategy == 0 { SnapStrategy::Grid } else { SnapStrategy::GeosCompat } }
-}
-
 /// A snapped point.
 #[inline]
-pub fn snap(x: f64, y: f64, size: f64, strategy: u32) -> (f64, f64) {
-    let p = noder(size, strategy).snap(Coord3D::new(x, y, 0.0));
+pub fn snap(x: f64, y: f64, size: f64) -> (f64, f64) {
+    snap_by(SnapStrategy::Grid, x, y, size)
+}
+
+/// A point snapped by the strategy that the port has retired.
+pub fn snap_by_geos(x: f64, y: f64, size: f64) -> (f64, f64) {
+    snap_by(SnapStrategy::GeosCompat, x, y, size)
+}
+
+#[inline]
+fn snap_by(snap_strategy: SnapStrategy, x: f64, y: f64, size: f64) -> (f64, f64) {
+    let p = SnapNoder { grid_size: size, snap_strategy }.snap(Coord3D::new(x, y, 0.0));
     (p.x, p.y)
 }

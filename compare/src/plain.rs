@@ -36,14 +36,14 @@ pub mod numbers {
 
 /// `SnapNoder::snap`.
 #[inline(never)]
-pub fn snap_point(x: f64, y: f64, size: f64, strategy: u32) -> (f64, f64) {
-    oracle::snap(x, y, size, strategy)
+pub fn snap_point(x: f64, y: f64, size: f64) -> (f64, f64) {
+    oracle::snap(x, y, size)
 }
 
 /// `SnapNoder::snap`, handed back as the port hands it back: the bits of x and y stand in `out`.
 #[inline(never)]
-pub fn snap(x: f64, y: f64, size: f64, strategy: u32, out: &mut [u64]) -> u32 {
-    let (x, y) = oracle::snap(x, y, size, strategy);
+pub fn snap(x: f64, y: f64, size: f64, out: &mut [u64]) -> u32 {
+    let (x, y) = oracle::snap(x, y, size);
     out[0] = x.to_bits();
     out[1] = y.to_bits();
     0

@@ -9,7 +9,7 @@ use crate::model::{Coordinates, Lists, Standing};
 use crate::{Grid, Line};
 use morelturret::sys;
 
-pub use morelturret::sys::{read_line_string, snap};
+pub use morelturret::sys::{read_line_string, snap, strategies_agree};
 
 pub mod numbers {
     pub use morelturret::sys::{ceiling, clamped_floor, floor, greatest, least, magnitude, round_half_away, square_root};

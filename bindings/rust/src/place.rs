@@ -51,14 +51,12 @@ impl Grid {
     }
 }
 
-/// How a coordinate is snapped. The two differ where v / size plus a half is rounded up to the next whole number.
+/// How a coordinate is snapped.
 #[derive(Clone, Copy, PartialEq, Eq, Hash, Debug)]
 #[repr(u32)]
 pub enum Strategy {
     /// Round half away of v / size, a zero signed as v / size, times size.
     Grid = 0,
-    /// Floor of (|v / size| + 0.5), with the sign of v / size, times size.
-    GeosCompat = 1,
 }
 
 /// Snaps a point to multiples of `size`, which is 0 or from 1e-6 to 1e6; size 0 returns the point.
@@ -69,12 +67,28 @@ pub enum Strategy {
 /// use morelturret::{snap, Strategy};
 ///
 /// assert_eq!(snap(-2.5, 0.49999999999999994, 1.0, Strategy::Grid), Ok((-3.0, 0.0)));
-/// assert_eq!(snap(-2.5, 0.49999999999999994, 1.0, Strategy::GeosCompat), Ok((-3.0, 1.0)));
 /// assert_eq!(snap(0.5, 0.5, 1e7, Strategy::Grid).unwrap_err().number, 12);
 /// ```
 pub fn snap(x: f64, y: f64, size: f64, strategy: Strategy) -> Result<(f64, f64), Refusal> {
     let [x, y] = answer(|out| sys::snap(x, y, size, strategy as u32, out))?;
     Ok((f64::from_bits(x), f64::from_bits(y)))
+}
+
+/// Whether GeosCompat, the strategy that had the number 1, gave the coordinate `v` the same bits as [`Strategy::Grid`] at this size. It was the floor of
+/// (|v / size| + 0.5), with the sign of v / size, times size. The two differ where |v / size| is 0.49999999999999994, and nowhere else: so results
+/// that were stored with it can be sorted, coordinate by coordinate. At size 0 both return the coordinate.
+///
+/// Refuses by 1 (the coordinate), 12 (the size).
+///
+/// ```
+/// use morelturret::strategies_agree;
+///
+/// assert_eq!(strategies_agree(-2.5, 1.0), Ok(true)); // both gave -3
+/// assert_eq!(strategies_agree(0.49999999999999994, 1.0), Ok(false)); // Grid gives 0, GeosCompat gave 1
+/// ```
+pub fn strategies_agree(v: f64, size: f64) -> Result<bool, Refusal> {
+    let [same] = answer(|out| sys::strategies_agree(v, size, out))?;
+    Ok(same == 1)
 }
 
 /// Whether the cell (row, col) owns the point (x, y): low <= p < high on both axes; in the last column or row p = high counts too.

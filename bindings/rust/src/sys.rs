@@ -20,6 +20,7 @@ extern "C" {
     fn mt_round_half_away(v: f64) -> f64;
     fn mt_square_root(v: f64) -> f64;
     fn mt_snap(x: f64, y: f64, size: f64, strategy: u32, out: *mut u64, out_len: usize) -> u32;
+    fn mt_strategies_agree(v: f64, size: f64, out: *mut u64, out_len: usize) -> u32;
     fn mt_point_owned(grid: *const u64, grid_len: usize, row: u32, col: u32, x: f64, y: f64, out: *mut u64, out_len: usize) -> u32;
     fn mt_overlap_owned(grid: *const u64, grid_len: usize, row: u32, col: u32, x: f64, y: f64, size: f64, strategy: u32,
         out: *mut u64, out_len: usize) -> u32;
@@ -111,6 +112,13 @@ pub fn square_root(v: f64) -> f64 {
 pub fn snap(x: f64, y: f64, size: f64, strategy: u32, out: &mut [u64]) -> u32 {
     // SAFETY: numbers by value, and Rust slices that are lent for this call.
     unsafe { mt_snap(x, y, size, strategy, out.as_mut_ptr(), out.len()) }
+}
+
+/// `mt_strategies_agree` of the header.
+#[inline]
+pub fn strategies_agree(v: f64, size: f64, out: &mut [u64]) -> u32 {
+    // SAFETY: numbers by value, and Rust slices that are lent for this call.
+    unsafe { mt_strategies_agree(v, size, out.as_mut_ptr(), out.len()) }
 }
 
 /// `mt_point_owned` of the header.

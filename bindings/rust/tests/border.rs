@@ -37,6 +37,20 @@ fn too_few_words_after_a_short_out() {
     }
 }
 
+/// The functions that take no grid and no slice but `out`.
+#[test]
+fn a_short_out_and_words_beyond_a_result() {
+    let mut out = [JUNK; 3];
+    for words in 0..2 {
+        assert_eq!(sys::snap(f64::NAN, 0.5, -1.0, 1, &mut out[..words]), 100, "snap: before every refusal");
+    }
+    assert_eq!(sys::strategies_agree(f64::NAN, -1.0, &mut []), 100, "strategies_agree: before every refusal");
+    assert_eq!(out, [JUNK; 3], "nothing is written");
+    assert_eq!((sys::strategies_agree(0.49999999999999994, 1.0, &mut out), out), (0, [0, JUNK, JUNK]));
+    assert_eq!((sys::strategies_agree(-2.5, 1.0, &mut out), out), (0, [1, JUNK, JUNK]));
+    assert_eq!((sys::snap(-2.5, 0.25, 1.0, 0, &mut out), out), (0, [(-3.0f64).to_bits(), 0, JUNK]));
+}
+
 #[test]
 fn further_words_are_not_read() {
     let mut words = [JUNK; 8];

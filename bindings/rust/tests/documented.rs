@@ -49,20 +49,36 @@ fn owners() {
     assert_eq!(overlap_owned(FOUR, 3, 3, 4.0, 4.0, 0.0, Strategy::Grid), Ok(false));
     assert_eq!(overlap_owned(FOUR, 0, 0, 4.0, 4.0, 0.0, Strategy::Grid), Ok(true));
     let near_half = 0.49999999999999994;
-    assert_eq!(overlap_owned(FOUR, 0, 1, near_half, near_half, 1.0, Strategy::GeosCompat), Ok(false));
-    assert_eq!(overlap_owned(FOUR, 1, 1, near_half, near_half, 1.0, Strategy::GeosCompat), Ok(true));
-    assert_eq!(overlap_owned(FOUR, 1, 1, near_half, near_half, 1.0, Strategy::Grid), Ok(false));
+    assert_eq!(overlap_owned(FOUR, 1, 1, near_half, near_half, 1.0, Strategy::Grid), Ok(false), "snapped to 0");
+    assert_eq!(overlap_owned(FOUR, 1, 1, 0.5, 0.5, 1.0, Strategy::Grid), Ok(true), "snapped to 1");
 }
 
 #[test]
 fn snaps() {
     let near_half = 0.49999999999999994;
     assert_eq!(snap(near_half, -2.5, 1.0, Strategy::Grid), Ok((0.0, -3.0)), "P9, P10");
-    assert_eq!(snap(near_half, -2.5, 1.0, Strategy::GeosCompat), Ok((1.0, -3.0)), "P9, P10");
-    assert_eq!(snap(near_half, -2.5, 0.0, Strategy::GeosCompat), Ok((near_half, -2.5)), "size 0 returns the point");
+    assert_eq!(snap(near_half, -2.5, 0.0, Strategy::Grid), Ok((near_half, -2.5)), "size 0 returns the point");
     assert_eq!(snap(7.3, -7.3, 0.5, Strategy::Grid), Ok((7.5, -7.5)));
     let (x, y) = snap(-0.25, 0.25, 1.0, Strategy::Grid).unwrap();
     assert_eq!((x.to_bits(), y.to_bits()), ((-0.0f64).to_bits(), 0), "a zero has the sign of v / size");
+}
+
+#[test]
+fn strategies() {
+    let near_half = 0.49999999999999994;
+    assert_eq!(strategies_agree(near_half, 1.0), Ok(false), "P9");
+    assert_eq!(strategies_agree(-2.5, 1.0), Ok(true), "P10");
+    // on both sides of zero, at other sizes, and where v is no half of the size but the quotient is rounded to it
+    for (v, size) in [(near_half, 1.0), (0.049999999999999996, 0.1), (217.5596896699516, 435.1193793399033), (0.24999999999999997, 0.5)] {
+        assert_eq!(v / size, near_half);
+        assert_eq!((strategies_agree(v, size), strategies_agree(-v, size)), (Ok(false), Ok(false)), "{v} at {size}");
+    }
+    for v in [0.4999999999999999, 0.5, 0.5000000000000001, 1.4999999999999998, 1.5, 2.5, 4503599.5, 0.0, 5e-324, 1e9] {
+        assert_eq!((strategies_agree(v, 1.0), strategies_agree(-v, 1.0)), (Ok(true), Ok(true)), "{v}");
+    }
+    for size in [0.0, -0.0] {
+        assert_eq!((strategies_agree(near_half, size), strategies_agree(0.0, size)), (Ok(true), Ok(true)), "size 0 returns the coordinate");
+    }
 }
 
 #[test]

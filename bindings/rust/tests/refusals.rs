@@ -55,6 +55,8 @@ fn one_a_coordinate() {
             assert_eq!(refused_build(lines.lines(), ROOM, SCRATCH), ((1, 3), LEFT), "the first such line");
         }
         assert_eq!(of(snap(bad, 0.0, 1.0, Strategy::Grid)), (1, 0));
+        assert_eq!(of(strategies_agree(bad, 1.0)), (1, 0));
+        assert_eq!(of(strategies_agree(bad, -1.0)), (1, 0), "before 12");
         assert_eq!(of(point_owned(FOUR, 0, 0, 0.0, bad)), (1, 0));
         assert_eq!(of(overlap_owned(FOUR, 0, 0, bad, 0.0, 1.0, Strategy::Grid)), (1, 0));
         assert_eq!(of(owner(FOUR, 0.0, bad)), (1, 0));
@@ -209,7 +211,7 @@ fn eight_an_unfit_grid() {
 fn nine_beyond_the_end() {
     assert_eq!(of(point_owned(FOUR, 4, 0, 0.5, 0.5)), (9, 4));
     assert_eq!(of(point_owned(FOUR, 2, 4, 0.5, 0.5)), (9, 2), "the row, also where the column is beyond");
-    assert_eq!(of(overlap_owned(FOUR, 7, 0, 0.5, 0.5, 1.0, Strategy::GeosCompat)), (9, 7));
+    assert_eq!(of(overlap_owned(FOUR, 7, 0, 0.5, 0.5, 1.0, Strategy::Grid)), (9, 7));
     let owned = square();
     let lines = owned.lines();
     let tables = Tables::of(lines).unwrap();
@@ -306,12 +308,32 @@ fn eleven_bytes() {
 #[test]
 fn twelve_a_snap_size() {
     for size in [9.9e-7, 1.1e6, -1.0, f64::NAN, f64::INFINITY] {
-        for strategy in [Strategy::Grid, Strategy::GeosCompat] {
-            assert_eq!(of(snap(0.5, 0.5, size, strategy)), (12, 0));
-            assert_eq!(of(overlap_owned(FOUR, 9, 9, 0.5, 0.5, size, strategy)), (12, 0), "before 9");
-        }
+        assert_eq!(of(snap(0.5, 0.5, size, Strategy::Grid)), (12, 0));
+        assert_eq!(of(overlap_owned(FOUR, 9, 9, 0.5, 0.5, size, Strategy::Grid)), (12, 0), "before 9");
+        assert_eq!(of(strategies_agree(0.5, size)), (12, 0));
     }
-    assert!(snap(0.5, 0.5, 1e-6, Strategy::Grid).is_ok() && snap(0.5, 0.5, 1e6, Strategy::Grid).is_ok());
+    for size in [1e-6, 1e6] {
+        assert!(snap(0.5, 0.5, size, Strategy::Grid).is_ok() && strategies_agree(0.5, size).is_ok());
+    }
+}
+
+/// Software that was built against a retired strategy's number, or names one that there never was.
+#[test]
+fn twelve_a_strategy() {
+    let words = FOUR.words();
+    for strategy in [1, 2, 256, 1 << 31, u32::MAX] {
+        for size in [0.0, 1.0] {
+            let mut out = [77, 77];
+            assert_eq!((sys::snap(0.5, 0.5, size, strategy, &mut out), out), (12, [0, 77]), "strategy {strategy}, size {size}");
+            let mut out = [77, 77];
+            assert_eq!(sys::overlap_owned(&words, 0, 0, 0.5, 0.5, size, strategy, &mut out), 12, "strategy {strategy}, size {size}");
+            assert_eq!(out, [0, 77]);
+        }
+        let mut out = [77];
+        assert_eq!(sys::snap(f64::NAN, 0.5, 1.0, strategy, &mut out.repeat(2)), 1, "1 before 12");
+        assert_eq!(sys::overlap_owned(&words, 9, 9, 0.5, 0.5, 1.0, strategy, &mut out), 12, "12 before 9");
+        assert_eq!(sys::overlap_owned(&Grid { cols: 0, ..FOUR }.words(), 0, 0, 0.5, 0.5, 1.0, strategy, &mut out), 8, "8 before 12");
+    }
 }
 
 #[test]

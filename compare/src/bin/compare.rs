@@ -3,10 +3,10 @@
 //! The port takes part in every kind: --port may be said, and changes nothing.
 //! Ends with status 1 at the first difference.
 
-use compare::kinds::{self, build, lists, numbers, own, snap, straight, visit, walk, wkb};
+use compare::kinds::{self, build, lists, numbers, own, snap, straight, strategies, visit, walk, wkb};
 
 /// The kinds, with the cases of a full run.
-const KINDS: [(&str, u64); 15] = [
+const KINDS: [(&str, u64); 16] = [
     ("sample", 1),
     ("numbers", 10_000_000),
     ("walk", 1_000_000),
@@ -16,6 +16,7 @@ const KINDS: [(&str, u64); 15] = [
     ("lists", 10_000),
     ("own", 1_000_000),
     ("snap", 2_200_000),
+    ("strategies", 12_000_000),
     ("wkb", 100_000),
     ("axes-walk", 500_000),
     ("axes-build", 3_000),
@@ -52,6 +53,7 @@ fn main() {
             "lists" => kinds::run::<lists::Lists<false>>(seed, n, vec![]),
             "own" => kinds::run::<own::Own<false>>(seed, n, vec![]),
             "snap" => kinds::run::<snap::Snap>(seed, n, vec![]),
+            "strategies" => kinds::run::<strategies::Strategies>(seed, n, strategies::fixed()),
             "wkb" => kinds::run::<wkb::Wkb>(seed, n, vec![]),
             "axes-walk" => kinds::run::<walk::Walk<true>>(seed, n, walk::fixed_by_axis()),
             "axes-build" => kinds::run::<build::Build<true>>(seed, n, build::fixed_by_axis(seed)),
@@ -80,7 +82,7 @@ fn sample() -> bool {
     let hair = 2f64.powi(-41);
     let mut owners = oracle::Owners::new(&four);
     let row = |x| oracle::segment_cells(&Grid { cols: 4004, rows: 1, ..four }, &[0.5, 0.5, x, 0.5]).len();
-    let snap = |v, strategy| oracle::snap(v, 0.0, 1.0, strategy).0;
+    let (grid, geos) = (|v| oracle::snap(v, 0.0, 1.0).0, |v| oracle::snap_by_geos(v, 0.0, 1.0).0);
     let measured = [
         ("P1", cells([0.5, 0.5, 2.5, 0.5]) == [0, 1, 2]),
         ("P2", cells([1.0, 0.5, 1.0, 2.5]) == [0, 1, 4, 5, 8, 9]),
@@ -90,8 +92,8 @@ fn sample() -> bool {
         ("P6", at(1.0 - hair) == [0]),
         ("P7", owners.point(0, 1, 1.0, 0.5) && !owners.point(0, 0, 1.0, 0.5)),
         ("P8", owners.point(3, 3, 4.0, 4.0)),
-        ("P9", snap(0.49999999999999994, 0) == 0.0 && snap(0.49999999999999994, 1) == 1.0),
-        ("P10", snap(-2.5, 0) == -3.0 && snap(-2.5, 1) == -3.0),
+        ("P9", grid(0.49999999999999994) == 0.0 && geos(0.49999999999999994) == 1.0),
+        ("P10", grid(-2.5) == -3.0 && geos(-2.5) == -3.0),
         ("2,048 cells", row(2047.5) == 2048),
         ("2,049 cells", row(2048.5) == 2049),
     ];

@@ -75,7 +75,7 @@ type Draw = fn(&mut Random, usize) -> (&'static str, Vec<Line>);
 struct File {
     words: Vec<u64>,
     records: u32,
-    kinds: [(u32, usize); 10],
+    kinds: [(u32, usize); 11],
 }
 
 impl File {
@@ -357,7 +357,7 @@ impl File {
 
             let number = model::overlap_owned(&c.grid, c.row, c.col, c.x, c.y, c.size, c.strategy, &mut out);
             let asked = rust.as_mut().filter(|_| number == 0);
-            let owned = asked.map_or(out[0], |rust| rust.overlap(c.row, c.col, c.x, c.y, c.size, c.strategy) as u64);
+            let owned = asked.map_or(out[0], |rust| rust.overlap(c.row, c.col, c.x, c.y, c.size) as u64);
             let question = cell().float(c.size).word(c.strategy as u64).grid(&c.grid);
             self.put(7, question, Words::answer(number, out[0], &[owned]));
 
@@ -369,14 +369,29 @@ impl File {
 
     fn snaps(&mut self, r: &mut Random) {
         use compare::kinds::{snap, Kind};
-        let fixed = [(0.49999999999999994, -2.5, 1.0, 0), (0.49999999999999994, -2.5, 1.0, 1), (-0.0, 0.0, 1.0, 0), (-0.0, 0.0, 1.0, 1)];
+        let fixed = [(0.49999999999999994, -2.5, 1.0, 0), (0.49999999999999994, -2.5, 1.0, 1), (-0.0, 0.0, 1.0, 0), (-0.0, 0.0, 1.0, 2)];
         let drawn: Vec<_> = (0..300).map(|_| snap::Snap::draw(r).1).map(|c| (c.x, c.y, c.size, c.strategy)).collect();
         for (x, y, size, strategy) in fixed.into_iter().chain(drawn) {
             let mut out = [0; 8];
             let number = model::snap(x, y, size, strategy, &mut out);
-            let (a, b) = if number == 0 { oracle::snap(x, y, size, strategy) } else { (0.0, 0.0) };
+            let (a, b) = if number == 0 { oracle::snap(x, y, size) } else { (0.0, 0.0) };
             let question = Words::new().float(x).float(y).float(size).word(strategy as u64);
             self.put(9, question, Words::answer(number, out[0], &[bits(a), bits(b)]));
+        }
+    }
+
+    /// Whether the Rust's two strategies agree.
+    fn strategies(&mut self, r: &mut Random) {
+        use compare::kinds::{strategies, Kind};
+        let fixed = [0.0, 1.0].iter().flat_map(|&size| {
+            [0.0, -0.0, 0.49999999999999994, -0.49999999999999994, 0.5, -0.5, 2.5, -2.5].map(|v| strategies::Case { v, size })
+        });
+        let drawn: Vec<_> = (0..200).map(|_| strategies::Strategies::draw(r).1).collect();
+        for c in fixed.chain(drawn) {
+            let mut out = [0; 8];
+            let number = model::strategies_agree(c.v, c.size, &mut out);
+            let same = number == 0 && strategies::by_rust(&c);
+            self.put(10, Words::new().float(c.v).float(c.size), Words::answer(number, out[0], &[same as u64]));
         }
     }
 }
@@ -393,7 +408,7 @@ fn main() {
     }
     let path = path.expect("record [--seed S] OUT");
     let r = &mut Random::new(seed);
-    let mut file = File { words: Vec::new(), records: 0, kinds: [(0, 0); 10] };
+    let mut file = File { words: Vec::new(), records: 0, kinds: [(0, 0); 11] };
     file.numbers(r);
     file.walks(r);
     file.builds(r);
@@ -401,11 +416,12 @@ fn main() {
     file.owners(r);
     file.snaps(r);
     file.axes(r);
+    file.strategies(r);
     let records = file.records;
     let bytes: Vec<u8> = file.words.iter().flat_map(|w| w.to_le_bytes()).collect();
     std::fs::write(&path, &bytes).unwrap_or_else(|e| panic!("{path}: {e}"));
     println!("{records} records, {} bytes, seed {seed}", bytes.len());
-    let names = ["", "numbers", "walks", "builds", "batches", "tests", "points owned", "overlaps owned", "owners", "snaps"];
+    let names = ["", "numbers", "walks", "builds", "batches", "tests", "points owned", "overlaps owned", "owners", "snaps", "strategies"];
     for (name, (count, bytes)) in names.iter().zip(file.kinds).skip(1) {
         println!("  {name}: {count}, {bytes} bytes");
     }

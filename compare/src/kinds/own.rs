@@ -33,19 +33,29 @@ fn entries() -> Vec<Entries> {
     ]
 }
 
-/// A snap size and a strategy, fit but for one time in a hundred.
-pub fn snapping(r: &mut Random) -> (f64, u32) {
+/// A snap size, fit but for one time in a hundred.
+pub fn snap_size(r: &mut Random) -> f64 {
     if r.once_in(100) {
-        return (r.pick(&[-0.0, 9.999999999999999e-7, 1000000.0000000001, -1.0, f64::NAN, f64::INFINITY, 1.0]), r.pick(&[0, 1, 2, u32::MAX]));
+        return r.pick(&[-0.0, 9.999999999999999e-7, 1000000.0000000001, -1.0, f64::NAN, f64::INFINITY, -1e-6, 5e-324]);
     }
-    let size = match r.below(6) {
+    match r.below(6) {
         0 => 0.0,
         1 => 1.0,
         2 => r.pick(&[1e-6, 1e6, 0.1, 0.01, 0.5, 0.25, 1e-3]),
         3 => 2f64.powi(r.below(38) as i32 - 19),
         _ => r.size(1e-6, 1e6),
+    }
+}
+
+/// A snap size, and a strategy that there is but for one time in fifty.
+pub fn snapping(r: &mut Random) -> (f64, u32) {
+    let strategy = |n| match n {
+        0..=2 => 1,
+        3 => 2,
+        4 => u32::MAX,
+        _ => 0,
     };
-    (size, r.below(2) as u32)
+    (snap_size(r), strategy(r.below(250)))
 }
 
 pub struct Own<const AXES: bool>;
@@ -105,7 +115,7 @@ impl<const AXES: bool> Kind for Own<AXES> {
             let mut out = [u64::MAX; 8];
             let number = (e.overlap)(g, c.row, c.col, c.x, c.y, c.size, c.strategy, &mut out);
             let wanted = *overlap.get_or_insert_with(|| match number {
-                0 => (0, by_rust(g).map_or(out[0], |mut rust| rust.overlap(c.row, c.col, c.x, c.y, c.size, c.strategy) as u64)),
+                0 => (0, by_rust(g).map_or(out[0], |mut rust| rust.overlap(c.row, c.col, c.x, c.y, c.size) as u64)),
                 n => (n, out[0]),
             });
             answers(&format!("{}: overlap owned", e.who), (wanted.0, &[wanted.1]), (number, &out[..1]))?;
@@ -200,13 +210,13 @@ impl ByRust {
     }
 
     /// A snap size is one for both axes, so where these are kept apart the point is snapped first, and owned as it is then.
-    pub fn overlap(&mut self, row: u32, col: u32, x: f64, y: f64, size: f64, strategy: u32) -> bool {
+    pub fn overlap(&mut self, row: u32, col: u32, x: f64, y: f64, size: f64) -> bool {
         if self.squared.is_itself() {
-            return self.owners.overlap(row, col, x, y, size, strategy);
+            return self.owners.overlap(row, col, x, y, size);
         }
-        let (x, y) = oracle::snap(x, y, size, strategy);
+        let (x, y) = oracle::snap(x, y, size);
         let (x, y) = self.squared.point(x, y);
-        self.owners.overlap(row, col, x, y, 0.0, 0)
+        self.owners.overlap(row, col, x, y, 0.0)
     }
 }
 

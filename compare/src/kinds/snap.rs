@@ -64,7 +64,7 @@ impl Kind for Snap {
             let got = (number, if number == 0 { [out[0], out[1]] } else { [out[0], 0] });
             let wanted = wanted.get_or_insert_with(|| match number {
                 0 => {
-                    let (x, y) = oracle::snap(c.x, c.y, c.size, c.strategy);
+                    let (x, y) = oracle::snap(c.x, c.y, c.size);
                     (0, [x.to_bits(), y.to_bits()])
                 }
                 _ => got,
@@ -72,8 +72,7 @@ impl Kind for Snap {
             answers(who, (wanted.0, &wanted.1), (got.0, &got.1))?;
         }
         Ok(match (wanted.unwrap().0, c.strategy) {
-            (0, 0) => "answered by Grid",
-            (0, _) => "answered by GeosCompat",
+            (12, 1) => "refused 12, strategy 1",
             (number, _) => word(number),
         })
     }

@@ -101,7 +101,10 @@ countCheck n = unless (leb n 65536) 2 n
 unfoldable pub coordinatesCheck : Lines → Check
 coordinatesCheck ls = eachFrom (lineFits ls) 1 (count ls) 0
 
--- 1, of a point and of one segment: the value is 0
+-- 1, of one coordinate, of a point and of one segment: the value is 0
+unfoldable pub coordinateCheck : Float → Check
+coordinateCheck v = unless (coordinate v) 1 0
+
 unfoldable pub pointCheck : Float → Float → Check
 pointCheck x y = unless (point x y) 1 0
 
@@ -118,9 +121,13 @@ snapSize size =
     eq size (round binary64 false 0 1)
     || (le (round binary64 false 1 1000000) size && le size (round binary64 false 1000000 1))
 
--- 12: snap size or strategy (0 or 1) unfit
+-- 12: snap size unfit
+unfoldable pub snapSizeCheck : Float → Check
+snapSizeCheck size = unless (snapSize size) 12 0
+
+-- 12: snap size or strategy unfit; 0 (Grid) is the only strategy
 unfoldable pub snapCheck : Float → ℕ → Check
-snapCheck size strategy = unless (snapSize size && leb strategy 1) 12 0
+snapCheck size strategy = unless (snapSize size && eqb strategy 0) 12 0
 
 -- 9: a cell beyond its end; the value is the row
 unfoldable pub cellCheck : Grid → ℕ → ℕ → Check

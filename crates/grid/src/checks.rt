@@ -10,8 +10,8 @@ ghost use mathlib.Core.Bool.{false, _&&_};
 ghost use lib.Dec.{leb, ltb, eqb};
 ghost use lib.ListN.{length};
 ghost use Rattle.grid.specs.Domain.{coordinate, point, segment, lines, Alike, counts, shape, sizeFits, sizesFit, fit};
-ghost use Rattle.grid.specs.Domain.{lengthsCheck, scratchCheck, countCheck, coordinatesCheck, pointCheck, segmentCheck, gridCheck};
-ghost use Rattle.grid.specs.Domain.{snapSize, snapCheck, cellCheck, linesCheck};
+ghost use Rattle.grid.specs.Domain.{lengthsCheck, scratchCheck, countCheck, coordinatesCheck, coordinateCheck, pointCheck, segmentCheck, gridCheck};
+ghost use Rattle.grid.specs.Domain.{snapSize, snapSizeCheck, snapCheck, cellCheck, linesCheck};
 
 // The most lines of a call, and the least scratch.
 pub const MOST_LINES: usize = 65536;
@@ -99,6 +99,12 @@ pub fn is_fit(grid: Grid) -> bool
     false
 }
 
+pub fn check_coordinate(v: f64) -> Check
+    ensures { λ r. ⌜ r ≡ coordinateCheck v ⌝ }
+{
+    refuse_unless(is_coordinate(v), 1, 0)
+}
+
 pub fn check_point(x: f64, y: f64) -> Check
     ensures { λ r. ⌜ r ≡ pointCheck x y ⌝ }
 {
@@ -129,7 +135,7 @@ pub fn check_count(n: usize) -> Check
     refuse_unless(n <= MOST_LINES, 2, n as u64)
 }
 
-// A snap size is 0, or 1e-6 to 1e6; a strategy is 0 (Grid) or 1 (GeosCompat).
+// A snap size is 0, or 1e-6 to 1e6.
 fn is_snap_size(size: f64) -> bool
     ensures { λ r. ⌜ r ≡ snapSize size ⌝ }
 {
@@ -142,11 +148,18 @@ fn is_snap_size(size: f64) -> bool
     false
 }
 
+pub fn check_snap_size(size: f64) -> Check
+    ensures { λ r. ⌜ r ≡ snapSizeCheck size ⌝ }
+{
+    refuse_unless(is_snap_size(size), 12, 0)
+}
+
+// 0, Grid, is the only strategy.
 fn is_snap(size: f64, strategy: u32) -> bool
-    ensures { λ r. ⌜ r ≡ (snapSize size && leb strategy 1) ⌝ }
+    ensures { λ r. ⌜ r ≡ (snapSize size && eqb strategy 0) ⌝ }
 {
     if is_snap_size(size) {
-        return strategy <= 1;
+        return strategy == 0;
     }
     false
 }

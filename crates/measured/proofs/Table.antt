@@ -1,22 +1,23 @@
 -- The measured points, computed straight from the definitions. Assumes nothing.
 use mathlib.Core.Path.{refl}
-use lib.Ieee.{round, add, sub, mul, div, neg, lt, le, eq, ne, isNan, size, span, climb, units, odd, sum, ofInt, ofBits, ofFields}
+use lib.Ieee.{round, add, sub, mul, div, neg, lt, le, eq, ne, isNan, size, span, climb, units, odd, sum, ofInt, ofBits, ofFields, toBits}
 use lib.Count.{trailingZeros}
 use Rattle.numbers.specs.Order.{leastOf, greatestOf, magnitudeOf}
 use Rattle.numbers.specs.Floor.{clampedFloor, floorOf}
 use Rattle.numbers.specs.Away.{roundAway}
 use Rattle.slices.specs.Slices.{sorted, insert, insertIf, distinctOf, after as runAfter, unless as unlessHere}
 use Rattle.refusals.specs.Refusals.{unless, andThen, _then_, _into_, answerBy}
-use Rattle.grid.specs.Domain.{coordinate, point, segment, sizeFits, sizesFit, shape, fit, scratchCheck, pointCheck, segmentCheck, gridCheck, cellCheck, snapSize, snapCheck}
+use Rattle.grid.specs.Domain.{coordinate, point, segment, sizeFits, sizesFit, shape, fit, scratchCheck, coordinateCheck, pointCheck, segmentCheck, gridCheck, cellCheck, snapSize, snapSizeCheck, snapCheck}
 use Rattle.grid.specs.Axes.{scaledOn, indexOn, lowOn, highOn, nearWhole, boundaryOn}
 use Rattle.walk.specs.Turns.{finiteOf, signOf as stepOf, deltaOf, nextOn, firstOn, strideOn, progressOn, rayOf, startOf, toleranceOf, nearOf, furtherOf, same, arrivedOf, turnOf, advanced, movedOf, goesOf}
 use Rattle.walk.specs.Pushes.{kept, pushOf, sidesOf, pushedOf, before, after, nextOf, goingOf, turns, walkedOf}
 use Rattle.walk.specs.Segment.{lowColOf, lowRowOf, cornerOf, besideOf, addedOf, alongOn, cellOf, endOf, pushesOf, answered, unlessNone, segmentOf, entryCheck, entryOf}
-use Rattle.snap.specs.Snap.{gridSnap, signOf, geosSnap, snapOf, snapAnswer}
+use Rattle.snap.specs.Snap.{gridSnap, snapOf, snapAnswer}
+use Rattle.snap.specs.Strategies.{signOf, geosSnap, geosOf, sameBits, agreementAnswer}
 use Rattle.own.specs.Own.{ownsOn, ownsPoint, placeCheck, pointAnswer}
 use Rattle.measured.specs.Table.{table, Claim}
 
 -- P1 TO P10
 pub claim : Claim table
-unfolding round add sub mul div neg lt le eq ne isNan size span climb units odd sum ofInt ofBits ofFields trailingZeros leastOf greatestOf magnitudeOf clampedFloor floorOf roundAway sorted insert insertIf distinctOf runAfter unlessHere unless andThen coordinate point segment sizeFits sizesFit shape fit scratchCheck pointCheck segmentCheck gridCheck cellCheck snapSize snapCheck scaledOn indexOn lowOn highOn nearWhole boundaryOn finiteOf stepOf deltaOf nextOn firstOn strideOn progressOn rayOf startOf toleranceOf nearOf furtherOf same arrivedOf turnOf advanced movedOf goesOf kept pushOf sidesOf pushedOf before after nextOf goingOf turns walkedOf lowColOf lowRowOf cornerOf besideOf addedOf alongOn cellOf endOf pushesOf answered unlessNone segmentOf entryCheck entryOf _then_ _into_ answerBy gridSnap signOf geosSnap snapOf snapAnswer ownsOn ownsPoint placeCheck pointAnswer
+unfolding round add sub mul div neg lt le eq ne isNan size span climb units odd sum ofInt ofBits ofFields toBits trailingZeros leastOf greatestOf magnitudeOf clampedFloor floorOf roundAway sorted insert insertIf distinctOf runAfter unlessHere unless andThen coordinate point segment sizeFits sizesFit shape fit scratchCheck coordinateCheck pointCheck segmentCheck gridCheck cellCheck snapSize snapSizeCheck snapCheck scaledOn indexOn lowOn highOn nearWhole boundaryOn finiteOf stepOf deltaOf nextOn firstOn strideOn progressOn rayOf startOf toleranceOf nearOf furtherOf same arrivedOf turnOf advanced movedOf goesOf kept pushOf sidesOf pushedOf before after nextOf goingOf turns walkedOf lowColOf lowRowOf cornerOf besideOf addedOf alongOn cellOf endOf pushesOf answered unlessNone segmentOf entryCheck entryOf _then_ _into_ answerBy gridSnap snapOf snapAnswer signOf geosSnap geosOf sameBits agreementAnswer ownsOn ownsPoint placeCheck pointAnswer
 claim = ((refl, tt), ((refl, tt), ((refl, tt), ((refl, tt), ((refl, tt), ((refl, tt), ((refl, (refl, tt)), ((refl, tt), ((refl, (refl, tt)), ((refl, (refl, tt)), tt))))))))))

@@ -1,4 +1,5 @@
--- Document 01, "Measured points": P1 to P10 as one table. A row has its label, what is asked, and what was measured; the claim is that every
+-- Document 01, "Measured points": P1 to P10 as one table, with document 02's change 13: where P9 and P10 speak of GeosCompat, they say whether it
+-- agrees with Grid. A row has its label, what is asked, and what was measured; the claim is that every
 -- question of every row is answered as it was measured. Definitions only.
 use mathlib.Core.Path.{_≡_}
 use mathlib.Core.Bool.{true, false}
@@ -13,7 +14,10 @@ use Rattle.own.specs.declared.Owned.{Owned}
 use Rattle.own.specs.declared.Owned.the-variants.{Yes, No}
 use Rattle.own.specs.Own.{pointAnswer}
 use Rattle.snap.specs.declared.Snapped.the-variants.{Point}
+use Rattle.snap.specs.declared.Agreement.{Agreement}
+use Rattle.snap.specs.declared.Agreement.the-variants.{Same, Differ}
 use Rattle.snap.specs.Snap.{snapAnswer}
+use Rattle.snap.specs.Strategies.{agreementAnswer}
 
 -- the float a / b, and -a / b
 abbrev pub part : ℕ → ℕ → Float
@@ -46,8 +50,10 @@ pub data Question : Type 0 where
   segment : (x₀ y₀ x₁ y₁ : Float) (cells : List ℕ) → Question
   -- the cell (row, col) and the point (x, y): whether it owns it
   owner : (row col : ℕ) (x y : Float) (owns : Owned) → Question
-  -- v, size 1, strategy 0 (Grid) or 1 (GeosCompat): v snapped
-  snap : (v : Float) (strategy : ℕ) (to : Float) → Question
+  -- v, size 1: v snapped
+  snap : (v to : Float) → Question
+  -- v, size 1: whether Grid and GeosCompat agree
+  strategies : (v : Float) (agreement : Agreement) → Question
 
 -- the point (x, y) as a segment
 abbrev pub point : Float → Float → List ℕ → Question
@@ -73,18 +79,19 @@ table =
     ∷ row P7 (owner 0 1 (part 1 1) (part 1 2) Yes ∷ owner 0 0 (part 1 1) (part 1 2) No ∷ [])
     ∷ row P8 (owner 3 3 (part 4 1) (part 4 1) Yes ∷ [])
     ∷ row P9
-    (snap (part 49999999999999994 (10 ^ 17)) 0 (part 0 1) ∷ snap (part 49999999999999994 (10 ^ 17)) 1 (part 1 1) ∷ [])
-    ∷ row P10 (snap (minus 5 2) 0 (minus 3 1) ∷ snap (minus 5 2) 1 (minus 3 1) ∷ [])
+    (snap (part 49999999999999994 (10 ^ 17)) (part 0 1) ∷ strategies (part 49999999999999994 (10 ^ 17)) Differ ∷ [])
+    ∷ row P10 (snap (minus 5 2) (minus 3 1) ∷ strategies (minus 5 2) Same ∷ [])
     ∷ []
 
 -- ---- the claim
 
--- a question is answered as it was measured: by what `walk::cells_of_segment` answers with 16,384 entries of scratch, `own::point_owned`, and
--- `snap::snap_point` of a point with both coordinates v
+-- a question is answered as it was measured: by what `walk::cells_of_segment` answers with 16,384 entries of scratch, `own::point_owned`,
+-- `snap::snap_point` of a point with both coordinates v, and `snap::strategies::strategies_agree`
 abbrev pub Answered : Question → Type 0
 Answered (segment x₀ y₀ x₁ y₁ cells) = entryOf 16384 four (segmentBy x₀ y₀ x₁ y₁) ≡ gives cells
 Answered (owner row col x y owns) = pointAnswer four row col x y ≡ owns
-Answered (snap v strategy to) = snapAnswer v v (part 1 1) strategy ≡ Point to to
+Answered (snap v to) = snapAnswer v v (part 1 1) 0 ≡ Point to to
+Answered (strategies v agreement) = agreementAnswer v (part 1 1) ≡ agreement
 
 abbrev pub AllAnswered : List Question → Type 0
 AllAnswered [] = Unit {0}

@@ -56,4 +56,4 @@ overlapAnswer g row col x y size strategy =
     (placeCheck g x y
     then snapCheck size strategy
     then cellCheck g row col
-    then gives (ownsOverlap g row col (snapOf size strategy x) (snapOf size strategy y)))
+    then gives (ownsOverlap g row col (snapOf size x) (snapOf size y)))

@@ -40,6 +40,9 @@ fn ask(kind: u64, question: &[u64], answer: &mut [u64]) -> usize
     if kind == 9 {
         return points::snap(question, answer);
     }
+    if kind == 10 {
+        return points::strategies(question, answer);
+    }
     0
 }
 

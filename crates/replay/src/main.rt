@@ -36,6 +36,7 @@ fn say_kinds(w: &[u64]) {
     say(b"overlaps owned", records::count(w, 7));
     say(b"owners", records::count(w, 8));
     say(b"snaps", records::count(w, 9));
+    say(b"strategies", records::count(w, 10));
 }
 
 // The records up to the first word that differs, and that word, if there is one.

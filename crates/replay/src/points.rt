@@ -1,4 +1,4 @@
-// Kinds 6 to 9: ownership and snapping.
+// Kinds 6 to 10: ownership and snapping.
 use crate::answer;
 use crate::question;
 
@@ -48,6 +48,16 @@ pub(crate) fn snap(q: &[u64], answer: &mut [u64]) -> usize {
         question::float(q, 1),
         question::float(q, 2),
         question::short(q, 3),
+        &mut out,
+    );
+    answer::reply(answer, number, &out)
+}
+
+pub(crate) fn strategies(q: &[u64], answer: &mut [u64]) -> usize {
+    let mut out = [0u64; 1];
+    let number = capi::snapping::mt_strategies_agree(
+        question::float(q, 0),
+        question::float(q, 1),
         &mut out,
     );
     answer::reply(answer, number, &out)

@@ -7,6 +7,8 @@ use Rattle.refusals.specs.declared.Check.{Check}
 use Rattle.refusals.specs.declared.Check.the-variants as check
 use Rattle.snap.specs.declared.Snapped.{Snapped}
 use Rattle.snap.specs.declared.Snapped.the-variants as snapped
+use Rattle.snap.specs.declared.Agreement.{Agreement}
+use Rattle.snap.specs.declared.Agreement.the-variants as agreement
 use Rattle.own.specs.declared.Owned.{Owned}
 use Rattle.own.specs.declared.Owned.the-variants as owned
 use Rattle.own.specs.declared.Owner.{Owner}
@@ -36,6 +38,13 @@ ofCheck (check.Refused r) = refusing r
 unfoldable pub ofSnap : Snapped → Reply
 ofSnap (snapped.Point x y) = success (toBits binary64 x ∷ toBits binary64 y ∷ [])
 ofSnap (snapped.Refused r) = refusing r
+
+-- ---- the two strategies: 1 where they give the same bits, else 0
+
+unfoldable pub ofAgreement : Agreement → Reply
+ofAgreement agreement.Same = success (1 ∷ [])
+ofAgreement agreement.Differ = success (0 ∷ [])
+ofAgreement (agreement.Refused r) = refusing r
 
 -- ---- ownership: 1 where the cell owns it, else 0; the owner: 1 with its row and column, or three zeros outside the grid
 

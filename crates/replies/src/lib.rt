@@ -8,6 +8,7 @@ use numbers::bits::to_bits;
 use own::Owned;
 use own::Owner;
 use refusals::Check;
+use snap::Agreement;
 use snap::Snapped;
 use stores::eight;
 use stores::one;
@@ -26,7 +27,7 @@ ghost use Prim.Native.Nat.{_+_, _≤_};
 ghost use lib.ListN.{length};
 ghost use Rattle.replies.specs.Replies.{Replies};
 ghost use Rattle.replies.specs.Inside.{Handed};
-ghost use Rattle.replies.specs.Answers.{ofCheck, ofSnap, ofOwned, ofOwner, ofRead, ofCells, ofBuilt, ofPart, ofPlace, ofTest, ofBatch};
+ghost use Rattle.replies.specs.Answers.{ofCheck, ofSnap, ofAgreement, ofOwned, ofOwner, ofRead, ofCells, ofBuilt, ofPart, ofPlace, ofTest, ofBatch};
 
 // The number of a function whose `out` is short.
 pub const SHORT: u32 = 100;
@@ -61,6 +62,19 @@ pub fn snapped(answer: Snapped, out: &mut [u64]) -> u32
         return SHORT;
     }
     point(answer, out)
+}
+
+pub fn agreement(answer: Agreement, out: &mut [u64]) -> u32
+    ensures { λ r. ⌜ Replies 1 (ofAgreement answer) (now (out .entry)) r (now (out .exit)) ⌝ }
+{
+    if out.len() < 1 {
+        return SHORT;
+    }
+    match answer {
+        Agreement::Same => one(1, out),
+        Agreement::Differ => one(0, out),
+        Agreement::Refused(r) => refused(r, out),
+    }
 }
 
 pub fn owned(answer: Owned, out: &mut [u64]) -> u32

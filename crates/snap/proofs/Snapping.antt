@@ -28,9 +28,9 @@ module _ (x y size : Float) (strategy : ℕ) (fine : pointCheck x y ≡ Fine) wh
   pub not-snapped : (r : Refusal) → snapAnswer x y size strategy ≡ snapped-variants.Refused r → snapCheck size strategy ≡ Refused r
   unfolding snapAnswer
   not-snapped r e =
-      refused-so (snapCheck size strategy) (snapOf size strategy x) (snapOf size strategy y) r (past _ _ _ _ fine ∙ e)
+      refused-so (snapCheck size strategy) (snapOf size x) (snapOf size y) r (past _ _ _ _ fine ∙ e)
 
-  pub snapped : (px py : Float) → snapAnswer x y size strategy ≡ Point px py → (snapCheck size strategy ≡ Fine) × (px ≡ snapOf size strategy x) × (py ≡ snapOf size strategy y)
+  pub snapped : (px py : Float) → snapAnswer x y size strategy ≡ Point px py → (snapCheck size strategy ≡ Fine) × (px ≡ snapOf size x) × (py ≡ snapOf size y)
   unfolding snapAnswer
   snapped px py e =
-      fine-so (snapCheck size strategy) (snapOf size strategy x) (snapOf size strategy y) px py (past _ _ _ _ fine ∙ e)
+      fine-so (snapCheck size strategy) (snapOf size x) (snapOf size y) px py (past _ _ _ _ fine ∙ e)

@@ -1,8 +1,10 @@
-// Snap rounding of a point, by either strategy: the Rust's `SnapNoder::snap`.
+// Snap rounding of a point, the Rust's `SnapNoder::snap` with its strategy Grid; and whether GeosCompat, which is retired, gave the same.
+pub mod strategies;
+
 use refusals::Check;
 use refusals::Refusal;
 ghost use mathlib.Core.Path.{_≡_};
-ghost use Rattle.snap.specs.Snap.{gridSnap, signOf, geosSnap, snapOf, snapAnswer};
+ghost use Rattle.snap.specs.Snap.{gridSnap, snapOf, snapAnswer};
 
 // The snapped point, or the refusal that is due.
 pub enum Snapped {
@@ -10,46 +12,27 @@ pub enum Snapped {
     Refused(Refusal),
 }
 
-// Strategy 0.
+// Whether the two strategies give the same bits, or the refusal that is due.
+pub enum Agreement {
+    Same,
+    Differ,
+    Refused(Refusal),
+}
+
 fn grid_snap(size: f64, v: f64) -> f64
     ensures { λ r. ⌜ r ≡ gridSnap size v ⌝ }
 {
     numbers::away::round_half_away(v / size) * size
 }
 
-// Rust's `f64::signum`. Only a NaN differs from itself; a pattern from 2^63 on has its sign bit set.
-fn sign(v: f64) -> f64
-    ensures { λ r. ⌜ r ≡ signOf v ⌝ }
-{
-    if v != v {
-        return v;
-    }
-    if f64::to_bits(v) < 0x8000_0000_0000_0000 {
-        return 1.0;
-    }
-    -1.0
-}
-
-// Strategy 1.
-fn geos_snap(size: f64, v: f64) -> f64
-    ensures { λ r. ⌜ r ≡ geosSnap size v ⌝ }
-{
-    let scaled = v / size;
-    let rounded = numbers::floor::floor(numbers::order::magnitude(scaled) + 0.5);
-    rounded * sign(scaled) * size
-}
-
 // One coordinate.
-fn snap(size: f64, strategy: u32, v: f64) -> f64
-    ensures { λ r. ⌜ r ≡ snapOf size strategy v ⌝ }
+fn snap(size: f64, v: f64) -> f64
+    ensures { λ r. ⌜ r ≡ snapOf size v ⌝ }
 {
     if size == 0.0 {
         return v;
     }
-    if strategy == 0 {
-        return grid_snap(size, v);
-    }
-    geos_snap(size, v)
+    grid_snap(size, v)
 }
 
 // Refuses by 1, then 12.
@@ -65,7 +48,7 @@ pub fn snap_point(x: f64, y: f64, size: f64, strategy: u32) -> Snapped
         return Snapped::Refused(r);
     }
     Snapped::Point {
-        x: snap(size, strategy, x),
-        y: snap(size, strategy, y),
+        x: snap(size, x),
+        y: snap(size, y),
     }
 }

@@ -71,17 +71,15 @@ pub fn snaps(clock: &Clock, r: &mut Random) {
          In brackets: against a Rust that hands the point back in registers.",
     );
     let points: Vec<(f64, f64)> = (0..POINTS).map(|_| (r.between(-1000.0, 1000.0), r.between(-1000.0, 1000.0))).collect();
-    for (name, strategy) in [("Grid", 0), ("GeosCompat", 1)] {
-        let (mut of_port, mut of_rust) = ([0u64; 2], [0u64; 2]);
-        for &(x, y) in &points {
-            assert_eq!((port::snap(x, y, 0.01, strategy, &mut of_port), plain::snap(x, y, 0.01, strategy, &mut of_rust)), (0, 0));
-            assert_eq!(of_port, of_rust, "{name} of {x}, {y}");
-        }
-        let times = clock.turns(&mut [
-            &mut || points.iter().for_each(|&(x, y)| { black_box(port::snap(x, y, 0.01, strategy, &mut of_port)); black_box(&of_port); }),
-            &mut || points.iter().for_each(|&(x, y)| { black_box(plain::snap(x, y, 0.01, strategy, &mut of_rust)); black_box(&of_rust); }),
-            &mut || points.iter().for_each(|&(x, y)| { black_box(plain::snap_point(x, y, 0.01, strategy)); }),
-        ]);
-        clock.show(name, "point", POINTS, BAR, &times, &["point in registers"]);
+    let (mut of_port, mut of_rust) = ([0u64; 2], [0u64; 2]);
+    for &(x, y) in &points {
+        assert_eq!((port::snap(x, y, 0.01, 0, &mut of_port), plain::snap(x, y, 0.01, &mut of_rust)), (0, 0));
+        assert_eq!(of_port, of_rust, "{x}, {y}");
     }
+    let times = clock.turns(&mut [
+        &mut || points.iter().for_each(|&(x, y)| { black_box(port::snap(x, y, 0.01, 0, &mut of_port)); black_box(&of_port); }),
+        &mut || points.iter().for_each(|&(x, y)| { black_box(plain::snap(x, y, 0.01, &mut of_rust)); black_box(&of_rust); }),
+        &mut || points.iter().for_each(|&(x, y)| { black_box(plain::snap_point(x, y, 0.01)); }),
+    ]);
+    clock.show("Grid", "point", POINTS, BAR, &times, &["point in registers"]);
 }

@@ -1,8 +1,7 @@
--- `snap::snap` meets its contract, by the tests of the size and of the strategy. Assumes nothing.
+-- `snap::snap` meets its contract, by the test of the size. Assumes nothing.
 use lib.Ieee.{ofBits, round}
 use Rattle.snap.specs.Snap.{snapOf}
 use borrow.Author.Needs.{needs}
-use borrow.Author.Tests.{ne-eqb}
 use Rattle.snap.proofs.snap.Statement.{statement}
 use Rattle.snap.proofs.snap.Tie as tie
 
@@ -15,14 +14,7 @@ grid-snap-requires c κs = search needs
 
 returns-2 : tie.Need-returns-2
 unfolding snapOf ofBits round
-returns-2 c = rw (c .before .before .if1 .left, c .before .if2 .taken) (c .grid-snap .ensures)
-
-geos-snap-requires : tie.Need-geos-snap-requires
-geos-snap-requires c κs = search needs
-
-returns-3 : tie.Need-returns-3
-unfolding snapOf ofBits round
-returns-3 c = rw (c .before .before .if1 .left, ne-eqb _ _ (c .before .if2 .left)) (c .geos-snap .ensures)
+returns-2 c = rw (c .before .if1 .left) (c .grid-snap .ensures)
 
 pub snap-spec : {M : Type 1} → statement M
-snap-spec = tie.close (tie.spec returns grid-snap-requires returns-2 geos-snap-requires returns-3)
+snap-spec = tie.close (tie.spec returns grid-snap-requires returns-2)

@@ -71,6 +71,9 @@ enum { MT_SQUARE = 0, MT_AXES = 1 };
 /* The snap strategy. Any other number is refused by 12. */
 enum { MT_GRID = 0 };
 
+/* Whose a point is: outside the grid, a cell's, or in a seam between cells, which nobody owns. */
+enum { MT_OUTSIDE = 0, MT_OWNED = 1, MT_SEAM = 2 };
+
 /* ---- numbers: total on every double, nothing is refused ----
  *
  * Where a NaN is answered, its sign and payload are not promised. */
@@ -127,8 +130,9 @@ uint32_t mt_point_owned(const uint64_t *grid, size_t grid_len, uint32_t row, uin
 uint32_t mt_overlap_owned(const uint64_t *grid, size_t grid_len, uint32_t row, uint32_t col, double x, double y, double size,
                           uint32_t strategy, uint64_t *out, size_t out_len);
 
-/* The first cell in row order that owns the point (x, y).
- * out (3 words): 1, its row, its column; or 0, 0, 0 where the point is outside the grid.
+/* Whose the point (x, y) is: the first cell in row order that owns it; or else a seam, where the point lies between the low edge of the first
+ * and the high edge of the last column and row, ends included; or else outside, and always on a grid with no cells.
+ * out (3 words): MT_OWNED, its row, its column; MT_SEAM, 0, 0; or MT_OUTSIDE, 0, 0.
  * Refuses by 1, 8. */
 uint32_t mt_owner(const uint64_t *grid, size_t grid_len, double x, double y, uint64_t *out, size_t out_len);
 

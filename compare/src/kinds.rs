@@ -10,6 +10,7 @@ pub mod build;
 pub mod lists;
 pub mod numbers;
 pub mod own;
+pub mod seams;
 pub mod snap;
 pub mod straight;
 pub mod strategies;

@@ -187,6 +187,13 @@ impl Axis {
     fn low_edge(self, index: i64) -> f64 {
         self.low + index as f64 * self.size
     }
+    /// Whether p is at or above the low edge of the first index, and at or below the high edge of the last.
+    fn between_ends(self, p: f64) -> bool {
+        match self.count {
+            0 => false,
+            n => self.low_edge(0) <= p && p <= self.low_edge(n as i64 - 1) + self.size,
+        }
+    }
     /// Whether the index's stretch owns p; in the last one its high edge belongs to it.
     fn owns(self, index: i64, p: f64, last_too: bool) -> bool {
         let low = self.low_edge(index);
@@ -795,7 +802,7 @@ pub fn overlap_owned(g: &Grid, row: u32, col: u32, x: f64, y: f64, size: f64, st
     0
 }
 
-/// out: 1, row, column of the first cell in row order that owns the point; or 0, 0, 0.
+/// out: 1, row, column of the first cell in row order that owns the point; 2, 0, 0 in a seam; or 0, 0, 0.
 pub fn owner(g: &Grid, x: f64, y: f64, out: &mut [u64]) -> u32 {
     if let Some((number, value)) = cell_refusal(g, x, y, None, None) {
         out[0] = value;
@@ -806,6 +813,7 @@ pub fn owner(g: &Grid, x: f64, y: f64, out: &mut [u64]) -> u32 {
     let first = |axis: Axis, p: f64| (0..axis.count).find(|&i| axis.owns(i as i64, p, true));
     let values = match (first(up, y), first(across, x)) {
         (Some(row), Some(col)) => [1, row as u64, col as u64],
+        _ if across.between_ends(x) && up.between_ends(y) => [2, 0, 0],
         _ => [0, 0, 0],
     };
     out[..3].copy_from_slice(&values);

@@ -89,7 +89,7 @@ pub fn overlap_owned(g: &Grid, row: u32, col: u32, x: f64, y: f64, size: f64, st
     sys::overlap_owned(&g.words(), row, col, x, y, size, strategy, out)
 }
 
-/// out: 1, row, column; or 0, 0, 0 outside the grid.
+/// out: 1, row, column; 2, 0, 0 in a seam; or 0, 0, 0 outside the grid.
 #[inline]
 pub fn owner(g: &Grid, x: f64, y: f64, out: &mut [u64]) -> u32 {
     sys::owner(&g.words(), x, y, out)

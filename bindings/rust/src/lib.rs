@@ -53,7 +53,7 @@ mod tables;
 mod walk;
 
 pub use lines::{LineVec, Lines};
-pub use place::{overlap_owned, owner, point_owned, snap, strategies_agree, Grid, Strategy};
+pub use place::{overlap_owned, owner, point_owned, snap, strategies_agree, Grid, Owner, Strategy};
 pub use read::{read_line_string, read_points};
 pub use refusal::Refusal;
 pub use sizing::Sizing;

@@ -124,18 +124,40 @@ pub fn overlap_owned(grid: Grid, row: u32, col: u32, x: f64, y: f64, size: f64, 
     Ok(owned == 1)
 }
 
-/// The first cell in row order that owns the point (x, y), as row and column; none where the point is outside the grid.
+/// Whose a point is.
+#[derive(Clone, Copy, PartialEq, Eq, Hash, Debug)]
+pub enum Owner {
+    /// The first cell in row order that owns the point.
+    Cell {
+        /// Its row.
+        row: u32,
+        /// Its column.
+        col: u32,
+    },
+    /// No cell owns the point, though it lies between the low edge of the first and the high edge of the last column and row, ends included:
+    /// rounding parted the high edge of a column or row from the low edge of the next.
+    Seam,
+    /// No cell owns the point, and it is not between those ends. So it is on a grid with no cells.
+    Outside,
+}
+
+/// Whose the point (x, y) is: the first cell in row order that owns it, or else a seam, or outside.
 ///
 /// Refuses by 1 (a coordinate), 8 (the grid).
 ///
 /// ```
-/// use morelturret::{owner, Grid};
+/// use morelturret::{owner, Grid, Owner};
 ///
-/// let grid = Grid { min_x: 0.0, min_y: 0.0, cell_width: 1.0, cell_height: 1.0, cols: 4, rows: 4 };
-/// assert_eq!(owner(grid, 2.5, 1.0), Ok(Some((1, 2))));
-/// assert_eq!(owner(grid, 4.5, 1.0), Ok(None));
+/// let grid = Grid { min_x: 0.0, min_y: 0.0, cell_width: 0.1, cell_height: 1.0, cols: 7, rows: 4 };
+/// assert_eq!(owner(grid, 0.25, 1.0), Ok(Owner::Cell { row: 1, col: 2 }));
+/// assert_eq!(owner(grid, 0.6, 1.0), Ok(Owner::Seam)); // 0.5 + 0.1 is 0.6, and 6 * 0.1 is above it
+/// assert_eq!(owner(grid, 0.8, 1.0), Ok(Owner::Outside));
 /// ```
-pub fn owner(grid: Grid, x: f64, y: f64) -> Result<Option<(u32, u32)>, Refusal> {
+pub fn owner(grid: Grid, x: f64, y: f64) -> Result<Owner, Refusal> {
     let [found, row, col] = answer(|out| sys::owner(&grid.words(), x, y, out))?;
-    Ok((found == 1).then_some((row as u32, col as u32)))
+    Ok(match found {
+        1 => Owner::Cell { row: row as u32, col: col as u32 },
+        2 => Owner::Seam,
+        _ => Owner::Outside,
+    })
 }

@@ -36,12 +36,12 @@ fn owners() {
     assert_eq!(point_owned(FOUR, 0, 1, 1.0, 0.5), Ok(true), "P7");
     assert_eq!(point_owned(FOUR, 0, 0, 1.0, 0.5), Ok(false), "P7");
     assert_eq!(point_owned(FOUR, 3, 3, 4.0, 4.0), Ok(true), "P8");
-    assert_eq!(owner(FOUR, 1.0, 0.5), Ok(Some((0, 1))));
-    assert_eq!(owner(FOUR, 4.0, 4.0), Ok(Some((3, 3))));
-    assert_eq!(owner(FOUR, 4.5, 4.0), Ok(None));
-    assert_eq!(owner(FOUR, -0.5, 0.5), Ok(None));
+    assert_eq!(owner(FOUR, 1.0, 0.5), Ok(Owner::Cell { row: 0, col: 1 }));
+    assert_eq!(owner(FOUR, 4.0, 4.0), Ok(Owner::Cell { row: 3, col: 3 }));
+    assert_eq!(owner(FOUR, 4.5, 4.0), Ok(Owner::Outside));
+    assert_eq!(owner(FOUR, -0.5, 0.5), Ok(Owner::Outside));
     // row and column keep their places
-    assert_eq!(owner(FOUR, 2.5, 1.5), Ok(Some((1, 2))));
+    assert_eq!(owner(FOUR, 2.5, 1.5), Ok(Owner::Cell { row: 1, col: 2 }));
     // a collinear overlap: by its snapped end, and the high edge of the last column does not count
     assert_eq!(overlap_owned(FOUR, 1, 2, 1.9, 1.5, 0.5, Strategy::Grid), Ok(true));
     assert_eq!(overlap_owned(FOUR, 1, 1, 1.9, 1.5, 0.5, Strategy::Grid), Ok(false));
@@ -51,6 +51,25 @@ fn owners() {
     let near_half = 0.49999999999999994;
     assert_eq!(overlap_owned(FOUR, 1, 1, near_half, near_half, 1.0, Strategy::Grid), Ok(false), "snapped to 0");
     assert_eq!(overlap_owned(FOUR, 1, 1, 0.5, 0.5, 1.0, Strategy::Grid), Ok(true), "snapped to 1");
+}
+
+/// 0.5 + 0.1 is 0.6, and 6 * 0.1 is 0.6000000000000001: column 5 ends before column 6 begins.
+#[test]
+fn seams() {
+    let tenths = Grid { cell_width: 0.1, cell_height: 0.1, cols: 7, rows: 7, ..FOUR };
+    assert_eq!(owner(tenths, 0.6, 0.05), Ok(Owner::Seam), "on one axis");
+    assert_eq!(owner(tenths, 0.6, 0.6), Ok(Owner::Seam), "on both");
+    assert_eq!(owner(tenths, 0.6, 0.0), Ok(Owner::Seam), "the low end counts");
+    assert_eq!(owner(tenths, 0.6, 0.6000000000000001 + 0.1), Ok(Owner::Seam), "the high end counts");
+    assert_eq!(owner(tenths, 0.6, 0.7000000000000003), Ok(Owner::Outside), "a seam, and beyond the end of the other axis");
+    assert_eq!(owner(tenths, 0.6, -5e-324), Ok(Owner::Outside));
+    assert_eq!(owner(tenths, 0.5999999999999999, 0.05), Ok(Owner::Cell { row: 0, col: 5 }));
+    assert_eq!(owner(tenths, 0.6000000000000001, 0.05), Ok(Owner::Cell { row: 0, col: 6 }));
+    assert_eq!(owner(Grid { cols: 6, ..tenths }, 0.6, 0.05), Ok(Owner::Cell { row: 0, col: 5 }), "the last column ends there");
+    assert_eq!(owner(Grid { cols: 6, ..tenths }, 0.6000000000000001, 0.05), Ok(Owner::Outside));
+    assert_eq!(owner(Grid { cols: 0, rows: 0, ..tenths }, 0.0, 0.0), Ok(Owner::Outside), "no cells, no seam");
+    let near_281 = Grid { min_x: 281.0, min_y: 36.0, cell_width: 0.4, cell_height: 0.05, cols: 5, rows: 5 };
+    assert_eq!(owner(near_281, 281.79999999999995, 36.02), Ok(Owner::Seam), "docs/FINDINGS.md, 3");
 }
 
 #[test]
@@ -210,9 +229,9 @@ fn two_sizes() {
     assert_eq!(on([1.0, 0.5, 1.0, 2.5]), [0, 1, 4, 5, 8, 9], "P2");
     assert_eq!(on([1.0; 4]), [0, 1, 4, 5], "P3");
     assert_eq!(on([0.0, 0.0, 2.0, 2.0]), cells(FOUR, [0.0, 0.0, 2.0, 2.0]), "a diagonal through the corners");
-    assert_eq!(owner(wide, 2500.0, 0.375), Ok(Some((1, 2))));
-    assert_eq!(owner(wide, 4000.0, 1.0), Ok(Some((3, 3))), "P8");
-    assert_eq!(owner(wide, 0.5, 1.5), Ok(None));
+    assert_eq!(owner(wide, 2500.0, 0.375), Ok(Owner::Cell { row: 1, col: 2 }));
+    assert_eq!(owner(wide, 4000.0, 1.0), Ok(Owner::Cell { row: 3, col: 3 }), "P8");
+    assert_eq!(owner(wide, 0.5, 1.5), Ok(Owner::Outside));
     assert_eq!((point_owned(wide, 0, 1, 1000.0, 0.125), point_owned(wide, 0, 0, 1000.0, 0.125)), (Ok(true), Ok(false)), "P7");
     assert_eq!(overlap_owned(wide, 2, 1, 1001.0, 0.6, 0.25, Strategy::Grid), Ok(true), "0.6 is snapped to 0.5");
 }

@@ -204,7 +204,7 @@ fn eight_an_unfit_grid() {
         assert_eq!(of(standing.pairs(owned.lines(), 4)), (8, 0));
     }
     let widest = Grid { cell_width: 2e9, cell_height: 2.5e-7, ..FOUR };
-    assert_eq!(owner(widest, 0.5, 6e-7), Ok(Some((2, 0))), "the ends of the range are fit, each for itself");
+    assert_eq!(owner(widest, 0.5, 6e-7), Ok(Owner::Cell { row: 2, col: 0 }), "the ends of the range are fit, each for itself");
 }
 
 #[test]

@@ -1,12 +1,12 @@
 //! compare [--seed S] [--cases N | --share P] [KIND..]: the port beside the Rust, kind by kind. Without kinds, all of them; without N, a full run
-//! of each, or P hundredths of one. The kinds named axes- are of cells whose width and height are kept apart.
+//! of each, or P hundredths of one. The kinds named axes-, and seams, are of cells whose width and height are kept apart.
 //! The port takes part in every kind: --port may be said, and changes nothing.
 //! Ends with status 1 at the first difference.
 
-use compare::kinds::{self, build, lists, numbers, own, snap, straight, strategies, visit, walk, wkb};
+use compare::kinds::{self, build, lists, numbers, own, seams, snap, straight, strategies, visit, walk, wkb};
 
 /// The kinds, with the cases of a full run.
-const KINDS: [(&str, u64); 16] = [
+const KINDS: [(&str, u64); 17] = [
     ("sample", 1),
     ("numbers", 10_000_000),
     ("walk", 1_000_000),
@@ -23,6 +23,7 @@ const KINDS: [(&str, u64); 16] = [
     ("axes-visit", 2_000),
     ("axes-lists", 5_000),
     ("axes-own", 500_000),
+    ("seams", 20_000),
 ];
 
 fn main() {
@@ -59,7 +60,8 @@ fn main() {
             "axes-build" => kinds::run::<build::Build<true>>(seed, n, build::fixed_by_axis(seed)),
             "axes-visit" => kinds::run::<visit::Visit<true>>(seed, n, vec![]),
             "axes-lists" => kinds::run::<lists::Lists<true>>(seed, n, vec![]),
-            _ => kinds::run::<own::Own<true>>(seed, n, vec![]),
+            "axes-own" => kinds::run::<own::Own<true>>(seed, n, vec![]),
+            _ => kinds::run::<seams::Seams>(seed, n, seams::found(seed, n / 200 + 1)),
         };
         println!("  (seed {seed}, {:.1} s)", begun.elapsed().as_secs_f64());
         if !right {

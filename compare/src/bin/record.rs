@@ -367,6 +367,24 @@ impl File {
         }
     }
 
+    /// Points in seams and beside them, every cell asked.
+    fn seams(&mut self, r: &mut Random) {
+        use compare::kinds::{seams, Kind};
+        let tenths = |cols| Grid { min_x: 0.0, min_y: 0.0, cell_width: 0.1, cell_height: 0.1, cols, rows: 7 };
+        let fixed = [(7, 0.6, 0.05), (7, 0.6, 0.6), (7, 0.6, 0.0), (7, 0.6, 0.8), (7, 0.6, -5e-324), (6, 0.6, 0.05), (6, 0.6000000000000001, 0.05)];
+        let fixed = fixed.map(|(cols, x, y)| seams::Case { grid: tenths(cols), x, y });
+        let none = seams::Case { grid: Grid { cols: 0, rows: 0, ..tenths(7) }, x: 0.0, y: 0.0 };
+        // the seam of docs/FINDINGS.md
+        let near = Grid { min_x: 281.0, min_y: 36.0, cell_width: 0.4, cell_height: 0.05, cols: 5, rows: 5 };
+        let near = seams::Case { grid: near, x: f64::from_bits(0x40719ccccccccccc), y: 36.02 };
+        let drawn: Vec<_> = (0..40).map(|_| seams::Seams::draw(r).1).collect();
+        for c in fixed.into_iter().chain([none, near]).chain(drawn) {
+            assert_eq!(model::owner(&c.grid, c.x, c.y, &mut [0; 3]), 0);
+            let owner = own::scan_all(&c.grid, c.x, c.y);
+            self.put(8, Words::new().float(c.x).float(c.y).grid(&c.grid), Words::answer(0, 0, &owner));
+        }
+    }
+
     fn snaps(&mut self, r: &mut Random) {
         use compare::kinds::{snap, Kind};
         let fixed = [(0.49999999999999994, -2.5, 1.0, 0), (0.49999999999999994, -2.5, 1.0, 1), (-0.0, 0.0, 1.0, 0), (-0.0, 0.0, 1.0, 2)];
@@ -417,6 +435,7 @@ fn main() {
     file.snaps(r);
     file.axes(r);
     file.strategies(r);
+    file.seams(r);
     let records = file.records;
     let bytes: Vec<u8> = file.words.iter().flat_map(|w| w.to_le_bytes()).collect();
     std::fs::write(&path, &bytes).unwrap_or_else(|e| panic!("{path}: {e}"));

@@ -133,9 +133,11 @@ impl<const AXES: bool> Kind for Own<AXES> {
         Ok(match (point.unwrap(), owner.unwrap()) {
             ((0, 1), _) if twice => "owned, by the Rust too",
             ((0, _), (0, [1, ..])) if twice => "owned by another, by the Rust too",
+            ((0, _), (0, [2, ..])) if twice => "in a seam, by the Rust too",
             ((0, _), (0, _)) if twice => "outside, by the Rust too",
             ((0, 1), _) => "owned",
             ((0, _), (0, [1, ..])) => "owned by another",
+            ((0, _), (0, [2, ..])) => "in a seam",
             ((0, _), (0, _)) => "outside",
             ((n, _), _) => word(n),
         })
@@ -220,9 +222,18 @@ impl ByRust {
     }
 }
 
-/// The first cell in row order that owns the point: by the Rust, or by the model where the Rust cannot be asked. Every cell is asked where they are
-/// few; else the cells of the rows and columns near the point's own, which rounding cannot leave.
+/// The first cell in row order that owns the point: by the Rust, or by the model where the Rust cannot be asked. Every cell is asked where there are
+/// at most 400; else the cells of the rows and columns near the point's own, which rounding cannot leave. Where none owns it, a seam or outside.
 pub fn scan(g: &Grid, x: f64, y: f64) -> [u64; 3] {
+    scan_by(g, x, y, 400)
+}
+
+/// The same, every cell asked.
+pub fn scan_all(g: &Grid, x: f64, y: f64) -> [u64; 3] {
+    scan_by(g, x, y, u32::MAX)
+}
+
+fn scan_by(g: &Grid, x: f64, y: f64, few: u32) -> [u64; 3] {
     let mut rust = by_rust(g);
     let mut owns = |row: u32, col: u32| match &mut rust {
         Some(rust) => rust.point(row, col, x, y),
@@ -232,7 +243,7 @@ pub fn scan(g: &Grid, x: f64, y: f64) -> [u64; 3] {
         }
     };
     let near = |low: f64, size: f64, p: f64, count: u32| {
-        if g.cols * g.rows <= 400 {
+        if g.cols * g.rows <= few {
             return (0, count);
         }
         let at = ((p - low) / size).floor().clamp(0.0, count as f64) as u32;
@@ -246,6 +257,10 @@ pub fn scan(g: &Grid, x: f64, y: f64) -> [u64; 3] {
                 return [1, row as u64, col as u64];
             }
         }
+    }
+    let ends = |low: f64, size: f64, p: f64, count: u32| count > 0 && (low..=low + (count - 1) as f64 * size + size).contains(&p);
+    if ends(g.min_x, g.cell_width, x, g.cols) && ends(g.min_y, g.cell_height, y, g.rows) {
+        return [2, 0, 0];
     }
     [0, 0, 0]
 }

@@ -7,7 +7,7 @@ ghost use Rattle.own.specs.Own.{pointAnswer, overlapAnswer};
 ghost use Rattle.own.specs.Owner.{ownerAnswer};
 ghost use Rattle.grid.specs.Words.{gridBy};
 ghost use Rattle.replies.specs.Replies.{Replies};
-ghost use Rattle.replies.specs.Answers.{ofOwned, ofOwner};
+ghost use Rattle.replies.specs.Answers.{ofOwned, ofOwnerAnswer};
 ghost use Rattle.capi.specs.Few.{unlessFew};
 
 // Out: 1 where the cell owns the point, else 0.
@@ -59,11 +59,11 @@ pub extern "C" fn mt_overlap_owned(
     )
 }
 
-// Out: 1, row, column; or 0, 0, 0 outside the grid.
+// Out: 1, row, column; 2, 0, 0 in a seam; or 0, 0, 0 outside the grid.
 #[no_mangle]
 pub extern "C" fn mt_owner(grid: &[u64], x: f64, y: f64, out: &mut [u64]) -> u32
     ensures { λ r. let w = now (grid .entry) in
-        ⌜ Replies 3 (unlessFew w (ofOwner (ownerAnswer (gridBy w) x y))) (now (out .entry)) r (now (out .exit)) ⌝ }
+        ⌜ Replies 3 (unlessFew w (ofOwnerAnswer (ownerAnswer (gridBy w) x y))) (now (out .entry)) r (now (out .exit)) ⌝ }
 {
     if out.len() < 3 {
         return SHORT;

@@ -36,7 +36,7 @@ coordinate-finite nan h = holds false h
 coordinate-finite (inf s) h = holds false h
 coordinate-finite (fin s m e) h = tt
 
-coordinate-number : (v : Float) → coordinate v ≡ true → T (number v)
+pub coordinate-number : (v : Float) → coordinate v ≡ true → T (number v)
 coordinate-number nan h = coordinate-finite nan h
 coordinate-number (inf s) h = tt
 coordinate-number (fin s m e) h = tt

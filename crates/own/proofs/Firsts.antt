@@ -93,7 +93,7 @@ module _ (test : ℕ → Bool) (n : ℕ) where
 
 -- ---- in row order
 
-and-off : (a b : Bool) → b ≡ false → (a && b) ≡ false
+pub and-off : (a b : Bool) → b ≡ false → (a && b) ≡ false
 and-off true b h = h
 and-off false b h = refl
 

@@ -58,22 +58,22 @@ module _ (a : Axis) (p : Float) (asks : Searchable a p) where
 
   -- ---- at the end
 
-  owns : ℕ → Bool
+  abbrev owns : ℕ → Bool
   owns i = ownsOn a i p
 
   -- an index before the last whose high edge p has reached does not own it
-  behind : (j : ℕ) → suc j < a .count → lt p (highOn a j) ≡ false → owns j ≡ false
-  unfolding ownsOn owns
+  pub behind : (j : ℕ) → suc j < a .count → lt p (highOn a j) ≡ false → owns j ≡ false
+  unfolding ownsOn
   behind j l t = not-past (le (lowOn a j) p) (lt p (highOn a j)) (eqb (suc j) (a .count)) (eq p (highOn a j)) t (ne-eqb (suc j) (a .count) (λ e. omega arith))
 
   -- an index whose low edge p is under does not own it
-  under : (j : ℕ) → le (lowOn a j) p ≡ false → owns j ≡ false
-  unfolding ownsOn owns
+  pub under : (j : ℕ) → le (lowOn a j) p ≡ false → owns j ≡ false
+  unfolding ownsOn
   under j t = rw t
 
   -- where p is below the high edge, only the low edge can fail
   only-low : (i : ℕ) → lt p (highOn a i) ≡ true → owns i ≡ false → le (lowOn a i) p ≡ false
-  unfolding ownsOn owns
+  unfolding ownsOn
   only-low i t h = not-low (le (lowOn a i) p) (lt p (highOn a i)) _ t h
 
   module _ (i high : ℕ) (h : Halved a p i high) (met : high ≤ i) where
@@ -84,7 +84,7 @@ module _ (a : Axis) (p : Float) (asks : Searchable a p) where
     before j u l = behind j (omega (arith, inside)) (h .passed j l)
 
     pub found : true ≡ ownsOn a i p → At i ≡ firstOn a p
-    unfolding firstOn owns
+    unfolding firstOn
     found t = sym (first-at owns (a .count) i (record { from = omega arith; within = inside; passes = sym t; before = before }))
 
     same : high ≡ i
@@ -97,7 +97,7 @@ module _ (a : Axis) (p : Float) (asks : Searchable a p) where
         (h .ahead)
 
     pub nowhere : false ≡ ownsOn a i p → Nowhere ≡ firstOn a p
-    unfolding firstOn owns
+    unfolding firstOn
     nowhere f = sym (first-none owns (a .count) (λ j u m. each j m (ltb j i) (eqb j i) refl refl))
       where
         each : (j : ℕ) → j < a .count → (b e : Bool) → ltb j i ≡ b → eqb j i ≡ e → owns j ≡ false

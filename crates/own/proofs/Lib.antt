@@ -2,5 +2,8 @@
 pub mod Tests
 pub mod Edges
 pub mod Firsts
+pub mod EndLaws
 pub mod Owners
 pub mod Halving
+pub mod ThreeCases
+pub mod SeamLaws

@@ -1,6 +1,6 @@
 -- The owner of a point, from the first column and the first row that own it, and what the checks say for their search. Assumes nothing.
 use mathlib.Core.Path.{_≡_, sym, ap, ap₂, _∙_}
-use mathlib.Core.Bool.{Bool, _&&_}
+use mathlib.Core.Bool.{Bool, true, false, _&&_, cond}
 use Prim.Native.Nat.{ℕ, _+_, _*_, _/_, _%_}
 use lib.Ieee.{Float}
 use Rattle.refusals.specs.declared.Check.the-variants.{Fine}
@@ -13,9 +13,9 @@ use Rattle.grid.proofs.Bools.{and-left, and-right}
 use Rattle.grid.proofs.Shapes.{fit-says}
 use Rattle.own.specs.declared.Found.{Found}
 use Rattle.own.specs.declared.Found.the-variants.{At, Nowhere}
-use Rattle.own.specs.declared.Owner.the-variants.{Cell, Outside}
+use Rattle.own.specs.declared.Owner.the-variants.{Cell, Seam, Outside}
 use Rattle.own.specs.Own.{ownsOn, ownsPoint, placeCheck}
-use Rattle.own.specs.Owner.{firstOn, Searchable, cellOf, ownerOf}
+use Rattle.own.specs.Owner.{firstOn, Searchable, spans, seamOrOutside, cellOf, ownerOf}
 use Rattle.own.proofs.Firsts.{first-at, first-none, at-first, none-first, no-column, no-row, column-is, row-is, first-cell}
 
 -- what the search asks, and what it answers, on an axis that was read off the grid
@@ -35,13 +35,13 @@ module _ (g : Grid) (x y : Float) where
   cell : ℕ → Bool
   cell k = ownsPoint g (k / g .cols) (k % g .cols) x y
 
-  pub no-column-owns : firstOn (xAxis g) x ≡ Nowhere → Outside ≡ ownerOf g x y
+  pub no-column-owns : firstOn (xAxis g) x ≡ Nowhere → seamOrOutside g x y ≡ ownerOf g x y
   unfolding firstOn ownerOf ownsPoint column row cell
-  no-column-owns h = sym (ap (cellOf (g .cols)) (first-none cell (g .rows * g .cols) (no-column column row (g .cols) (g .rows) (none-first column (g .cols) h))))
+  no-column-owns h = sym (ap (cellOf (g .cols) (seamOrOutside g x y)) (first-none cell (g .rows * g .cols) (no-column column row (g .cols) (g .rows) (none-first column (g .cols) h))))
 
-  pub no-row-owns : firstOn (yAxis g) y ≡ Nowhere → Outside ≡ ownerOf g x y
+  pub no-row-owns : firstOn (yAxis g) y ≡ Nowhere → seamOrOutside g x y ≡ ownerOf g x y
   unfolding firstOn ownerOf ownsPoint column row cell
-  no-row-owns h = sym (ap (cellOf (g .cols)) (first-none cell (g .rows * g .cols) (no-row column row (g .cols) (g .rows) (none-first row (g .rows) h))))
+  no-row-owns h = sym (ap (cellOf (g .cols) (seamOrOutside g x y)) (first-none cell (g .rows * g .cols) (no-row column row (g .cols) (g .rows) (none-first row (g .rows) h))))
 
   pub both-own : (c r : ℕ) → firstOn (xAxis g) x ≡ At c → firstOn (yAxis g) y ≡ At r → Cell r c ≡ ownerOf g x y
   unfolding firstOn ownerOf ownsPoint column row cell
@@ -49,8 +49,24 @@ module _ (g : Grid) (x y : Float) where
       let a = at-first column (g .cols) c h in
       let b = at-first row (g .rows) r k in
       let n = g .cols in
-      sym (ap (cellOf n) (first-at cell (g .rows * n) (r * n + c) (first-cell column row n (g .rows) c r a b))
+      sym (ap (cellOf n (seamOrOutside g x y)) (first-at cell (g .rows * n) (r * n + c) (first-cell column row n (g .rows) c r a b))
       ∙ ap₂ Cell (row-is column row n (g .rows) c r a b) (column-is column row n (g .rows) c r a b))
+
+  -- ---- where no cell owns it: u and v are what the two axes answer
+
+  module _ (ax ay : Axis) (u v : Bool) (e : u ≡ spans ax x) (d : ax ≡ xAxis g) (f : v ≡ spans ay y) (k : ay ≡ yAxis g) where
+    spanned : cond (u && v) Seam Outside ≡ seamOrOutside g x y
+    unfolding seamOrOutside
+    spanned = rw (e, d, f, k)
+
+    pub in-seam : u ≡ true → v ≡ true → Seam ≡ seamOrOutside g x y
+    in-seam s t = rw (s, t) at spanned
+
+    pub out-across : u ≡ false → Outside ≡ seamOrOutside g x y
+    out-across s = rw s at spanned
+
+    pub out-up : u ≡ true → v ≡ false → Outside ≡ seamOrOutside g x y
+    out-up s t = rw (s, t) at spanned
 
 -- ---- what the checks say of the two axes
 

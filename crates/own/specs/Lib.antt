@@ -1,3 +1,4 @@
 -- The definitions that the contracts of `own` cite.
 pub mod Own
 pub mod Owner
+pub mod Cases

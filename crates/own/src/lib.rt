@@ -1,6 +1,7 @@
 // Which cell owns a point or a collinear overlap, by the Rust's tests in `process_cell_candidate` and `handle_collinear`, and the
 // cell that owns a point.
 mod axis;
+mod ends;
 
 use grid::Grid;
 use refusals::Check;
@@ -10,7 +11,7 @@ ghost use mathlib.Core.Path.{_≡_};
 ghost use mathlib.Core.Bool.{_&&_};
 ghost use Rattle.grid.specs.Axes.{xAxis, yAxis};
 ghost use Rattle.own.specs.Own.{ownsPoint, holdsOn, ownsOverlap, placeCheck, owned, pointAnswer, overlapAnswer};
-ghost use Rattle.own.specs.Owner.{Searchable, ownerOf, ownerAnswer};
+ghost use Rattle.own.specs.Owner.{Searchable, seamOrOutside, ownerOf, ownerAnswer};
 
 // Whether a cell owns what it was asked about, or the refusal that is due.
 pub enum Owned {
@@ -19,10 +20,16 @@ pub enum Owned {
     Refused(Refusal),
 }
 
-// The cell that owns a point, or the refusal that is due.
+// Whose a point is: a cell's, or nobody's, in a seam between cells or outside the grid.
 pub enum Owner {
     Cell { row: u32, col: u32 },
+    Seam,
     Outside,
+}
+
+// Whose a point is, or the refusal that is due.
+pub enum OwnerAnswer {
+    Found(Owner),
     Refused(Refusal),
 }
 
@@ -131,6 +138,20 @@ pub fn overlap_owned(
     }
 }
 
+// For a point that no cell owns.
+fn seam_or_outside(grid: Grid, x: f64, y: f64) -> Owner
+    ensures { λ r. ⌜ r ≡ seamOrOutside grid x y ⌝ }
+{
+    let across = ends::spanned(grid.x_axis(), x);
+    let up = ends::spanned(grid.y_axis(), y);
+    if across {
+        if up {
+            return Owner::Seam;
+        }
+    }
+    Owner::Outside
+}
+
 // The first column that owns x, and the first row that owns y: ownership goes axis by axis, so theirs is the first cell.
 fn first_cell(grid: Grid, x: f64, y: f64) -> Owner
     requires { ⌜ Searchable (xAxis grid) x ⌝ ∗ ⌜ Searchable (yAxis grid) y ⌝ }
@@ -138,22 +159,22 @@ fn first_cell(grid: Grid, x: f64, y: f64) -> Owner
 {
     let across = axis::first(grid.x_axis(), x);
     let Found::At(col) = across else {
-        return Owner::Outside;
+        return seam_or_outside(grid, x, y);
     };
     let along = axis::first(grid.y_axis(), y);
     let Found::At(row) = along else {
-        return Owner::Outside;
+        return seam_or_outside(grid, x, y);
     };
     Owner::Cell { row, col }
 }
 
-// The first cell in row order that owns a point. Refuses by 1, 8.
-pub fn owner_of(grid: Grid, x: f64, y: f64) -> Owner
+// The first cell in row order that owns a point, or else a seam or outside. Refuses by 1, 8.
+pub fn owner_of(grid: Grid, x: f64, y: f64) -> OwnerAnswer
     ensures { λ r. ⌜ r ≡ ownerAnswer grid x y ⌝ }
 {
     let place = check_place(grid, x, y);
     if let Check::Refused(r) = place {
-        return Owner::Refused(r);
+        return OwnerAnswer::Refused(r);
     }
-    first_cell(grid, x, y)
+    OwnerAnswer::Found(first_cell(grid, x, y))
 }

@@ -13,6 +13,8 @@ use Rattle.own.specs.declared.Owned.{Owned}
 use Rattle.own.specs.declared.Owned.the-variants as owned
 use Rattle.own.specs.declared.Owner.{Owner}
 use Rattle.own.specs.declared.Owner.the-variants as owner
+use Rattle.own.specs.declared.OwnerAnswer.{OwnerAnswer}
+use Rattle.own.specs.declared.OwnerAnswer.the-variants as whose
 use Rattle.wkb.specs.declared.Read.{Read}
 use Rattle.wkb.specs.declared.Read.the-variants as read
 use Rattle.walk.specs.declared.Cells.{Cells}
@@ -46,7 +48,7 @@ ofAgreement agreement.Same = success (1 ∷ [])
 ofAgreement agreement.Differ = success (0 ∷ [])
 ofAgreement (agreement.Refused r) = refusing r
 
--- ---- ownership: 1 where the cell owns it, else 0; the owner: 1 with its row and column, or three zeros outside the grid
+-- ---- ownership: 1 where the cell owns it, else 0; the owner: 1 with its row and column; 2 and two zeros in a seam; three zeros outside the grid
 
 unfoldable pub ofOwned : Owned → Reply
 ofOwned owned.Yes = success (1 ∷ [])
@@ -55,8 +57,12 @@ ofOwned (owned.Refused r) = refusing r
 
 unfoldable pub ofOwner : Owner → Reply
 ofOwner (owner.Cell row col) = success (1 ∷ row ∷ col ∷ [])
+ofOwner owner.Seam = success (2 ∷ 0 ∷ 0 ∷ [])
 ofOwner owner.Outside = success (0 ∷ 0 ∷ 0 ∷ [])
-ofOwner (owner.Refused r) = refusing r
+
+unfoldable pub ofOwnerAnswer : OwnerAnswer → Reply
+ofOwnerAnswer (whose.Found o) = ofOwner o
+ofOwnerAnswer (whose.Refused r) = refusing r
 
 -- ---- the reader: the number of points; the points are in x and y
 

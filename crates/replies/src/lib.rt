@@ -7,6 +7,7 @@ use build::Built;
 use numbers::bits::to_bits;
 use own::Owned;
 use own::Owner;
+use own::OwnerAnswer;
 use refusals::Check;
 use snap::Agreement;
 use snap::Snapped;
@@ -27,7 +28,7 @@ ghost use Prim.Native.Nat.{_+_, _≤_};
 ghost use lib.ListN.{length};
 ghost use Rattle.replies.specs.Replies.{Replies};
 ghost use Rattle.replies.specs.Inside.{Handed};
-ghost use Rattle.replies.specs.Answers.{ofCheck, ofSnap, ofAgreement, ofOwned, ofOwner, ofRead, ofCells, ofBuilt, ofPart, ofPlace, ofTest, ofBatch};
+ghost use Rattle.replies.specs.Answers.{ofCheck, ofSnap, ofAgreement, ofOwned, ofOwner, ofOwnerAnswer, ofRead, ofCells, ofBuilt, ofPart, ofPlace, ofTest, ofBatch};
 
 // The number of a function whose `out` is short.
 pub const SHORT: u32 = 100;
@@ -90,16 +91,26 @@ pub fn owned(answer: Owned, out: &mut [u64]) -> u32
     }
 }
 
-pub fn owner(answer: Owner, out: &mut [u64]) -> u32
-    ensures { λ r. ⌜ Replies 3 (ofOwner answer) (now (out .entry)) r (now (out .exit)) ⌝ }
+fn whose(owner: Owner, out: &mut [u64]) -> u32
+    requires { ⌜ 3 ≤ length (now out) ⌝ }
+    ensures { λ r. ⌜ Handed (ofOwner owner) (now (out .entry)) r (now (out .exit)) ⌝ }
+{
+    match owner {
+        Owner::Cell { row, col } => three(1, row as u64, col as u64, out),
+        Owner::Seam => three(2, 0, 0, out),
+        Owner::Outside => three(0, 0, 0, out),
+    }
+}
+
+pub fn owner(answer: OwnerAnswer, out: &mut [u64]) -> u32
+    ensures { λ r. ⌜ Replies 3 (ofOwnerAnswer answer) (now (out .entry)) r (now (out .exit)) ⌝ }
 {
     if out.len() < 3 {
         return SHORT;
     }
     match answer {
-        Owner::Cell { row, col } => three(1, row as u64, col as u64, out),
-        Owner::Outside => three(0, 0, 0, out),
-        Owner::Refused(r) => refused(r, out),
+        OwnerAnswer::Found(owner) => whose(owner, out),
+        OwnerAnswer::Refused(r) => refused(r, out),
     }
 }
 

@@ -1,4 +1,5 @@
 -- `own::first_cell` meets its contract: the owner is the cell of the first column and the first row. Assumes nothing.
+use mathlib.Core.Path.{_∙_}
 use Rattle.own.proofs.Owners.{asked, answered, no-column-owns, no-row-owns, both-own}
 use borrow.Author.Needs.{needs}
 use Rattle.own.proofs.first_cell.Statement.{statement}
@@ -16,8 +17,11 @@ enum-known-across c = search needs
 enum-told : tie.Need-enum-told
 enum-told c = search needs
 
+seam-or-outside-requires : tie.Need-seam-or-outside-requires
+seam-or-outside-requires c κs = search needs
+
 returns : tie.Need-returns
-returns c = no-column-owns _ _ _ (answered _ _ _ _ _ (c .before .before .first .ensures) (c .before .before .before .x-axis .ensures) (c .enum-told .given .1))
+returns c = c .seam-or-outside .ensures ∙ no-column-owns _ _ _ (answered _ _ _ _ _ (c .before .before .before .first .ensures) (c .before .before .before .before .x-axis .ensures) (c .before .enum-told .given .1))
 
 y-axis-requires : tie.Need-y-axis-requires
 y-axis-requires c κs = search needs
@@ -31,8 +35,11 @@ enum-known-along c = search needs
 enum-told-2 : tie.Need-enum-told-2
 enum-told-2 c = search needs
 
+seam-or-outside-requires-2 : tie.Need-seam-or-outside-requires-2
+seam-or-outside-requires-2 c κs = search needs
+
 returns-2 : tie.Need-returns-2
-returns-2 c = no-row-owns _ _ _ (answered _ _ _ _ _ (c .before .before .first2 .ensures) (c .before .before .before .y-axis .ensures) (c .enum-told2 .given .1))
+returns-2 c = c .seam-or-outside2 .ensures ∙ no-row-owns _ _ _ (answered _ _ _ _ _ (c .before .before .before .first2 .ensures) (c .before .before .before .before .y-axis .ensures) (c .before .enum-told2 .given .1))
 
 returns-3 : tie.Need-returns-3
 returns-3 c = both-own _ _ _ _ _ (answered _ _ _ _ _ (c .before .before .before .before .before .before .before .before .first .ensures) (c .before .before .before .before .before .before .before .before .before .x-axis .ensures) (c .before .before .before .before .before .before .across .given .1)) (answered _ _ _ _ _ (c .before .before .before .first2 .ensures) (c .before .before .before .before .y-axis .ensures) (c .before .along .given .1))
@@ -45,10 +52,12 @@ first-cell-spec =
     first-requires
     enum-known-across
     enum-told
+    seam-or-outside-requires
     returns
     y-axis-requires
     first-requires-2
     enum-known-along
     enum-told-2
+    seam-or-outside-requires-2
     returns-2
     returns-3)

@@ -1,6 +1,6 @@
 -- `capi::ownership::mt_owner` meets its contract: an `out` that is short, words that are too few, or the entry's answer handed over. Assumes nothing.
 use mathlib.Core.Path.{ap}
-use Rattle.replies.specs.Answers.{ofOwner}
+use Rattle.replies.specs.Answers.{ofOwnerAnswer}
 use Rattle.replies.proofs.Handing.{short-replies}
 use Rattle.capi.proofs.Handing.{few-replies, asked}
 use borrow.Author.Needs.{needs}
@@ -16,7 +16,7 @@ returns-2 c = few-replies 3 _ _ _ (c .before .if1 .left) (c .if2 .taken)
 returns-3 : tie.Need-returns-3
 returns-3 c =
     rw (← c .before .before .before .before .before .grid-by .ensures)
-    (asked 3 _ (c .before .before .before .before .before .before .if2 .left) (ap ofOwner (c .before .before .before .before .owner-of .ensures)) (c .before .before .owner .ensures))
+    (asked 3 _ (c .before .before .before .before .before .before .if2 .left) (ap ofOwnerAnswer (c .before .before .before .before .owner-of .ensures)) (c .before .before .owner .ensures))
 
 pub mt-owner-spec : {M : Type 1} → statement M
 mt-owner-spec =

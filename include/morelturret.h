@@ -17,8 +17,8 @@
  *   on a refusal   one word, the refusal's value;
  * the rest of `out` stays as it was. `out` has at least the words that stand in brackets at each function. Where it has fewer, the function
  * returns MT_OUT_SHORT and changes nothing at all: this comes before every refusal, also where one word would be enough for that. Next, where
- * a grid has fewer than its six words, the function returns MT_FEW_WORDS, and where a sizing is none of those below, MT_NO_SIZING; both change
- * nothing at all either.
+ * a grid has fewer than its six words, the function returns MT_FEW_WORDS, where a sizing is none of those below, MT_NO_SIZING, and where a mode
+ * of walk is none, MT_NO_MODE; all three change nothing at all either.
  * A float in `out` is the bit pattern of the double; a NaN is 0x7ff8000000000000.
  *
  * Refusals come in the order in which each comment lists them: the first that applies is answered. Where a comment says nothing else, refusals
@@ -57,7 +57,8 @@ enum {
     MT_UNFIT_SNAP = 12,     /* snap size or strategy unfit: 0 */
     MT_OUT_SHORT = 100,     /* `out` has too few words; nothing is written */
     MT_FEW_WORDS = 101,     /* a grid has too few words; nothing is written */
-    MT_NO_SIZING = 102      /* there is no sizing of this number; nothing is written */
+    MT_NO_SIZING = 102,     /* there is no sizing of this number; nothing is written */
+    MT_NO_MODE = 103        /* there is no mode of walk of this number; nothing is written */
 };
 
 /* Sizings: how a build sizes its cells, for n lines of so much extent in x (width) and in y (height).
@@ -67,6 +68,12 @@ enum {
  *               alike from height. A change of one axis's unit changes lists by rounding alone, as long as no size is held at 1e-6 and the
  *               1e-9 that a grid reaches beyond the lines is not lost. */
 enum { MT_SQUARE = 0, MT_AXES = 1 };
+
+/* Modes of walk: which cells are added where an end, or a whole line that is parallel to an axis, lies on a boundary between cells, which is within
+ * 1e-12 of it, in cells. At a corner each axis goes by itself, and the cell across both is added too. A cell beyond the grid is not.
+ *   MT_RUST     the lower neighbour, on whichever side of the boundary the value lies.
+ *   MT_SIDED    the neighbour across the boundary: the lower one for a value at the boundary or just above it, the upper one for a value just below. */
+enum { MT_RUST = 0, MT_SIDED = 1 };
 
 /* The snap strategy. Any other number is refused by 12. */
 enum { MT_GRID = 0 };
@@ -138,28 +145,28 @@ uint32_t mt_owner(const uint64_t *grid, size_t grid_len, double x, double y, uin
 
 /* ---- the walk ---- */
 
-/* The cells that the segment from (start_x, start_y) to (end_x, end_y) visits, increasing, none twice, at the start of the scratch; zero
- * beyond them. The scratch has at least 16,384 entries.
+/* The cells that the segment from (start_x, start_y) to (end_x, end_y) visits in a mode of walk (MT_RUST or MT_SIDED), increasing, none
+ * twice, at the start of the scratch; zero beyond them. The scratch has at least 16,384 entries.
  * out (1 word): the number of cells.
  * Refuses by 3, 1, 8, 7. */
-uint32_t mt_segment_cells(const uint64_t *grid, size_t grid_len, double start_x, double start_y, double end_x, double end_y,
+uint32_t mt_segment_cells(const uint64_t *grid, size_t grid_len, double start_x, double start_y, double end_x, double end_y, uint32_t mode,
                           uint32_t *scratch, size_t scratch_len, uint64_t *out, size_t out_len);
 
 /* ---- the build ---- */
 
-/* Picks a grid for the lines, its cells sized by `sizing` (MT_SQUARE or MT_AXES), and writes its tables. Line i goes from (start_x[i],
- * start_y[i]) to (end_x[i], end_y[i]). The list of cell c is items[offsets[c]] up to items[offsets[c + 1]]: the lines, increasing, that visit
- * it. A line that visits more than 2,048 cells is in no list but in globals. Where a cell would list more than 500 lines and 4 times the cells
- * are below 1,000,000, both sizes are halved, at most twice. Beyond what is written offsets, items and globals are zeroed, and so is all of the
- * scratch, which has at least 16,384 entries. Offsets for 1,002,002 entries, items for 2,048 times the lines and globals for the lines are
- * always enough.
+/* Picks a grid for the lines, its cells sized by `sizing` (MT_SQUARE or MT_AXES), and writes its tables, by the walk of `mode` (MT_RUST or
+ * MT_SIDED). Line i goes from (start_x[i], start_y[i]) to (end_x[i], end_y[i]). The list of cell c is items[offsets[c]] up to items[offsets[c +
+ * 1]]: the lines, increasing, that visit it. A line that visits more than 2,048 cells is in no list but in globals. Where a cell would list more
+ * than 500 lines and 4 times the cells are below 1,000,000, both sizes are halved, at most twice. Beyond what is written offsets, items and
+ * globals are zeroed, and so is all of the scratch, which has at least 16,384 entries. Offsets for 1,002,002 entries, items for 2,048 times the
+ * lines and globals for the lines are always enough.
  * More than 65,536 lines: cut them in parts of at most 32,768, and build each two parts together, every two once. Parts built alone lose the
  * pairs between them.
  * out (8 words): the six words of the grid (the bits of min_x, min_y, cell_width and cell_height, cols, rows), the number of items, the number of
  * globals. The grid is fit. A minimum that is zero has the sign of the first zero coordinate on its axis, lines in order, start before end.
  * Refuses by 3, 2, 1; at each grid tried by 4, 7; then by 5, 6. */
 uint32_t mt_build(const double *start_x, size_t start_x_len, const double *start_y, size_t start_y_len,
-                  const double *end_x, size_t end_x_len, const double *end_y, size_t end_y_len, uint32_t sizing,
+                  const double *end_x, size_t end_x_len, const double *end_y, size_t end_y_len, uint32_t sizing, uint32_t mode,
                   uint32_t *offsets, size_t offsets_len, uint32_t *items, size_t items_len, uint32_t *globals, size_t globals_len,
                   uint32_t *scratch, size_t scratch_len, uint64_t *out, size_t out_len);
 

@@ -1,10 +1,10 @@
 #!/usr/bin/env python3
-"""exact_check.py [--sizing square|axes] FILE..: which legs of a chain share a point, by exact arithmetic, and which of those pairs the visit
-never tests.
+"""exact_check.py [--sizing square|axes] [--walk rust|sided] FILE..: which legs of a chain share a point, by exact arithmetic, and
+which of those pairs the visit never tests.
 
 FILE is one LineString in well-known binary. Coordinates are floats, so each is a fraction, and nothing is rounded here. The program is run
-on FILE (./morelturret, which builds it on demand, with the sizing that is named); a pair of legs is tested if the two share a `cell` line or
-one is on the `global` line.
+on FILE (./morelturret, which builds it on demand, with the sizing and the walk that are named); a pair of legs is tested if the
+two share a `cell` line or one is on the `global` line.
 Consecutive legs share their joint, so they count too.
 Prints a line for each FILE, and one for each pair that is missing. Status 0: none is missing; 1: some are; 2: a FILE was refused or not read."""
 import pathlib
@@ -60,13 +60,13 @@ def tested_of(printed, legs):
     return tested
 
 
-def check(path, sizing):
+def check(path, options):
     try:
         data = pathlib.Path(path).read_bytes()
     except OSError as e:
         print(f"{path}: {e.strerror}", file=sys.stderr)
         return 2
-    run = subprocess.run([TOP / "morelturret", "--sizing", sizing, path], capture_output=True, text=True)
+    run = subprocess.run([TOP / "morelturret", *options, path], capture_output=True, text=True)
     if run.returncode != 0:
         sys.stderr.write(run.stderr)
         return 2
@@ -89,12 +89,12 @@ def check(path, sizing):
 
 
 def main():
-    words, sizing = sys.argv[1:], "square"
-    if words[:1] == ["--sizing"]:
-        sizing, words = "".join(words[1:2]), words[2:]
+    words, options = sys.argv[1:], []
+    while words[:1] in (["--sizing"], ["--walk"]):
+        options, words = options + words[:2], words[2:]
     if not words or words[0] in ("-h", "--help"):
         sys.exit(__doc__)
-    sys.exit(max(check(path, sizing) for path in words))
+    sys.exit(max(check(path, options) for path in words))
 
 
 if __name__ == "__main__":

@@ -1,6 +1,7 @@
 #!/usr/bin/env python3
 """make_examples.py [FOLDER]: writes the LineStrings of examples/ (well-known binary) to FOLDER, or to examples/ beside this script's folder.
-What the program prints for NAME.wkb stands in NAME.out, and by `--sizing axes` in NAME.axes.out. Nothing here is random: each run writes the
+What the program prints for NAME.wkb stands in NAME.out, by `--sizing axes` in NAME.axes.out, and by `--walk sided` in NAME.sided.out and
+NAME.axes.sided.out. Nothing here is random: each run writes the
 same bytes.
 
 With points of your own, `write(path, points)` makes a file that the program reads: little-endian, type 2, 1 to 1,024 points (x, y)."""
@@ -58,6 +59,9 @@ def examples():
     yield "orbits_millikelvin", line_string([(round(1000 * kelvin), ppb) for kelvin, ppb in orbits()])
     # 510 samples at one temperature, then two swings over 1,000: on the grid that 510 lines in one cell lead to, a swing visits 4,001 cells
     yield "hold_and_swing", line_string([(100.1, 0)] * 511 + [(0, 0), (1000, 0), (0, 0)])
+
+    # cells of 1 by 1; leg 2 ends 2^-41 under the edge between the columns 0 and 1, and leg 3 begins there: `--walk sided` lists both in column 1 too
+    yield "hair_under_an_edge", line_string([(0, 0), (2, 0), (2, 2), (1 - 2.0**-41, 0.5), (0, 2)])
 
     # Legs that meet and are never tested (docs/FINDINGS.md): 0 and 2 of each chain.
     yield "dropped_touch", line_string([(1024.64, 1024.04), (1024.18, 1024.27), (1024, 1024), (1024.24, 1024.24)])

@@ -149,6 +149,27 @@ pub fn segment(r: &mut Random, g: &Grid) -> (&'static str, Line) {
     }
 }
 
+/// A coordinate beside a boundary of an axis: at it, or 2^-35 to 2^-47 of a cell off it, on either side. The first two boundaries and the last two come
+/// as often as all others.
+pub fn beside(r: &mut Random, low: f64, size: f64, count: u32) -> f64 {
+    let i = match r.below(6) {
+        0 => 0,
+        1 => 1,
+        2 => count.saturating_sub(1),
+        3 => count,
+        _ => r.below(count as u64 + 1) as u32,
+    };
+    let v = low + i as f64 * size;
+    let hair = size * 2f64.powi(-35 - r.below(13) as i32);
+    let moved = match r.below(8) {
+        0 => v,
+        1 => nudged(v, r.below(5) as i64 - 2),
+        2..=4 => v + hair,
+        _ => v - hair,
+    };
+    moved.clamp(-1e9, 1e9)
+}
+
 /// Gives a grid a cell size that is not fit, or at the edge of it: to one axis where these are kept apart.
 pub fn resize<const AXES: bool>(r: &mut Random, g: &mut Grid) {
     let size = r.pick(&[0.0, -1.0, 2.4999999999999994e-7, 2.5e-7, 2e9, 2000000000.0000002, f64::NAN, f64::INFINITY]);

@@ -1,5 +1,6 @@
 //! One comparison for each kind of question. Each asks the Rust, the model and the port.
-//! What the Rust cannot be asked (refusals, walks past the budget, the reader, cells sized by axis) is asked of the model and the port. Kinds that
+//! What the Rust cannot be asked (refusals, walks past the budget, the reader, cells sized by axis, the sided
+//! mode of walk) is asked of the model and the port. Kinds that
 //! turn on the sizes of cells are asked twice: `AXES` says that width and height are kept apart.
 
 use crate::random::Random;
@@ -11,6 +12,7 @@ pub mod lists;
 pub mod numbers;
 pub mod own;
 pub mod seams;
+pub mod sided;
 pub mod snap;
 pub mod straight;
 pub mod strategies;
@@ -131,6 +133,7 @@ pub fn word(number: u32) -> &'static str {
     match number {
         100 => "out is short",
         102 => "no such sizing",
+        103 => "no such mode",
         _ => [
             "answered", "refused 1", "refused 2", "refused 3", "refused 4", "refused 5", "refused 6", "refused 7", "refused 8", "refused 9",
             "refused 10", "refused 11", "refused 12",

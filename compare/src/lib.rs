@@ -18,8 +18,8 @@ pub(crate) mod noding;
 pub(crate) mod stand_in;
 pub(crate) use stand_in::{diagnostics, options, trace, types, utils, PolygonizeError, Result};
 
-/// The grid record, and how a build sizes its cells.
-pub use morelturret::{Grid, Sizing};
+/// The grid record, how a build sizes its cells, and which cells a walk visits.
+pub use morelturret::{Grid, Mode, Sizing};
 
 /// A line: start x, start y, end x, end y.
 pub type Line = [f64; 4];

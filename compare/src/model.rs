@@ -2,7 +2,7 @@
 //! Numbers are worked out on bit patterns. Each entry has the port's own shape: lent slices, an answer by number, values in `out`.
 //! The walk counts its turns, so that the Rust is never asked for a walk that may not end.
 
-use crate::{Grid, Line, Sizing};
+use crate::{Grid, Line, Mode, Sizing};
 
 /// The turns that a walk may make.
 pub const BUDGET: u32 = 5000;
@@ -180,9 +180,23 @@ impl Axis {
     fn index(self, p: f64) -> i64 {
         clamped_floor(self.value(p), self.count) as i64
     }
-    fn on_boundary(self, p: f64) -> bool {
+    /// Where p lies beside the boundary that is nearest: off it, at it or just above, or just below.
+    fn side(self, p: f64) -> Side {
         let v = self.value(p);
-        magnitude(v - round_half_away(v)) <= 1e-12
+        let boundary = round_half_away(v);
+        if magnitude(v - boundary) <= 1e-12 {
+            if v < boundary { Side::Below } else { Side::AtOrAbove }
+        } else {
+            Side::Off
+        }
+    }
+    /// The step to the neighbour that p adds: none off a boundary; the lower one, but in the sided mode the upper one just below a boundary.
+    fn added(self, mode: Mode, p: f64) -> i64 {
+        match (mode, self.side(p)) {
+            (_, Side::Off) => 0,
+            (Mode::Sided, Side::Below) => 1,
+            (Mode::Sided, Side::AtOrAbove) | (Mode::Rust, _) => -1,
+        }
     }
     fn low_edge(self, index: i64) -> f64 {
         self.low + index as f64 * self.size
@@ -200,6 +214,13 @@ impl Axis {
         let high = low + self.size;
         low <= p && (p < high || (last_too && index + 1 == self.count as i64 && p == high))
     }
+}
+
+/// Where a value lies beside a boundary.
+enum Side {
+    Off,
+    AtOrAbove,
+    Below,
 }
 
 fn axes(g: &Grid) -> (Axis, Axis) {
@@ -252,9 +273,9 @@ impl Pushed<'_> {
     }
 }
 
-/// The cells of a line, increasing, none twice, left in `cells`; or None where the walk would make a turn beyond the budget.
+/// The cells of a line in a mode, increasing, none twice, left in `cells`; or None where the walk would make a turn beyond the budget.
 /// The answer is the number of turns.
-pub fn walk(g: &Grid, line: &Line, cells: &mut Vec<u32>) -> Option<u32> {
+pub fn walk(mode: Mode, g: &Grid, line: &Line, cells: &mut Vec<u32>) -> Option<u32> {
     cells.clear();
     if g.cols == 0 || g.rows == 0 {
         return Some(0);
@@ -290,34 +311,41 @@ pub fn walk(g: &Grid, line: &Line, cells: &mut Vec<u32>) -> Option<u32> {
     }
     pushed.push(x.end, y.end);
 
-    let beside = x.step == 0 && across.on_boundary(x0);
-    let under = y.step == 0 && up.on_boundary(y0);
+    // a whole line that keeps to a value of an axis adds to each cell what that value adds
+    let along = (if x.step == 0 { across.added(mode, x0) } else { 0 }, if y.step == 0 { up.added(mode, y0) } else { 0 });
     for k in 0..pushed.cells.len() {
         let cell = pushed.cells[k] as i64;
-        lower(&mut pushed, cell % g.cols as i64, cell / g.cols as i64, beside, under);
+        neighbours(&mut pushed, cell % g.cols as i64, cell / g.cols as i64, along);
     }
     for (px, py) in [(x0, y0), (x1, y1)] {
-        lower(&mut pushed, across.index(px), up.index(py), across.on_boundary(px), up.on_boundary(py));
+        neighbours(&mut pushed, across.index(px), up.index(py), (across.added(mode, px), up.added(mode, py)));
     }
     cells.sort();
     cells.dedup();
     Some(turns)
 }
 
-/// The lower neighbours of a cell that a boundary adds.
-fn lower(pushed: &mut Pushed, col: i64, row: i64, beside: bool, under: bool) {
-    if beside {
-        pushed.push(col - 1, row);
+/// The neighbours of a cell that boundaries add, by a step on each axis; a step on both adds the corner too.
+fn neighbours(pushed: &mut Pushed, col: i64, row: i64, (dx, dy): (i64, i64)) {
+    if dx != 0 {
+        pushed.push(col + dx, row);
     }
-    if under {
-        pushed.push(col, row - 1);
+    if dy != 0 {
+        pushed.push(col, row + dy);
     }
-    if beside && under {
-        pushed.push(col - 1, row - 1);
+    if dx != 0 && dy != 0 {
+        pushed.push(col + dx, row + dy);
     }
 }
 
-pub fn segment_cells(g: &Grid, line: &Line, scratch: &mut [u32], out: &mut [u64]) -> u32 {
+/// The mode is asked for by its number: 0 is the Rust's, 1 the sided one.
+pub fn segment_cells(g: &Grid, line: &Line, mode: u32, scratch: &mut [u32], out: &mut [u64]) -> u32 {
+    if out.is_empty() {
+        return SHORT;
+    }
+    let Some(mode) = mode_of(mode) else {
+        return NO_MODE;
+    };
     let mut refuse = |number, value| {
         out[0] = value;
         number
@@ -332,7 +360,7 @@ pub fn segment_cells(g: &Grid, line: &Line, scratch: &mut [u32], out: &mut [u64]
         return refuse(8, 0);
     }
     let mut cells = Vec::new();
-    if walk(g, line, &mut cells).is_none() {
+    if walk(mode, g, line, &mut cells).is_none() {
         scratch.fill(0);
         return refuse(7, 0);
     }
@@ -415,12 +443,12 @@ impl Listed {
 }
 
 /// The lines in the domain counted and placed on a grid that is fit; or the first line whose walk goes beyond the budget.
-pub fn listed_on(grid: &Grid, lines: Coordinates) -> Result<Listed, usize> {
+pub fn listed_on(mode: Mode, grid: &Grid, lines: Coordinates) -> Result<Listed, usize> {
     let mut lists = vec![Vec::new(); grid.cols as usize * grid.rows as usize];
     let mut globals = Vec::new();
     let mut cells = Vec::new();
     for i in 0..lines.len() {
-        walk(grid, &lines.line(i), &mut cells).ok_or(i)?;
+        walk(mode, grid, &lines.line(i), &mut cells).ok_or(i)?;
         if cells.len() > MOST_CELLS {
             globals.push(i as u32);
         } else {
@@ -443,8 +471,8 @@ pub struct Tables {
     pub halvings: u32,
 }
 
-/// The tables of a set of lines in the domain. `room` is the number of offsets lent. A refusal 4 or 7 is the error.
-pub fn tables(lines: Coordinates, sizing: Sizing, room: usize) -> Result<Tables, (u32, u64)> {
+/// The tables of a set of lines in the domain, in a sizing and a mode of walk. `room` is the number of offsets lent. A refusal 4 or 7 is the error.
+pub fn tables(lines: Coordinates, sizing: Sizing, mode: Mode, room: usize) -> Result<Tables, (u32, u64)> {
     let n = lines.len();
     if n == 0 {
         if room < 1 {
@@ -473,7 +501,7 @@ pub fn tables(lines: Coordinates, sizing: Sizing, room: usize) -> Result<Tables,
             return Err((4, count as u64 + 1));
         }
         let grid = Grid { min_x, min_y, cell_width, cell_height, cols: cols as u32, rows: rows as u32 };
-        let listed = listed_on(&grid, lines).map_err(|line| (7, line as u64))?;
+        let listed = listed_on(mode, &grid, lines).map_err(|line| (7, line as u64))?;
         let crowded = listed.lists.iter().any(|l| l.len() > 500);
         if crowded && halvings < 2 && count * 4 < 1_000_000 {
             cell_width /= 2.0;
@@ -485,9 +513,10 @@ pub fn tables(lines: Coordinates, sizing: Sizing, room: usize) -> Result<Tables,
     }
 }
 
-/// What a function answers whose `out` has too few words, and a build that is asked for a sizing that there is not.
+/// What a function answers whose `out` has too few words, and one that is asked for a sizing or a mode of walk that there is not.
 pub const SHORT: u32 = 100;
 pub const NO_SIZING: u32 = 102;
+pub const NO_MODE: u32 = 103;
 
 /// The sizing of a number.
 pub fn sizing_of(number: u32) -> Option<Sizing> {
@@ -498,16 +527,28 @@ pub fn sizing_of(number: u32) -> Option<Sizing> {
     }
 }
 
+/// The mode of walk of a number.
+pub fn mode_of(number: u32) -> Option<Mode> {
+    match number {
+        0 => Some(Mode::Rust),
+        1 => Some(Mode::Sided),
+        _ => None,
+    }
+}
+
 /// out: the words of the grid, the number of items, the number of globals.
 #[allow(clippy::too_many_arguments)]
 pub fn build(
-    lines: Coordinates, sizing: u32, offsets: &mut [u32], items: &mut [u32], globals: &mut [u32], scratch: &mut [u32], out: &mut [u64],
+    lines: Coordinates, sizing: u32, mode: u32, offsets: &mut [u32], items: &mut [u32], globals: &mut [u32], scratch: &mut [u32], out: &mut [u64],
 ) -> u32 {
     if out.len() < 8 {
         return SHORT;
     }
     let Some(sizing) = sizing_of(sizing) else {
         return NO_SIZING;
+    };
+    let Some(mode) = mode_of(mode) else {
+        return NO_MODE;
     };
     if lines.uneven() || scratch.len() < SCRATCH {
         out[0] = 0;
@@ -520,7 +561,7 @@ pub fn build(
     for s in [&mut *offsets, &mut *items, &mut *globals, &mut *scratch] {
         s.fill(0);
     }
-    let refusal = match tables(lines, sizing, offsets.len()) {
+    let refusal = match tables(lines, sizing, mode, offsets.len()) {
         Err(refusal) => refusal,
         Ok(t) if t.items.len() > items.len() => (5, t.items.len() as u64),
         Ok(t) if t.globals.len() > globals.len() => (6, t.globals.len() as u64),

@@ -15,14 +15,14 @@ pub mod numbers {
     pub use morelturret::sys::{ceiling, clamped_floor, floor, greatest, least, magnitude, round_half_away, square_root};
 }
 
-/// The entry for one segment. out: the number of cells.
+/// The entry for one segment, in the mode of a number: 0 the Rust's, 1 the sided one. out: the number of cells.
 #[inline]
-pub fn segment_cells(g: &Grid, line: &Line, scratch: &mut [u32], out: &mut [u64]) -> u32 {
+pub fn segment_cells(g: &Grid, line: &Line, mode: u32, scratch: &mut [u32], out: &mut [u64]) -> u32 {
     let [x0, y0, x1, y1] = *line;
-    sys::segment_cells(&g.words(), x0, y0, x1, y1, scratch, out)
+    sys::segment_cells(&g.words(), x0, y0, x1, y1, mode, scratch, out)
 }
 
-/// The walk that a build takes: it leaves the scratch beyond the cells as it comes. out: the number of cells.
+/// The walk that a build takes, in the Rust's mode: it leaves the scratch beyond the cells as it comes. out: the number of cells.
 #[inline]
 pub fn inner_walk(g: &Grid, line: &Line, scratch: &mut [u32], out: &mut [u64]) -> u32 {
     let [x0, y0, x1, y1] = *line;
@@ -35,12 +35,12 @@ pub fn order(entries: &mut [u32]) -> u32 {
     inner::inner_order(entries)
 }
 
-/// The sizing is asked for by its number: 0 square, 1 by axis. out: the words of the grid, the number of items, the number of globals.
+/// The sizing is asked for by its number: 0 square, 1 by axis; and the mode of walk: 0 the Rust's, 1 the sided one. out: the words of the grid, the number of items, the number of globals.
 #[inline]
 pub fn build(
-    l: Coordinates, sizing: u32, offsets: &mut [u32], items: &mut [u32], globals: &mut [u32], scratch: &mut [u32], out: &mut [u64],
+    l: Coordinates, sizing: u32, mode: u32, offsets: &mut [u32], items: &mut [u32], globals: &mut [u32], scratch: &mut [u32], out: &mut [u64],
 ) -> u32 {
-    sys::build(l.start_x, l.start_y, l.end_x, l.end_y, sizing, offsets, items, globals, scratch, out)
+    sys::build(l.start_x, l.start_y, l.end_x, l.end_y, sizing, mode, offsets, items, globals, scratch, out)
 }
 
 /// out: written only on a refusal.

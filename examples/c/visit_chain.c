@@ -1,8 +1,9 @@
-/* visit_chain [--sizing square|axes] FILE: from a chain of points to the pairs of lines that may cross, by the library's C functions.
+/* visit_chain [--sizing square|axes] [--walk rust|sided] FILE: from a chain of points to the pairs of lines that may cross, by the library's C functions.
  *
  * FILE holds one LineString in well-known binary. Consecutive points make lines, numbered from 0. Printed are the grid that the library picks for
  * them, how long its tables are, how many tests a whole visit makes, how many of them found two lines whose boxes overlap, and the first such pairs.
- * The grid's cells are square, or, by `--sizing axes`, as wide and as high as each axis by itself asks for.
+ * The grid's cells are square, or, by `--sizing axes`, as wide and as high as each axis by itself asks for. On a boundary the walk adds the cells
+ * that the Rust adds, or, by `--walk sided`, those across it.
  * The exit status is 0; 1 where the library refuses, which is printed with its number and value; 2 where FILE can't be read or standard
  * output can't be written.
  *
@@ -55,21 +56,32 @@ static double of_bits(uint64_t bits) {
     return word.value;
 }
 
-/* Whether the words ask for a sizing and one file, or for one file alone; then what they ask for stands in *sizing and *path. */
-static int asked(int argc, char **argv, uint32_t *sizing, const char **path) {
+/* Whether a word is one of two; then 0 or 1 stands in *which. */
+static int either(const char *word, const char *first, const char *second, uint32_t *which) {
+    *which = strcmp(word, second) == 0;
+    return *which || strcmp(word, first) == 0;
+}
+
+/* Whether the words ask for one file, with options before it; then what they ask for stands in *sizing, *mode and *path. */
+static int asked(int argc, char **argv, uint32_t *sizing, uint32_t *mode, const char **path) {
     *sizing = MT_SQUARE;
+    *mode = MT_RUST;
     *path = argv[argc - 1];
-    if (argc == 2) return 1;
-    if (argc != 4 || strcmp(argv[1], "--sizing") != 0) return 0;
-    if (strcmp(argv[2], "axes") == 0) *sizing = MT_AXES;
-    return *sizing == MT_AXES || strcmp(argv[2], "square") == 0;
+    if (argc < 2 || argc % 2 != 0) return 0;
+    for (int i = 1; i + 1 < argc; i += 2) {
+        int known = strcmp(argv[i], "--sizing") == 0 ? either(argv[i + 1], "square", "axes", sizing)
+                  : strcmp(argv[i], "--walk") == 0   ? either(argv[i + 1], "rust", "sided", mode)
+                                                     : 0;
+        if (!known) return 0;
+    }
+    return 1;
 }
 
 int main(int argc, char **argv) {
-    uint32_t sizing;
+    uint32_t sizing, mode;
     const char *path;
-    if (!asked(argc, argv, &sizing, &path)) {
-        fprintf(stderr, "visit_chain: [--sizing square|axes] and one FILE are needed, a LineString in well-known binary\n");
+    if (!asked(argc, argv, &sizing, &mode, &path)) {
+        fprintf(stderr, "visit_chain: [--sizing square|axes], [--walk rust|sided] and one FILE are needed, a LineString in well-known binary\n");
         return 2;
     }
 
@@ -95,8 +107,8 @@ int main(int argc, char **argv) {
     /* 4. A grid, and the tables on it: the list of cell c is items[offsets[c]] up to items[offsets[c + 1]]. The words that are answered begin with
      * those of the grid, and are handed on as they are. */
     uint64_t built[8];
-    number = mt_build(start_x, lines, start_y, lines, end_x, lines, end_y, lines, sizing, offsets, OFFSETS, items, ITEMS, globals, LINES,
-                      scratch, SCRATCH, built, 8);
+    number = mt_build(start_x, lines, start_y, lines, end_x, lines, end_y, lines, sizing, mode, offsets, OFFSETS, items, ITEMS,
+                      globals, LINES, scratch, SCRATCH, built, 8);
     if (number != MT_OK) return refused(number, built[0]);
     uint64_t width = built[2], height = built[3], item_count = built[6], global_count = built[7];
     printf("lines %zu\n", lines);

@@ -1,15 +1,16 @@
-//! visit_chain [--sizing square|axes] FILE: from a chain of points to the pairs of lines that may cross.
+//! visit_chain [--sizing square|axes] [--walk rust|sided] FILE: from a chain of points to the pairs of lines that may cross.
 //!
 //! FILE holds one LineString in well-known binary. Consecutive points make lines, numbered from 0. Printed are the grid that is picked for them, how
 //! long its tables are, how many tests a whole visit makes, how many of them found two lines whose boxes overlap, and the first such pairs. The grid's
-//! cells are square, or, by `--sizing axes`, as wide and as high as each axis by itself asks for.
+//! cells are square, or, by `--sizing axes`, as wide and as high as each axis by itself asks for. On a boundary the walk adds the cells that the Rust
+//! adds, or, by `--walk sided`, those across it.
 //! The exit status is 0; 1 where the library refuses, which is printed with its number and value; 2 where FILE can't be read or standard
 //! output can't be written.
 //!
 //! `cargo run --offline --example visit_chain FILE` runs it, in bindings/rust, once `tools/build_library` has built the library. `tools/run_examples`
 //! does both, and runs it beside examples/c/visit_chain.c, which prints the same.
 
-use morelturret::{read_points, Lines, Refusal, Sizing, Tables};
+use morelturret::{read_points, Lines, Mode, Plan, Refusal, Sizing, Tables};
 use std::ffi::OsString;
 use std::io::{self, Write};
 use std::process::ExitCode;
@@ -20,15 +21,15 @@ const SHOWN: usize = 5;
 
 fn main() -> ExitCode {
     let words: Vec<OsString> = std::env::args_os().skip(1).collect();
-    let Some((sizing, path)) = asked(&words) else {
-        eprintln!("visit_chain: [--sizing square|axes] and one FILE are needed, a LineString in well-known binary");
+    let Some((plan, path)) = asked(&words) else {
+        eprintln!("visit_chain: [--sizing square|axes], [--walk rust|sided] and one FILE are needed, a LineString in well-known binary");
         return ExitCode::from(2);
     };
     let Ok(bytes) = std::fs::read(&path) else {
         eprintln!("visit_chain: {} can't be read", path.to_string_lossy());
         return ExitCode::from(2);
     };
-    let (text, status) = match visit(&bytes, sizing) {
+    let (text, status) = match visit(&bytes, plan) {
         Ok(text) => (text, 0),
         Err(Refusal { number, value }) => (format!("refused {number}, value {value}\n"), 1),
     };
@@ -41,25 +42,30 @@ fn main() -> ExitCode {
     ExitCode::from(status)
 }
 
-/// The sizing and the file that the words ask for.
-fn asked(words: &[OsString]) -> Option<(Sizing, &OsString)> {
-    let (sizing, path) = match words {
-        [path] => (Sizing::Square, path),
-        [option, word, path] if option == "--sizing" && word == "square" => (Sizing::Square, path),
-        [option, word, path] if option == "--sizing" && word == "axes" => (Sizing::Axes, path),
-        _ => return None,
-    };
-    Some((sizing, path))
+/// The plan and the file that the words ask for: options stand before the file.
+fn asked(words: &[OsString]) -> Option<(Plan, &OsString)> {
+    let (path, options) = words.split_last()?;
+    let mut plan = Plan::default();
+    for option in options.chunks(2) {
+        match option.iter().map(|word| word.to_str()).collect::<Option<Vec<&str>>>()?[..] {
+            ["--sizing", "square"] => plan.sizing = Sizing::Square,
+            ["--sizing", "axes"] => plan.sizing = Sizing::Axes,
+            ["--walk", "rust"] => plan.mode = Mode::Rust,
+            ["--walk", "sided"] => plan.mode = Mode::Sided,
+            _ => return None,
+        }
+    }
+    Some((plan, path))
 }
 
 /// What is printed.
-fn visit(bytes: &[u8], sizing: Sizing) -> Result<String, Refusal> {
+fn visit(bytes: &[u8], plan: Plan) -> Result<String, Refusal> {
     // Bytes to points, and points to lines: line i goes from point i to point i + 1. Nothing is copied.
     let (x, y) = read_points(bytes)?;
     let lines = Lines::chain(&x, &y);
 
-    // A grid, and the tables on it. `Tables::sized` makes its buffers as large as these lines need; `Tables::of` does so for square cells.
-    let tables = Tables::sized(lines, sizing)?;
+    // A grid, and the tables on it. `Tables::planned` makes its buffers as large as these lines need; `Tables::of` does so by the default plan.
+    let tables = Tables::planned(lines, plan)?;
     let grid = tables.grid();
     let (width, height) = (grid.cell_width, grid.cell_height);
     let mut text = format!("lines {}\n", tables.line_count());

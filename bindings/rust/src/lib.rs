@@ -41,6 +41,7 @@
 #![deny(unsafe_code, missing_docs)]
 
 mod lines;
+mod mode;
 pub mod numbers;
 mod place;
 mod read;
@@ -53,6 +54,7 @@ mod tables;
 mod walk;
 
 pub use lines::{LineVec, Lines};
+pub use mode::{Mode, Plan};
 pub use place::{overlap_owned, owner, point_owned, snap, strategies_agree, Grid, Owner, Strategy};
 pub use read::{read_line_string, read_points};
 pub use refusal::Refusal;

@@ -74,7 +74,8 @@ impl fmt::Display for Refusal {
 impl Error for Refusal {}
 
 /// The words of an answer, or its refusal. `out` has as many words as the success writes, a grid always its six, and a [`Sizing`](crate::Sizing)
-/// is one that the library has; so its 100, 101 and 102, "out is short", "too few words" and "no such sizing", never come.
+/// and a [`Mode`](crate::Mode) are such as the library has; so its 100 to 103, "out is short", "too few words", "no such sizing" and "no such mode",
+/// never come.
 pub(crate) fn answer<const N: usize>(ask: impl FnOnce(&mut [u64]) -> u32) -> Result<[u64; N], Refusal> {
     let mut out = [0; N];
     match ask(&mut out) {

@@ -25,11 +25,12 @@ extern "C" {
     fn mt_overlap_owned(grid: *const u64, grid_len: usize, row: u32, col: u32, x: f64, y: f64, size: f64, strategy: u32,
         out: *mut u64, out_len: usize) -> u32;
     fn mt_owner(grid: *const u64, grid_len: usize, x: f64, y: f64, out: *mut u64, out_len: usize) -> u32;
-    fn mt_segment_cells(grid: *const u64, grid_len: usize, start_x: f64, start_y: f64, end_x: f64, end_y: f64,
+    fn mt_segment_cells(grid: *const u64, grid_len: usize, start_x: f64, start_y: f64, end_x: f64, end_y: f64, mode: u32,
         scratch: *mut u32, scratch_len: usize, out: *mut u64, out_len: usize) -> u32;
     fn mt_build(start_x: *const f64, start_x_len: usize, start_y: *const f64, start_y_len: usize, end_x: *const f64, end_x_len: usize,
-        end_y: *const f64, end_y_len: usize, sizing: u32, offsets: *mut u32, offsets_len: usize, items: *mut u32, items_len: usize,
-        globals: *mut u32, globals_len: usize, scratch: *mut u32, scratch_len: usize, out: *mut u64, out_len: usize) -> u32;
+        end_y: *const f64, end_y_len: usize, sizing: u32, mode: u32, offsets: *mut u32, offsets_len: usize,
+        items: *mut u32, items_len: usize, globals: *mut u32, globals_len: usize, scratch: *mut u32, scratch_len: usize,
+        out: *mut u64, out_len: usize) -> u32;
     fn mt_check_tables(grid: *const u64, grid_len: usize, lines: usize, offsets: *const u32, offsets_len: usize,
         items: *const u32, items_len: usize, globals: *const u32, globals_len: usize, global_count: u64,
         out: *mut u64, out_len: usize) -> u32;
@@ -144,19 +145,20 @@ pub fn owner(grid: &[u64], x: f64, y: f64, out: &mut [u64]) -> u32 {
 
 /// `mt_segment_cells` of the header.
 #[inline]
-pub fn segment_cells(grid: &[u64], start_x: f64, start_y: f64, end_x: f64, end_y: f64, scratch: &mut [u32], out: &mut [u64]) -> u32 {
+pub fn segment_cells(grid: &[u64], start_x: f64, start_y: f64, end_x: f64, end_y: f64, mode: u32, scratch: &mut [u32],
+    out: &mut [u64]) -> u32 {
     // SAFETY: numbers by value, and Rust slices that are lent for this call.
-    unsafe { mt_segment_cells(grid.as_ptr(), grid.len(), start_x, start_y, end_x, end_y, scratch.as_mut_ptr(), scratch.len(),
+    unsafe { mt_segment_cells(grid.as_ptr(), grid.len(), start_x, start_y, end_x, end_y, mode, scratch.as_mut_ptr(), scratch.len(),
         out.as_mut_ptr(), out.len()) }
 }
 
 /// `mt_build` of the header.
 #[inline]
-pub fn build(start_x: &[f64], start_y: &[f64], end_x: &[f64], end_y: &[f64], sizing: u32, offsets: &mut [u32], items: &mut [u32],
+pub fn build(start_x: &[f64], start_y: &[f64], end_x: &[f64], end_y: &[f64], sizing: u32, mode: u32, offsets: &mut [u32], items: &mut [u32],
     globals: &mut [u32], scratch: &mut [u32], out: &mut [u64]) -> u32 {
     // SAFETY: numbers by value, and Rust slices that are lent for this call.
     unsafe { mt_build(start_x.as_ptr(), start_x.len(), start_y.as_ptr(), start_y.len(), end_x.as_ptr(), end_x.len(),
-        end_y.as_ptr(), end_y.len(), sizing, offsets.as_mut_ptr(), offsets.len(), items.as_mut_ptr(), items.len(),
+        end_y.as_ptr(), end_y.len(), sizing, mode, offsets.as_mut_ptr(), offsets.len(), items.as_mut_ptr(), items.len(),
         globals.as_mut_ptr(), globals.len(), scratch.as_mut_ptr(), scratch.len(), out.as_mut_ptr(), out.len()) }
 }
 

@@ -1,7 +1,7 @@
 //! The build, its tables, and the visit of their tests.
 
 use crate::refusal::{answer, Refusal};
-use crate::{sys, Grid, Lines, Sizing, MAX_CELLS_OF_LINE, MAX_LINES, MAX_OFFSETS, SCRATCH};
+use crate::{sys, Grid, Lines, Plan, Sizing, MAX_CELLS_OF_LINE, MAX_LINES, MAX_OFFSETS, SCRATCH};
 use std::iter::FusedIterator;
 
 /// What a build answers beside the tables that it wrote.
@@ -15,8 +15,8 @@ pub struct Built {
     pub globals: usize,
 }
 
-/// Picks a grid for the lines, its cells sized as asked for, and writes its tables into lent slices. [`Tables`] does the same with slices of its
-/// own.
+/// Picks a grid for the lines, by a plan, and writes its tables into lent slices. [`Tables`] does the same with slices of its own. The plan is a
+/// [`Plan`], or a [`Sizing`] or a [`Mode`](crate::Mode) alone.
 ///
 /// The list of cell c is `items[offsets[c]..offsets[c + 1]]`: the lines, increasing, that visit it. A line that visits more than 2,048 cells is in
 /// no list but in `globals`. Beyond what is written all four slices are zeroed. The scratch has at least [`SCRATCH`] entries; [`Room`] tells what
@@ -41,15 +41,16 @@ pub struct Built {
 /// ```
 pub fn build(
     lines: Lines,
-    sizing: Sizing,
+    plan: impl Into<Plan>,
     offsets: &mut [u32],
     items: &mut [u32],
     globals: &mut [u32],
     scratch: &mut [u32],
 ) -> Result<Built, Refusal> {
     let Lines { start_x, start_y, end_x, end_y } = lines;
+    let Plan { sizing, mode } = plan.into();
     let [min_x, min_y, cell_width, cell_height, cols, rows, items, globals] =
-        answer(|out| sys::build(start_x, start_y, end_x, end_y, sizing as u32, offsets, items, globals, scratch, out))?;
+        answer(|out| sys::build(start_x, start_y, end_x, end_y, sizing as u32, mode as u32, offsets, items, globals, scratch, out))?;
     let grid = Grid::from_words([min_x, min_y, cell_width, cell_height, cols, rows]);
     Ok(Built { grid, items: items as usize, globals: globals as usize })
 }
@@ -113,7 +114,7 @@ impl Tables {
         }
     }
 
-    /// The tables of these lines on square cells, with as much room as they need: [`Tables::sized`] by [`Sizing::Square`].
+    /// The tables of these lines on square cells, by the Rust's walk, with as much room as they need: [`Tables::planned`] by the default plan.
     ///
     /// Refuses by 3 (lengths), 2 (too many lines), 1 (a coordinate), 7 (a walk too long).
     ///
@@ -125,11 +126,10 @@ impl Tables {
     /// # Ok::<(), morelturret::Refusal>(())
     /// ```
     pub fn of(lines: Lines) -> Result<Tables, Refusal> {
-        Tables::sized(lines, Sizing::Square)
+        Tables::planned(lines, Plan::default())
     }
 
-    /// The tables of these lines on cells sized as asked for, with as much room as they need: what refusals 4, 5 and 6 ask for is given, and the
-    /// build made again.
+    /// The tables of these lines on cells sized as asked for, by the Rust's walk: [`Tables::planned`] by this sizing.
     ///
     /// Refuses by 3 (lengths), 2 (too many lines), 1 (a coordinate), 7 (a walk too long).
     ///
@@ -141,11 +141,30 @@ impl Tables {
     /// # Ok::<(), morelturret::Refusal>(())
     /// ```
     pub fn sized(lines: Lines, sizing: Sizing) -> Result<Tables, Refusal> {
+        Tables::planned(lines, sizing)
+    }
+
+    /// The tables of these lines by a plan, with as much room as they need: what refusals 4, 5 and 6 ask for is given, and the build made again.
+    ///
+    /// Refuses by 3 (lengths), 2 (too many lines), 1 (a coordinate), 7 (a walk too long).
+    ///
+    /// ```
+    /// use morelturret::{Lines, Mode, Tables};
+    ///
+    /// // The last leg ends a hair under the edge between the columns 0 and 1.
+    /// let (x, y) = ([0.0, 2.0, 2.0, 0.0, 1.0 - 2f64.powi(-41)], [0.0, 0.0, 2.0, 2.0, 0.5]);
+    /// let lines = Lines::chain(&x, &y);
+    /// assert_eq!(Tables::of(lines)?.cell(0, 1), [0, 1]);
+    /// assert_eq!(Tables::planned(lines, Mode::Sided)?.cell(0, 1), [0, 1, 3]);
+    /// # Ok::<(), morelturret::Refusal>(())
+    /// ```
+    pub fn planned(lines: Lines, plan: impl Into<Plan>) -> Result<Tables, Refusal> {
+        let plan = plan.into();
         // most grids have about as many cells as there are lines, and most lines visit few cells
         let n = lines.len().min(MAX_LINES);
         let mut tables = Tables::with_room(Room { offsets: 4 * n + 16, items: 8 * n, globals: 0 });
         loop {
-            let Err(refusal) = tables.build(lines, sizing) else { return Ok(tables) };
+            let Err(refusal) = tables.build(lines, plan) else { return Ok(tables) };
             let short = match refusal.number {
                 Refusal::SHORT_OFFSETS => &mut tables.offsets,
                 Refusal::SHORT_ITEMS => &mut tables.items,
@@ -156,13 +175,13 @@ impl Tables {
         }
     }
 
-    /// Builds the tables of these lines, on cells sized as asked for, in place of those that stood. After refusals 1 to 3 the tables stand as they
+    /// Builds the tables of these lines, by a plan, in place of those that stood. After refusals 1 to 3 the tables stand as they
     /// were; after 4 to 7 they are those of no lines.
     ///
     /// Refuses by 3 (lengths), 2 (too many lines), 1 (a coordinate); at each grid tried by 4 (offsets), 7 (a walk too long); then by 5 (items),
     /// 6 (globals).
-    pub fn build(&mut self, lines: Lines, sizing: Sizing) -> Result<(), Refusal> {
-        let built = build(lines, sizing, &mut self.offsets, &mut self.items, &mut self.globals, &mut self.scratch);
+    pub fn build(&mut self, lines: Lines, plan: impl Into<Plan>) -> Result<(), Refusal> {
+        let built = build(lines, plan, &mut self.offsets, &mut self.items, &mut self.globals, &mut self.scratch);
         let (now, line_count) = match built {
             Ok(built) => (built, lines.len()),
             Err(refusal) if refusal.number <= Refusal::BAD_LENGTHS => return Err(refusal),

@@ -8,9 +8,13 @@ const FOUR: Grid = Grid { min_x: 0.0, min_y: 0.0, cell_width: 1.0, cell_height: 
 const JUNK: u32 = 0xdead_beef;
 
 fn cells(grid: Grid, line: [f64; 4]) -> Vec<u32> {
+    cells_in(Mode::Rust, grid, line)
+}
+
+fn cells_in(mode: Mode, grid: Grid, line: [f64; 4]) -> Vec<u32> {
     let (start, end) = ((line[0], line[1]), (line[2], line[3]));
     let mut scratch = vec![JUNK; SCRATCH + 3];
-    let found = segment_cells(grid, start, end, &mut scratch).unwrap().to_vec();
+    let found = segment_cells(grid, start, end, mode, &mut scratch).unwrap().to_vec();
     assert_eq!(scratch[..found.len()], found);
     assert!(scratch[found.len()..].iter().all(|&entry| entry == 0), "zero beyond the cells");
     found
@@ -29,6 +33,28 @@ fn walks() {
     assert_eq!(cells(row, [0.5, 0.5, 2047.5, 0.5]), (0..2048).collect::<Vec<u32>>());
     assert_eq!(cells(row, [0.5, 0.5, 2048.5, 0.5]), (0..2049).collect::<Vec<u32>>());
     assert!(cells(Grid { cols: 0, rows: 0, ..FOUR }, [0.5, 0.5, 2.5, 0.5]).is_empty(), "a grid of 0 columns visits nothing");
+}
+
+/// Document 02's second mode: P1 to P5 as before, P6 with the upper cell. A value at a boundary adds the lower cell, a value just below it the upper
+/// one, each axis by itself, and none beyond the grid.
+#[test]
+fn sided_walks() {
+    let cells = |line| cells_in(Mode::Sided, FOUR, line);
+    let hair = 2f64.powi(-41);
+    let at = |x: f64| cells([x, 0.5, x, 0.5]);
+    assert_eq!(cells([0.5, 0.5, 2.5, 0.5]), [0, 1, 2], "P1");
+    assert_eq!(cells([1.0, 0.5, 1.0, 2.5]), [0, 1, 4, 5, 8, 9], "P2");
+    assert_eq!(cells([1.0; 4]), [0, 1, 4, 5], "P3");
+    assert_eq!(at(1.0 + hair), [0, 1], "P4");
+    assert_eq!(at(1.0 + 4.0 * hair), [1], "P5");
+    assert_eq!(at(1.0 - hair), [0, 1], "P6");
+    assert_eq!(at(1.0 - 4.0 * hair), [0], "off the boundary");
+    assert_eq!(at(2.0 - hair), [1, 2], "the upper one instead of the lower");
+    assert_eq!(at(4.0 - hair), [3], "no column is above the last");
+    assert_eq!(cells([1.0 - hair, 0.5, 1.0 - hair, 2.5]), [0, 1, 4, 5, 8, 9], "a whole line");
+    assert_eq!(cells([0.5, 1.5, 1.0 - hair, 1.0]), [0, 1, 4, 5], "a corner, above in x and below in y");
+    assert_eq!(cells([1.0 - hair; 4]), [0, 1, 4, 5], "a corner, above on both axes");
+    assert_eq!(Mode::default(), Mode::Rust);
 }
 
 #[test]

@@ -61,7 +61,7 @@ fn one_a_coordinate() {
         assert_eq!(of(overlap_owned(FOUR, 0, 0, bad, 0.0, 1.0, Strategy::Grid)), (1, 0));
         assert_eq!(of(owner(FOUR, 0.0, bad)), (1, 0));
         let mut scratch = vec![JUNK; SCRATCH];
-        assert_eq!(of(segment_cells(FOUR, (0.0, 0.0), (bad, 0.0), &mut scratch)), (1, 0));
+        assert_eq!(of(segment_cells(FOUR, (0.0, 0.0), (bad, 0.0), Mode::Rust, &mut scratch)), (1, 0));
         assert!(scratch.iter().all(|&entry| entry == JUNK));
     }
     let edge: LineVec = [[1e9, -1e9, 1e9, -1e9]].into_iter().collect();
@@ -104,7 +104,7 @@ fn three_lengths() {
     }
     assert_eq!(refused_build(owned.lines(), ROOM, SCRATCH - 1), ((3, 0), LEFT));
     let mut short = vec![JUNK; SCRATCH - 1];
-    assert_eq!(of(segment_cells(FOUR, (0.5, 0.5), (0.5, 0.5), &mut short)), (3, 0));
+    assert_eq!(of(segment_cells(FOUR, (0.5, 0.5), (0.5, 0.5), Mode::Sided, &mut short)), (3, 0));
     let (mut first, mut second) = ([JUNK; 3], [JUNK; 4]);
     assert_eq!(of(tables.batch(owned.lines(), 0, &mut first, &mut second)), (3, 0));
     assert_eq!((first, second), ([JUNK; 3], [JUNK; 4]));
@@ -167,7 +167,9 @@ fn seven_a_walk_too_long() {
     let others: LineVec = (0..lines.len()).map(|i| if i == 1 { [0.0, 0.0, 0.0, 4.16] } else { lines.get(i).unwrap() }).collect();
     let grid = Tables::of(others.lines()).unwrap().grid();
     let mut scratch = vec![JUNK; SCRATCH];
-    assert_eq!(of(segment_cells(grid, (0.0, 0.0), (1e-300, 4.16), &mut scratch)), (7, 0));
+    for mode in [Mode::Rust, Mode::Sided] {
+        assert_eq!(of(segment_cells(grid, (0.0, 0.0), (1e-300, 4.16), mode, &mut scratch)), (7, 0), "{mode:?}");
+    }
     assert!(scratch.iter().all(|&entry| entry == 0));
 }
 
@@ -191,7 +193,7 @@ fn eight_an_unfit_grid() {
     let owned = square();
     let tables = Tables::of(owned.lines()).unwrap();
     for grid in unfit {
-        assert_eq!(of(segment_cells(grid, (0.5, 0.5), (0.5, 0.5), &mut scratch)), (8, 0), "{grid:?}");
+        assert_eq!(of(segment_cells(grid, (0.5, 0.5), (0.5, 0.5), Mode::Sided, &mut scratch)), (8, 0), "{grid:?}");
         assert_eq!(of(point_owned(grid, 0, 0, 0.5, 0.5)), (8, 0));
         assert_eq!(of(overlap_owned(grid, 0, 0, 0.5, 0.5, 1.0, Strategy::Grid)), (8, 0));
         assert_eq!(of(owner(grid, 0.5, 0.5)), (8, 0));

@@ -157,6 +157,6 @@ fn empty_slices() {
         let built = build(Lines::default(), sizing, &mut [9], &mut [], &mut [], &mut scratch);
         assert_eq!(built, Ok(Built { grid: Grid::EMPTY, items: 0, globals: 0 }));
     }
-    assert_eq!(segment_cells(Grid::EMPTY, (0.0, 0.0), (1.0, 1.0), &mut []), Err(Refusal { number: 3, value: 0 }));
+    assert_eq!(segment_cells(Grid::EMPTY, (0.0, 0.0), (1.0, 1.0), Mode::Sided, &mut []), Err(Refusal { number: 3, value: 0 }));
     assert_eq!(read_line_string(&[], &mut [], &mut []), Err(Refusal { number: 3, value: 0 }));
 }

@@ -1,12 +1,13 @@
 //! compare [--seed S] [--cases N | --share P] [KIND..]: the port beside the Rust, kind by kind. Without kinds, all of them; without N, a full run
-//! of each, or P hundredths of one. The kinds named axes-, and seams, are of cells whose width and height are kept apart.
+//! of each, or P hundredths of one. The kinds named axes-, and seams, are of cells whose width and height are kept apart, those named sided- of the
+//! second mode of walk.
 //! The port takes part in every kind: --port may be said, and changes nothing.
 //! Ends with status 1 at the first difference.
 
-use compare::kinds::{self, build, lists, numbers, own, seams, snap, straight, strategies, visit, walk, wkb};
+use compare::kinds::{self, build, lists, numbers, own, seams, sided, snap, straight, strategies, visit, walk, wkb};
 
 /// The kinds, with the cases of a full run.
-const KINDS: [(&str, u64); 17] = [
+const KINDS: [(&str, u64); 19] = [
     ("sample", 1),
     ("numbers", 10_000_000),
     ("walk", 1_000_000),
@@ -24,6 +25,8 @@ const KINDS: [(&str, u64); 17] = [
     ("axes-lists", 5_000),
     ("axes-own", 500_000),
     ("seams", 20_000),
+    ("sided-walk", 1_000_000),
+    ("sided-build", 2_000),
 ];
 
 fn main() {
@@ -45,7 +48,7 @@ fn main() {
         let n = cases.unwrap_or(full * share / 100).max(1);
         let begun = std::time::Instant::now();
         let right = match kind {
-            "sample" => sample() & by_axis(),
+            "sample" => sample() & by_axis() & by_side(),
             "numbers" => numbers::run(seed, n),
             "walk" => kinds::run::<walk::Walk<false>>(seed, n, walk::fixed()),
             "straight" => kinds::run::<straight::Straight>(seed, n, straight::fixed()),
@@ -61,7 +64,9 @@ fn main() {
             "axes-visit" => kinds::run::<visit::Visit<true>>(seed, n, vec![]),
             "axes-lists" => kinds::run::<lists::Lists<true>>(seed, n, vec![]),
             "axes-own" => kinds::run::<own::Own<true>>(seed, n, vec![]),
-            _ => kinds::run::<seams::Seams>(seed, n, seams::found(seed, n / 200 + 1)),
+            "seams" => kinds::run::<seams::Seams>(seed, n, seams::found(seed, n / 200 + 1)),
+            "sided-walk" => kinds::run::<sided::SidedWalk>(seed, n, sided::fixed_walks()),
+            _ => kinds::run::<sided::SidedBuild>(seed, n, sided::fixed_builds(seed)),
         };
         println!("  (seed {seed}, {:.1} s)", begun.elapsed().as_secs_f64());
         if !right {
@@ -140,7 +145,7 @@ visit 9 9
 /// Document 02's sizing by axis, by the model alone, at values that are worked out by hand: columns, rows, cell width, cell height, items.
 fn by_axis() -> bool {
     use compare::kinds::build::Columns;
-    use compare::{model, Line, Sizing};
+    use compare::{model, Line, Mode, Sizing};
     let square = [[0.0, 0.0, 2.0, 0.0], [2.0, 0.0, 2.0, 2.0], [2.0, 2.0, 0.0, 2.0], [0.0, 2.0, 0.0, 0.0]];
     let milli = square.map(|[a, b, c, d]| [a * 1000.0, b, c * 1000.0, d]);
     let wide = [[-1e9, 0.0, 1e9, 0.0], [0.0, 0.0, 0.0, 1e-9], [0.0; 4], [0.0; 4]];
@@ -157,7 +162,7 @@ fn by_axis() -> bool {
     ];
     let mut right = 0;
     for (name, lines, wanted) in wanted {
-        let t = model::tables(Columns::new(lines).coordinates(), Sizing::Axes, usize::MAX).unwrap();
+        let t = model::tables(Columns::new(lines).coordinates(), Sizing::Axes, Mode::Rust, usize::MAX).unwrap();
         let got = (t.grid.cols, t.grid.rows, t.grid.cell_width, t.grid.cell_height, t.items.len());
         if got == wanted {
             right += 1;
@@ -166,5 +171,41 @@ fn by_axis() -> bool {
         }
     }
     println!("sample: the model has {right} of {} grids by axis as document 02", wanted.len());
+    right == wanted.len()
+}
+
+/// Document 02's second mode of walk, by the model alone, at values that are worked out by hand: 4 by 4 cells of 1 by 1.
+fn by_side() -> bool {
+    use compare::{model, Grid, Line, Mode};
+    let four = Grid { min_x: 0.0, min_y: 0.0, cell_width: 1.0, cell_height: 1.0, cols: 4, rows: 4 };
+    let hair = 2f64.powi(-41);
+    let at = |x: f64| [x, 0.5, x, 0.5];
+    let wanted: [(&str, Line, &[u32]); 14] = [
+        ("P1", [0.5, 0.5, 2.5, 0.5], &[0, 1, 2]),
+        ("P2", [1.0, 0.5, 1.0, 2.5], &[0, 1, 4, 5, 8, 9]),
+        ("P3", [1.0; 4], &[0, 1, 4, 5]),
+        ("P4", at(1.0 + hair), &[0, 1]),
+        ("P5", at(1.0 + 4.0 * hair), &[1]),
+        ("P6", at(1.0 - hair), &[0, 1]),
+        ("off the boundary", at(1.0 - 4.0 * hair), &[0]),
+        ("the upper one instead", at(2.0 - hair), &[1, 2]),
+        ("the last edge", at(4.0 - hair), &[3]),
+        ("under the first edge", at(-hair), &[0, 1]),
+        ("a whole line", [1.0 - hair, 0.5, 1.0 - hair, 2.5], &[0, 1, 4, 5, 8, 9]),
+        ("a level line", [0.5, 2.0 - hair, 1.5, 2.0 - hair], &[4, 5, 8, 9]),
+        ("a corner by two sides", [0.5, 1.5, 1.0 - hair, 1.0], &[0, 1, 4, 5]),
+        ("a corner from below", [1.0 - hair; 4], &[0, 1, 4, 5]),
+    ];
+    let mut right = 0;
+    for (name, line, wanted) in wanted {
+        let mut cells = Vec::new();
+        model::walk(Mode::Sided, &four, &line, &mut cells);
+        if cells == wanted {
+            right += 1;
+        } else {
+            println!("sample: the model has the cells {cells:?} at {name} in the sided mode, where document 02 has {wanted:?}");
+        }
+    }
+    println!("sample: the model has {right} of {} walks in the sided mode as document 02", wanted.len());
     right == wanted.len()
 }

@@ -6,7 +6,7 @@ use compare::kinds::{numbers, own, walk};
 use compare::model::{self, Standing, Test, SCRATCH};
 use compare::oracle::{self, Built, Squared};
 use compare::random::{nudged, Random};
-use compare::{cases, Grid, Line, Sizing};
+use compare::{cases, Grid, Line, Mode, Sizing};
 
 // What the program `replay` has room for.
 const OFFSETS: usize = 4096;
@@ -119,7 +119,7 @@ impl File {
     fn walk(&mut self, grid: &Grid, line: &Line, scratch: usize) {
         let mut out = [0; 8];
         let mut left = vec![0; scratch];
-        let number = model::segment_cells(grid, line, &mut left, &mut out);
+        let number = model::segment_cells(grid, line, Mode::Rust as u32, &mut left, &mut out);
         let cells = match Squared::of(grid) {
             _ if number != 0 => Vec::new(),
             Some(squared) => oracle::segment_cells(squared.grid(), &squared.line(line)),
@@ -153,7 +153,7 @@ impl File {
         while short < count {
             let (_, c) = draw(r);
             let mut cells = Vec::new();
-            let turns = if model::grid_fits(&c.grid) { model::walk(&c.grid, &c.line, &mut cells) } else { None };
+            let turns = if model::grid_fits(&c.grid) { model::walk(Mode::Rust, &c.grid, &c.line, &mut cells) } else { None };
             // few walks of many cells: they are long to write
             if cells.len() > 60 {
                 if long == 6 || cells.len() > 2500 {
@@ -173,7 +173,7 @@ impl File {
         let columns = Columns::new(lines);
         let [mut offsets, mut items, mut globals, mut scratch] = [room[0], room[1], room[2], SCRATCH].map(|n| vec![0; n]);
         let mut out = [0; 8];
-        let number = model::build(columns.coordinates(), sizing, &mut offsets, &mut items, &mut globals, &mut scratch, &mut out);
+        let number = model::build(columns.coordinates(), sizing, Mode::Rust as u32, &mut offsets, &mut items, &mut globals, &mut scratch, &mut out);
         let lent = room.iter().fold(Words::new().word(sizing as u64), |words, &n| words.word(n as u64));
         let question = lent.word(SCRATCH as u64).lines(lines);
         if number != 0 {
@@ -186,7 +186,7 @@ impl File {
             let built = oracle::build(&rust_lines);
             (built.grid(), built)
         } else {
-            let t = model::tables(columns.coordinates(), Sizing::Axes, usize::MAX).unwrap();
+            let t = model::tables(columns.coordinates(), Sizing::Axes, Mode::Rust, usize::MAX).unwrap();
             (t.grid, Built::standing(&t.grid, &t.offsets, &t.items, &t.globals))
         };
         let (offsets, items, globals) = (built.offsets(), built.items(), built.globals());
@@ -255,7 +255,7 @@ impl File {
         let mut made = 0;
         while made < count {
             let (_, lines) = draw(r, most.0);
-            let Ok(t) = model::tables(Columns::new(&lines).coordinates(), sizing, usize::MAX) else { continue };
+            let Ok(t) = model::tables(Columns::new(&lines).coordinates(), sizing, Mode::Rust, usize::MAX) else { continue };
             if lines.len() > most.0 || t.most_offsets > most.1 || t.items.len() > most.1 {
                 continue;
             }

@@ -7,13 +7,15 @@ use crate::model::{self, Coordinates, MOST_CELLS, MOST_LINES, SCRATCH};
 use crate::oracle::{self, Squared};
 use crate::port;
 use crate::random::{nudged, Random};
-use crate::{Line, Sizing};
+use crate::{Line, Mode, Sizing};
 
 #[derive(Clone)]
 pub struct Case {
     pub lines: Vec<Line>,
     /// The number by which the sizing is asked for.
     pub sizing: u32,
+    /// And the mode of walk.
+    pub mode: u32,
     /// Entries taken from the end of one coordinate slice, and which one.
     pub short: Option<usize>,
     pub offsets: Room,
@@ -53,7 +55,7 @@ impl Columns {
     }
 }
 
-type Entry = fn(Coordinates, u32, &mut [u32], &mut [u32], &mut [u32], &mut [u32], &mut [u64]) -> u32;
+type Entry = fn(Coordinates, u32, u32, &mut [u32], &mut [u32], &mut [u32], &mut [u32], &mut [u64]) -> u32;
 
 /// The words of the array that `out` is a part of, and what they hold before a call.
 const WORDS: usize = 10;
@@ -73,7 +75,7 @@ impl Left {
         let mut buffers = sizes.map(|n| vec![JUNK; n]);
         let mut out = [LEFT; WORDS];
         let [offsets, items, globals, scratch] = &mut buffers;
-        let number = entry(lines, case.sizing, offsets, items, globals, scratch, &mut out[..case.out]);
+        let number = entry(lines, case.sizing, case.mode, offsets, items, globals, scratch, &mut out[..case.out]);
         Left { number, out, buffers }
     }
 
@@ -116,19 +118,20 @@ impl<const AXES: bool> Kind for Build<AXES> {
         };
         let mut room = |often: u64| if r.once_in(often) { Room::Needed(r.below(3) as i64 - 1) } else { Room::Needed(r.below(40) as i64) };
         let (offsets, items, globals) = (room(6), room(6), room(3));
-        let mut case = Case { lines, sizing: AXES as u32, short: None, offsets, items, globals, scratch: SCRATCH, out: 8 };
+        let mut case = Case { lines, sizing: AXES as u32, mode: 0, short: None, offsets, items, globals, scratch: SCRATCH, out: 8 };
         if !r.once_in(20) {
             return (shape, case);
         }
         let n = case.lines.len() as u64;
-        match r.below(10) {
+        match r.below(11) {
             0..=2 => case.lines[r.below(n) as usize][r.below(4) as usize] = cases::bad(r),
             3 => case.short = Some(r.below(4) as usize),
             4 => case.scratch = r.pick(&[0, SCRATCH - 1, SCRATCH, SCRATCH + 7]),
             5 => case.offsets = Room::Exactly(r.below(3) as usize),
             6 => case.items = Room::Exactly(r.below(3) as usize),
             7 => case.lines.clear(),
-            8 => case.sizing = r.pick(&[0, 1, 2, 3, 256, 1 << 31, u32::MAX]),
+            8 => case.mode = r.pick(&[2, 3, 256, 1 << 31, u32::MAX]),
+            9 => case.sizing = r.pick(&[0, 1, 2, 3, 256, 1 << 31, u32::MAX]),
             _ => (case.out, case.sizing) = (r.below(WORDS as u64 + 1) as usize, r.pick(&[case.sizing, 2])),
         }
         ("edge of the domain", case)
@@ -143,8 +146,8 @@ impl<const AXES: bool> Kind for Build<AXES> {
         let inside = case.short.is_none()
             && case.lines.len() <= MOST_LINES
             && case.lines.iter().flatten().all(|&v| model::coordinate_fits(v));
-        let tables = match model::sizing_of(case.sizing) {
-            Some(sizing) if inside => model::tables(columns.coordinates(), sizing, usize::MAX),
+        let tables = match model::sizing_of(case.sizing).zip(model::mode_of(case.mode)) {
+            Some((sizing, mode)) if inside => model::tables(columns.coordinates(), sizing, mode, usize::MAX),
             _ => Err((0, 0)),
         };
         let needed = tables.as_ref().map_or([4096, 64, 8], |t| [t.most_offsets, t.items.len(), t.globals.len()]);
@@ -157,8 +160,10 @@ impl<const AXES: bool> Kind for Build<AXES> {
         let (0, Ok(t)) = (number, &tables) else {
             return Ok(word(number));
         };
-        // the port leaves what the model leaves: one of the two is held to the Rust
-        let rust = if case.sizing == Sizing::Square as u32 {
+        // the port leaves what the model leaves: one of the two is held to the Rust, in the Rust's mode
+        let rust = if case.mode != Mode::Rust as u32 {
+            false
+        } else if case.sizing == Sizing::Square as u32 {
             by_rust(case, sizes).held("model", &by_model.signless())?;
             false
         } else {
@@ -205,8 +210,8 @@ impl<const AXES: bool> Kind for Build<AXES> {
     fn show(case: &Case) -> String {
         let lines: Vec<String> = case.lines.iter().take(40).map(|l| format!("  {}", l.map(float).join(", "))).collect();
         format!(
-            "{} lines\n{}\nsizing {}; lent: offsets {:?}, items {:?}, globals {:?}, scratch {}, out {}; short slice {:?}\n",
-            case.lines.len(), lines.join("\n"), case.sizing, case.offsets, case.items, case.globals, case.scratch, case.out, case.short,
+            "{} lines\n{}\nsizing {}, mode {}; lent: offsets {:?}, items {:?}, globals {:?}, scratch {}, out {}; short slice {:?}\n",
+            case.lines.len(), lines.join("\n"), case.sizing, case.mode, case.offsets, case.items, case.globals, case.scratch, case.out, case.short,
         )
     }
 }
@@ -255,9 +260,9 @@ fn by_walks(case: &Case, t: &model::Tables) -> Result<bool, String> {
 }
 
 /// A build with room to spare.
-fn ample(lines: Vec<Line>, sizing: Sizing) -> Case {
+pub fn ample(lines: Vec<Line>, sizing: Sizing) -> Case {
     let [offsets, items, globals] = [Room::Needed(1); 3];
-    Case { lines, sizing: sizing as u32, short: None, offsets, items, globals, scratch: SCRATCH, out: 8 }
+    Case { lines, sizing: sizing as u32, mode: 0, short: None, offsets, items, globals, scratch: SCRATCH, out: 8 }
 }
 
 /// Document 01's builds, its limits of lines, and 500 lines in a cell.

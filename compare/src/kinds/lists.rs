@@ -10,7 +10,7 @@ use crate::model::{self, Lists as Tables, MOST_CELLS, MOST_LINES};
 use crate::port;
 use crate::oracle;
 use crate::random::Random;
-use crate::{Grid, Line};
+use crate::{Grid, Line, Mode};
 
 type CheckTables = fn(&Tables, &mut [u64]) -> u32;
 type CellList = fn(&Tables, u32, u32, &mut [u64]) -> u32;
@@ -112,7 +112,7 @@ impl<const AXES: bool> Kind for Lists<AXES> {
             if !AXES {
                 return oracle::segment_cells(&t.grid, line);
             }
-            model::walk(&t.grid, line, &mut cells);
+            model::walk(Mode::Rust, &t.grid, line, &mut cells);
             cells
         };
         let walks: Vec<Vec<u32>> = if case.damage { vec![] } else { case.lines.iter().map(walked).collect() };

@@ -25,14 +25,14 @@ impl Kind for Straight {
         let twin = if at == 0.0 && r.once_in(2) { -at } else { at };
         let (shape, start, end) = ends(r, run);
         let line = if upright { [at, start, twin, end] } else { [start, at, end, twin] };
-        (shape, Case { grid, line, scratch: SCRATCH })
+        (shape, Case { grid, line, mode: 0, scratch: SCRATCH })
     }
 
     fn check(case: &Case) -> Result<&'static str, String> {
         let answer = Walk::<false>::check(case)?;
         let mut scratch = vec![0; case.scratch];
         let mut out = [u64::MAX; 8];
-        let number = crate::port::segment_cells(&case.grid, &case.line, &mut scratch, &mut out);
+        let number = crate::port::segment_cells(&case.grid, &case.line, case.mode, &mut scratch, &mut out);
         if number != 0 {
             return Err(format!("refused {number}"));
         }
@@ -225,7 +225,7 @@ pub fn fixed() -> Vec<(&'static str, Case)> {
         (apart, [half, 0.5, nudged(half, 1), 0.5]),
         (apart, [nudged(half, 1), 0.5, half, 0.5]),
     ];
-    let mut cases: Vec<_> = all.map(|(grid, line)| ("measured points", Case { grid, line, scratch: SCRATCH })).into();
+    let mut cases: Vec<_> = all.map(|(grid, line)| ("measured points", Case { grid, line, mode: 0, scratch: SCRATCH })).into();
     cases.extend(walk::fixed().into_iter().filter(|(_, c)| parallel(&c.line)));
     cases
 }

@@ -7,7 +7,7 @@ use crate::model::{self, Standing, Test};
 use crate::oracle::{self, Built};
 use crate::port;
 use crate::random::Random;
-use crate::{Grid, Line, Sizing};
+use crate::{Grid, Line, Mode, Sizing};
 
 #[derive(Clone)]
 pub struct Case {
@@ -73,7 +73,7 @@ impl Case {
             let small = |g: &Grid| g.cols * g.rows <= 10_000;
             let grid = std::iter::repeat_with(|| (cases::oblong(r), r.once_in(30))).find(|(g, any)| *any || small(g)).unwrap().0;
             let n = 1 + r.below(most as u64) as usize;
-            let ends = |line: &Line| model::walk(&grid, line, &mut Vec::new()).is_some();
+            let ends = |line: &Line| model::walk(Mode::Rust, &grid, line, &mut Vec::new()).is_some();
             ("on any grid", std::iter::repeat_with(|| cases::segment(r, &grid).1).filter(ends).take(n).collect(), Some(grid))
         };
         let damage = r.once_in(often);
@@ -86,11 +86,11 @@ impl Case {
         let columns = Columns::new(&self.lines);
         let lines = columns.coordinates();
         if let Some(grid) = self.grid {
-            let t = model::listed_on(&grid, lines).ok()?;
+            let t = model::listed_on(Mode::Rust, &grid, lines).ok()?;
             return Some((grid, Built::standing(&grid, &t.offsets(), &t.lists.concat(), &t.globals)));
         }
         let sizing = if axes { Sizing::Axes } else { Sizing::Square };
-        let t = model::tables(lines, sizing, usize::MAX).ok()?;
+        let t = model::tables(lines, sizing, Mode::Rust, usize::MAX).ok()?;
         if axes {
             return Some((t.grid, Built::standing(&t.grid, &t.offsets, &t.items, &t.globals)));
         }

@@ -5,22 +5,24 @@ use crate::cases;
 use crate::model::{self, SCRATCH};
 use crate::oracle::{self, Squared};
 use crate::random::Random;
-use crate::{Grid, Line};
+use crate::{Grid, Line, Mode};
 
 #[derive(Clone)]
 pub struct Case {
     pub grid: Grid,
     pub line: Line,
+    /// The number by which the mode of walk is asked for.
+    pub mode: u32,
     pub scratch: usize,
 }
 
-type Entry = fn(&Grid, &Line, &mut [u32], &mut [u64]) -> u32;
+type Entry = fn(&Grid, &Line, u32, &mut [u32], &mut [u64]) -> u32;
 
 fn entries() -> Vec<(&'static str, Entry)> {
     vec![("model", model::segment_cells), ("port", crate::port::segment_cells)]
 }
 
-/// The inner walk: the same answer and the same cells; what is beyond them on success is open, and a refusal leaves what the entry's leaves.
+/// The inner walk, which is the Rust's: the same answer and the same cells; what is beyond them on success is open, and a refusal leaves what the entry's leaves.
 fn inner(case: &Case, wanted: &(u32, u64, Vec<u32>)) -> Result<(), String> {
     let mut scratch = vec![JUNK; case.scratch];
     let mut out = [u64::MAX; 8];
@@ -40,17 +42,18 @@ impl<const AXES: bool> Kind for Walk<AXES> {
     fn draw(r: &mut Random) -> (&'static str, Case) {
         let grid = if AXES { cases::oblong(r) } else { cases::grid(r) };
         let (shape, line) = cases::segment(r, &grid);
-        let mut case = Case { grid, line, scratch: SCRATCH };
+        let mut case = Case { grid, line, mode: 0, scratch: SCRATCH };
         if !r.once_in(100) {
             return (shape, case);
         }
         // now and then something that is refused, or just not
         let v = cases::bad(r);
-        match r.below(6) {
+        match r.below(7) {
             0..=1 => case.line[r.below(4) as usize] = v,
             2 => case.grid.min_x = v,
             3 => cases::resize::<AXES>(r, &mut case.grid),
             4 => (case.grid.cols, case.grid.rows) = r.pick(&[(0, 0), (0, 1), (4005, 1), (1, 4005), (4004, 251), (1002, 1001), (u32::MAX, u32::MAX)]),
+            5 => case.mode = r.pick(&[2, 3, 256, 1 << 31, u32::MAX]),
             _ => case.scratch = r.pick(&[0, 1, SCRATCH - 1, SCRATCH, SCRATCH + 1, 20000]),
         }
         ("edge of the domain", case)
@@ -61,7 +64,7 @@ impl<const AXES: bool> Kind for Walk<AXES> {
         for (who, entry) in entries() {
             let mut scratch = vec![JUNK; case.scratch];
             let mut out = [u64::MAX; 8];
-            let number = entry(&case.grid, &case.line, &mut scratch, &mut out);
+            let number = entry(&case.grid, &case.line, case.mode, &mut scratch, &mut out);
             let got = (number, out[0], scratch);
             // the model comes first: it says whether the Rust can be asked
             let wanted = wanted.get_or_insert_with(|| {
@@ -75,10 +78,12 @@ impl<const AXES: bool> Kind for Walk<AXES> {
             answers(who, (wanted.0, &[wanted.1]), (got.0, &[got.1]))?;
             slices(&format!("{who}: scratch"), &wanted.2, &got.2)?;
         }
-        inner(case, wanted.as_ref().unwrap())?;
+        if case.mode == Mode::Rust as u32 {
+            inner(case, wanted.as_ref().unwrap())?;
+        }
         Ok(match wanted.unwrap().0 {
             7 => "past the budget",
-            0 if AXES && Squared::of(&case.grid).is_some() => "answered, by the Rust too",
+            0 if AXES && by_rust(case).is_some() => "answered, by the Rust too",
             n => word(n),
         })
     }
@@ -121,9 +126,10 @@ impl<const AXES: bool> Kind for Walk<AXES> {
         let g = &case.grid;
         let mut text = show_grid(g);
         text += &format!("segment {}\n", case.line.map(float).join(", "));
-        text += &format!("scratch {}\n", case.scratch);
+        text += &format!("mode {}, scratch {}\n", case.mode, case.scratch);
         let mut cells = Vec::new();
-        if model::grid_fits(g) && model::walk(g, &case.line, &mut cells).is_some() {
+        let mode = model::mode_of(case.mode).unwrap_or(Mode::Rust);
+        if model::grid_fits(g) && model::walk(mode, g, &case.line, &mut cells).is_some() {
             match by_rust(case) {
                 Some(cells) => text += &format!("the Rust's cells: {cells:?}\n"),
                 None => text += &format!("the model's cells: {cells:?}\n"),
@@ -133,13 +139,13 @@ impl<const AXES: bool> Kind for Walk<AXES> {
     }
 }
 
-/// The cells by the Rust, where it can be asked and the walk ends: on a grid of square cells, or where there is one a power of two away.
+/// The cells by the Rust, where it can be asked and the walk ends: in its own mode, on a grid of square cells, or where there is one a power of two away.
 fn by_rust(case: &Case) -> Option<Vec<u32>> {
-    if !model::grid_fits(&case.grid) || !case.line.iter().all(|&v| model::coordinate_fits(v)) {
+    if case.mode != Mode::Rust as u32 || !model::grid_fits(&case.grid) || !case.line.iter().all(|&v| model::coordinate_fits(v)) {
         return None;
     }
     let squared = Squared::of(&case.grid)?;
-    model::walk(&case.grid, &case.line, &mut Vec::new())?;
+    model::walk(Mode::Rust, &case.grid, &case.line, &mut Vec::new())?;
     Some(oracle::segment_cells(squared.grid(), &squared.line(&case.line)))
 }
 
@@ -161,7 +167,7 @@ pub fn fixed() -> Vec<(&'static str, Case)> {
         (long, [0.5, 0.5, 2048.5, 0.5]),
         (endless, [0.0, 0.6036785153383751, 5e-324, 1.639504059742847]),
     ];
-    all.map(|(grid, line)| ("measured points", Case { grid, line, scratch: SCRATCH })).into()
+    all.map(|(grid, line)| ("measured points", Case { grid, line, mode: 0, scratch: SCRATCH })).into()
 }
 
 /// The same points with y in another unit, on cells as much higher: the cells are the same, so the numbers of document 01 stand for these too.

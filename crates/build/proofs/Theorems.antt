@@ -13,6 +13,7 @@ use Rattle.refusals.proofs.Answers.{then-passed}
 use Rattle.grid.specs.declared.Grid.{Grid}
 use Rattle.grid.specs.Domain.{Lines, count, scratchCheck, linesCheck}
 use Rattle.walk.specs.Pushes.{Outcome}
+use Rattle.walk.specs.declared.Mode.{Mode}
 use Rattle.tables.specs.Tables.{tables, listIn}
 use Rattle.tables.specs.Lists.{sum, offsetsOf, itemsOf}
 use Rattle.tables.specs.Stands.{Stands}
@@ -39,8 +40,8 @@ pub record Identical (r r₁ : Built) (o o₁ t t₁ gs gs₁ s s₁ : List ℕ)
   pub globals : gs ≡ gs₁
   pub scratch : s ≡ s₁
 
-pub one-outcome : {ls : Lines} {o t gs s : List ℕ} {r r₁ : Built} {o′ o₁ t′ t₁ gs′ gs₁ s′ s₁ : List ℕ} {e : Answer Grid}
-    → BuildIs ls o t gs s r o′ t′ gs′ s′ e → BuildIs ls o t gs s r₁ o₁ t₁ gs₁ s₁ e → Identical r r₁ o′ o₁ t′ t₁ gs′ gs₁ s′ s₁
+pub one-outcome : {mode : Mode} {ls : Lines} {o t gs s : List ℕ} {r r₁ : Built} {o′ o₁ t′ t₁ gs′ gs₁ s′ s₁ : List ℕ} {e : Answer Grid}
+    → BuildIs mode ls o t gs s r o′ t′ gs′ s′ e → BuildIs mode ls o t gs s r₁ o₁ t₁ gs₁ s₁ e → Identical r r₁ o′ o₁ t′ t₁ gs′ gs₁ s′ s₁
 one-outcome h k =
     record {
       answer = h .answer ∙ sym (k .answer);
@@ -52,18 +53,18 @@ one-outcome h k =
 
 -- ---- a successful build: the answer is tables
 
-record Success (ls : Lines) (st : Standing) (o t gs : List ℕ) : Type 0 where
+record Success (mode : Mode) (ls : Lines) (st : Standing) (o t gs : List ℕ) : Type 0 where
   passed : linesCheck ls ≡ Fine
-  turns : turnsCheck (st .grid) ls ≡ Fine
-  items-are : st .items ≡ total (st .grid) ls
-  laid : Laid (cellsOn (st .grid) ls) (count ls) (st .grid) o t gs (st .globals)
+  turns : turnsCheck mode (st .grid) ls ≡ Fine
+  items-are : st .items ≡ total mode (st .grid) ls
+  laid : Laid (cellsOn mode (st .grid) ls) (count ls) (st .grid) o t gs (st .globals)
 
-answer-made : (e : Answer Grid) (ls : Lines) (st : Standing) → answerOf e ls ≡ built.Tables st
-    → (e ≡ gives (st .grid)) × (st .items ≡ total (st .grid) ls) × (st .globals ≡ length (globalsOn (st .grid) ls))
+answer-made : (mode : Mode) (e : Answer Grid) (ls : Lines) (st : Standing) → answerOf mode e ls ≡ built.Tables st
+    → (e ≡ gives (st .grid)) × (st .items ≡ total mode (st .grid) ls) × (st .globals ≡ length (globalsOn mode (st .grid) ls))
 unfolding answerOf answerBy builtOn
-answer-made (refused r) ls st h = let z : _≡_ {A = ℕ} 0 1 = cc in absurd (omega arith)
-answer-made (gives g) ls st h =
-    let z : record { grid = g; items = total g ls; globals = length (globalsOn g ls) } ≡ st = cc in
+answer-made mode (refused r) ls st h = let z : _≡_ {A = ℕ} 0 1 = cc in absurd (omega arith)
+answer-made mode (gives g) ls st h =
+    let z : record { grid = g; items = total mode g ls; globals = length (globalsOn mode g ls) } ≡ st = cc in
     let e : g ≡ st .grid = ap (λ (x : Standing). x .grid) z in
     (ap gives e, sym (ap (λ (x : Standing). x .items) z) ∙ rw e, sym (ap (λ (x : Standing). x .globals) z) ∙ rw e)
 
@@ -75,27 +76,27 @@ made-passed : (plan : Plan) (ls : Lines) (offsets items globals scratch : ℕ) (
 unfolding endOf
 made-passed plan ls offsets items globals scratch g h =
     andThen-right (scratchCheck scratch) (linesCheck ls)
-    (then-passed (andThen (scratchCheck scratch) (linesCheck ls)) (choice plan ls offsets into roomOn ls items globals) h .0)
+    (then-passed (andThen (scratchCheck scratch) (linesCheck ls)) (choice plan ls offsets into roomOn (plan .mode) ls items globals) h .0)
 
 length-globe : (xs : List ℕ) (n : ℕ) → length xs ≤ n → length (xs ++ replicate (n - length xs) 0) ≡ n
 length-globe xs n l = rw (length-append, length-replicate) (omega arith)
 
 success : (plan : Plan) {ls : Lines} {o t gs s : List ℕ} {r : Built} {o′ t′ gs′ s′ : List ℕ} {st : Standing}
-    → BuildIs ls o t gs s r o′ t′ gs′ s′ (endOf plan ls (length o) (length t) (length gs) (length s)) → r ≡ built.Tables st → Success ls st o′ t′ gs′
+    → BuildIs (plan .mode) ls o t gs s r o′ t′ gs′ s′ (endOf plan ls (length o) (length t) (length gs) (length s)) → r ≡ built.Tables st → Success (plan .mode) ls st o′ t′ gs′
 unfolding total listOn globalsOn zeroBeyond
 success plan {ls} {o} {t} {gs} {s} {r} {o′} {t′} {gs′} {s′} {st} h ok =
     let g : Grid = st .grid in
     let e = endOf plan ls (length o) (length t) (length gs) (length s) in
-    let a = answer-made e ls st (sym (h .answer) ∙ ok) in
-    let m : Made ls (length o) (length t) (length gs) g = made-says plan ls (length o) (length t) (length gs) (length s) g (a .0) in
-    let x : o′ ≡ offsetsOf (listOn g ls) (cells g) (length o) = h .«cell_offsets» ∙ left-made e g o (λ g. offsetsOf (listOn g ls) (cells g) (length o)) (a .0) in
-    let y : t′ ≡ itemsOf (listOn g ls) (cells g) (length t) = h .«cell_items» ∙ left-made e g t (λ g. itemsOf (listOn g ls) (cells g) (length t)) (a .0) in
-    let z : gs′ ≡ globalsOn g ls ++ replicate (length gs - length (globalsOn g ls)) 0 =
-    h .«global_lines» ∙ left-made e g gs (λ g. zeroBeyond 0 (length gs) (globalsOn g ls)) (a .0) in
+    let a = answer-made (plan .mode) e ls st (sym (h .answer) ∙ ok) in
+    let m : Made (plan .mode) ls (length o) (length t) (length gs) g = made-says plan ls (length o) (length t) (length gs) (length s) g (a .0) in
+    let x : o′ ≡ offsetsOf (listOn (plan .mode) g ls) (cells g) (length o) = h .«cell_offsets» ∙ left-made e g o (λ g. offsetsOf (listOn (plan .mode) g ls) (cells g) (length o)) (a .0) in
+    let y : t′ ≡ itemsOf (listOn (plan .mode) g ls) (cells g) (length t) = h .«cell_items» ∙ left-made e g t (λ g. itemsOf (listOn (plan .mode) g ls) (cells g) (length t)) (a .0) in
+    let z : gs′ ≡ globalsOn (plan .mode) g ls ++ replicate (length gs - length (globalsOn (plan .mode) g ls)) 0 =
+    h .«global_lines» ∙ left-made e g gs (λ g. zeroBeyond 0 (length gs) (globalsOn (plan .mode) g ls)) (a .0) in
     let l : suc (cells g) ≤ length o = omega (arith, m .room) in
-    let p : length o′ ≡ length o = ap length x ∙ length-offsets (listOn g ls) (cells g) (length o) l in
-    let q : length t′ ≡ length t = ap length y ∙ length-items (listOn g ls) (cells g) (length t) (m .space) in
-    let v : length gs′ ≡ length gs = ap length z ∙ length-globe (globalsOn g ls) (length gs) (m .listed) in
+    let p : length o′ ≡ length o = ap length x ∙ length-offsets (listOn (plan .mode) g ls) (cells g) (length o) l in
+    let q : length t′ ≡ length t = ap length y ∙ length-items (listOn (plan .mode) g ls) (cells g) (length t) (m .space) in
+    let v : length gs′ ≡ length gs = ap length z ∙ length-globe (globalsOn (plan .mode) g ls) (length gs) (m .listed) in
     record {
       passed = made-passed plan ls (length o) (length t) (length gs) (length s) g (a .0);
       turns = m .turns;
@@ -104,7 +105,7 @@ success plan {ls} {o} {t} {gs} {s} {r} {o′} {t′} {gs′} {s′} {st} h ok =
           record {
             grid-fit = m .fits;
             few = m .lines-fit .few;
-            walks = cells-walk g ls (m .fits);
+            walks = cells-walk (plan .mode) g ls (m .fits);
             room = rw p (m .room);
             space = rw q (m .space);
             table = table-made l (m .space) x y;
@@ -119,16 +120,16 @@ ended-found (gives xs) h = refl
 
 -- ---- THE THEOREMS
 
-module _ (plan : Plan) {ls : Lines} {o t gs s : List ℕ} {r : Built} {o′ t′ gs′ s′ : List ℕ} {st : Standing} (h : BuildIs ls o t gs s r o′ t′ gs′ s′ (endOf plan ls (length o) (length t) (length gs) (length s))) (ok : r ≡ built.Tables st) where
+module _ (plan : Plan) {ls : Lines} {o t gs s : List ℕ} {r : Built} {o′ t′ gs′ s′ : List ℕ} {st : Standing} (h : BuildIs (plan .mode) ls o t gs s r o′ t′ gs′ s′ (endOf plan ls (length o) (length t) (length gs) (length s))) (ok : r ≡ built.Tables st) where
   -- WHAT A BUILD LEAVES STANDS, on its final grid, for the walks of its lines
-  pub build-stands : Stands (cellsOn (st .grid) ls) (count ls) (st .grid) (tables (st .grid) (count ls) o′ t′ gs′ (st .globals))
+  pub build-stands : Stands (cellsOn (plan .mode) (st .grid) ls) (count ls) (st .grid) (tables (st .grid) (count ls) o′ t′ gs′ (st .globals))
   build-stands = laid-stands (success plan h ok .laid)
 
   -- EVERY WALK ENDS within its turns, so that these cells are what it visits
-  pub walks-end : (k : ℕ) → k < count ls → walkOn (st .grid) ls k ≡ gives (cellsOn (st .grid) ls k)
+  pub walks-end : (k : ℕ) → k < count ls → walkOn (plan .mode) (st .grid) ls k ≡ gives (cellsOn (plan .mode) (st .grid) ls k)
   unfolding turnsCheck cellsOn
   walks-end k l =
-      ended-found (walkOn (st .grid) ls k) (each-says (λ i. ends (walkOn (st .grid) ls i)) 7 (count ls) 0 k (success plan h ok .turns) (omega arith) (omega arith))
+      ended-found (walkOn (plan .mode) (st .grid) ls k) (each-says (λ i. ends (walkOn (plan .mode) (st .grid) ls i)) 7 (count ls) 0 k (success plan h ok .turns) (omega arith) (omega arith))
 
   -- the lines passed the checks 3, 2 and 1
   pub lines-passed : linesCheck ls ≡ Fine
@@ -139,4 +140,4 @@ module _ (plan : Plan) {ls : Lines} {o t gs s : List ℕ} {r : Built} {o′ t′
   unfolding total listOn
   items-counted =
       success plan h ok .items-are
-      ∙ sym (sum-same (λ c. length (listIn o′ t′ c)) (λ c. length (listOn (st .grid) ls c)) (cells (st .grid)) (λ c l. ap length (build-stands .lists c l)))
+      ∙ sym (sum-same (λ c. length (listIn o′ t′ c)) (λ c. length (listOn (plan .mode) (st .grid) ls c)) (cells (st .grid)) (λ c l. ap length (build-stands .lists c l)))

@@ -10,6 +10,7 @@ use Rattle.refusals.specs.declared.Check.the-variants.{Fine}
 use Rattle.refusals.specs.Refusals.{Answer, andThen, _then_, _into_}
 use Rattle.grid.specs.declared.Grid.{Grid}
 use Rattle.grid.specs.Domain.{Lines, fit, scratchCheck, linesCheck}
+use Rattle.walk.specs.declared.Mode.{Mode}
 use Rattle.sizing.specs.declared.Extent.{Extent}
 use Rattle.sizing.specs.declared.Size.{Size}
 use Rattle.sizing.specs.Size.{halfOf}
@@ -43,18 +44,18 @@ pub record AttemptAsks (ls : Lines) (e : Extent) (size : Size) (s : List ℕ) : 
   pub fits : lentOf ls (length s) ≡ Fine → fit (gridOf e size) ≡ true
 
 -- how a build ends from a size on, with so many halvings left
-abbrev pub endFrom : ℕ → Extent → Size → Lines → ℕ → ℕ → ℕ → ℕ → Answer Grid
-endFrom left e size ls offsets items globals scratch = lentOf ls scratch then (chosen left e size ls offsets into roomOn ls items globals)
+abbrev pub endFrom : Mode → ℕ → Extent → Size → Lines → ℕ → ℕ → ℕ → ℕ → Answer Grid
+endFrom mode left e size ls offsets items globals scratch = lentOf ls scratch then (chosen mode left e size ls offsets into roomOn mode ls items globals)
 
 -- the choice goes on from half the size
-pub record Halved (left : ℕ) (e : Extent) (size : Size) (ls : Lines) (offsets scratch : ℕ) : Type 0 where
+pub record Halved (mode : Mode) (left : ℕ) (e : Extent) (size : Size) (ls : Lines) (offsets scratch : ℕ) : Type 0 where
   pub some : 0 < left
   pub lent : lentOf ls scratch ≡ Fine
-  pub next : chosen left e size ls offsets ≡ chosen (left - 1) e (halfOf size) ls offsets
+  pub next : chosen mode left e size ls offsets ≡ chosen mode (left - 1) e (halfOf size) ls offsets
   pub few : cells (gridOf e size) * 4 < 1000000
 
 -- one size tried: the end of the build from it on, or the next halving
-abbrev pub AttemptIs : ℕ → Extent → Size → Lines → List ℕ → List ℕ → List ℕ → List ℕ → List ℕ → List ℕ → List ℕ → List ℕ → Attempt → Type 0
-AttemptIs left e size ls o t gs s o′ t′ gs′ s′ (attempt.Ended b) =
-    BuildIs ls o t gs s b o′ t′ gs′ s′ (endFrom left e size ls (length o) (length t) (length gs) (length s))
-AttemptIs left e size ls o t gs s o′ t′ gs′ s′ attempt.Halve = Halved left e size ls (length o) (length s)
+abbrev pub AttemptIs : Mode → ℕ → Extent → Size → Lines → List ℕ → List ℕ → List ℕ → List ℕ → List ℕ → List ℕ → List ℕ → List ℕ → Attempt → Type 0
+AttemptIs mode left e size ls o t gs s o′ t′ gs′ s′ (attempt.Ended b) =
+    BuildIs mode ls o t gs s b o′ t′ gs′ s′ (endFrom mode left e size ls (length o) (length t) (length gs) (length s))
+AttemptIs mode left e size ls o t gs s o′ t′ gs′ s′ attempt.Halve = Halved mode left e size ls (length o) (length s)

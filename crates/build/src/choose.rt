@@ -2,7 +2,6 @@
 ghost use mathlib.Core.Path.{_≡_};
 ghost use lib.ListN.{length};
 ghost use Rattle.grid.specs.Domain.{lines, count};
-ghost use Rattle.build.specs.declared.Plan.{Plan};
 ghost use Rattle.build.specs.Build.{endOf, BuildIs};
 ghost use Rattle.build.specs.Inside.{mostOn, attemptBy, AttemptAsks, AttemptIs};
 use crate::Attempt;
@@ -14,6 +13,7 @@ use grid::Grid;
 use refusals::Refusal;
 use sizing::Extent;
 use sizing::Size;
+use walk::Mode;
 
 // The most lines that a cell may list before the size is halved: 500, while halvings are left and four times the cells are below 1,000,000; and else
 // all that there can be.
@@ -47,6 +47,7 @@ fn lead(grid: Grid, filled: Filled) -> Attempt
 
 // One size tried, with so many halvings left.
 fn attempt_size(
+    mode: Mode,
     start_x: &[f64],
     start_y: &[f64],
     end_x: &[f64],
@@ -66,11 +67,12 @@ fn attempt_size(
         let t = now (items .entry) in
         let gs = now (globals .entry) in
         let s = now (scratch .entry) in
-        ⌜ AttemptIs left extent size ls o t gs s (now (offsets .exit)) (now (items .exit)) (now (globals .exit)) (now (scratch .exit)) r ⌝ }
+        ⌜ AttemptIs mode left extent size ls o t gs s (now (offsets .exit)) (now (items .exit)) (now (globals .exit)) (now (scratch .exit)) r ⌝ }
 {
     let grid = sizing::grid_of(extent, size);
     let most = most_on(grid, left);
     let filled = fill::fill_on(
+        mode,
         start_x,
         start_y,
         end_x,
@@ -105,14 +107,16 @@ pub(crate) fn build_some(
         let gs = now (globals .entry) in
         let s = now (scratch .entry) in
         let e = endOf plan ls (length o) (length t) (length gs) (length s) in
-        ⌜ BuildIs ls o t gs s r (now (offsets .exit)) (now (items .exit)) (now (globals .exit)) (now (scratch .exit)) e ⌝ }
+        ⌜ BuildIs (plan .mode) ls o t gs s r (now (offsets .exit)) (now (items .exit)) (now (globals .exit)) (now (scratch .exit)) e ⌝ }
 {
     let extent = sizing::serial_bounds(start_x, start_y, end_x, end_y);
     let sizing = plan.sizing;
+    let mode = plan.mode;
     let mut size = sizing::first_size(sizing, extent, start_x.len());
     let mut left = 2u32;
     loop {
         let tried = attempt_size(
+            mode,
             start_x,
             start_y,
             end_x,
@@ -139,6 +143,7 @@ pub(crate) fn build_none(
     start_y: &[f64],
     end_x: &[f64],
     end_y: &[f64],
+    plan: Plan,
     offsets: &mut [u32],
     items: &mut [u32],
     globals: &mut [u32],
@@ -151,11 +156,14 @@ pub(crate) fn build_none(
         let t = now (items .entry) in
         let gs = now (globals .entry) in
         let s = now (scratch .entry) in
-        ⌜ ((plan : Plan) → let e = endOf plan ls (length o) (length t) (length gs) (length s) in
-        BuildIs ls o t gs s r (now (offsets .exit)) (now (items .exit)) (now (globals .exit)) (now (scratch .exit)) e) ⌝ }
+        let e = endOf plan ls (length o) (length t) (length gs) (length s) in
+        ⌜ BuildIs (plan .mode) ls o t gs s r (now (offsets .exit)) (now (items .exit)) (now (globals .exit)) (now (scratch .exit)) e ⌝ }
 {
+    // no line is walked, so any mode would do
+    let any = plan.mode;
     let grid = sizing::empty_grid();
     let filled = fill::fill_on(
+        any,
         start_x,
         start_y,
         end_x,

@@ -9,10 +9,12 @@ use crate::choose::build_some;
 use grid::Grid;
 use refusals::Refusal;
 use sizing::Sizing;
+use walk::Mode;
 
-// What a build is asked for.
+// What a build is asked for: how its cells are sized, and which cells a walk visits.
 pub struct Plan {
     pub sizing: Sizing,
+    pub mode: Mode,
 }
 
 // The tables that stand after a build: their grid, and how many items and global lines there are.
@@ -52,7 +54,7 @@ pub fn build(
         let gs = now («global_lines» .entry) in
         let s = now (scratch .entry) in
         let e = endOf plan ls (length o) (length t) (length gs) (length s) in
-        ⌜ BuildIs ls o t gs s r (now («cell_offsets» .exit)) (now («cell_items» .exit)) (now («global_lines» .exit)) (now (scratch .exit)) e ⌝ }
+        ⌜ BuildIs (plan .mode) ls o t gs s r (now («cell_offsets» .exit)) (now («cell_items» .exit)) (now («global_lines» .exit)) (now (scratch .exit)) e ⌝ }
 {
     if start_x.len() == 0 {
         return build_none(
@@ -60,6 +62,7 @@ pub fn build(
             start_y,
             end_x,
             end_y,
+            plan,
             cell_offsets,
             cell_items,
             global_lines,

@@ -12,7 +12,7 @@ use Rattle.replies.specs.Replies.{Reply, Replies}
 use Rattle.replies.specs.Answers.{ofPart}
 use Rattle.replies.proofs.Handing.{bare-replies, replied}
 use Rattle.capi.specs.Few.{unlessFew}
-use Rattle.capi.specs.Unknown.{unlessUnknown}
+use Rattle.capi.specs.Unknown.{unlessAbove}
 
 -- ---- words that are too few to say a grid, and words that say one
 
@@ -33,18 +33,19 @@ pub asked : (n : ℕ) (words : List ℕ) {a b : Reply} {out : List ℕ} {r : ℕ
     gridWords ≤ length words → b ≡ a → Replies n b out r out′ → Replies n (unlessFew words a) out r out′
 asked n words {a} k e d = replied n (e ∙ grid-answer words a k) d
 
--- ---- a number that names no sizing, and one that does
+-- ---- a number that names nothing, and one that names something
 
-unknown-answer : (sizing : ℕ) (a : Reply) → 1 < sizing → record { number = 102; values = [] } ≡ unlessUnknown sizing a
-unfolding unlessUnknown
-unknown-answer sizing a h = rw (lt-leb sizing 1 h)
+module _ (last number n : ℕ) where
+  above-answer : (a : Reply) → last < n → record { number = number; values = [] } ≡ unlessAbove last number n a
+  unfolding unlessAbove
+  above-answer a h = rw (lt-leb n last h)
 
-pub known-answer : (sizing : ℕ) (a : Reply) → sizing ≤ 1 → a ≡ unlessUnknown sizing a
-unfolding unlessUnknown
-known-answer sizing a h = rw (le-leb sizing 1 h)
+  pub named-answer : (a : Reply) → n ≤ last → a ≡ unlessAbove last number n a
+  unfolding unlessAbove
+  named-answer a h = rw (le-leb n last h)
 
-pub unknown-replies : (n sizing : ℕ) (a : Reply) (out : List ℕ) → n ≤ length out → 1 < sizing → Replies n (unlessUnknown sizing a) out 102 out
-unknown-replies n sizing a out h k = replied n (unknown-answer sizing a k) (bare-replies n 102 out h)
+  pub above-replies : (long : ℕ) (a : Reply) (out : List ℕ) → long ≤ length out → last < n → Replies long (unlessAbove last number n a) out number out
+  above-replies long a out h k = replied long (above-answer a k) (bare-replies long number out h)
 
 -- ---- a list by its place: `list` is what was returned for it, and xs the list at the place. Where a list ends counts only where it is given.
 

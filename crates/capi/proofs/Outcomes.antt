@@ -1,5 +1,5 @@
 -- Any two outcomes that the promise of an exported function admits are identical: its number, `out`, and every slice that it is lent to write,
--- also where `out` is short or words are too few to say a grid. One that is lent nothing to write but `out` promises `Replies`, as the functions of
+-- also where `out` is short, words are too few to say a grid or a number names nothing. One that is lent nothing to write but `out` promises `Replies`, as the functions of
 -- `replies` do, and `one-outcome` there says it. Assumes nothing.
 use mathlib.Core.Path.{_≡_, refl, sym, _∙_}
 use mathlib.Core.Bool.{Bool, true, false}
@@ -19,6 +19,7 @@ use Rattle.walk.proofs.Outcomes as walk
 use Rattle.build.proofs.Theorems as build
 use Rattle.visit.proofs.Outcomes as visit
 use Rattle.replies.proofs.Outcomes.{one-outcome}
+use Rattle.capi.specs.Unknown.{lastSizing, lastMode}
 use Rattle.capi.specs.Lent.{ReadReplies, WalkReplies, BuildReplies, BatchReplies}
 
 -- `out` has the n words of a result, or is short
@@ -44,36 +45,41 @@ read-one-outcome {out = out} h k =
       by-room 1 out (λ l. wkb.one-outcome (h .called l) (k .called l) .2) (λ l. h .short l .1 ∙ sym (k .short l .1)),
     )
 
-pub walk-one-outcome : {words : List ℕ} {o : Outcome} {scratch scratch′ scratch₁ out out′ out₁ : List ℕ} {r r₁ : ℕ}
-    → WalkReplies words o scratch out r scratch′ out′ → WalkReplies words o scratch out r₁ scratch₁ out₁
+-- a number names something, or is above the last that does
+by-name : (last n : ℕ) {P : Type 0} → (n ≤ last → P) → (last < n → P) → P
+by-name last n {P} named above = go (leb n last) refl
+  where
+    go : (b : Bool) → leb n last ≡ b → P
+    go true e = named (leb-true n last e)
+    go false e = above (leb-false n last e)
+
+pub walk-one-outcome : {words : List ℕ} {mode : ℕ} {o : Outcome} {scratch scratch′ scratch₁ out out′ out₁ : List ℕ} {r r₁ : ℕ}
+    → WalkReplies words mode o scratch out r scratch′ out′ → WalkReplies words mode o scratch out r₁ scratch₁ out₁
     → (r ≡ r₁) × (out′ ≡ out₁) × (scratch′ ≡ scratch₁)
-walk-one-outcome {words} {out = out} h k =
+walk-one-outcome {words} {mode} {out = out} h k =
     let a = one-outcome (h .replies) (k .replies) in (
       a .0,
       a .1,
-      by-words 1 out words (λ l m. walk.one-outcome (h .called l m) (k .called l m) .1) (λ l. h .short l ∙ sym (k .short l)) (λ m. h .few m ∙ sym (k .few m)),
+      by-words 1 out words
+          (λ l m. by-name lastMode mode (λ n. walk.one-outcome (h .called l m n) (k .called l m n) .1) (λ n. h .unwalked n ∙ sym (k .unwalked n)))
+          (λ l. h .short l ∙ sym (k .short l)) (λ m. h .few m ∙ sym (k .few m)),
     )
 
--- a number names a sizing, or does not
-by-sizing : (sizing : ℕ) {P : Type 0} → (sizing ≤ 1 → P) → (1 < sizing → P) → P
-by-sizing sizing {P} known unknown = go (leb sizing 1) refl
-  where
-    go : (b : Bool) → leb sizing 1 ≡ b → P
-    go true e = known (leb-true sizing 1 e)
-    go false e = unknown (leb-false sizing 1 e)
-
-pub build-one-outcome : {sizing : ℕ} {ls : Lines} {o o′ o₁ t t′ t₁ gs gs′ gs₁ s s′ s₁ out out′ out₁ : List ℕ} {r r₁ : ℕ}
-    → BuildReplies sizing ls o t gs s out r o′ t′ gs′ s′ out′ → BuildReplies sizing ls o t gs s out r₁ o₁ t₁ gs₁ s₁ out₁
+pub build-one-outcome : {sizing mode : ℕ} {ls : Lines} {o o′ o₁ t t′ t₁ gs gs′ gs₁ s s′ s₁ out out′ out₁ : List ℕ} {r r₁ : ℕ}
+    → BuildReplies sizing mode ls o t gs s out r o′ t′ gs′ s′ out′ → BuildReplies sizing mode ls o t gs s out r₁ o₁ t₁ gs₁ s₁ out₁
     → (r ≡ r₁) × (out′ ≡ out₁) × (o′ ≡ o₁) × (t′ ≡ t₁) × (gs′ ≡ gs₁) × (s′ ≡ s₁)
-build-one-outcome {sizing} {out = out} h k =
+build-one-outcome {sizing} {mode} {out = out} h k =
     let a = one-outcome (h .replies) (k .replies) in
     let lent =
     by-room 8 out
     (λ l.
-    by-sizing sizing
+    by-name lastSizing sizing
     (λ n.
-    let b = build.one-outcome (h .called l n) (k .called l n) in
+    by-name lastMode mode
+    (λ m.
+    let b = build.one-outcome (h .called l n m) (k .called l n m) in
     (b .offsets, b .items, b .globals, b .scratch))
+    (λ m. alike (h .unwalked m) (k .unwalked m)))
     (λ n. alike (h .unknown n) (k .unknown n)))
     (λ l. alike (h .short l) (k .short l)) in
     (a .0, a .1, lent .0, lent .1, lent .2, lent .3)

@@ -1,28 +1,14 @@
 // The build.
-use crate::UNKNOWN;
-use build::Plan;
+use crate::naming::LAST_MODE;
+use crate::naming::LAST_SIZING;
+use crate::naming::NO_MODE;
+use crate::naming::NO_SIZING;
+use crate::naming::plan_by;
 use replies::SHORT;
-use sizing::Sizing;
-ghost use mathlib.Core.Path.{_≡_};
 ghost use Rattle.grid.specs.Domain.{lines};
-ghost use Rattle.capi.specs.Unknown.{planBy};
 ghost use Rattle.capi.specs.Lent.{BuildReplies};
 
-// The plan of the sizing that a number names.
-fn plan_by(sizing: u32) -> Plan
-    ensures { λ r. ⌜ r ≡ planBy sizing ⌝ }
-{
-    if sizing == 0 {
-        return Plan {
-            sizing: Sizing::Square,
-        };
-    }
-    Plan {
-        sizing: Sizing::Axes,
-    }
-}
-
-// Sizing: 0 for the square one, 1 for the one by axis.
+// Sizing: 0 for the square one, 1 for the one by axis. Mode: 0 for the Rust's walk, 1 for the sided one.
 // Out: the bits of min_x, min_y, cell_width and cell_height, cols, rows, the number of items, the number of globals.
 #[no_mangle]
 pub extern "C" fn mt_build(
@@ -31,6 +17,7 @@ pub extern "C" fn mt_build(
     end_x: &[f64],
     end_y: &[f64],
     sizing: u32,
+    mode: u32,
     offsets: &mut [u32],
     items: &mut [u32],
     globals: &mut [u32],
@@ -42,20 +29,23 @@ pub extern "C" fn mt_build(
         let t = now (items .entry) in
         let gs = now (globals .entry) in
         let s = now (scratch .entry) in
-        ⌜ BuildReplies sizing ls o t gs s (now (out .entry)) r (now (offsets .exit)) (now (items .exit)) (now (globals .exit)) (now (scratch .exit)) (now (out .exit)) ⌝ }
+        ⌜ BuildReplies sizing mode ls o t gs s (now (out .entry)) r (now (offsets .exit)) (now (items .exit)) (now (globals .exit)) (now (scratch .exit)) (now (out .exit)) ⌝ }
 {
     if out.len() < 8 {
         return SHORT;
     }
-    if 1 < sizing {
-        return UNKNOWN;
+    if LAST_SIZING < sizing {
+        return NO_SIZING;
+    }
+    if LAST_MODE < mode {
+        return NO_MODE;
     }
     let answer = build::build(
         start_x,
         start_y,
         end_x,
         end_y,
-        plan_by(sizing),
+        plan_by(sizing, mode),
         offsets,
         items,
         globals,

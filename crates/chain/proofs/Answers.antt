@@ -69,26 +69,26 @@ tables-counted ls g t items {x} {tests} {overlaps} v e = go (allTests ls g t) re
 -- ---- the build
 
 module _ (plan : Plan) (ls : Lines) {o i gs s o′ i′ gs′ s′ : List ℕ} {r : Built} (eo : length o ≡ 4096) (ei : length i ≡ 4096) (eg : length gs ≡ 64) (es : length s ≡ 16384) where
-  at-end : (e : Answer Grid) → endOf plan ls 4096 4096 64 16384 ≡ e → BuildIs ls o i gs s r o′ i′ gs′ s′ (endOf plan ls (length o) (length i) (length gs) (length s)) → BuildIs ls o i gs s r o′ i′ gs′ s′ e
+  at-end : (e : Answer Grid) → endOf plan ls 4096 4096 64 16384 ≡ e → BuildIs (plan .mode) ls o i gs s r o′ i′ gs′ s′ (endOf plan ls (length o) (length i) (length gs) (length s)) → BuildIs (plan .mode) ls o i gs s r o′ i′ gs′ s′ e
   at-end e h b = rw (eo, ei, eg, es, h) at b
 
-  refused-end : (e : Answer Grid) → BuildIs ls o i gs s r o′ i′ gs′ s′ e → (q : Refusal) → r ≡ built.Refused q → refusedLine (q .number) ≡ answerBy refusedText (printedOn ls) e
+  refused-end : (e : Answer Grid) → BuildIs (plan .mode) ls o i gs s r o′ i′ gs′ s′ e → (q : Refusal) → r ≡ built.Refused q → refusedLine (q .number) ≡ answerBy refusedText (printedOn plan ls) e
   unfolding answerOf answerBy builtOn
   refused-end (refused p) b q x = let w : q ≡ p = cc (b .answer) in ap refusedText w
   refused-end (gives g) b q x = absurd (let z : _≡_ {A = ℕ} 0 1 = cc (b .answer) in omega arith)
 
-  pub lines-refused : BuildIs ls o i gs s r o′ i′ gs′ s′ (endOf plan ls (length o) (length i) (length gs) (length s)) → {q : Refusal} → r ≡ built.Refused q → refusedLine (q .number) ≡ printedLines plan ls
+  pub lines-refused : BuildIs (plan .mode) ls o i gs s r o′ i′ gs′ s′ (endOf plan ls (length o) (length i) (length gs) (length s)) → {q : Refusal} → r ≡ built.Refused q → refusedLine (q .number) ≡ printedLines plan ls
   unfolding printedLines
   lines-refused b {q} x = refused-end _ (at-end _ refl b) q x
 
-  made-end : (e : Answer Grid) → BuildIs ls o i gs s r o′ i′ gs′ s′ e → (st : Standing) → r ≡ built.Tables st → printedTables ls (st .grid) (beside ls (st .grid) o′ i′ gs′ (st .globals)) (st .items) ≡ answerBy refusedText (printedOn ls) e
+  made-end : (e : Answer Grid) → BuildIs (plan .mode) ls o i gs s r o′ i′ gs′ s′ e → (st : Standing) → r ≡ built.Tables st → printedTables ls (st .grid) (beside ls (st .grid) o′ i′ gs′ (st .globals)) (st .items) ≡ answerBy refusedText (printedOn plan ls) e
   unfolding answerOf answerBy builtOn leftIn printedOn tablesOn
   made-end (refused p) b st x = absurd (let z : _≡_ {A = ℕ} 0 1 = cc (b .answer) in omega arith)
   made-end (gives g) b st x =
-      let w : st ≡ record { grid = g; items = total g ls; globals = length (globalsOn g ls) } = cc (b .answer) in
+      let w : st ≡ record { grid = g; items = total (plan .mode) g ls; globals = length (globalsOn (plan .mode) g ls) } = cc (b .answer) in
       rw (w, b .«cell_offsets», b .«cell_items», b .«global_lines», eo, ei, eg)
 
-  pub lines-made : BuildIs ls o i gs s r o′ i′ gs′ s′ (endOf plan ls (length o) (length i) (length gs) (length s)) → {st : Standing} → r ≡ built.Tables st → printedTables ls (st .grid) (beside ls (st .grid) o′ i′ gs′ (st .globals)) (st .items) ≡ printedLines plan ls
+  pub lines-made : BuildIs (plan .mode) ls o i gs s r o′ i′ gs′ s′ (endOf plan ls (length o) (length i) (length gs) (length s)) → {st : Standing} → r ≡ built.Tables st → printedTables ls (st .grid) (beside ls (st .grid) o′ i′ gs′ (st .globals)) (st .items) ≡ printedLines plan ls
   unfolding printedLines
   lines-made b {st} x = made-end _ (at-end _ refl b) st x
 

@@ -75,12 +75,12 @@ items-size : (F : ℕ → List ℕ) (n : ℕ) → start F n ≤ 4096 → length 
 unfolding itemsOf
 items-size F n h = let e = length-concat F n in simp (length-append, length-replicate) (omega arith)
 
-end-size : (plan : Plan) (e : Answer Grid) (ls : Lines) → endOf plan ls 4096 4096 64 16384 ≡ e → length (answerBy refusedText (printedOn ls) e) ≤ 281000
+end-size : (plan : Plan) (e : Answer Grid) (ls : Lines) → endOf plan ls 4096 4096 64 16384 ≡ e → length (answerBy refusedText (printedOn plan ls) e) ≤ 281000
 unfolding answerBy printedOn tablesOn total zeroBeyond
 end-size plan (refused r) ls h = let s = refused-size (r .number) in omega arith
 end-size plan (gives g) ls h =
-    let m : Made ls 4096 4096 64 g = made-says plan ls 4096 4096 64 16384 g h in
-    tables-size ls g (tablesOn ls g) (total g ls) (let o = m .room in omega arith) (items-size (on.listOn g ls) (g .rows * g .cols) (m .space)) (m .listed)
+    let m : Made (plan .mode) ls 4096 4096 64 g = made-says plan ls 4096 4096 64 16384 g h in
+    tables-size ls g (tablesOn plan ls g) (total (plan .mode) g ls) (let o = m .room in omega arith) (items-size (on.listOn (plan .mode) g ls) (g .rows * g .cols) (m .space)) (m .listed)
 
 found-size : (plan : Plan) (f : Answer (List Point)) → length (answerBy refusedText (printedPoints plan) f) ≤ 281000
 unfolding answerBy printedPoints printedLines

@@ -47,17 +47,17 @@ printedTables ls g t items = answerBy refusedText (λ ps. reportOf g t items (le
 
 -- ---- lines
 
--- the tables that a build leaves in 4,096 offsets, 4,096 items and 64 globals
-unfoldable pub tablesOn : Lines → Grid → Tables
-tablesOn ls g =
-    beside ls g (offsetsOf (listOn g ls) (g .rows * g .cols) 4096) (itemsOf (listOn g ls) (g .rows * g .cols) 4096)
-    (zeroBeyond 0 64 (globalsOn g ls)) (length (globalsOn g ls))
+-- the tables that a build of a plan leaves in 4,096 offsets, 4,096 items and 64 globals
+unfoldable pub tablesOn : Plan → Lines → Grid → Tables
+tablesOn plan ls g =
+    beside ls g (offsetsOf (listOn (plan .mode) g ls) (g .rows * g .cols) 4096) (itemsOf (listOn (plan .mode) g ls) (g .rows * g .cols) 4096)
+    (zeroBeyond 0 64 (globalsOn (plan .mode) g ls)) (length (globalsOn (plan .mode) g ls))
 
-unfoldable pub printedOn : Lines → Grid → List ℕ
-printedOn ls g = printedTables ls g (tablesOn ls g) (total g ls)
+unfoldable pub printedOn : Plan → Lines → Grid → List ℕ
+printedOn plan ls g = printedTables ls g (tablesOn plan ls g) (total (plan .mode) g ls)
 
 unfoldable pub printedLines : Plan → Lines → List ℕ
-printedLines plan ls = answerBy refusedText (printedOn ls) (endOf plan ls 4096 4096 64 16384)
+printedLines plan ls = answerBy refusedText (printedOn plan ls) (endOf plan ls 4096 4096 64 16384)
 
 -- ---- the input
 

@@ -15,6 +15,6 @@ use Rattle.demands.specs.Build.{AfterBuild}
 use Rattle.demands.proofs.Whole.{demand-3}
 
 pub after-build : (plan : Plan) {ls : Lines} {o t gs s : List ℕ} {r : Built} {o′ t′ gs′ s′ : List ℕ} {st : Standing}
-    → BuildIs ls o t gs s r o′ t′ gs′ s′ (endOf plan ls (length o) (length t) (length gs) (length s)) → r ≡ built.Tables st
-    → AfterBuild ls (st .grid) (beside ls (st .grid) o′ t′ gs′ (st .globals))
+    → BuildIs (plan .mode) ls o t gs s r o′ t′ gs′ s′ (endOf plan ls (length o) (length t) (length gs) (length s)) → r ≡ built.Tables st
+    → AfterBuild (plan .mode) ls (st .grid) (beside ls (st .grid) o′ t′ gs′ (st .globals))
 after-build plan h ok = record { walks = walks-end plan h ok; demand = demand-3 (build-stands plan h ok) (lines-passed plan h ok) }

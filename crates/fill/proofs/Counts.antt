@@ -16,6 +16,7 @@ use Rattle.refusals.specs.Refusals.{refusal, unless, andThen, eachFrom}
 use Rattle.refusals.proofs.Checks.{each-good, each-bad, each-over, each-says}
 use Rattle.grid.specs.declared.Grid.{Grid}
 use Rattle.grid.specs.Domain.{Lines, count}
+use Rattle.walk.specs.declared.Mode.{Mode}
 use Rattle.tables.specs.Lists.{long, only, globalLines}
 use Rattle.tables.proofs.Laws.{counted-none}
 use Rattle.fill.specs.declared.Count.{Count}
@@ -38,74 +39,74 @@ pub one-if : (b : Bool) → oneIf b ≤ 1
 one-if true = omega arith
 one-if false = omega arith
 
-pub record CountingAll (g : Grid) (ls : Lines) (o₀ s₀ o s : List ℕ) (globals i : ℕ) : Type 0 where
+pub record CountingAll (mode : Mode) (g : Grid) (ls : Lines) (o₀ s₀ o s : List ℕ) (globals i : ℕ) : Type 0 where
   pub walkable : Walkable g ls s
   pub at : i ≤ count ls
   pub len : length o ≡ length o₀
   pub len-scratch : length s ≡ length s₀
-  pub turns : turnsCheck g ls ≡ eachFrom (λ i. ends (walkOn g ls i)) 7 (count ls - i) i
-  pub found : globals ≡ length (globalLines (cellsOn g ls) i)
+  pub turns : turnsCheck mode g ls ≡ eachFrom (λ i. ends (walkOn mode g ls i)) 7 (count ls - i) i
+  pub found : globals ≡ length (globalLines (cellsOn mode g ls) i)
   pub most : globals ≤ i
-  pub counted : CountedTo g ls i o
+  pub counted : CountedTo mode g ls i o
 
-pub counting-all : {g : Grid} {ls : Lines} {o s : List ℕ} → PassAsks g ls o s → CountingAll g ls o s o s 0 0
+pub counting-all : {mode : Mode} {g : Grid} {ls : Lines} {o s : List ℕ} → PassAsks mode g ls o s → CountingAll mode g ls o s o s 0 0
 unfolding turnsCheck globalLines
-counting-all {g} {ls} h =
+counting-all {mode} {g} {ls} h =
     let e : count ls - 0 ≡ count ls = omega arith in
     record { walkable = h .walkable; at = omega arith; len = refl; len-scratch = refl; turns = rw e; found = refl; most = omega arith; counted = h .counted }
 
 pub walkable-again : {g : Grid} {ls : Lines} {s s′ : List ℕ} → Walkable g ls s → length s′ ≡ length s → Walkable g ls s′
 walkable-again w e = record { same = w .same; few = w .few; each = w .each; fits = w .fits; space = omega (arith, w .space) }
 
-module _ {g : Grid} {ls : Lines} {o₀ s₀ o s : List ℕ} {globals i : ℕ} (k : CountingAll g ls o₀ s₀ o s globals i) (l : i < count ls) where
-  pub counting-asks : CountAsks g ls i o s
+module _ {mode : Mode} {g : Grid} {ls : Lines} {o₀ s₀ o s : List ℕ} {globals i : ℕ} (k : CountingAll mode g ls o₀ s₀ o s globals i) (l : i < count ls) where
+  pub counting-asks : CountAsks mode g ls i o s
   counting-asks = record { at = l; walkable = k .walkable; counted = k .counted }
 
-  module _ {o′ : List ℕ} {more : ℕ} (h : CountAs (walkCheck g ls i) (LineCounted g ls i o′) (counted.Of more)) where
+  module _ {o′ : List ℕ} {more : ℕ} (h : CountAs (walkCheck mode g ls i) (LineCounted mode g ls i o′) (counted.Of more)) where
     pub counting-most : Fits w64 (globals + more)
-    counting-most = record { fits = omega (arith, k .most, h .1 .kind, one-if (long (cellsOn g ls i)), k .walkable .few) }
+    counting-most = record { fits = omega (arith, k .most, h .1 .kind, one-if (long (cellsOn mode g ls i)), k .walkable .few) }
 
-    pub counting-next : {s′ : List ℕ} → length o′ ≡ length o → length s′ ≡ length s → CountingAll g ls o₀ s₀ o′ s′ (globals + more) (i + 1)
+    pub counting-next : {s′ : List ℕ} → length o′ ≡ length o → length s′ ≡ length s → CountingAll mode g ls o₀ s₀ o′ s′ (globals + more) (i + 1)
     counting-next a b =
         record {
           walkable = walkable-again (k .walkable) b;
           at = omega arith;
           len = a ∙ k .len;
           len-scratch = b ∙ k .len-scratch;
-          turns = k .turns ∙ each-good (λ i. ends (walkOn g ls i)) 7 (count ls) i l (walk-ends g ls i (h .0));
-          found = omega (arith, k .found, h .1 .kind, globals-count (cellsOn g ls) i);
-          most = omega (arith, k .most, h .1 .kind, one-if (long (cellsOn g ls i)));
+          turns = k .turns ∙ each-good (λ i. ends (walkOn mode g ls i)) 7 (count ls) i l (walk-ends mode g ls i (h .0));
+          found = omega (arith, k .found, h .1 .kind, globals-count (cellsOn mode g ls) i);
+          most = omega (arith, k .most, h .1 .kind, one-if (long (cellsOn mode g ls i)));
           counted = h .1 .next;
         }
 
-  pub counting-over : (r : Refusal) → walkCheck g ls i ≡ Refused r → turnsCheck g ls ≡ Refused r
+  pub counting-over : (r : Refusal) → walkCheck mode g ls i ≡ Refused r → turnsCheck mode g ls ≡ Refused r
   counting-over r h =
-      let q = walk-refused g ls i r h in
-      k .turns ∙ each-bad (λ i. ends (walkOn g ls i)) 7 (count ls) i l (q .0) ∙ ap Refused (sym (q .1))
+      let q = walk-refused mode g ls i r h in
+      k .turns ∙ each-bad (λ i. ends (walkOn mode g ls i)) 7 (count ls) i l (q .0) ∙ ap Refused (sym (q .1))
 
-pub counting-end : {g : Grid} {ls : Lines} {o₀ s₀ o s : List ℕ} {globals i : ℕ} → CountingAll g ls o₀ s₀ o s globals i → count ls ≤ i → CountAs (turnsCheck g ls) (AllCounted g ls o) (counted.Of globals)
+pub counting-end : {mode : Mode} {g : Grid} {ls : Lines} {o₀ s₀ o s : List ℕ} {globals i : ℕ} → CountingAll mode g ls o₀ s₀ o s globals i → count ls ≤ i → CountAs (turnsCheck mode g ls) (AllCounted mode g ls o) (counted.Of globals)
 unfolding globalsOn
-counting-end {g} {ls} {i = i} k l =
+counting-end {mode} {g} {ls} {i = i} k l =
     let e : i ≡ count ls = omega (arith, k .at) in
-    (k .turns ∙ each-over (λ i. ends (walkOn g ls i)) 7 (count ls) i l, record { found = rw e at (k .found); counted = rw e at (k .counted) })
+    (k .turns ∙ each-over (λ i. ends (walkOn mode g ls i)) 7 (count ls) i l, record { found = rw e at (k .found); counted = rw e at (k .counted) })
 
 -- where no walk is refused, each ends
-pub turns-all : (g : Grid) (ls : Lines) → turnsCheck g ls ≡ Fine → (i : ℕ) → i < count ls → ends (walkOn g ls i) ≡ true
+pub turns-all : (mode : Mode) (g : Grid) (ls : Lines) → turnsCheck mode g ls ≡ Fine → (i : ℕ) → i < count ls → ends (walkOn mode g ls i) ≡ true
 unfolding turnsCheck
-turns-all g ls h i l = each-says (λ i. ends (walkOn g ls i)) 7 (count ls) 0 i h (omega arith) (omega arith)
+turns-all mode g ls h i l = each-says (λ i. ends (walkOn mode g ls i)) 7 (count ls) 0 i h (omega arith) (omega arith)
 
 -- ---- from the start: 4, then what the pass finds
 
-module _ (g : Grid) (ls : Lines) (room n : ℕ) (e : n ≡ cells g) where
-  pub try-short : room < n + 1 → triedCheck g ls room ≡ Refused (refusal 4 (n + 1))
+module _ (mode : Mode) (g : Grid) (ls : Lines) (room n : ℕ) (e : n ≡ cells g) where
+  pub try-short : room < n + 1 → triedCheck mode g ls room ≡ Refused (refusal 4 (n + 1))
   unfolding triedCheck roomCheck unless andThen
   try-short l = let k : room < cells g + 1 = omega arith in rw (lt-leb (cells g + 1) room k, e)
 
-  try-on : n + 1 ≤ room → triedCheck g ls room ≡ turnsCheck g ls
+  try-on : n + 1 ≤ room → triedCheck mode g ls room ≡ turnsCheck mode g ls
   unfolding triedCheck roomCheck unless andThen
   try-on l = let k : cells g + 1 ≤ room = omega arith in rw (le-leb (cells g + 1) room k)
 
-  pub try-counted : (P : ℕ → Type 0) (r : Count) → n + 1 ≤ room → CountAs (turnsCheck g ls) P r → CountAs (triedCheck g ls room) P r
+  pub try-counted : (P : ℕ → Type 0) (r : Count) → n + 1 ≤ room → CountAs (turnsCheck mode g ls) P r → CountAs (triedCheck mode g ls room) P r
   try-counted P r l h = subst (λ (k : Check). CountAs k P r) (sym (try-on l)) h
 
 pub zeros-at : (n k : ℕ) → getD (replicate {A = ℕ} n 0) k 0 ≡ 0
@@ -114,6 +115,6 @@ zeros-at (suc n) zero = refl
 zeros-at (suc n) (suc k) = zeros-at n k
 
 -- cleared offsets count no line
-pub counted-clear : (g : Grid) (ls : Lines) (o o′ : List ℕ) (n : ℕ) → o′ ≡ replicate (length o) 0 → length o′ ≡ length o → n ≡ cells g → n + 1 ≤ length o → CountedTo g ls 0 o′
-counted-clear g ls o o′ n e s d l =
-    record { room = omega arith; counts = counted-none (localOn g ls) o′ (λ k. rw e (zeros-at (length o) k)) }
+pub counted-clear : (mode : Mode) (g : Grid) (ls : Lines) (o o′ : List ℕ) (n : ℕ) → o′ ≡ replicate (length o) 0 → length o′ ≡ length o → n ≡ cells g → n + 1 ≤ length o → CountedTo mode g ls 0 o′
+counted-clear mode g ls o o′ n e s d l =
+    record { room = omega arith; counts = counted-none (localOn mode g ls) o′ (λ k. rw e (zeros-at (length o) k)) }

@@ -13,6 +13,7 @@ use Rattle.refusals.specs.Refusals.{refusal, unless, andThen, Answer, refused, 
 use Rattle.refusals.proofs.Leaving.{numbers-clear, left-alike}
 use Rattle.grid.specs.declared.Grid.{Grid}
 use Rattle.grid.specs.Domain.{Lines, count}
+use Rattle.walk.specs.declared.Mode.{Mode}
 use Rattle.tables.specs.Lists.{linesAt, sum, start, itemsOf, offsetsOf}
 use Rattle.tables.specs.States.{Placed, Table}
 use Rattle.tables.proofs.Laws.{counts-sum, placed-none, table-of}
@@ -28,44 +29,44 @@ use Rattle.fill.proofs.Counts.{zeros-at}
 
 -- ---- 5, then 6
 
-module _ (g : Grid) (ls : Lines) (items globals all found : ℕ) (e : all ≡ total g ls) (d : found ≡ length (globalsOn g ls)) where
-  pub space-short : items < all → spaceCheck g ls items globals ≡ Refused (refusal 5 all)
+module _ (mode : Mode) (g : Grid) (ls : Lines) (items globals all found : ℕ) (e : all ≡ total mode g ls) (d : found ≡ length (globalsOn mode g ls)) where
+  pub space-short : items < all → spaceCheck mode g ls items globals ≡ Refused (refusal 5 all)
   unfolding spaceCheck unless andThen
   space-short l = rw (← e, lt-leb all items l)
 
-  pub space-globals : all ≤ items → globals < found → spaceCheck g ls items globals ≡ Refused (refusal 6 found)
+  pub space-globals : all ≤ items → globals < found → spaceCheck mode g ls items globals ≡ Refused (refusal 6 found)
   unfolding spaceCheck unless andThen
   space-globals l m = rw (← e, ← d, le-leb all items l, lt-leb found globals m)
 
-  space-fine : all ≤ items → found ≤ globals → spaceCheck g ls items globals ≡ Fine
+  space-fine : all ≤ items → found ≤ globals → spaceCheck mode g ls items globals ≡ Fine
   unfolding spaceCheck unless andThen
   space-fine l m = rw (← e, ← d, le-leb all items l, le-leb found globals m)
 
-module _ {g : Grid} {ls : Lines} {found : ℕ} {o s : List ℕ} (a : FillAsks g ls found o s) where
+module _ {mode : Mode} {g : Grid} {ls : Lines} {found : ℕ} {o s : List ℕ} (a : FillAsks mode g ls found o s) where
   -- a refusal by which every slice is cleared; the offsets were summed before
-  pub lay-refused : (number value : ℕ) {o₁ t gs o′ t′ gs′ s′ : List ℕ} {r : Filled} → 4 ≤ number → number ≤ 7 → spaceCheck g ls (length t) (length gs) ≡ Refused (refusal number value)
-      → ((g : Grid) (ls : Lines) → FillIs g ls o₁ t gs s r o′ t′ gs′ s′ (refused (refusal number value))) → length o₁ ≡ length o
-      → FillIs g ls o t gs s r o′ t′ gs′ s′ (spaceCheck g ls (length t) (length gs) then gives made)
+  pub lay-refused : (number value : ℕ) {o₁ t gs o′ t′ gs′ s′ : List ℕ} {r : Filled} → 4 ≤ number → number ≤ 7 → spaceCheck mode g ls (length t) (length gs) ≡ Refused (refusal number value)
+      → ((mode : Mode) (g : Grid) (ls : Lines) → FillIs mode g ls o₁ t gs s r o′ t′ gs′ s′ (refused (refusal number value))) → length o₁ ≡ length o
+      → FillIs mode g ls o t gs s r o′ t′ gs′ s′ (spaceCheck mode g ls (length t) (length gs) then gives made)
   unfolding _then_ answerBy leftIn
   lay-refused number value {o₁} low high h all e =
-      let k = all g ls in
+      let k = all mode g ls in
       let z = left-alike 0 (refusal number value) o o₁ (numbers-clear number low high) e in
       rw h (record { answer = k .answer; offsets-are = k .offsets-are ∙ z; items-are = k .items-are; globals-are = k .globals-are; scratch-is = k .scratch-is })
 
   module _ (n : ℕ) (e : n ≡ cells g) where
-    sums-to : sum (λ k. getD o k 0) n ≡ total g ls
+    sums-to : sum (λ k. getD o k 0) n ≡ total mode g ls
     unfolding total listOn
     sums-to = rw e (counts-sum (a .all .counted .counts) (cells g))
 
     pub lay-sums : (n < length o) × (sum (λ k. getD o k 0) n < 2 ^ 32)
-    lay-sums = (omega (arith, a .all .counted .room), rw sums-to (total-small g ls (a .walkable .few) (a .walkable .fits)))
+    lay-sums = (omega (arith, a .all .counted .room), rw sums-to (total-small mode g ls (a .walkable .few) (a .walkable .fits)))
 
     module _ {o₁ : List ℕ} {all : ℕ} (k : Summed o o₁ n all) where
-      pub lay-total : all ≡ total g ls
+      pub lay-total : all ≡ total mode g ls
       lay-total = k .total ∙ sums-to
 
       pub lay-place : {t gs : List ℕ} {items globals : ℕ} → length o₁ ≡ length o → t ≡ replicate items 0 → length t ≡ items → gs ≡ replicate globals 0 → length gs ≡ globals
-          → all ≤ items → found ≤ globals → PlaceAsks g ls o₁ t gs s
+          → all ≤ items → found ≤ globals → PlaceAsks mode g ls o₁ t gs s
       unfolding listOn
       lay-place {t} {items = items} b z x y w l m =
           record {
@@ -75,40 +76,40 @@ module _ {g : Grid} {ls : Lines} {found : ℕ} {o s : List ℕ} (a : FillAsks g 
               room = omega (arith, a .all .counted .room);
               space = omega (arith, lay-total);
               placed =
-                  placed-none (all-walks g ls (a .walkable .fits)) (a .all .counted .counts) (rw e at (k .sums)) (rw e at (k .beyond))
+                  placed-none (all-walks mode g ls (a .walkable .fits)) (a .all .counted .counts) (rw e at (k .sums)) (rw e at (k .beyond))
                   (λ p. rw z (zeros-at items p));
             };
             clear = y ∙ ap (λ (n : ℕ). replicate {A = ℕ} n 0) (sym w);
             fits = omega (arith, a .all .found);
           }
 
-      pub lay-made : {t gs o₂ o₃ t₂ gs₂ s₃ : List ℕ} {room long : ℕ} → AllPlaced g ls o₂ t₂ room gs₂ → ShiftedBack o₂ o₃ n → s₃ ≡ replicate long 0
+      pub lay-made : {t gs o₂ o₃ t₂ gs₂ s₃ : List ℕ} {room long : ℕ} → AllPlaced mode g ls o₂ t₂ room gs₂ → ShiftedBack o₂ o₃ n → s₃ ≡ replicate long 0
           → length o₃ ≡ length o → length t₂ ≡ length t → room ≡ length gs → long ≡ length s → all ≤ length t → found ≤ length gs
-          → FillIs g ls o t gs s (filled.Tables all found) o₃ t₂ gs₂ s₃ (spaceCheck g ls (length t) (length gs) then gives made)
+          → FillIs mode g ls o t gs s (filled.Tables all found) o₃ t₂ gs₂ s₃ (spaceCheck mode g ls (length t) (length gs) then gives made)
       unfolding _then_ answerBy leftIn filledOf writtenIn zeroBeyond listOn total
       lay-made {t} {gs} {o₂} {o₃} {t₂} p q z b d f h l m =
-          let w = all-walks g ls (a .walkable .fits) in
-          let tab : Table (linesAt (localOn g ls) (count ls)) (cells g) o₃ t₂ =
+          let w = all-walks mode g ls (a .walkable .fits) in
+          let tab : Table (linesAt (localOn mode g ls) (count ls)) (cells g) o₃ t₂ =
           table-of w (omega (arith, a .all .counted .room)) (p .last .space) (p .last .placed) (q .first) (rw e at (q .moved)) (rw e at (q .beyond)) in
-          rw (space-fine g ls (length t) (length gs) all found lay-total (a .all .found) l m)
+          rw (space-fine mode g ls (length t) (length gs) all found lay-total (a .all .found) l m)
           (record {
             answer = rw (lay-total, a .all .found);
-            offsets-are = tab .offsets-are ∙ ap (λ (n : ℕ). offsetsOf (linesAt (localOn g ls) (count ls)) (cells g) n) b;
-            items-are = tab .items-are ∙ ap (λ (n : ℕ). itemsOf (linesAt (localOn g ls) (count ls)) (cells g) n) d;
-            globals-are = p .globals ∙ ap (λ (n : ℕ). globalsOn g ls ++ replicate (n - length (globalsOn g ls)) 0) f;
+            offsets-are = tab .offsets-are ∙ ap (λ (n : ℕ). offsetsOf (linesAt (localOn mode g ls) (count ls)) (cells g) n) b;
+            items-are = tab .items-are ∙ ap (λ (n : ℕ). itemsOf (linesAt (localOn mode g ls) (count ls)) (cells g) n) d;
+            globals-are = p .globals ∙ ap (λ (n : ℕ). globalsOn mode g ls ++ replicate (n - length (globalsOn mode g ls)) 0) f;
             scratch-is = z ∙ ap (λ (n : ℕ). replicate {A = ℕ} n 0) h;
           })
 
     -- ---- a crowded cell
 
-    counts-above : (most : ℕ) → above most (λ c. getD o c 0) n ≡ above most (λ c. length (listOn g ls c)) (cells g)
+    counts-above : (most : ℕ) → above most (λ c. getD o c 0) n ≡ above most (λ c. length (listOn mode g ls c)) (cells g)
     unfolding listOn
     counts-above most = rw e (ap (λ (f : ℕ → ℕ). above most f (cells g)) (fun-ext (a .all .counted .counts .count-is)))
 
     module _ (most : ℕ) {b : Bool} (h : b ≡ above most (λ c. getD o c 0) n) {t gs : List ℕ} {r : Filled} {o′ t′ gs′ s′ : List ℕ} (next : Answer Filling) where
-      pub fill-crowded : b ≡ true → ((g : Grid) (ls : Lines) → FillIs g ls o t gs s r o′ t′ gs′ s′ (gives crowded))
-          → FillIs g ls o t gs s r o′ t′ gs′ s′ (cond (above most (λ c. length (listOn g ls c)) (cells g)) (gives crowded) next)
-      fill-crowded q k = rw (sym (counts-above most) ∙ sym h ∙ q) (k g ls)
+      pub fill-crowded : b ≡ true → ((mode : Mode) (g : Grid) (ls : Lines) → FillIs mode g ls o t gs s r o′ t′ gs′ s′ (gives crowded))
+          → FillIs mode g ls o t gs s r o′ t′ gs′ s′ (cond (above most (λ c. length (listOn mode g ls c)) (cells g)) (gives crowded) next)
+      fill-crowded q k = rw (sym (counts-above most) ∙ sym h ∙ q) (k mode g ls)
 
-      pub fill-laid : b ≡ false → FillIs g ls o t gs s r o′ t′ gs′ s′ next → FillIs g ls o t gs s r o′ t′ gs′ s′ (cond (above most (λ c. length (listOn g ls c)) (cells g)) (gives crowded) next)
+      pub fill-laid : b ≡ false → FillIs mode g ls o t gs s r o′ t′ gs′ s′ next → FillIs mode g ls o t gs s r o′ t′ gs′ s′ (cond (above most (λ c. length (listOn mode g ls c)) (cells g)) (gives crowded) next)
       fill-laid q k = rw (sym (counts-above most) ∙ sym h ∙ q) k

@@ -7,17 +7,18 @@ use lib.ListN.{length}
 use Rattle.refusals.proofs.Leaving.{Clearing, clearing-unless, clearing-then, clearing-each, numbers-clear}
 use Rattle.grid.specs.declared.Grid.{Grid}
 use Rattle.grid.specs.Domain.{Lines, count}
+use Rattle.walk.specs.declared.Mode.{Mode}
 use Rattle.fill.specs.OnGrid.{cells, walkOn, ends, globalsOn, total}
 use Rattle.fill.specs.Checks.{roomCheck, turnsCheck, triedCheck, spaceCheck}
 
-pub tried-clears : (g : Grid) (ls : Lines) (room : ℕ) → Clearing true (triedCheck g ls room)
+pub tried-clears : (mode : Mode) (g : Grid) (ls : Lines) (room : ℕ) → Clearing true (triedCheck mode g ls room)
 unfolding triedCheck roomCheck turnsCheck
-tried-clears g ls room =
+tried-clears mode g ls room =
     clearing-then (clearing-unless _ 4 _ (numbers-clear 4 (omega arith) (omega arith)))
-    (clearing-each (λ i. ends (walkOn g ls i)) 7 (count ls) 0 (numbers-clear 7 (omega arith) (omega arith)))
+    (clearing-each (λ i. ends (walkOn mode g ls i)) 7 (count ls) 0 (numbers-clear 7 (omega arith) (omega arith)))
 
-pub space-clears : (g : Grid) (ls : Lines) (items globals : ℕ) → Clearing true (spaceCheck g ls items globals)
+pub space-clears : (mode : Mode) (g : Grid) (ls : Lines) (items globals : ℕ) → Clearing true (spaceCheck mode g ls items globals)
 unfolding spaceCheck
-space-clears g ls items globals =
-    clearing-then (clearing-unless (leb (total g ls) items) 5 (total g ls) (numbers-clear 5 (omega arith) (omega arith)))
-    (clearing-unless (leb (length (globalsOn g ls)) globals) 6 (length (globalsOn g ls)) (numbers-clear 6 (omega arith) (omega arith)))
+space-clears mode g ls items globals =
+    clearing-then (clearing-unless (leb (total mode g ls) items) 5 (total mode g ls) (numbers-clear 5 (omega arith) (omega arith)))
+    (clearing-unless (leb (length (globalsOn mode g ls)) globals) 6 (length (globalsOn mode g ls)) (numbers-clear 6 (omega arith) (omega arith)))

@@ -8,6 +8,7 @@ use native.Mathlib.Omega.{arith}
 use lib.ListN.{length}
 use Rattle.grid.specs.declared.Grid.{Grid}
 use Rattle.grid.specs.Domain.{Lines, count, fit}
+use Rattle.walk.specs.declared.Mode.{Mode}
 use Rattle.tables.specs.Lists.{long, linesAt, start}
 use Rattle.tables.specs.States.{Counted, Placed, CanCount, CanPlace}
 use Rattle.tables.proofs.Laws.{total-few}
@@ -17,29 +18,29 @@ use Rattle.fill.specs.Inside.{Front, localOn, CountedTo, CountAsks, Line
 use Rattle.fill.proofs.Walks.{is-long, is-short, all-walks, line-at}
 
 -- a global line is in no list
-long-none : (g : Grid) (ls : Lines) (i : ℕ) → long (cellsOn g ls i) ≡ true → linesAt (localOn g ls) i ≡ linesAt (localOn g ls) (i + 1)
-long-none g ls i h = list-none (localOn g ls) i (local-long (cellsOn g ls) i h)
+long-none : (mode : Mode) (g : Grid) (ls : Lines) (i : ℕ) → long (cellsOn mode g ls i) ≡ true → linesAt (localOn mode g ls) i ≡ linesAt (localOn mode g ls) (i + 1)
+long-none mode g ls i h = list-none (localOn mode g ls) i (local-long (cellsOn mode g ls) i h)
 
 -- the total fits in 32 bits
-pub total-small : (g : Grid) (ls : Lines) → count ls ≤ 65536 → fit g ≡ true → total g ls < 2 ^ 32
+pub total-small : (mode : Mode) (g : Grid) (ls : Lines) → count ls ≤ 65536 → fit g ≡ true → total mode g ls < 2 ^ 32
 unfolding total listOn
-total-small g ls few h =
-    let t : start (linesAt (localOn g ls) (count ls)) (cells g) ≤ count ls * 2048 = total-few (localOn g ls) (count ls) (cells g) 2048 (all-walks g ls h) (λ i _. local-few (cellsOn g ls) i) in
+total-small mode g ls few h =
+    let t : start (linesAt (localOn mode g ls) (count ls)) (cells g) ≤ count ls * 2048 = total-few (localOn mode g ls) (count ls) (cells g) 2048 (all-walks mode g ls h) (λ i _. local-few (cellsOn mode g ls) i) in
     let u : count ls * 2048 ≤ 65536 * 2048 = mul-le-mul-right 2048 few in
     omega arith
 
 -- ---- the first pass
 
-module _ {g : Grid} {ls : Lines} {i : ℕ} {o s₀ s : List ℕ} {n : ℕ} (a : CountAsks g ls i o s₀) (k : Front g ls i s n) where
-  pub count-global : 2048 < n → LineCounted g ls i o 1
+module _ {mode : Mode} {g : Grid} {ls : Lines} {i : ℕ} {o s₀ s : List ℕ} {n : ℕ} (a : CountAsks mode g ls i o s₀) (k : Front mode g ls i s n) where
+  pub count-global : 2048 < n → LineCounted mode g ls i o 1
   count-global b =
-      let h = is-long g ls i k b in
-      record { kind = rw h; next = record { room = a .counted .room; counts = rw (long-none g ls i h) at (a .counted .counts) } }
+      let h = is-long mode g ls i k b in
+      record { kind = rw h; next = record { room = a .counted .room; counts = rw (long-none mode g ls i h) at (a .counted .counts) } }
 
   pub can-count : n ≤ 2048 → CanCount o s n
   can-count b =
       record {
-        W = localOn g ls;
+        W = localOn mode g ls;
         lines = count ls;
         cells = cells g;
         i = i;
@@ -48,38 +49,38 @@ module _ {g : Grid} {ls : Lines} {i : ℕ} {o s₀ s : List ℕ} {n : ℕ} (a : 
         counted = a .counted .counts;
       }
 
-  pub count-next : {o′ : List ℕ} (b : n ≤ 2048) → ((p : CanCount o s n) → Counted (linesAt (p .W) (p .i + 1)) o′) → length o′ ≡ length o → LineCounted g ls i o′ 0
+  pub count-next : {o′ : List ℕ} (b : n ≤ 2048) → ((p : CanCount o s n) → Counted (linesAt (p .W) (p .i + 1)) o′) → length o′ ≡ length o → LineCounted mode g ls i o′ 0
   unfolding can-count
   count-next b after e =
-      record { kind = rw (is-short g ls i k b); next = record { room = omega (arith, a .counted .room); counts = after (can-count b) } }
+      record { kind = rw (is-short mode g ls i k b); next = record { room = omega (arith, a .counted .room); counts = after (can-count b) } }
 
 -- ---- the second pass
 
-module _ {g : Grid} {ls : Lines} {i : ℕ} {o t s₀ s : List ℕ} {n : ℕ} (a : LineAsks g ls i o t s₀) (k : Front g ls i s n) where
-  pub place-global : 2048 < n → LinePlaced g ls i o t 1
+module _ {mode : Mode} {g : Grid} {ls : Lines} {i : ℕ} {o t s₀ s : List ℕ} {n : ℕ} (a : LineAsks mode g ls i o t s₀) (k : Front mode g ls i s n) where
+  pub place-global : 2048 < n → LinePlaced mode g ls i o t 1
   place-global b =
-      let h = is-long g ls i k b in
-      record { kind = rw h; next = record { room = a .placed .room; space = a .placed .space; placed = rw (long-none g ls i h) at (a .placed .placed) } }
+      let h = is-long mode g ls i k b in
+      record { kind = rw h; next = record { room = a .placed .room; space = a .placed .space; placed = rw (long-none mode g ls i h) at (a .placed .placed) } }
 
   pub can-place : n ≤ 2048 → CanPlace i o t s n
   unfolding total listOn
   can-place b =
       record {
-        W = localOn g ls;
+        W = localOn mode g ls;
         lines = count ls;
         cells = cells g;
         line = line-at (a .walkable) (a .at) k b;
         room = a .placed .room;
         space = a .placed .space;
-        small = total-small g ls (a .walkable .few) (a .walkable .fits);
+        small = total-small mode g ls (a .walkable .few) (a .walkable .fits);
         placed = a .placed .placed;
       }
 
   pub place-next : {o′ t′ : List ℕ} (b : n ≤ 2048) → ((p : CanPlace i o t s n) → Placed (linesAt (p .W) (p .lines)) (p .cells) (linesAt (p .W) (i + 1)) o′ t′)
-      → length o′ ≡ length o → length t′ ≡ length t → LinePlaced g ls i o′ t′ 0
+      → length o′ ≡ length o → length t′ ≡ length t → LinePlaced mode g ls i o′ t′ 0
   unfolding can-place total listOn
   place-next b after e d =
       record {
-        kind = rw (is-short g ls i k b);
+        kind = rw (is-short mode g ls i k b);
         next = record { room = omega (arith, a .placed .room); space = omega (arith, a .placed .space); placed = after (can-place b) };
       }

@@ -11,6 +11,7 @@ use mir.Syntax.{w64}
 use lib.ListN.{length, getD, set, replicate, length-append, length-set, length-replicate}
 use Rattle.grid.specs.declared.Grid.{Grid}
 use Rattle.grid.specs.Domain.{Lines, count}
+use Rattle.walk.specs.declared.Mode.{Mode}
 use Rattle.tables.specs.Lists.{long, only, globalLines}
 use Rattle.fill.specs.OnGrid.{walkOn, ends, cellsOn, globalsOn, oneIf}
 use Rattle.fill.specs.Inside.{Walkable, PlacedTo, LineAsks, LinePlaced, listed, PlaceAsks, AllPlaced}
@@ -48,35 +49,35 @@ globals-mono W i (suc d) =
     let e : i + suc d ≡ (i + d) + 1 = omega arith in
     rw (e, globals-count W (i + d)) (omega (arith, globals-mono W i d))
 
-globals-within : (g : Grid) (ls : Lines) (i : ℕ) → i ≤ count ls → length (globalLines (cellsOn g ls) i) ≤ length (globalsOn g ls)
+globals-within : (mode : Mode) (g : Grid) (ls : Lines) (i : ℕ) → i ≤ count ls → length (globalLines (cellsOn mode g ls) i) ≤ length (globalsOn mode g ls)
 unfolding globalsOn
-globals-within g ls i l = let e : count ls ≡ i + (count ls - i) = omega arith in rw e (globals-mono (cellsOn g ls) i (count ls - i))
+globals-within mode g ls i l = let e : count ls ≡ i + (count ls - i) = omega arith in rw e (globals-mono (cellsOn mode g ls) i (count ls - i))
 
 globals-few : (W : ℕ → List ℕ) (i : ℕ) → length (globalLines W i) ≤ i
 unfolding globalLines
 globals-few W zero = omega arith
 globals-few W (suc i) = let e = rw add-one at (globals-count W i) in omega (arith, e, globals-few W i, one-if (long (W i)))
 
-pub record PlacingAll (g : Grid) (ls : Lines) (o₀ t₀ gs₀ s₀ o t gs s : List ℕ) (found i : ℕ) : Type 0 where
+pub record PlacingAll (mode : Mode) (g : Grid) (ls : Lines) (o₀ t₀ gs₀ s₀ o t gs s : List ℕ) (found i : ℕ) : Type 0 where
   pub walkable : Walkable g ls s
-  pub ended : (j : ℕ) → j < count ls → ends (walkOn g ls j) ≡ true
+  pub ended : (j : ℕ) → j < count ls → ends (walkOn mode g ls j) ≡ true
   pub at : i ≤ count ls
   pub len : length o ≡ length o₀
   pub len-items : length t ≡ length t₀
   pub len-globals : length gs ≡ length gs₀
   pub len-scratch : length s ≡ length s₀
-  pub placed : PlacedTo g ls i o t
-  pub fits : length (globalsOn g ls) ≤ length gs₀
-  pub so-far : found ≡ length (globalLines (cellsOn g ls) i)
-  pub listing : gs ≡ globalLines (cellsOn g ls) i ++ replicate (length gs₀ - length (globalLines (cellsOn g ls) i)) 0
+  pub placed : PlacedTo mode g ls i o t
+  pub fits : length (globalsOn mode g ls) ≤ length gs₀
+  pub so-far : found ≡ length (globalLines (cellsOn mode g ls) i)
+  pub listing : gs ≡ globalLines (cellsOn mode g ls) i ++ replicate (length gs₀ - length (globalLines (cellsOn mode g ls) i)) 0
 
-pub placing-all : {g : Grid} {ls : Lines} {o t gs s : List ℕ} → PlaceAsks g ls o t gs s → PlacingAll g ls o t gs s o t gs s 0 0
+pub placing-all : {mode : Mode} {g : Grid} {ls : Lines} {o t gs s : List ℕ} → PlaceAsks mode g ls o t gs s → PlacingAll mode g ls o t gs s o t gs s 0 0
 unfolding globalLines
-placing-all {g} {ls} {gs = gs} h =
+placing-all {mode} {g} {ls} {gs = gs} h =
     let e : length gs - 0 ≡ length gs = omega arith in
     record {
       walkable = h .walkable;
-      ended = turns-all g ls (h .turns);
+      ended = turns-all mode g ls (h .turns);
       at = omega arith;
       len = refl;
       len-items = refl;
@@ -88,23 +89,23 @@ placing-all {g} {ls} {gs = gs} h =
       listing = rw e (h .clear);
     }
 
-module _ {g : Grid} {ls : Lines} {o₀ t₀ gs₀ s₀ o t gs s : List ℕ} {found i : ℕ} (k : PlacingAll g ls o₀ t₀ gs₀ s₀ o t gs s found i) (l : i < count ls) where
-  pub placing-line : LineAsks g ls i o t s
+module _ {mode : Mode} {g : Grid} {ls : Lines} {o₀ t₀ gs₀ s₀ o t gs s : List ℕ} {found i : ℕ} (k : PlacingAll mode g ls o₀ t₀ gs₀ s₀ o t gs s found i) (l : i < count ls) where
+  pub placing-line : LineAsks mode g ls i o t s
   placing-line = record { at = l; walkable = k .walkable; ended = k .ended i l; placed = k .placed }
 
-  next-fits : length (globalLines (cellsOn g ls) (i + 1)) ≤ length gs₀
-  next-fits = omega (arith, globals-within g ls (i + 1) (omega arith), k .fits)
+  next-fits : length (globalLines (cellsOn mode g ls) (i + 1)) ≤ length gs₀
+  next-fits = omega (arith, globals-within mode g ls (i + 1) (omega arith), k .fits)
 
-  module _ {o′ t′ : List ℕ} {more : ℕ} (h : LinePlaced g ls i o′ t′ more) where
+  module _ {o′ t′ : List ℕ} {more : ℕ} (h : LinePlaced mode g ls i o′ t′ more) where
     pub placing-asks : (i < 65536) × (0 < more → found < length gs)
     placing-asks =
-        (omega (arith, k .walkable .few), λ p. omega (arith, next-fits, globals-count (cellsOn g ls) i, h .kind, k .so-far, k .len-globals))
+        (omega (arith, k .walkable .few), λ p. omega (arith, next-fits, globals-count (cellsOn mode g ls) i, h .kind, k .so-far, k .len-globals))
 
     pub placing-found : Fits w64 (found + more)
-    placing-found = record { fits = omega (arith, h .kind, k .so-far, one-if (long (cellsOn g ls i)), globals-few (cellsOn g ls) i, k .walkable .few) }
+    placing-found = record { fits = omega (arith, h .kind, k .so-far, one-if (long (cellsOn mode g ls i)), globals-few (cellsOn mode g ls) i, k .walkable .few) }
 
     pub placing-next : {gs′ s′ : List ℕ} → gs′ ≡ listed more gs found i → length o′ ≡ length o → length t′ ≡ length t → length gs′ ≡ length gs → length s′ ≡ length s
-        → PlacingAll g ls o₀ t₀ gs₀ s₀ o′ t′ gs′ s′ (found + more) (i + 1)
+        → PlacingAll mode g ls o₀ t₀ gs₀ s₀ o′ t′ gs′ s′ (found + more) (i + 1)
     placing-next q a b d f =
         record {
           walkable = walkable-again (k .walkable) f;
@@ -116,12 +117,12 @@ module _ {g : Grid} {ls : Lines} {o₀ t₀ gs₀ s₀ o t gs s : List ℕ} {fou
           len-scratch = f ∙ k .len-scratch;
           placed = h .next;
           fits = k .fits;
-          so-far = omega (arith, k .so-far, h .kind, globals-count (cellsOn g ls) i);
-          listing = q ∙ rw (h .kind, k .so-far, k .listing) (listed-next (cellsOn g ls) i (length gs₀) next-fits);
+          so-far = omega (arith, k .so-far, h .kind, globals-count (cellsOn mode g ls) i);
+          listing = q ∙ rw (h .kind, k .so-far, k .listing) (listed-next (cellsOn mode g ls) i (length gs₀) next-fits);
         }
 
-pub placing-end : {g : Grid} {ls : Lines} {o₀ t₀ gs₀ s₀ o t gs s : List ℕ} {found i : ℕ} → PlacingAll g ls o₀ t₀ gs₀ s₀ o t gs s found i → count ls ≤ i → AllPlaced g ls o t (length gs₀) gs
+pub placing-end : {mode : Mode} {g : Grid} {ls : Lines} {o₀ t₀ gs₀ s₀ o t gs s : List ℕ} {found i : ℕ} → PlacingAll mode g ls o₀ t₀ gs₀ s₀ o t gs s found i → count ls ≤ i → AllPlaced mode g ls o t (length gs₀) gs
 unfolding globalsOn
-placing-end {g} {ls} {i = i} k l =
+placing-end {mode} {g} {ls} {i = i} k l =
     let e : i ≡ count ls = omega (arith, k .at) in
     record { last = rw e at (k .placed); globals = rw e at (k .listing) }

@@ -7,6 +7,7 @@ use Rattle.refusals.specs.declared.Check.{Check}
 use Rattle.refusals.specs.Refusals.{unless, andThen, eachFrom}
 use Rattle.grid.specs.declared.Grid.{Grid}
 use Rattle.grid.specs.Domain.{Lines, count, scratchCheck, linesCheck, gridCheck}
+use Rattle.walk.specs.declared.Mode.{Mode}
 use Rattle.fill.specs.OnGrid.{cells, walkOn, ends, globalsOn, total}
 
 -- 3, 2, 1, 8
@@ -18,22 +19,22 @@ unfoldable pub roomCheck : Grid → ℕ → Check
 roomCheck g room = unless (leb (cells g + 1) room) 4 (cells g + 1)
 
 -- 7: the walk of line i made 5,000 turns and would make another
-unfoldable pub walkCheck : Grid → Lines → ℕ → Check
-walkCheck g ls i = unless (ends (walkOn g ls i)) 7 i
+unfoldable pub walkCheck : Mode → Grid → Lines → ℕ → Check
+walkCheck mode g ls i = unless (ends (walkOn mode g ls i)) 7 i
 
 -- of all lines; the first such line
-unfoldable pub turnsCheck : Grid → Lines → Check
-turnsCheck g ls = eachFrom (λ i. ends (walkOn g ls i)) 7 (count ls) 0
+unfoldable pub turnsCheck : Mode → Grid → Lines → Check
+turnsCheck mode g ls = eachFrom (λ i. ends (walkOn mode g ls i)) 7 (count ls) 0
 
 -- at each grid tried 4, then 7
-unfoldable pub triedCheck : Grid → Lines → ℕ → Check
-triedCheck g ls room = andThen (roomCheck g room) (turnsCheck g ls)
+unfoldable pub triedCheck : Mode → Grid → Lines → ℕ → Check
+triedCheck mode g ls room = andThen (roomCheck g room) (turnsCheck mode g ls)
 
 -- what a count checks: 3, 2, 1, 8, then 4 and 7
-unfoldable pub countingCheck : Grid → Lines → ℕ → ℕ → Check
-countingCheck g ls room scratch = andThen (lentCheck g ls scratch) (triedCheck g ls room)
+unfoldable pub countingCheck : Mode → Grid → Lines → ℕ → ℕ → Check
+countingCheck mode g ls room scratch = andThen (lentCheck g ls scratch) (triedCheck mode g ls room)
 
 -- 5: items lent are fewer than the total; then 6: globals lent are fewer than found
-unfoldable pub spaceCheck : Grid → Lines → ℕ → ℕ → Check
-spaceCheck g ls items globals =
-    andThen (unless (leb (total g ls) items) 5 (total g ls)) (unless (leb (length (globalsOn g ls)) globals) 6 (length (globalsOn g ls)))
+unfoldable pub spaceCheck : Mode → Grid → Lines → ℕ → ℕ → Check
+spaceCheck mode g ls items globals =
+    andThen (unless (leb (total mode g ls) items) 5 (total mode g ls)) (unless (leb (length (globalsOn mode g ls)) globals) 6 (length (globalsOn mode g ls)))

@@ -10,6 +10,7 @@ use Rattle.refusals.specs.declared.Check.the-variants.{Fine, Refused}
 use Rattle.refusals.specs.Refusals.{leftBy}
 use Rattle.grid.specs.declared.Grid.{Grid}
 use Rattle.grid.specs.Domain.{Lines, count, Alike, lineFits, fit}
+use Rattle.walk.specs.declared.Mode.{Mode}
 use Rattle.tables.specs.Lists.{long, local, linesAt, sum}
 use Rattle.tables.specs.States.{Counted, Placed}
 use Rattle.fill.specs.declared.Count.{Count}
@@ -35,10 +36,10 @@ pub record Walkable (g : Grid) (ls : Lines) (s : List ℕ) : Type 0 where
   pub space : 16384 ≤ length s
 
 -- the n cells of line i stand at the front of the scratch
-pub record Front (g : Grid) (ls : Lines) (i : ℕ) (s : List ℕ) (n : ℕ) : Type 0 where
-  pub size : n ≡ length (cellsOn g ls i)
+pub record Front (mode : Mode) (g : Grid) (ls : Lines) (i : ℕ) (s : List ℕ) (n : ℕ) : Type 0 where
+  pub size : n ≡ length (cellsOn mode g ls i)
   pub within : n ≤ length s
-  pub front : take n s ≡ cellsOn g ls i
+  pub front : take n s ≡ cellsOn mode g ls i
 
 -- a line that a walk can work on
 pub record WalkAsks (g : Grid) (ls : Lines) (i : ℕ) (s : List ℕ) : Type 0 where
@@ -48,57 +49,57 @@ pub record WalkAsks (g : Grid) (ls : Lines) (i : ℕ) (s : List ℕ) : Type 0 wh
 -- ---- the first pass
 
 -- the cells that the lines are counted in
-abbrev pub localOn : Grid → Lines → ℕ → List ℕ
-localOn g ls = local (cellsOn g ls)
+abbrev pub localOn : Mode → Grid → Lines → ℕ → List ℕ
+localOn mode g ls = local (cellsOn mode g ls)
 
 -- the lines below i are counted
-pub record CountedTo (g : Grid) (ls : Lines) (i : ℕ) (o : List ℕ) : Type 0 where
+pub record CountedTo (mode : Mode) (g : Grid) (ls : Lines) (i : ℕ) (o : List ℕ) : Type 0 where
   pub room : cells g < length o
-  pub counts : Counted (linesAt (localOn g ls) i) o
+  pub counts : Counted (linesAt (localOn mode g ls) i) o
 
-pub record CountAsks (g : Grid) (ls : Lines) (i : ℕ) (o s : List ℕ) : Type 0 where
+pub record CountAsks (mode : Mode) (g : Grid) (ls : Lines) (i : ℕ) (o s : List ℕ) : Type 0 where
   pub at : i < count ls
   pub walkable : Walkable g ls s
-  pub counted : CountedTo g ls i o
+  pub counted : CountedTo mode g ls i o
 
 -- line i counted: k is 1 for a global line
-pub record LineCounted (g : Grid) (ls : Lines) (i : ℕ) (o : List ℕ) (k : ℕ) : Type 0 where
-  pub kind : k ≡ oneIf (long (cellsOn g ls i))
-  pub next : CountedTo g ls (i + 1) o
+pub record LineCounted (mode : Mode) (g : Grid) (ls : Lines) (i : ℕ) (o : List ℕ) (k : ℕ) : Type 0 where
+  pub kind : k ≡ oneIf (long (cellsOn mode g ls i))
+  pub next : CountedTo mode g ls (i + 1) o
 
-pub record PassAsks (g : Grid) (ls : Lines) (o s : List ℕ) : Type 0 where
+pub record PassAsks (mode : Mode) (g : Grid) (ls : Lines) (o s : List ℕ) : Type 0 where
   pub walkable : Walkable g ls s
-  pub counted : CountedTo g ls 0 o
+  pub counted : CountedTo mode g ls 0 o
 
 -- all lines counted: k are global
-pub record AllCounted (g : Grid) (ls : Lines) (o : List ℕ) (k : ℕ) : Type 0 where
-  pub found : k ≡ length (globalsOn g ls)
-  pub counted : CountedTo g ls (count ls) o
+pub record AllCounted (mode : Mode) (g : Grid) (ls : Lines) (o : List ℕ) (k : ℕ) : Type 0 where
+  pub found : k ≡ length (globalsOn mode g ls)
+  pub counted : CountedTo mode g ls (count ls) o
 
 -- all lines counted, or a refusal, by whose rule both slices are as they were
-pub record CountLent (g : Grid) (ls : Lines) (o s : List ℕ) (r : Count) (o′ s′ : List ℕ) : Type 0 where
-  pub is : CountAs (countingCheck g ls (length o) (length s)) (AllCounted g ls o′) r
+pub record CountLent (mode : Mode) (g : Grid) (ls : Lines) (o s : List ℕ) (r : Count) (o′ s′ : List ℕ) : Type 0 where
+  pub is : CountAs (countingCheck mode g ls (length o) (length s)) (AllCounted mode g ls o′) r
   pub offsets : (q : Refusal) → r ≡ counted.Refused q → leftBy 0 q o′ ≡ leftBy 0 q o
   pub scratch : (q : Refusal) → r ≡ counted.Refused q → leftBy 0 q s′ ≡ leftBy 0 q s
 
 -- ---- the second pass
 
 -- the lines below i are placed
-pub record PlacedTo (g : Grid) (ls : Lines) (i : ℕ) (o t : List ℕ) : Type 0 where
+pub record PlacedTo (mode : Mode) (g : Grid) (ls : Lines) (i : ℕ) (o t : List ℕ) : Type 0 where
   pub room : cells g < length o
-  pub space : total g ls ≤ length t
-  pub placed : Placed (listOn g ls) (cells g) (linesAt (localOn g ls) i) o t
+  pub space : total mode g ls ≤ length t
+  pub placed : Placed (listOn mode g ls) (cells g) (linesAt (localOn mode g ls) i) o t
 
-pub record LineAsks (g : Grid) (ls : Lines) (i : ℕ) (o t s : List ℕ) : Type 0 where
+pub record LineAsks (mode : Mode) (g : Grid) (ls : Lines) (i : ℕ) (o t s : List ℕ) : Type 0 where
   pub at : i < count ls
   pub walkable : Walkable g ls s
-  pub ended : ends (walkOn g ls i) ≡ true
-  pub placed : PlacedTo g ls i o t
+  pub ended : ends (walkOn mode g ls i) ≡ true
+  pub placed : PlacedTo mode g ls i o t
 
 -- line i placed: k is 1 for a global line
-pub record LinePlaced (g : Grid) (ls : Lines) (i : ℕ) (o t : List ℕ) (k : ℕ) : Type 0 where
-  pub kind : k ≡ oneIf (long (cellsOn g ls i))
-  pub next : PlacedTo g ls (i + 1) o t
+pub record LinePlaced (mode : Mode) (g : Grid) (ls : Lines) (i : ℕ) (o t : List ℕ) (k : ℕ) : Type 0 where
+  pub kind : k ≡ oneIf (long (cellsOn mode g ls i))
+  pub next : PlacedTo mode g ls (i + 1) o t
 
 -- a global line written at its place
 abbrev pub listed : ℕ → List ℕ → ℕ → ℕ → List ℕ
@@ -106,17 +107,17 @@ listed zero xs at i = xs
 listed (suc n) xs at i = set xs at i
 
 -- the second pass can begin, and has room
-pub record PlaceAsks (g : Grid) (ls : Lines) (o t gs s : List ℕ) : Type 0 where
+pub record PlaceAsks (mode : Mode) (g : Grid) (ls : Lines) (o t gs s : List ℕ) : Type 0 where
   pub walkable : Walkable g ls s
-  pub turns : turnsCheck g ls ≡ Fine
-  pub first : PlacedTo g ls 0 o t
+  pub turns : turnsCheck mode g ls ≡ Fine
+  pub first : PlacedTo mode g ls 0 o t
   pub clear : gs ≡ replicate (length gs) 0
-  pub fits : length (globalsOn g ls) ≤ length gs
+  pub fits : length (globalsOn mode g ls) ≤ length gs
 
 -- all lines placed, and the global lines listed
-pub record AllPlaced (g : Grid) (ls : Lines) (o t : List ℕ) (room : ℕ) (gs : List ℕ) : Type 0 where
-  pub last : PlacedTo g ls (count ls) o t
-  pub globals : gs ≡ globalsOn g ls ++ replicate (room - length (globalsOn g ls)) 0
+pub record AllPlaced (mode : Mode) (g : Grid) (ls : Lines) (o t : List ℕ) (room : ℕ) (gs : List ℕ) : Type 0 where
+  pub last : PlacedTo mode g ls (count ls) o t
+  pub globals : gs ≡ globalsOn mode g ls ++ replicate (room - length (globalsOn mode g ls)) 0
 
 -- ---- the offsets
 
@@ -135,7 +136,7 @@ pub record ShiftedBack (o₀ o : List ℕ) (cells : ℕ) : Type 0 where
 -- ---- from the counts to the tables
 
 -- the lines are counted, and `found` are global
-pub record FillAsks (g : Grid) (ls : Lines) (found : ℕ) (o s : List ℕ) : Type 0 where
+pub record FillAsks (mode : Mode) (g : Grid) (ls : Lines) (found : ℕ) (o s : List ℕ) : Type 0 where
   pub walkable : Walkable g ls s
-  pub turns : turnsCheck g ls ≡ Fine
-  pub all : AllCounted g ls o found
+  pub turns : turnsCheck mode g ls ≡ Fine
+  pub all : AllCounted mode g ls o found

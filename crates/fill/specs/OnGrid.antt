@@ -6,6 +6,7 @@ use lib.ListN.{length, replicate}
 use Rattle.refusals.specs.Refusals.{refused, gives}
 use Rattle.grid.specs.declared.Grid.{Grid}
 use Rattle.grid.specs.Domain.{Lines, count, segmentAt}
+use Rattle.walk.specs.declared.Mode.{Mode}
 use Rattle.walk.specs.Pushes.{Outcome}
 use Rattle.walk.specs.Segment.{segmentOf}
 use Rattle.tables.specs.Lists.{localLines, globalLines, start, tabulate}
@@ -14,9 +15,9 @@ use Rattle.tables.specs.Lists.{localLines, globalLines, start, tabulate}
 abbrev pub cells : Grid → ℕ
 cells g = g .rows * g .cols
 
--- the walk of line i
-unfoldable pub walkOn : Grid → Lines → ℕ → Outcome
-walkOn g ls i = segmentOf g (segmentAt ls i)
+-- the walk of line i, in a mode
+unfoldable pub walkOn : Mode → Grid → Lines → ℕ → Outcome
+walkOn mode g ls i = segmentOf mode g (segmentAt ls i)
 
 -- whether a walk ends within its turns, and the distinct cells that it visits
 abbrev pub ends : Outcome → Bool
@@ -28,23 +29,23 @@ visited (refused why) = []
 visited (gives xs) = xs
 
 -- the distinct cells of line i
-unfoldable pub cellsOn : Grid → Lines → ℕ → List ℕ
-cellsOn g ls i = visited (walkOn g ls i)
+unfoldable pub cellsOn : Mode → Grid → Lines → ℕ → List ℕ
+cellsOn mode g ls i = visited (walkOn mode g ls i)
 
 -- the list of the cell c, and the global lines, of all lines
-unfoldable pub listOn : Grid → Lines → ℕ → List ℕ
-listOn g ls = localLines (cellsOn g ls) (count ls)
+unfoldable pub listOn : Mode → Grid → Lines → ℕ → List ℕ
+listOn mode g ls = localLines (cellsOn mode g ls) (count ls)
 
-unfoldable pub globalsOn : Grid → Lines → List ℕ
-globalsOn g ls = globalLines (cellsOn g ls) (count ls)
+unfoldable pub globalsOn : Mode → Grid → Lines → List ℕ
+globalsOn mode g ls = globalLines (cellsOn mode g ls) (count ls)
 
 -- the number of items
-unfoldable pub total : Grid → Lines → ℕ
-total g ls = start (listOn g ls) (cells g)
+unfoldable pub total : Mode → Grid → Lines → ℕ
+total mode g ls = start (listOn mode g ls) (cells g)
 
 -- how many lines each cell lists, in a slice of a length, and zero beyond
-unfoldable pub countsOn : Grid → Lines → ℕ → List ℕ
-countsOn g ls len = tabulate (λ c. length (listOn g ls c)) (cells g) ++ replicate (len - cells g) 0
+unfoldable pub countsOn : Mode → Grid → Lines → ℕ → List ℕ
+countsOn mode g ls len = tabulate (λ c. length (listOn mode g ls c)) (cells g) ++ replicate (len - cells g) 0
 
 -- 1 where the test holds
 abbrev pub oneIf : Bool → ℕ

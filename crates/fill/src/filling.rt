@@ -17,9 +17,11 @@ use crate::passes::cell_count;
 use crate::passes::place_lines;
 use grid::Grid;
 use refusals::Refusal;
+use walk::Mode;
 
 // 5 and 6 are decided before an item is written.
 fn lay_out(
+    mode: Mode,
     start_x: &[f64],
     start_y: &[f64],
     end_x: &[f64],
@@ -32,14 +34,14 @@ fn lay_out(
     scratch: &mut [u32],
 ) -> Filled
     requires { let ls = lines (now «start_x») (now «start_y») (now «end_x») (now «end_y») in
-        ⌜ FillAsks grid ls found (now offsets) (now scratch) ⌝ }
+        ⌜ FillAsks mode grid ls found (now offsets) (now scratch) ⌝ }
     ensures { λ r. let ls = lines (now («start_x» .entry)) (now («start_y» .entry)) (now («end_x» .entry)) (now («end_y» .entry)) in
         let o = now (offsets .entry) in
         let t = now (items .entry) in
         let gs = now (globals .entry) in
         let s = now (scratch .entry) in
-        let f = spaceCheck grid ls (length t) (length gs) then gives made in
-        ⌜ FillIs grid ls o t gs s r (now (offsets .exit)) (now (items .exit)) (now (globals .exit)) (now (scratch .exit)) f ⌝ }
+        let f = spaceCheck mode grid ls (length t) (length gs) then gives made in
+        ⌜ FillIs mode grid ls o t gs s r (now (offsets .exit)) (now (items .exit)) (now (globals .exit)) (now (scratch .exit)) f ⌝ }
 {
     let n = cell_count(grid);
     let total = running_sums(offsets, n) as usize;
@@ -70,6 +72,7 @@ fn lay_out(
     slices::clear(items);
     slices::clear(globals);
     place_lines(
+        mode,
         start_x,
         start_y,
         end_x,
@@ -89,6 +92,7 @@ fn lay_out(
 }
 
 pub(crate) fn fill_counted(
+    mode: Mode,
     start_x: &[f64],
     start_y: &[f64],
     end_x: &[f64],
@@ -102,20 +106,21 @@ pub(crate) fn fill_counted(
     scratch: &mut [u32],
 ) -> Filled
     requires { let ls = lines (now «start_x») (now «start_y») (now «end_x») (now «end_y») in
-        ⌜ FillAsks grid ls found (now offsets) (now scratch) ⌝ }
+        ⌜ FillAsks mode grid ls found (now offsets) (now scratch) ⌝ }
     ensures { λ r. let ls = lines (now («start_x» .entry)) (now («start_y» .entry)) (now («end_x» .entry)) (now («end_y» .entry)) in
         let o = now (offsets .entry) in
         let t = now (items .entry) in
         let gs = now (globals .entry) in
         let s = now (scratch .entry) in
-        let f = cond (above most (λ c. length (listOn grid ls c)) (cells grid)) (gives crowded) (spaceCheck grid ls (length t) (length gs) then gives made) in
-        ⌜ FillIs grid ls o t gs s r (now (offsets .exit)) (now (items .exit)) (now (globals .exit)) (now (scratch .exit)) f ⌝ }
+        let f = cond (above most (λ c. length (listOn mode grid ls c)) (cells grid)) (gives crowded) (spaceCheck mode grid ls (length t) (length gs) then gives made) in
+        ⌜ FillIs mode grid ls o t gs s r (now (offsets .exit)) (now (items .exit)) (now (globals .exit)) (now (scratch .exit)) f ⌝ }
 {
     let n = cell_count(grid);
     if some_above(offsets, n, most) {
         return give_up(offsets, items, globals, scratch);
     }
     lay_out(
+        mode,
         start_x,
         start_y,
         end_x,

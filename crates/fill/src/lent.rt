@@ -1,6 +1,7 @@
 // The checks of what is lent, and what a refusal leaves of it.
 ghost use mathlib.Core.Path.{_≡_};
 ghost use Rattle.refusals.specs.Refusals.{refused, gives, leftBy};
+ghost use Rattle.walk.specs.declared.Mode.{Mode};
 ghost use Rattle.grid.specs.declared.Grid.{Grid};
 ghost use Rattle.grid.specs.Domain.{Lines, lines};
 ghost use Rattle.fill.specs.Checks.{lentCheck};
@@ -57,7 +58,7 @@ pub(crate) fn refuse(
         let t = now (items .entry) in
         let gs = now (globals .entry) in
         let s = now (scratch .entry) in
-        ⌜ ((g : Grid) (ls : Lines) → FillIs g ls o t gs s r (now (offsets .exit)) (now (items .exit)) (now (globals .exit)) (now (scratch .exit)) (refused why)) ⌝ }
+        ⌜ ((mode : Mode) (g : Grid) (ls : Lines) → FillIs mode g ls o t gs s r (now (offsets .exit)) (now (items .exit)) (now (globals .exit)) (now (scratch .exit)) (refused why)) ⌝ }
 {
     leave(why, offsets);
     leave(why, items);
@@ -77,7 +78,7 @@ pub(crate) fn give_up(
         let t = now (items .entry) in
         let gs = now (globals .entry) in
         let s = now (scratch .entry) in
-        ⌜ ((g : Grid) (ls : Lines) → FillIs g ls o t gs s r (now (offsets .exit)) (now (items .exit)) (now (globals .exit)) (now (scratch .exit)) (gives crowded)) ⌝ }
+        ⌜ ((mode : Mode) (g : Grid) (ls : Lines) → FillIs mode g ls o t gs s r (now (offsets .exit)) (now (items .exit)) (now (globals .exit)) (now (scratch .exit)) (gives crowded)) ⌝ }
 {
     slices::clear(offsets);
     slices::clear(items);

@@ -1,5 +1,6 @@
 // Counting lines on a given grid, and filling the tables of a grid: what `count_cells` and the second half of `new_impl` of grid.rs do, in lent
-// slices. How a grid is chosen is no matter here.
+// slices. How a grid is chosen is no matter here, and the
+// mode of walk is handed on.
 mod filling;
 mod lent;
 mod offsets;
@@ -17,6 +18,7 @@ use crate::passes::count_all;
 use grid::Grid;
 use refusals::Check;
 use refusals::Refusal;
+use walk::Mode;
 
 // A number, or the refusal that is due.
 pub enum Count {
@@ -33,6 +35,7 @@ pub enum Filled {
 
 // The checks, and the count. A refusal is not cleared up after yet.
 fn count_lent(
+    mode: Mode,
     start_x: &[f64],
     start_y: &[f64],
     end_x: &[f64],
@@ -42,17 +45,18 @@ fn count_lent(
     scratch: &mut [u32],
 ) -> Count
     ensures { λ r. let ls = lines (now («start_x» .entry)) (now («start_y» .entry)) (now («end_x» .entry)) (now («end_y» .entry)) in
-        ⌜ CountLent grid ls (now (offsets .entry)) (now (scratch .entry)) r (now (offsets .exit)) (now (scratch .exit)) ⌝ }
+        ⌜ CountLent mode grid ls (now (offsets .entry)) (now (scratch .entry)) r (now (offsets .exit)) (now (scratch .exit)) ⌝ }
 {
     let checked = check(start_x, start_y, end_x, end_y, grid, scratch.len());
     if let Check::Refused(r) = checked {
         return Count::Refused(r);
     }
-    count_all(start_x, start_y, end_x, end_y, grid, offsets, scratch)
+    count_all(mode, start_x, start_y, end_x, end_y, grid, offsets, scratch)
 }
 
 // Counts the lines of each cell, and answers how many lines are global: those that visit more than 2,048 cells, which are counted in none.
 pub fn count_on(
+    mode: Mode,
     start_x: &[f64],
     start_y: &[f64],
     end_x: &[f64],
@@ -62,10 +66,10 @@ pub fn count_on(
     scratch: &mut [u32],
 ) -> Count
     ensures { λ r. let ls = lines (now («start_x» .entry)) (now («start_y» .entry)) (now («end_x» .entry)) (now («end_y» .entry)) in
-        let a = countOf grid ls (length (now (counts .entry))) (length (now (scratch .entry))) in
-        ⌜ CountIs grid ls (now (counts .entry)) (now (scratch .entry)) r (now (counts .exit)) (now (scratch .exit)) a ⌝ }
+        let a = countOf mode grid ls (length (now (counts .entry))) (length (now (scratch .entry))) in
+        ⌜ CountIs mode grid ls (now (counts .entry)) (now (scratch .entry)) r (now (counts .exit)) (now (scratch .exit)) a ⌝ }
 {
-    let counted = count_lent(start_x, start_y, end_x, end_y, grid, counts, scratch);
+    let counted = count_lent(mode, start_x, start_y, end_x, end_y, grid, counts, scratch);
     match counted {
         Count::Of(n) => {
             slices::clear(scratch);
@@ -82,6 +86,7 @@ pub fn count_on(
 // Fills the tables of a grid, unless some cell would list more than `most` lines. `offsets[c] .. offsets[c + 1]` is the range in the items of the
 // lines that visit cell c; lines that visit more than 2,048 cells go to the globals instead.
 pub fn fill_on(
+    mode: Mode,
     start_x: &[f64],
     start_y: &[f64],
     end_x: &[f64],
@@ -98,12 +103,13 @@ pub fn fill_on(
         let t = now (items .entry) in
         let gs = now (globals .entry) in
         let s = now (scratch .entry) in
-        let f = fillingOf grid ls most (length o) (length t) (length gs) (length s) in
-        ⌜ FillIs grid ls o t gs s r (now (offsets .exit)) (now (items .exit)) (now (globals .exit)) (now (scratch .exit)) f ⌝ }
+        let f = fillingOf mode grid ls most (length o) (length t) (length gs) (length s) in
+        ⌜ FillIs mode grid ls o t gs s r (now (offsets .exit)) (now (items .exit)) (now (globals .exit)) (now (scratch .exit)) f ⌝ }
 {
-    let counted = count_lent(start_x, start_y, end_x, end_y, grid, offsets, scratch);
+    let counted = count_lent(mode, start_x, start_y, end_x, end_y, grid, offsets, scratch);
     match counted {
         Count::Of(found) => fill_counted(
+            mode,
             start_x,
             start_y,
             end_x,

@@ -14,6 +14,7 @@ use grid::Grid;
 use grid::segments::segment_at;
 use refusals::Refusal;
 use walk::Cells;
+use walk::Mode;
 
 // The number of cells of a grid.
 pub(crate) fn cell_count(grid: Grid) -> usize
@@ -23,8 +24,9 @@ pub(crate) fn cell_count(grid: Grid) -> usize
     (grid.rows as usize) * (grid.cols as usize)
 }
 
-// The walk of line i. All but refusal 7 is checked before.
+// The walk of line i, in a mode. All but refusal 7 is checked before.
 fn walk_line(
+    mode: Mode,
     start_x: &[f64],
     start_y: &[f64],
     end_x: &[f64],
@@ -36,10 +38,10 @@ fn walk_line(
     requires { let ls = lines (now «start_x») (now «start_y») (now «end_x») (now «end_y») in
         ⌜ WalkAsks grid ls i (now scratch) ⌝ }
     ensures { λ r. let ls = lines (now («start_x» .entry)) (now («start_y» .entry)) (now («end_x» .entry)) (now («end_y» .entry)) in
-        ⌜ CountAs (walkCheck grid ls i) (Front grid ls i (now (scratch .exit))) r ⌝ }
+        ⌜ CountAs (walkCheck mode grid ls i) (Front mode grid ls i (now (scratch .exit))) r ⌝ }
 {
     let line = segment_at(start_x, start_y, end_x, end_y, i);
-    let cells = walk::segment_cells(grid, line, scratch);
+    let cells = walk::segment_cells(mode, grid, line, scratch);
     match cells {
         Cells::Found(n) => Count::Of(n),
         Cells::Refused(_) => Count::Refused(Refusal {
@@ -64,6 +66,7 @@ fn count_visits(scratch: &[u32], n: usize, offsets: &mut [u32])
 
 // Counts line i, unless it is global. Answers how many global lines it is, 0 or 1.
 fn count_line(
+    mode: Mode,
     start_x: &[f64],
     start_y: &[f64],
     end_x: &[f64],
@@ -74,11 +77,11 @@ fn count_line(
     scratch: &mut [u32],
 ) -> Count
     requires { let ls = lines (now «start_x») (now «start_y») (now «end_x») (now «end_y») in
-        ⌜ CountAsks grid ls i (now offsets) (now scratch) ⌝ }
+        ⌜ CountAsks mode grid ls i (now offsets) (now scratch) ⌝ }
     ensures { λ r. let ls = lines (now («start_x» .entry)) (now («start_y» .entry)) (now («end_x» .entry)) (now («end_y» .entry)) in
-        ⌜ CountAs (walkCheck grid ls i) (LineCounted grid ls i (now (offsets .exit))) r ⌝ }
+        ⌜ CountAs (walkCheck mode grid ls i) (LineCounted mode grid ls i (now (offsets .exit))) r ⌝ }
 {
-    let walked = walk_line(start_x, start_y, end_x, end_y, i, grid, scratch);
+    let walked = walk_line(mode, start_x, start_y, end_x, end_y, i, grid, scratch);
     match walked {
         Count::Of(n) => {
             if 2048 < n {
@@ -93,6 +96,7 @@ fn count_line(
 
 // Pass 1: counts the lines of each cell, and the global lines.
 fn count_lines(
+    mode: Mode,
     start_x: &[f64],
     start_y: &[f64],
     end_x: &[f64],
@@ -102,14 +106,24 @@ fn count_lines(
     scratch: &mut [u32],
 ) -> Count
     requires { let ls = lines (now «start_x») (now «start_y») (now «end_x») (now «end_y») in
-        ⌜ PassAsks grid ls (now offsets) (now scratch) ⌝ }
+        ⌜ PassAsks mode grid ls (now offsets) (now scratch) ⌝ }
     ensures { λ r. let ls = lines (now («start_x» .entry)) (now («start_y» .entry)) (now («end_x» .entry)) (now («end_y» .entry)) in
-        ⌜ CountAs (turnsCheck grid ls) (AllCounted grid ls (now (offsets .exit))) r ⌝ }
+        ⌜ CountAs (turnsCheck mode grid ls) (AllCounted mode grid ls (now (offsets .exit))) r ⌝ }
 {
     let mut globals = 0;
     let mut i = 0;
     while i < start_x.len() {
-        let line = count_line(start_x, start_y, end_x, end_y, i, grid, offsets, scratch);
+        let line = count_line(
+            mode,
+            start_x,
+            start_y,
+            end_x,
+            end_y,
+            i,
+            grid,
+            offsets,
+            scratch,
+        );
         match line {
             Count::Of(more) => {
                 globals += more;
@@ -125,6 +139,7 @@ fn count_lines(
 
 // The first pass from the start, where the offsets have room for the cells: 4, then 7.
 pub(crate) fn count_all(
+    mode: Mode,
     start_x: &[f64],
     start_y: &[f64],
     end_x: &[f64],
@@ -136,7 +151,7 @@ pub(crate) fn count_all(
     requires { let ls = lines (now «start_x») (now «start_y») (now «end_x») (now «end_y») in
         ⌜ Walkable grid ls (now scratch) ⌝ }
     ensures { λ r. let ls = lines (now («start_x» .entry)) (now («start_y» .entry)) (now («end_x» .entry)) (now («end_y» .entry)) in
-        ⌜ CountAs (triedCheck grid ls (length (now (offsets .entry)))) (AllCounted grid ls (now (offsets .exit))) r ⌝ }
+        ⌜ CountAs (triedCheck mode grid ls (length (now (offsets .entry)))) (AllCounted mode grid ls (now (offsets .exit))) r ⌝ }
 {
     let room = cell_count(grid) + 1;
     if offsets.len() < room {
@@ -146,7 +161,7 @@ pub(crate) fn count_all(
         });
     }
     slices::clear(offsets);
-    count_lines(start_x, start_y, end_x, end_y, grid, offsets, scratch)
+    count_lines(mode, start_x, start_y, end_x, end_y, grid, offsets, scratch)
 }
 
 // Writes the number of a line where the pointer of each of its cells stands, and moves the pointer on.
@@ -168,6 +183,7 @@ fn place_visits(i: usize, scratch: &[u32], n: usize, offsets: &mut [u32], items:
 
 // Places line i, unless it is global. Answers how many global lines it is, 0 or 1.
 fn place_line(
+    mode: Mode,
     start_x: &[f64],
     start_y: &[f64],
     end_x: &[f64],
@@ -179,11 +195,11 @@ fn place_line(
     scratch: &mut [u32],
 ) -> usize
     requires { let ls = lines (now «start_x») (now «start_y») (now «end_x») (now «end_y») in
-        ⌜ LineAsks grid ls i (now offsets) (now items) (now scratch) ⌝ }
+        ⌜ LineAsks mode grid ls i (now offsets) (now items) (now scratch) ⌝ }
     ensures { λ r. let ls = lines (now («start_x» .entry)) (now («start_y» .entry)) (now («end_x» .entry)) (now («end_y» .entry)) in
-        ⌜ LinePlaced grid ls i (now (offsets .exit)) (now (items .exit)) r ⌝ }
+        ⌜ LinePlaced mode grid ls i (now (offsets .exit)) (now (items .exit)) r ⌝ }
 {
-    let Count::Of(n) = walk_line(start_x, start_y, end_x, end_y, i, grid, scratch) else {
+    let Count::Of(n) = walk_line(mode, start_x, start_y, end_x, end_y, i, grid, scratch) else {
         return 0;
     };
     if 2048 < n {
@@ -206,6 +222,7 @@ fn list_global(i: usize, more: usize, at: usize, globals: &mut [u32])
 
 // Pass 2: writes the items and the global lines.
 pub(crate) fn place_lines(
+    mode: Mode,
     start_x: &[f64],
     start_y: &[f64],
     end_x: &[f64],
@@ -217,14 +234,15 @@ pub(crate) fn place_lines(
     scratch: &mut [u32],
 )
     requires { let ls = lines (now «start_x») (now «start_y») (now «end_x») (now «end_y») in
-        ⌜ PlaceAsks grid ls (now offsets) (now items) (now globals) (now scratch) ⌝ }
+        ⌜ PlaceAsks mode grid ls (now offsets) (now items) (now globals) (now scratch) ⌝ }
     ensures { λ _. let ls = lines (now («start_x» .entry)) (now («start_y» .entry)) (now («end_x» .entry)) (now («end_y» .entry)) in
-        ⌜ AllPlaced grid ls (now (offsets .exit)) (now (items .exit)) (length (now (globals .entry))) (now (globals .exit)) ⌝ }
+        ⌜ AllPlaced mode grid ls (now (offsets .exit)) (now (items .exit)) (length (now (globals .entry))) (now (globals .exit)) ⌝ }
 {
     let mut found = 0;
     let mut i = 0;
     while i < start_x.len() {
         let more = place_line(
+            mode,
             start_x,
             start_y,
             end_x,

@@ -1,13 +1,15 @@
 -- An axis of a grid: columns and rows follow one rule, said here once. Each float step rounds once, in the written order. Definitions only.
 use Prim.Native.Nat.{ℕ}
-use mathlib.Core.Bool.{Bool, false}
+use mathlib.Core.Bool.{Bool, false, cond}
 use lib.IntN.{pos}
-use lib.Ieee.{Float, binary64, round, ofInt, add, sub, mul, div, le}
+use lib.Ieee.{Float, binary64, round, ofInt, add, sub, mul, div, le, lt}
 use Rattle.numbers.specs.Order.{magnitudeOf}
 use Rattle.numbers.specs.Floor.{clampedFloor}
 use Rattle.numbers.specs.Away.{roundAway}
 use Rattle.grid.specs.declared.Grid.{Grid}
 use Rattle.grid.specs.declared.Axis.{Axis}
+use Rattle.grid.specs.declared.Side.{Side}
+use Rattle.grid.specs.declared.Side.the-variants.{Off, Above, Below}
 
 -- the two axes of a grid: columns go by the width of a cell, rows by its height
 abbrev pub xAxis : Grid → Axis
@@ -32,9 +34,18 @@ lowOn a i = add binary64 (a .low) (mul binary64 (ofInt binary64 (pos i)) (a .siz
 unfoldable pub highOn : Axis → ℕ → Float
 highOn a i = add binary64 (lowOn a i) (a .size)
 
+-- ---- boundaries
+
 -- a value is on a boundary if it differs by at most 1e-12 from itself rounded half away from zero
 unfoldable pub nearWhole : Float → Bool
 nearWhole v = le (magnitudeOf (sub binary64 v (roundAway v))) (round binary64 false 1 1000000000000)
 
 unfoldable pub boundaryOn : Axis → Float → Bool
 boundaryOn a v = nearWhole (scaledOn a v)
+
+-- On which side of it: off, where the value is on no boundary; just below it, where the value is less than itself rounded; else at it or just above.
+unfoldable pub sideOf : Float → Side
+sideOf v = cond (nearWhole v) (cond (lt v (roundAway v)) Below Above) Off
+
+unfoldable pub sideOn : Axis → Float → Side
+sideOn a v = sideOf (scaledOn a v)

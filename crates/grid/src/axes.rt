@@ -1,8 +1,9 @@
-// An axis of a grid: the index of a coordinate, the edges of an index, and whether a coordinate is on a boundary.
+// An axis of a grid: the index of a coordinate, the edges of an index, and on which side of a boundary a coordinate is.
 use crate::Axis;
 use crate::Grid;
+use crate::Side;
 ghost use mathlib.Core.Path.{_≡_};
-ghost use Rattle.grid.specs.Axes.{xAxis, yAxis, scaledOn, indexOn, lowOn, highOn, nearWhole, boundaryOn};
+ghost use Rattle.grid.specs.Axes.{xAxis, yAxis, scaledOn, indexOn, lowOn, highOn, nearWhole, sideOf, sideOn};
 
 impl Grid {
     pub fn x_axis(self) -> Axis
@@ -32,6 +33,19 @@ fn near_whole(v: f64) -> bool
     numbers::order::magnitude(v - numbers::away::round_half_away(v)) <= 1e-12
 }
 
+// The value is seldom near, so the second rounding costs little.
+fn side_of(v: f64) -> Side
+    ensures { λ r. ⌜ r ≡ sideOf v ⌝ }
+{
+    if near_whole(v) {
+        if v < numbers::away::round_half_away(v) {
+            return Side::Below;
+        }
+        return Side::Above;
+    }
+    Side::Off
+}
+
 impl Axis {
     pub fn scaled(self, v: f64) -> f64
         ensures { λ r. ⌜ r ≡ scaledOn self v ⌝ }
@@ -57,9 +71,9 @@ impl Axis {
         self.low_edge(i) + self.size
     }
 
-    pub fn on_boundary(self, v: f64) -> bool
-        ensures { λ r. ⌜ r ≡ boundaryOn self v ⌝ }
+    pub fn side(self, v: f64) -> Side
+        ensures { λ r. ⌜ r ≡ sideOn self v ⌝ }
     {
-        near_whole(self.scaled(v))
+        side_of(self.scaled(v))
     }
 }

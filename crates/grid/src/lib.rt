@@ -21,6 +21,13 @@ pub struct Axis {
     pub count: u32,
 }
 
+// Where a coordinate is, seen from the boundaries of an axis: off them all, at one or just above it, just below one.
+pub enum Side {
+    Off,
+    Above,
+    Below,
+}
+
 // A line by value: from its start to its end.
 pub struct Segment {
     pub start_x: f64,

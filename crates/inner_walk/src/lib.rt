@@ -2,11 +2,13 @@
 use grid::Segment;
 use grid::words::grid_by;
 use walk::Cells;
+use walk::Mode;
 ghost use mathlib.Core.Path.{_≡_};
 ghost use lib.ListN.{length, set};
 ghost use Rattle.grid.specs.Domain.{segmentBy};
 ghost use Rattle.grid.specs.Words.{gridBy};
 ghost use Rattle.slices.specs.Slices.{sorted};
+ghost use Rattle.walk.specs.declared.Mode.the-variants.{Rust};
 ghost use Rattle.walk.specs.Segment.{entryOf};
 ghost use Rattle.inner_walk.specs.Replies.{WalkReplies};
 
@@ -42,7 +44,7 @@ pub extern "C" fn mt_inner_walk(
     out: &mut [u64],
 ) -> u32
     ensures { λ r. let s = now (scratch .entry) in
-        let o = entryOf (length s) (gridBy (now (grid .entry))) (segmentBy «start_x» «start_y» «end_x» «end_y») in
+        let o = entryOf Rust (length s) (gridBy (now (grid .entry))) (segmentBy «start_x» «start_y» «end_x» «end_y») in
         ⌜ WalkReplies o s (now (out .entry)) r (now (scratch .exit)) (now (out .exit)) ⌝ }
 {
     let line = Segment {
@@ -51,7 +53,7 @@ pub extern "C" fn mt_inner_walk(
         end_x,
         end_y,
     };
-    let cells = walk::segment_cells(grid_by(grid), line, scratch);
+    let cells = walk::segment_cells(Mode::Rust, grid_by(grid), line, scratch);
     match cells {
         Cells::Found(n) => {
             put(n as u64, out);

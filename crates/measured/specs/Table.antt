@@ -1,6 +1,6 @@
--- Document 01, "Measured points": P1 to P10 as one table, with document 02's change 13: where P9 and P10 speak of GeosCompat, they say whether it
--- agrees with Grid. A row has its label, what is asked, and what was measured; the claim is that every
--- question of every row is answered as it was measured. Definitions only.
+-- Document 01, "Measured points": P1 to P10 as one table. A row has its label, what is asked, and what was measured; the claim is that every
+-- question of every row is answered as it was measured. Of document 02 there is what the sided walk answers at P6 (change 4), and, where P9 and P10
+-- speak of GeosCompat, whether it agrees with Grid (change 13). Definitions only.
 use mathlib.Core.Path.{_≡_}
 use mathlib.Core.Bool.{true, false}
 use mathlib.Core.List.{List, [], _∷_}
@@ -9,6 +9,8 @@ use lib.Ieee.{Float, binary64, round}
 use Rattle.refusals.specs.Refusals.{gives}
 use Rattle.grid.specs.declared.Grid.{Grid}
 use Rattle.grid.specs.Domain.{segmentBy}
+use Rattle.walk.specs.declared.Mode.{Mode}
+use Rattle.walk.specs.declared.Mode.the-variants.{Rust, Sided}
 use Rattle.walk.specs.Segment.{entryOf}
 use Rattle.own.specs.declared.Owned.{Owned}
 use Rattle.own.specs.declared.Owned.the-variants.{Yes, No}
@@ -46,8 +48,8 @@ pub data Label : Type 0 where
 
 -- what is asked, and what was measured
 pub data Question : Type 0 where
-  -- the segment from (x₀, y₀) to (x₁, y₁): its cells
-  segment : (x₀ y₀ x₁ y₁ : Float) (cells : List ℕ) → Question
+  -- the segment from (x₀, y₀) to (x₁, y₁) in a mode of walk: its cells
+  segmentIn : (mode : Mode) (x₀ y₀ x₁ y₁ : Float) (cells : List ℕ) → Question
   -- the cell (row, col) and the point (x, y): whether it owns it
   owner : (row col : ℕ) (x y : Float) (owns : Owned) → Question
   -- v, size 1: v snapped
@@ -55,9 +57,17 @@ pub data Question : Type 0 where
   -- v, size 1: whether Grid and GeosCompat agree
   strategies : (v : Float) (agreement : Agreement) → Question
 
+-- in the Rust's mode, in which all was measured
+abbrev pub segment : Float → Float → Float → Float → List ℕ → Question
+segment x₀ y₀ x₁ y₁ cells = segmentIn Rust x₀ y₀ x₁ y₁ cells
+
 -- the point (x, y) as a segment
 abbrev pub point : Float → Float → List ℕ → Question
 point x y cells = segment x y x y cells
+
+-- and in the sided mode
+abbrev pub pointSided : Float → Float → List ℕ → Question
+pointSided x y cells = segmentIn Sided x y x y cells
 
 pub record Row : Type 0 where
   pub label : Label
@@ -75,7 +85,8 @@ table =
     ∷ row P3 (point (part 1 1) (part 1 1) (0 ∷ 1 ∷ 4 ∷ 5 ∷ []) ∷ [])
     ∷ row P4 (point (part (2 ^ 41 + 1) (2 ^ 41)) (part 1 2) (0 ∷ 1 ∷ []) ∷ [])
     ∷ row P5 (point (part (2 ^ 39 + 1) (2 ^ 39)) (part 1 2) (1 ∷ []) ∷ [])
-    ∷ row P6 (point (part (2 ^ 41 - 1) (2 ^ 41)) (part 1 2) (0 ∷ []) ∷ [])
+    ∷ row P6
+    (point (part (2 ^ 41 - 1) (2 ^ 41)) (part 1 2) (0 ∷ []) ∷ pointSided (part (2 ^ 41 - 1) (2 ^ 41)) (part 1 2) (0 ∷ 1 ∷ []) ∷ [])
     ∷ row P7 (owner 0 1 (part 1 1) (part 1 2) Yes ∷ owner 0 0 (part 1 1) (part 1 2) No ∷ [])
     ∷ row P8 (owner 3 3 (part 4 1) (part 4 1) Yes ∷ [])
     ∷ row P9
@@ -88,7 +99,7 @@ table =
 -- a question is answered as it was measured: by what `walk::cells_of_segment` answers with 16,384 entries of scratch, `own::point_owned`,
 -- `snap::snap_point` of a point with both coordinates v, and `snap::strategies::strategies_agree`
 abbrev pub Answered : Question → Type 0
-Answered (segment x₀ y₀ x₁ y₁ cells) = entryOf 16384 four (segmentBy x₀ y₀ x₁ y₁) ≡ gives cells
+Answered (segmentIn mode x₀ y₀ x₁ y₁ cells) = entryOf mode 16384 four (segmentBy x₀ y₀ x₁ y₁) ≡ gives cells
 Answered (owner row col x y owns) = pointAnswer four row col x y ≡ owns
 Answered (snap v to) = snapAnswer v v (part 1 1) 0 ≡ Point to to
 Answered (strategies v agreement) = agreementAnswer v (part 1 1) ≡ agreement

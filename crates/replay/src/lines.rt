@@ -4,6 +4,9 @@ use crate::question;
 ghost use Prim.Native.Nat.{_≤_};
 ghost use lib.ListN.{length};
 
+// Records are of the Rust's walk.
+const RUST: u32 = 0;
+
 // A walk in lent scratch.
 fn walked(q: &[u64], scratch: &mut [u32], answer: &mut [u64]) -> usize {
     let mut out = [0u64; 1];
@@ -13,6 +16,7 @@ fn walked(q: &[u64], scratch: &mut [u32], answer: &mut [u64]) -> usize {
         question::float(q, 1),
         question::float(q, 2),
         question::float(q, 3),
+        RUST,
         scratch,
         &mut out,
     );
@@ -48,6 +52,7 @@ fn built(
         question::floats(q, 5, 2, floats),
         question::floats(q, 5, 3, floats),
         question::short(q, 0),
+        RUST,
         offsets,
         items,
         globals,

@@ -3,13 +3,13 @@ use mathlib.Core.Path.{_≡_, refl, sym, ap, _∙_}
 use Prim.Native.Nat.{ℕ, suc, _+_, _-_, _*_, _≤_, _<_}
 use native.Mathlib.Nat.{le-trans}
 use native.Mathlib.Omega.{arith}
-use mathlib.Core.Bool.{Bool, true, false, _&&_, _||_}
+use mathlib.Core.Bool.{Bool, true, false, cond, _&&_, _||_}
 use mathlib.Core.Logic.{_⊎_, inl, inr}
 use mathlib.Core.List.{List, _++_, map}
 use lib.IntN.{pos}
 use lib.Dec.{leb, ltb, eqb}
 use lib.Ieee.{Float, binary64, sub, eq}
-use borrow.Author.Tests.{leb-true, le-leb, eqb-true, eq-eqb, lt-ltb}
+use borrow.Author.Tests.{ltb-true, ltb-false, leb-true, le-leb, eqb-true, eq-eqb}
 use Rattle.slices.specs.Slices.{sorted, distinctOf}
 use Rattle.slices.specs.Lists.{any, elem, Rising}
 use Rattle.slices.proofs.Members.{any-append, elem-one-of-each, below-elem}
@@ -19,20 +19,25 @@ use Rattle.refusals.specs.Refusals.{gives, _into_}
 use Rattle.grid.specs.declared.Axis.{Axis}
 use Rattle.grid.specs.declared.Grid.{Grid}
 use Rattle.grid.specs.declared.Segment.{Segment}
-use Rattle.grid.specs.Axes.{xAxis, yAxis, indexOn, boundaryOn}
+use Rattle.grid.specs.Axes.{xAxis, yAxis, indexOn, sideOn}
 use Rattle.grid.specs.Domain.{shape}
 use Rattle.grid.proofs.Bools.{and-left, and-right, and-both}
 use Rattle.grid.proofs.Shapes.{Shape, shape-says}
+use Rattle.walk.specs.declared.Mode.{Mode}
+use Rattle.walk.specs.declared.Neighbour.{Neighbour}
+use Rattle.walk.specs.declared.Neighbour.the-variants.{None}
 use Rattle.walk.specs.Turns.{nought, signOf, deltaOf, firstOn, strideOn, progressOn, Ray, rayOf, startOf}
 use Rattle.walk.specs.Pushes.{walkedOf}
-use Rattle.walk.specs.Segment.{addedOf, alongOn, cellOf, endOf, pushesOf, answered, segmentOf}
+use Rattle.walk.specs.Neighbours.{neighbourOn, alongOn, besideOf, lineOf, cellOf, endOf}
+use Rattle.walk.specs.Segment.{pushesOf, answered, segmentOf}
 use Rattle.walk.proofs.Floats.{index-le}
-use Rattle.walk.proofs.Faithful.{any-added}
-use Rattle.walk.proofs.Answer.{first-far, segment-is}
+use Rattle.walk.proofs.Flat.{any-flat}
+use Rattle.walk.proofs.Room.{first-far}
+use Rattle.walk.proofs.Answer.{segment-is}
 use Rattle.walk.proofs.Visits.{segment-visits}
-use Rattle.straight.specs.Sentence.{between, sentence, verticalCells, horizontalCells}
+use Rattle.straight.specs.Sentence.{between, nextTo, besideOn, sentence, verticalBy, horizontalBy, verticalIn, horizontalIn}
 use Rattle.straight.proofs.Walking.{stateBy, rayBy, cellBy, Inside, stepBy, Ahead, stops, along, at, Finite, walked-all}
-use Rattle.straight.proofs.Listed.{by-facts, or-cases, or-left, or-right, heldIndex, runIndex, besideBy, adds, cell-by, beside-by, stops-are, any-map, any-same, any-and, any-adds, pushed-said, those-rising, those-are}
+use Rattle.straight.proofs.Listed.{by-facts, or-cases, or-left, or-right, heldIndex, runIndex, besideBy, adds, cell-by, beside-by, stops-are, any-map, any-same, any-and, any-adds, any-one, any-none, pushed-said, those-rising, those-are}
 
 -- ---- a line by the axis that it keeps to
 
@@ -60,9 +65,9 @@ abbrev pub runEnd : Bool → Segment → Float
 runEnd true line = line .«end_y»
 runEnd false line = line .«end_x»
 
-abbrev pub cellsBy : Bool → Grid → Segment → List ℕ
-cellsBy true g line = verticalCells g line
-cellsBy false g line = horizontalCells g line
+abbrev pub cellsBy : Mode → Bool → Grid → Segment → List ℕ
+cellsBy mode true g line = verticalIn mode g line
+cellsBy mode false g line = horizontalIn mode g line
 
 abbrev difference : Float → Float → Float
 difference start end = sub binary64 end start
@@ -71,7 +76,7 @@ difference start end = sub binary64 end start
 pub record Keeps (a : Axis) (start end : Float) : Type 0 where
   pub none : eq (difference start end) nought ≡ true
   pub index : indexOn a start ≡ indexOn a end
-  pub boundary : boundaryOn a start ≡ boundaryOn a end
+  pub side : sideOn a start ≡ sideOn a end
 
 pub record Goes (a : Axis) (start end : Float) : Type 0 where
   pub up : Bool
@@ -117,33 +122,33 @@ start-by true g line = refl
 start-by false g line = refl
 
 -- what is pushed, too: the walked cells, what they add, and what the two ends add
-abbrev addedBy : Bool → Grid → Segment → ℕ → List ℕ
-addedBy v g line c =
-    besideBy v (alongOn (heldOf v g) (heldStart v line) (heldEnd v line)) (alongOn (runOf v g) (runStart v line) (runEnd v line)) (g .cols) c
+module _ (mode : Mode) where
+  abbrev addedBy : Bool → Grid → Segment → ℕ → List ℕ
+  addedBy v g line c =
+      besideBy v (alongOn mode (heldOf v g) (heldStart v line) (heldEnd v line)) (alongOn mode (runOf v g) (runStart v line) (runEnd v line)) (g .cols)
+      (g .rows * g .cols) c
 
-abbrev endBy : Bool → Grid → Float → Float → List ℕ
-endBy v g h r =
-    besideBy v (boundaryOn (heldOf v g) h) (boundaryOn (runOf v g) r) (g .cols) (cellBy v (g .cols) (indexOn (heldOf v g) h) (indexOn (runOf v g) r))
+  abbrev endBy : Bool → Grid → Float → Float → List ℕ
+  endBy v g h r =
+      besideBy v (neighbourOn mode (heldOf v g) h) (neighbourOn mode (runOf v g) r) (g .cols) (g .rows * g .cols)
+      (cellBy v (g .cols) (indexOn (heldOf v g) h) (indexOn (runOf v g) r))
 
-abbrev allPushed : Bool → Grid → Segment → List ℕ → ℕ → Bool
-allPushed v g line walked u =
-    elem u walked
-    || ((any (λ c. elem u (addedBy v g line c)) walked || elem u (endBy v g (heldStart v line) (runStart v line)))
-    || elem u (endBy v g (heldEnd v line) (runEnd v line)))
+  abbrev allPushed : Bool → Grid → Segment → List ℕ → ℕ → Bool
+  allPushed v g line walked u =
+      elem u walked
+      || ((any (λ c. elem u (addedBy v g line c)) walked || elem u (endBy v g (heldStart v line) (runStart v line)))
+      || elem u (endBy v g (heldEnd v line) (runEnd v line)))
 
-pushes-by : (v : Bool) (g : Grid) (line : Segment) (walked : List ℕ) (u : ℕ) → elem u (pushesOf g line walked) ≡ allPushed v g line walked u
-unfolding pushesOf endOf cellOf
-pushes-by v g line walked u = go v
-  where
-    x : Bool
-    x = alongOn (xAxis g) (line .«start_x») (line .«end_x»)
+  pushes-by : (v : Bool) (g : Grid) (line : Segment) (walked : List ℕ) (u : ℕ) → elem u (pushesOf mode g line walked) ≡ allPushed v g line walked u
+  unfolding pushesOf lineOf endOf cellOf
+  pushes-by v g line walked u = go v
+    where
+      beside : ℕ → List ℕ
+      beside = besideOf (alongOn mode (xAxis g) (line .«start_x») (line .«end_x»)) (alongOn mode (yAxis g) (line .«start_y») (line .«end_y»)) (g .cols) (g .rows * g .cols)
 
-    y : Bool
-    y = alongOn (yAxis g) (line .«start_y») (line .«end_y»)
-
-    go : (v : Bool) → elem u (pushesOf g line walked) ≡ allPushed v g line walked u
-    go true = simp any-append (rw (any-added x y (g .cols) (eqb u) walked))
-    go false = simp any-append (rw (any-added x y (g .cols) (eqb u) walked))
+      go : (v : Bool) → elem u (pushesOf mode g line walked) ≡ allPushed v g line walked u
+      go true = simp any-append (rw (any-flat (eqb u) beside walked))
+      go false = simp any-append (rw (any-flat (eqb u) beside walked))
 
 -- ---- between
 
@@ -188,7 +193,7 @@ ahead-few false n j e c a p q = omega arith
 
 -- ---- the answer
 
-module _ (v : Bool) (g : Grid) (line : Segment)
+module _ (mode : Mode) (v : Bool) (g : Grid) (line : Segment)
     (keeps : Keeps (heldOf v g) (heldStart v line) (heldEnd v line))
     (goes : Goes (runOf v g) (runStart v line) (runEnd v line))
     (fine : v ≡ false → StaysFinite (runOf v g) (runStart v line) (runEnd v line) goes)
@@ -238,7 +243,7 @@ module _ (v : Bool) (g : Grid) (line : Segment)
       (le-trans (few-of v g shape′) (omega arith)))
       (goes .sign) (goes .ahead) (inside-at j (run-in (runStart v line))) fine
 
-  module _ (u : ℕ) where
+  module _ (u : ℕ) (within : u < g .rows * g .cols) where
     hu : ℕ
     hu = heldIndex v (g .cols) u
 
@@ -267,77 +272,97 @@ module _ (v : Bool) (g : Grid) (line : Segment)
         ∙ any-and (eqb hu i) ru stops′
         ∙ ap (λ (b : Bool). eqb hu i && b) (stops-between ru)
 
-    added-in : (a b : Bool)
-        → any (λ c. elem u (besideBy v a b (g .cols) c)) walks ≡ adds a b (eqb hu i) (eqb (suc hu) i) (between j e ru) (between j e (suc ru))
-    unfolding walks hu ru stops′
+    -- a walked index is beside the cell's, by the neighbour x
+    passed : Neighbour → Bool
+    passed x = any (λ k. nextTo x k ru) stops′
+
+    added-in : (a b : Neighbour) → any (λ c. elem u (besideBy v a b (g .cols) (g .rows * g .cols) c)) walks
+        ≡ adds (eqb hu i) (nextTo a i hu) (between j e ru) (passed b)
+    unfolding walks hu ru stops′ passed
     added-in a b =
-        any-map (λ c. elem u (besideBy v a b (g .cols) c)) (cellBy v (g .cols) i) stops′
-        ∙ any-same (λ k. elem u (besideBy v a b (g .cols) (cellBy v (g .cols) i k)))
-        (λ k. adds a b (eqb hu i) (eqb (suc hu) i) (eqb ru k) (eqb (suc ru) k)) stops′
-        (λ k h. beside-by (g .cols) some u v a b (g .rows) i k (stop-in k h))
-        ∙ any-adds a b (eqb hu i) (eqb (suc hu) i) ru (suc ru) stops′
-        ∙ ap (λ (c : Bool). adds a b (eqb hu i) (eqb (suc hu) i) c (elem (suc ru) stops′)) (stops-between ru)
-        ∙ ap (λ (c : Bool). adds a b (eqb hu i) (eqb (suc hu) i) (between j e ru) c) (stops-between (suc ru))
+        any-map (λ c. elem u (besideBy v a b (g .cols) (g .rows * g .cols) c)) (cellBy v (g .cols) i) stops′
+        ∙ any-same (λ k. elem u (besideBy v a b (g .cols) (g .rows * g .cols) (cellBy v (g .cols) i k)))
+        (λ k. adds (eqb hu i) (nextTo a i hu) (eqb ru k) (nextTo b k ru)) stops′
+        (λ k h. beside-by (g .cols) some u v a b (g .rows) i k within (stop-in k h))
+        ∙ any-adds (eqb hu i) (nextTo a i hu) (eqb ru) (λ k. nextTo b k ru) stops′
+        ∙ ap (λ (c : Bool). adds (eqb hu i) (nextTo a i hu) c (passed b)) (stops-between ru)
 
-    end-in : (a b : Bool) (k : ℕ) → k < runOf v g .count
-        → elem u (besideBy v a b (g .cols) (cellBy v (g .cols) i k)) ≡ adds a b (eqb hu i) (eqb (suc hu) i) (eqb ru k) (eqb (suc ru) k)
+    end-in : (a b : Neighbour) (k : ℕ) → k < runOf v g .count → elem u (besideBy v a b (g .cols) (g .rows * g .cols) (cellBy v (g .cols) i k))
+        ≡ adds (eqb hu i) (nextTo a i hu) (eqb ru k) (nextTo b k ru)
     unfolding hu ru
-    end-in a b k h = beside-by (g .cols) some u v a b (g .rows) i k (inside-at k h)
+    end-in a b k h = beside-by (g .cols) some u v a b (g .rows) i k within (inside-at k h)
 
-    members : elem u (pushesOf g line walks) ≡ sentence (heldOf v g) (heldStart v line) (runOf v g) (runStart v line) (runEnd v line) hu ru
-    unfolding sentence alongOn i j e
+    -- what the whole line adds on the axis along which it runs, its start adds too: then it is a point
+    passed-start : passed (alongOn mode (runOf v g) (runStart v line) (runEnd v line)) ≡ true → nextTo (neighbourOn mode (runOf v g) (runStart v line)) j ru ≡ true
+    unfolding passed alongOn
+    passed-start h = go (eq (difference (runStart v line) (runEnd v line)) nought) refl h
+      where
+        go : (z : Bool) → eq (difference (runStart v line) (runEnd v line)) nought ≡ z
+            → any (λ k. nextTo (cond z (neighbourOn mode (runOf v g) (runStart v line)) None) k ru) stops′ ≡ true
+            → nextTo (neighbourOn mode (runOf v g) (runStart v line)) j ru ≡ true
+        go true d t =
+            any-one (λ k. nextTo (neighbourOn mode (runOf v g) (runStart v line)) k ru) j stops′
+            (λ k m. eqb-true k j (sym (between-one j e k (unfold j e in goes .still d)) ∙ sym (stops-between k) ∙ m)) t
+        go false d t = absurd (any-none (λ k. false) stops′ (λ k. refl) t)
+
+    keeps-held : alongOn mode (heldOf v g) (heldStart v line) (heldEnd v line) ≡ neighbourOn mode (heldOf v g) (heldStart v line)
+    unfolding alongOn
+    keeps-held = rw (keeps .none)
+
+    keeps-end : neighbourOn mode (heldOf v g) (heldEnd v line) ≡ neighbourOn mode (heldOf v g) (heldStart v line)
+    unfolding neighbourOn
+    keeps-end = rw (keeps .side)
+
+    members : elem u (pushesOf mode g line walks) ≡ sentence (besideOn mode) (heldOf v g) (heldStart v line) (runOf v g) (runStart v line) (runEnd v line) hu ru
+    unfolding sentence i j e
     members =
-        pushes-by v g line walks u
+        pushes-by mode v g line walks u
         ∙ rw (
-          keeps .none,
+          keeps-held,
+          keeps-end,
           ← keeps .index,
-          ← keeps .boundary,
           walked-in,
-          added-in (boundaryOn (heldOf v g) (heldStart v line))
-              (eq (difference (runStart v line) (runEnd v line)) nought && boundaryOn (runOf v g) (runStart v line)),
-          end-in (boundaryOn (heldOf v g) (heldStart v line)) (boundaryOn (runOf v g) (runStart v line)) j (run-in (runStart v line)),
-          end-in (boundaryOn (heldOf v g) (heldStart v line)) (boundaryOn (runOf v g) (runEnd v line)) e (run-in (runEnd v line)),
+          added-in (neighbourOn mode (heldOf v g) (heldStart v line)) (alongOn mode (runOf v g) (runStart v line) (runEnd v line)),
+          end-in (neighbourOn mode (heldOf v g) (heldStart v line)) (neighbourOn mode (runOf v g) (runStart v line)) j (run-in (runStart v line)),
+          end-in (neighbourOn mode (heldOf v g) (heldStart v line)) (neighbourOn mode (runOf v g) (runEnd v line)) e (run-in (runEnd v line)),
         )
-        (pushed-said (boundaryOn (heldOf v g) (heldStart v line)) (boundaryOn (runOf v g) (runStart v line)) (boundaryOn (runOf v g) (runEnd v line))
-        (eq (difference (runStart v line) (runEnd v line)) nought) (eqb hu i) (eqb (suc hu) i) (between j e ru) (between j e (suc ru)) (eqb ru j)
-        (eqb (suc ru) j) (eqb ru e) (eqb (suc ru) e)
-        (between-start j e ru) (between-end j e ru) (λ z. between-one j e (suc ru) (goes .still z)))
+        (pushed-said (eqb hu i) (nextTo (neighbourOn mode (heldOf v g) (heldStart v line)) i hu) (between j e ru)
+        (passed (alongOn mode (runOf v g) (runStart v line) (runEnd v line))) (eqb ru j) (nextTo (neighbourOn mode (runOf v g) (runStart v line)) j ru)
+        (eqb ru e) (nextTo (neighbourOn mode (runOf v g) (runEnd v line)) e ru) (between-start j e ru) (between-end j e ru) passed-start)
 
-  found : segmentOf g line ≡ gives (distinctOf (sorted (pushesOf g line walks)))
+  found : segmentOf mode g line ≡ gives (distinctOf (sorted (pushesOf mode g line walks)))
   unfolding answered _into_
-  found = segment-is g line (λ z. omega (arith, some)) ∙ ap (answered g line) walked-is
+  found = segment-is mode g line (λ z. omega (arith, some)) ∙ ap (answered mode g line) walked-is
 
-  only : (p q : Bool) → (p ≡ true → q ≡ true) → p ≡ (q && p)
-  only true q h = rw (h refl)
-  only false true h = refl
-  only false false h = refl
-
-  pub answer : segmentOf g line ≡ gives (cellsBy v g line)
-  answer = found ∙ ap gives (rising-members 0 0 xs (cellsBy v g line) (one-of-each-rising (pushesOf g line walks)) (rising v) same)
+  pub answer : segmentOf mode g line ≡ gives (cellsBy mode v g line)
+  answer = found ∙ ap gives (rising-members 0 0 xs (cellsBy mode v g line) (one-of-each-rising (pushesOf mode g line walks)) (rising v) same)
     where
       xs : List ℕ
-      xs = distinctOf (sorted (pushesOf g line walks))
+      xs = distinctOf (sorted (pushesOf mode g line walks))
 
       test : ℕ → Bool
-      test u = sentence (heldOf v g) (heldStart v line) (runOf v g) (runStart v line) (runEnd v line) (heldIndex v (g .cols) u) (runIndex v (g .cols) u)
+      test u =
+          sentence (besideOn mode) (heldOf v g) (heldStart v line) (runOf v g) (runStart v line) (runEnd v line) (heldIndex v (g .cols) u)
+          (runIndex v (g .cols) u)
 
-      rising : (v : Bool) → Rising 0 (cellsBy v g line)
-      rising true = unfold verticalCells in those-rising _ (g .rows * g .cols)
-      rising false = unfold horizontalCells in those-rising _ (g .rows * g .cols)
+      rising : (v : Bool) → Rising 0 (cellsBy mode v g line)
+      rising true = unfold verticalBy in those-rising _ (g .rows * g .cols)
+      rising false = unfold horizontalBy in those-rising _ (g .rows * g .cols)
 
-      listed : (v : Bool) (u : ℕ) → elem u (cellsBy v g line)
+      listed : (v : Bool) (u : ℕ) → elem u (cellsBy mode v g line)
           ≡
-          (ltb u (g .rows * g .cols) && sentence (heldOf v g) (heldStart v line) (runOf v g) (runStart v line) (runEnd v line) (heldIndex v (g .cols) u)
-          (runIndex v (g .cols) u))
-      listed true u = unfold verticalCells in those-are _ (g .rows * g .cols) u
-      listed false u = unfold horizontalCells in those-are _ (g .rows * g .cols) u
+          (ltb u (g .rows * g .cols) && sentence (besideOn mode) (heldOf v g) (heldStart v line) (runOf v g) (runStart v line) (runEnd v line)
+          (heldIndex v (g .cols) u) (runIndex v (g .cols) u))
+      listed true u = unfold verticalBy in those-are _ (g .rows * g .cols) u
+      listed false u = unfold horizontalBy in those-are _ (g .rows * g .cols) u
 
-      held : (u : ℕ) → elem u xs ≡ test u
-      held u = unfold hu ru in elem-one-of-each u (pushesOf g line walks) ∙ members u
+      at : (u : ℕ) (b : Bool) → ltb u (g .rows * g .cols) ≡ b → elem u xs ≡ (b && test u)
+      at u true h = unfold hu ru in elem-one-of-each u (pushesOf mode g line walks) ∙ members u (ltb-true u (g .rows * g .cols) h)
+      at u false h = outside (elem u xs) refl
+        where
+          outside : (b : Bool) → elem u xs ≡ b → b ≡ false
+          outside true k = absurd (omega (arith, ltb-false u (g .rows * g .cols) h, below-elem (g .rows * g .cols) u xs (segment-visits mode g line xs shaped found .inside) k))
+          outside false k = refl
 
-      same : (u : ℕ) → elem u xs ≡ elem u (cellsBy v g line)
-      same u =
-          held u
-          ∙ only (test u) (ltb u (g .rows * g .cols))
-          (λ t. lt-ltb u (g .rows * g .cols) (below-elem (g .rows * g .cols) u xs (segment-visits g line xs shaped found .inside) (held u ∙ t)))
-          ∙ sym (listed v u)
+      same : (u : ℕ) → elem u xs ≡ elem u (cellsBy mode v g line)
+      same u = at u (ltb u (g .rows * g .cols)) refl ∙ sym (listed v u)

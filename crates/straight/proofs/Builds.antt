@@ -25,6 +25,7 @@ use Rattle.sizing.specs.Size.{firstSize, halfOf}
 use Rattle.sizing.specs.Counts.{gridOf, emptyGrid}
 use Rattle.sizing.proofs.Reach.{Lie, Among, lowest-among}
 use Rattle.sizing.proofs.FitLaws.{whole-count, lie-x, lie-y, AllFit, all-fit}
+use Rattle.walk.specs.declared.Mode.{Mode}
 use Rattle.walk.specs.Pushes.{Outcome}
 use Rattle.walk.specs.Segment.{segmentOf}
 use Rattle.fill.specs.OnGrid.{cells, walkOn, ends, listOn, globalsOn, total}
@@ -102,18 +103,18 @@ unfolding eachFrom unless andThen
 each-fine ok n zero i h = refl
 each-fine ok n (suc left) i h = rw (h i (omega arith) (omega arith)) (each-fine ok n left (suc i) (λ k l m. h k (omega arith) (omega arith)))
 
-module _ (ls : Lines) (lines-fit : LinesFit ls) (straight : AllStraight ls) (in-format : AllInFormat ls) where
-  pub turns-fine : (g : Grid) → fit g ≡ true → GridInFormat g → turnsCheck g ls ≡ Fine
+module _ (plan : Plan) (ls : Lines) (lines-fit : LinesFit ls) (straight : AllStraight ls) (in-format : AllInFormat ls) where
+  pub turns-fine : (g : Grid) → fit g ≡ true → GridInFormat g → turnsCheck (plan .mode) g ls ≡ Fine
   unfolding turnsCheck walkOn
   turns-fine g ok m =
-      each-fine (λ i. ends (walkOn g ls i)) 7 (count ls) 0
-      (λ k l h. ends-of (segmentOf g (segmentAt ls k)) (not-refused g (segmentAt ls k) ok (unfold lineFits in lines-fit .each k (omega arith))
+      each-fine (λ i. ends (walkOn (plan .mode) g ls i)) 7 (count ls) 0
+      (λ k l h. ends-of (segmentOf (plan .mode) g (segmentAt ls k)) (not-refused (plan .mode) g (segmentAt ls k) ok (unfold lineFits in lines-fit .each k (omega arith))
       (in-format k (omega arith)) m (straight k (omega arith))))
 
-  tried-spares : (g : Grid) (room : ℕ) → turnsCheck g ls ≡ Fine → Spares (triedCheck g ls room)
+  tried-spares : (g : Grid) (room : ℕ) → turnsCheck (plan .mode) g ls ≡ Fine → Spares (triedCheck (plan .mode) g ls room)
   unfolding triedCheck roomCheck
   tried-spares g room h =
-      spares-then (roomCheck g room) (turnsCheck g ls) (spares-unless (leb (cells g + 1) room) 4 (cells g + 1) refl) (spares-fine (turnsCheck g ls) h)
+      spares-then (roomCheck g room) (turnsCheck (plan .mode) g ls) (spares-unless (leb (cells g + 1) room) 4 (cells g + 1) refl) (spares-fine (turnsCheck (plan .mode) g ls) h)
 
   -- ---- the grids of a build hold values of the format: a minimum is some line's coordinate
 
@@ -145,33 +146,33 @@ module _ (ls : Lines) (lines-fit : LinesFit ls) (straight : AllStraight ls) (in-
 
   -- ---- the choice of a grid
 
-  chosen-spared : 1 ≤ count ls → (left : ℕ) (size : Size) (room : ℕ) → AllFit left (extentOf ls) size → Spared (chosen left (extentOf ls) size ls room)
+  chosen-spared : 1 ≤ count ls → (left : ℕ) (size : Size) (room : ℕ) → AllFit left (extentOf ls) size → Spared (chosen (plan .mode) left (extentOf ls) size ls room)
   unfolding chosen
   chosen-spared h zero size room f =
       let g = gridOf (extentOf ls) size in
-      spared-then (triedCheck g ls room) (gives g) (tried-spares g room (turns-fine g f (holds-of h size))) (λ z. spared-gives g)
+      spared-then (triedCheck (plan .mode) g ls room) (gives g) (tried-spares g room (turns-fine g f (holds-of h size))) (λ z. spared-gives g)
   chosen-spared h (suc left) size room f =
       let g = gridOf (extentOf ls) size in
-      spared-then (triedCheck g ls room) (cond (crowded g ls) (chosen left (extentOf ls) (halfOf size) ls room) (gives g))
+      spared-then (triedCheck (plan .mode) g ls room) (cond (crowded (plan .mode) g ls) (chosen (plan .mode) left (extentOf ls) (halfOf size) ls room) (gives g))
       (tried-spares g room (turns-fine g (f .0) (holds-of h size)))
-      (λ z. spared-if (crowded g ls) (chosen left (extentOf ls) (halfOf size) ls room) (gives g) (λ c. chosen-spared h left (halfOf size) room (f .1 (few g c)))
+      (λ z. spared-if (crowded (plan .mode) g ls) (chosen (plan .mode) left (extentOf ls) (halfOf size) ls room) (gives g) (λ c. chosen-spared h left (halfOf size) room (f .1 (few g c)))
       (spared-gives g))
     where
-      few : (g : Grid) → crowded g ls ≡ true → g .rows * g .cols * 4 < 1000000
-      few g c = unfold crowded in ltb-true (cells g * 4) 1000000 (and-right (above 500 (λ c. length (listOn g ls c)) (cells g)) (ltb (cells g * 4) 1000000) c)
+      few : (g : Grid) → crowded (plan .mode) g ls ≡ true → g .rows * g .cols * 4 < 1000000
+      few g c = unfold crowded in ltb-true (cells g * 4) 1000000 (and-right (above 500 (λ c. length (listOn (plan .mode) g ls c)) (cells g)) (ltb (cells g * 4) 1000000) c)
 
-  choice-spared : (plan : Plan) (room : ℕ) → Spared (choice plan ls room)
+  choice-spared : (room : ℕ) → Spared (choice plan ls room)
   unfolding choice chosenFirst chosenNone
-  choice-spared plan room = go (leb 1 (count ls)) refl
+  choice-spared room = go (leb 1 (count ls)) refl
     where
-      none : leb 1 (count ls) ≡ false → turnsCheck emptyGrid ls ≡ Fine
-      none h = unfold turnsCheck in each-fine (λ i. ends (walkOn emptyGrid ls i)) 7 (count ls) 0 (λ k l m. absurd (omega (arith, leb-false 1 (count ls) h)))
+      none : leb 1 (count ls) ≡ false → turnsCheck (plan .mode) emptyGrid ls ≡ Fine
+      none h = unfold turnsCheck in each-fine (λ i. ends (walkOn (plan .mode) emptyGrid ls i)) 7 (count ls) 0 (λ k l m. absurd (omega (arith, leb-false 1 (count ls) h)))
 
-      go : (b : Bool) → leb 1 (count ls) ≡ b → Spared (cond b (chosenFirst plan ls room) (chosenNone ls room))
+      go : (b : Bool) → leb 1 (count ls) ≡ b → Spared (cond b (chosenFirst plan ls room) (chosenNone (plan .mode) ls room))
       go true h =
           chosen-spared (leb-true 1 (count ls) h) 2 (firstSize (plan .sizing) (extentOf ls) (count ls)) room
           (all-fit (plan .sizing) ls lines-fit (leb-true 1 (count ls) h))
-      go false h = spared-then (triedCheck emptyGrid ls room) (gives emptyGrid) (tried-spares emptyGrid room (none h)) (λ z. spared-gives emptyGrid)
+      go false h = spared-then (triedCheck (plan .mode) emptyGrid ls room) (gives emptyGrid) (tried-spares emptyGrid room (none h)) (λ z. spared-gives emptyGrid)
 
 -- ---- 3, 2, 1 before, 5 and 6 after
 
@@ -180,30 +181,30 @@ unfolding linesCheck lengthsCheck countCheck coordinatesCheck
 lines-spare-7 ls =
     spares-then _ _ (spares-unless _ 3 0 refl) (spares-then _ _ (spares-unless _ 2 (count ls) refl) (spares-each (lineFits ls) 1 (count ls) 0 refl))
 
-room-spared : (ls : Lines) (items globals : ℕ) (g : Grid) → Spared (roomOn ls items globals g)
+room-spared : (mode : Mode) (ls : Lines) (items globals : ℕ) (g : Grid) → Spared (roomOn mode ls items globals g)
 unfolding roomOn spaceCheck
-room-spared ls items globals g =
-    spared-then (spaceCheck g ls items globals) (gives g)
-    (spares-then _ _ (spares-unless (leb (total g ls) items) 5 (total g ls) refl)
-    (spares-unless (leb (length (globalsOn g ls)) globals) 6 (length (globalsOn g ls)) refl)) (λ z. spared-gives g)
+room-spared mode ls items globals g =
+    spared-then (spaceCheck mode g ls items globals) (gives g)
+    (spares-then _ _ (spares-unless (leb (total mode g ls) items) 5 (total mode g ls) refl)
+    (spares-unless (leb (length (globalsOn mode g ls)) globals) 6 (length (globalsOn mode g ls)) refl)) (λ z. spared-gives g)
 
 module _ (plan : Plan) (ls : Lines) (straight : AllStraight ls) (in-format : AllInFormat ls) where
   pub build-spared : (offsets items globals scratch : ℕ) → Spared (endOf plan ls offsets items globals scratch)
   unfolding endOf scratchCheck
   build-spared offsets items globals scratch =
-      spared-then (andThen (scratchCheck scratch) (linesCheck ls)) (choice plan ls offsets into roomOn ls items globals)
+      spared-then (andThen (scratchCheck scratch) (linesCheck ls)) (choice plan ls offsets into roomOn (plan .mode) ls items globals)
       (spares-then (scratchCheck scratch) (linesCheck ls) (spares-unless (leb 16384 scratch) 3 0 refl) (lines-spare-7 ls))
-      (λ h. spared-into (choice plan ls offsets) (roomOn ls items globals)
-      (choice-spared ls (lines-fine ls (andThen-right (scratchCheck scratch) (linesCheck ls) h)) straight in-format plan offsets) (room-spared ls items globals))
+      (λ h. spared-into (choice plan ls offsets) (roomOn (plan .mode) ls items globals)
+      (choice-spared plan ls (lines-fine ls (andThen-right (scratchCheck scratch) (linesCheck ls) h)) straight in-format offsets) (room-spared (plan .mode) ls items globals))
 
-answer-refused : (a : Answer Grid) (ls : Lines) (why : Refusal) → answerOf a ls ≡ built.Refused why → a ≡ refused why
+answer-refused : (mode : Mode) (a : Answer Grid) (ls : Lines) (why : Refusal) → answerOf mode a ls ≡ built.Refused why → a ≡ refused why
 unfolding answerOf answerBy builtOn
-answer-refused (refused w) ls why d = let e : w ≡ why = cc in ap refused e
-answer-refused (gives g) ls why d = let z : _≡_ {A = ℕ} 0 1 = cc in absurd (omega arith)
+answer-refused mode (refused w) ls why d = let e : w ≡ why = cc in ap refused e
+answer-refused mode (gives g) ls why d = let z : _≡_ {A = ℕ} 0 1 = cc in absurd (omega arith)
 
 -- straight from what `build::build` ensures: its answer is no refusal with 7
 pub build-not-7 : (plan : Plan) {ls : Lines} {o t gs s : List ℕ} {r : Built} {o′ t′ gs′ s′ : List ℕ} → AllStraight ls → AllInFormat ls
-    → BuildIs ls o t gs s r o′ t′ gs′ s′ (endOf plan ls (length o) (length t) (length gs) (length s)) → (value : ℕ) → r ≡ built.Refused (refusal 7 value) → ⊥
+    → BuildIs (plan .mode) ls o t gs s r o′ t′ gs′ s′ (endOf plan ls (length o) (length t) (length gs) (length s)) → (value : ℕ) → r ≡ built.Refused (refusal 7 value) → ⊥
 build-not-7 plan {ls} {o} {t} {gs} {s} {r} straight in-format h value e =
     let a = endOf plan ls (length o) (length t) (length gs) (length s) in
-    build-spared plan ls straight in-format (length o) (length t) (length gs) (length s) .says value (answer-refused a ls (refusal 7 value) (sym (h .answer) ∙ e))
+    build-spared plan ls straight in-format (length o) (length t) (length gs) (length s) .says value (answer-refused (plan .mode) a ls (refusal 7 value) (sym (h .answer) ∙ e))

@@ -1,4 +1,4 @@
--- Coordinates on an axis of a fit grid: a later one has no lower index, equal ones have one index and are on a boundary alike, and d has the sign that
+-- Coordinates on an axis of a fit grid: a later one has no lower index, equal ones have one index and are on one side of a boundary, and d has the sign that
 -- leads from the start's index to the end's. Assumes nothing.
 use mathlib.Core.Path.{_≡_, refl, sym, ap, _∙_, subst}
 use mathlib.Core.Logic.{_⊎_, inl, inr}
@@ -24,7 +24,8 @@ use Rattle.numbers.proofs.FloatQuotient.{div-mono}
 use Rattle.numbers.proofs.FloorLaws.{clamped-mono}
 use Rattle.slices.proofs.Laws.{le-or}
 use Rattle.grid.specs.declared.Axis.{Axis}
-use Rattle.grid.specs.Axes.{scaledOn, indexOn, nearWhole, boundaryOn}
+use Rattle.grid.specs.declared.Side.the-variants.{Above}
+use Rattle.grid.specs.Axes.{scaledOn, indexOn, nearWhole, sideOf, sideOn}
 use Rattle.grid.specs.Domain.{coordinate, sizeFits}
 use Rattle.grid.proofs.Bools.{and-left, and-right}
 use Rattle.sizing.proofs.Constants.{1e9-is, 2e9-is, quarter, quarter-is}
@@ -188,26 +189,26 @@ eq-back (fin s m e) (fin t n d) h = go s t (m * up e * down d) (n * up d * down 
         let p = eqb-true a b (and-left (eqb a b) (eqb a 0) h) in let q = eqb-true a 0 (and-right (eqb a b) (eqb a 0) h) in rw
         (eq-eqb b a (sym p), eq-eqb b 0 (sym p ∙ q))
 
--- two zeros are both on a boundary
-zero-near : (v : Float) → Zero v → nearWhole v ≡ true
-zero-near v z = ap nearWhole (z .is) ∙ go (z .sign)
+-- two zeros are both at a boundary
+zero-side : (v : Float) → Zero v → sideOf v ≡ Above
+zero-side v z = ap sideOf (z .is) ∙ go (z .sign)
   where
-    go : (s : Bool) → nearWhole (fin s 0 (pos 0)) ≡ true
-    go true = unfold nearWhole magnitudeOf roundAway sub add neg sum round le lt eq in refl
-    go false = unfold nearWhole magnitudeOf roundAway sub add neg sum round le lt eq in refl
+    go : (s : Bool) → sideOf (fin s 0 (pos 0)) ≡ Above
+    go true = unfold sideOf nearWhole magnitudeOf roundAway sub add neg sum round le lt eq in refl
+    go false = unfold sideOf nearWhole magnitudeOf roundAway sub add neg sum round le lt eq in refl
 
-near-same : (x y : Float) → (x ≡ y) ⊎ (Zero x × Zero y) → nearWhole x ≡ nearWhole y
-near-same x y (inl e) = ap nearWhole e
-near-same x y (inr z) = zero-near x (z .0) ∙ sym (zero-near y (z .1))
+side-same : (x y : Float) → (x ≡ y) ⊎ (Zero x × Zero y) → sideOf x ≡ sideOf y
+side-same x y (inl e) = ap sideOf e
+side-same x y (inr z) = zero-side x (z .0) ∙ sym (zero-side y (z .1))
 
 module _ (a : Axis) (fit : Fits a) (x y : Float) (p : coordinate x ≡ true) (q : coordinate y ≡ true) where
   pub same-index : T (le x y) → T (le y x) → indexOn a x ≡ indexOn a y
   same-index h k = omega (arith, index-mono a fit x y p q h, index-mono a fit y x q p k)
 
-  same-boundary : T (le x y) → T (le y x) → boundaryOn a x ≡ boundaryOn a y
-  unfolding boundaryOn
-  same-boundary h k =
-      near-same (scaledOn a x) (scaledOn a y)
+  same-side : T (le x y) → T (le y x) → sideOn a x ≡ sideOn a y
+  unfolding sideOn
+  same-side h k =
+      side-same (scaledOn a x) (scaledOn a y)
       (same-value (scaledOn a x) (scaledOn a y) (scaled-fits x) (scaled-fits y) (scaled-mono a fit x y p q h) (scaled-mono a fit y x q p k))
     where
       scaled-fits : (v : Float) → T (fits binary64 (scaledOn a v))
@@ -279,7 +280,7 @@ module _ (a : Axis) (fit : Fits a) (start end : Float) (p : coordinate start ≡
       record {
         none = no-difference start end (coordinate-bounded start p .fine) (coordinate-bounded end q .fine) u w;
         index = same-index a fit start end p q u w;
-        boundary = same-boundary a fit start end p q u w;
+        side = same-side a fit start end p q u w;
       }
 
   d : Float

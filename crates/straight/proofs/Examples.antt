@@ -1,8 +1,8 @@
 -- Worked examples of the list: computed straight from the definitions, beside what the walk answers. Assumes nothing.
 use mathlib.Core.Path.{_≡_, refl}
 use mathlib.Core.Bool.{false, true}
-use mathlib.Core.List.{List, [], _∷_}
-use Prim.Native.Nat.{ℕ}
+use mathlib.Core.List.{List, [], _∷_, flatMap}
+use Prim.Native.Nat.{ℕ, _-_, _*_, _^_}
 use lib.Ieee.{Float, binary64, round, add, sub, mul, div, neg, lt, le, eq, ne, isNan, size, span, climb, units, odd, sum, ofInt}
 use lib.Count.{trailingZeros}
 use Rattle.numbers.specs.Order.{leastOf, greatestOf, magnitudeOf}
@@ -13,11 +13,14 @@ use Rattle.refusals.specs.Refusals.{gives, _into_}
 use Rattle.grid.specs.declared.Grid.{Grid}
 use Rattle.grid.specs.declared.Segment.{Segment}
 use Rattle.grid.specs.Domain.{segmentBy}
-use Rattle.grid.specs.Axes.{scaledOn, indexOn, lowOn, nearWhole, boundaryOn}
+use Rattle.grid.specs.Axes.{scaledOn, indexOn, lowOn, nearWhole, boundaryOn, sideOf, sideOn}
+use Rattle.walk.specs.declared.Mode.{Mode}
+use Rattle.walk.specs.declared.Mode.the-variants.{Rust, Sided}
 use Rattle.walk.specs.Turns.{finiteOf, signOf, deltaOf, nextOn, firstOn, strideOn, progressOn, rayOf, startOf, toleranceOf, nearOf, furtherOf, same, arrivedOf, turnOf, advanced, movedOf, goesOf}
 use Rattle.walk.specs.Pushes.{kept, pushOf, sidesOf, pushedOf, before, after, nextOf, goingOf, turns, walkedOf}
-use Rattle.walk.specs.Segment.{lowColOf, lowRowOf, cornerOf, besideOf, addedOf, alongOn, cellOf, endOf, pushesOf, answered, unlessNone, segmentOf}
-use Rattle.straight.specs.Sentence.{sentence, those, verticalCells, horizontalCells}
+use Rattle.walk.specs.Neighbours.{neighbourFor, neighbourOn, alongOn, lowColOf, upColOf, lowRowOf, upRowOf, columnOf, rowOf, besideOf, lineOf, cellOf, endOf}
+use Rattle.walk.specs.Segment.{pushesOf, answered, byTurns, unlessNone, segmentOf}
+use Rattle.straight.specs.Sentence.{sentence, those, verticalBy, horizontalBy, verticalCells, horizontalCells, verticalIn, horizontalIn}
 use Rattle.straight.specs.Lines.{vertical, horizontal}
 
 abbrev part : ℕ → ℕ → Float
@@ -31,8 +34,15 @@ abbrev small : Grid
 small = record { «min_x» = part 0 1; «min_y» = part 0 1; «cell_width» = part 1 1; «cell_height» = part 1 1; cols = 4; rows = 3 }
 
 -- the list, and the walk's answer
+abbrev BothIn : Mode → (Grid → Segment → List ℕ) → Segment → List ℕ → Type 0
+BothIn mode cells line is = (cells small line ≡ is) × (segmentOf mode small line ≡ gives is)
+
 abbrev Both : (Grid → Segment → List ℕ) → Segment → List ℕ → Type 0
-Both cells line is = (cells small line ≡ is) × (segmentOf small line ≡ gives is)
+Both cells line is = BothIn Rust cells line is
+
+-- a hair under a whole number
+abbrev under : ℕ → Float
+under n = part (n * 2 ^ 41 - 1) (2 ^ 41)
 
 pub examples :
     -- on no boundary
@@ -49,8 +59,15 @@ pub examples :
     × Both horizontalCells (segmentBy (part 5 2) (part 1 1) (part 1 2) (part 1 1)) (0 ∷ 1 ∷ 2 ∷ 4 ∷ 5 ∷ 6 ∷ [])
     -- horizontal, ends on boundaries, y on none
     × Both horizontalCells (segmentBy (part 1 1) (part 3 2) (part 2 1) (part 3 2)) (4 ∷ 5 ∷ 6 ∷ [])
+    -- x a hair under a boundary: the column above beside it in the sided mode, the one below in the Rust's
+    × BothIn Sided (verticalIn Sided) (segmentBy (under 2) (part 1 2) (under 2) (part 5 2)) (1 ∷ 2 ∷ 5 ∷ 6 ∷ 9 ∷ 10 ∷ [])
+    × Both verticalCells (segmentBy (under 2) (part 1 2) (under 2) (part 5 2)) (0 ∷ 1 ∷ 4 ∷ 5 ∷ 8 ∷ 9 ∷ [])
+    -- an end a hair under a boundary, x on one: the row above, in both columns
+    × BothIn Sided (verticalIn Sided) (segmentBy (part 1 1) (part 1 2) (part 1 1) (under 2)) (0 ∷ 1 ∷ 4 ∷ 5 ∷ 8 ∷ 9 ∷ [])
+    -- horizontal, y a hair under the last boundary: no row beyond
+    × BothIn Sided (horizontalIn Sided) (segmentBy (part 5 2) (under 3) (part 1 2) (under 3)) (8 ∷ 9 ∷ 10 ∷ [])
     -- a line that rises is neither
     × (vertical (segmentBy (part 1 2) (part 1 2) (part 3 2) (part 5 2)) ≡ false)
     × (horizontal (segmentBy (part 1 2) (part 1 2) (part 3 2) (part 5 2)) ≡ false)
-unfolding round add sub mul div neg lt le eq ne isNan size span climb units odd sum ofInt trailingZeros leastOf greatestOf magnitudeOf clampedFloor roundAway sorted insert insertIf distinctOf runAfter unlessHere scaledOn indexOn lowOn nearWhole boundaryOn finiteOf signOf deltaOf nextOn firstOn strideOn progressOn rayOf startOf toleranceOf nearOf furtherOf same arrivedOf turnOf advanced movedOf goesOf kept pushOf sidesOf pushedOf before after nextOf goingOf turns walkedOf lowColOf lowRowOf cornerOf besideOf addedOf alongOn cellOf endOf pushesOf answered unlessNone segmentOf _into_ sentence those verticalCells horizontalCells
-examples = ((refl, refl), (refl, refl), (refl, refl), (refl, refl), (refl, refl), (refl, refl), (refl, refl), refl, refl)
+unfolding round add sub mul div neg lt le eq ne isNan size span climb units odd sum ofInt trailingZeros leastOf greatestOf magnitudeOf clampedFloor roundAway sorted insert insertIf distinctOf runAfter unlessHere scaledOn indexOn lowOn nearWhole boundaryOn sideOf sideOn finiteOf signOf deltaOf nextOn firstOn strideOn progressOn rayOf startOf toleranceOf nearOf furtherOf same arrivedOf turnOf advanced movedOf goesOf kept pushOf sidesOf pushedOf before after nextOf goingOf turns walkedOf neighbourFor neighbourOn alongOn lowColOf upColOf lowRowOf upRowOf columnOf rowOf besideOf lineOf cellOf endOf flatMap pushesOf answered byTurns unlessNone segmentOf _into_ sentence those verticalBy horizontalBy
+examples = ((refl, refl), (refl, refl), (refl, refl), (refl, refl), (refl, refl), (refl, refl), (refl, refl), (refl, refl), (refl, refl), (refl, refl), (refl, refl), refl, refl)

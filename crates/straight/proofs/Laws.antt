@@ -23,15 +23,17 @@ use Rattle.grid.specs.Axes.{xAxis, yAxis}
 use Rattle.grid.specs.Domain.{coordinate, point, segment, fit, segmentCheck, gridCheck}
 use Rattle.grid.proofs.Bools.{and-left, and-right}
 use Rattle.grid.proofs.Shapes.{fit-says, fit-shape}
+use Rattle.walk.specs.declared.Mode.{Mode}
+use Rattle.walk.specs.declared.Mode.the-variants.{Rust}
 use Rattle.walk.specs.Turns.{rayOf, startOf}
 use Rattle.walk.specs.Pushes.{Outcome, walkedOf}
 use Rattle.walk.specs.declared.Cells.{Cells}
 use Rattle.walk.specs.declared.Cells.the-variants as cells
-use Rattle.walk.specs.Segment.{answered, unlessNone, segmentOf, entryCheck, entryOf, cellsOf, Entered}
+use Rattle.walk.specs.Segment.{answered, byTurns, unlessNone, segmentOf, entryCheck, entryOf, cellsOf, Entered}
 use Rattle.walk.proofs.Answer.{entry-spares}
-use Rattle.straight.specs.Sentence.{those, verticalCells, horizontalCells}
+use Rattle.straight.specs.Sentence.{those, verticalBy, horizontalBy, verticalCells, horizontalCells, verticalIn, horizontalIn}
 use Rattle.straight.specs.Lines.{vertical, horizontal, straight, InFormat, GridInFormat}
-use Rattle.straight.proofs.Listed.{or-cases}
+use Rattle.straight.proofs.Listed.{or-cases, rust-vertical, rust-horizontal}
 use Rattle.straight.proofs.Answering.{cellsBy, answer}
 use Rattle.straight.proofs.Units.{Units, units-of}
 use Rattle.straight.proofs.Coordinates.{Fits, coordinate-bounded, keeps, goes}
@@ -54,7 +56,7 @@ sound : (a : Axis) (start end : Float) → Fits a → coordinate start ≡ true 
     → Sound a start end
 sound a start end f p q s t = record { fit = f; start-fits = p; end-fits = q; start-units = units start p s; end-units = units end q t }
 
-module _ (g : Grid) (line : Segment) (ok : fit g ≡ true) (in-domain : segment line ≡ true) (in-format : InFormat line) where
+module _ (mode : Mode) (g : Grid) (line : Segment) (ok : fit g ≡ true) (in-domain : segment line ≡ true) (in-format : InFormat line) where
   both : (point (line .«start_x») (line .«start_y») ≡ true) × (point (line .«end_x») (line .«end_y») ≡ true)
   unfolding segment
   both =
@@ -78,36 +80,36 @@ module _ (g : Grid) (line : Segment) (ok : fit g ≡ true) (in-domain : segment 
       (and-right (coordinate (line .«end_x»)) (coordinate (line .«end_y»)) (both .1)) (in-format .«start-y») (in-format .«end-y»)
 
   -- a grid without columns has no cells
-  no-columns : (v : Bool) → g .cols ≡ 0 → segmentOf g line ≡ gives (cellsBy v g line)
-  unfolding segmentOf unlessNone
-  no-columns v e = ap (λ (n : ℕ). unlessNone n (answered g line (walkedOf (g .cols) (g .rows) (rayOf g line) (startOf g line)))) e ∙ ap gives (sym (go v))
+  no-columns : (v : Bool) → g .cols ≡ 0 → segmentOf mode g line ≡ gives (cellsBy mode v g line)
+  unfolding segmentOf byTurns unlessNone
+  no-columns v e = ap (λ (n : ℕ). unlessNone n (answered mode g line (walkedOf (g .cols) (g .rows) (rayOf g line) (startOf g line)))) e ∙ ap gives (sym (go v))
     where
       none : (f : ℕ → Bool) → those f (g .rows * g .cols) ≡ []
       none f = unfold those in ap (those f) (ap (λ (n : ℕ). g .rows * n) e ∙ mul-zero (g .rows))
 
-      go : (v : Bool) → cellsBy v g line ≡ []
-      go true = unfold verticalCells in none _
-      go false = unfold horizontalCells in none _
+      go : (v : Bool) → cellsBy mode v g line ≡ []
+      go true = unfold verticalBy in none _
+      go false = unfold horizontalBy in none _
 
-  -- LAW 2, vertical: equal x at both ends
-  pub vertical-is : vertical line ≡ true → segmentOf g line ≡ gives (verticalCells g line)
-  vertical-is e = elim (ℕ-discrete (g .cols) 0) [
+  -- LAW 2, vertical: equal x at both ends. In every mode, with the neighbours of that mode
+  pub vertical-in : vertical line ≡ true → segmentOf mode g line ≡ gives (verticalIn mode g line)
+  vertical-in e = elim (ℕ-discrete (g .cols) 0) [
     | yes z ↦ no-columns true z
     | no n ↦
-        answer true g line
+        answer mode true g line
         (keeps (xAxis g) (sound-x .fit) (line .«start_x») (line .«end_x») (sound-x .start-fits) (sound-x .end-fits) e)
         (goes (yAxis g) (sound-y .fit) (line .«start_y») (line .«end_y») (sound-y .start-fits) (sound-y .end-fits) (sound-y .start-units) (sound-y .end-units))
         (λ z. absurd (true≢false z)) (fit-shape g ok) (omega (arith, n))
   ]
 
   -- and horizontal: equal y at both ends
-  pub horizontal-is : GridInFormat g → horizontal line ≡ true → segmentOf g line ≡ gives (horizontalCells g line)
-  horizontal-is m e = elim (ℕ-discrete (g .cols) 0) [
+  pub horizontal-in : GridInFormat g → horizontal line ≡ true → segmentOf mode g line ≡ gives (horizontalIn mode g line)
+  horizontal-in m e = elim (ℕ-discrete (g .cols) 0) [
     | yes z ↦ no-columns false z
     | no n ↦
         let run =
         goes (xAxis g) (sound-x .fit) (line .«start_x») (line .«end_x») (sound-x .start-fits) (sound-x .end-fits) (sound-x .start-units) (sound-x .end-units) in
-        answer false g line
+        answer mode false g line
         (keeps (yAxis g) (sound-y .fit) (line .«start_y») (line .«end_y») (sound-y .start-fits) (sound-y .end-fits) e)
         run
         (λ z. stays-finite (xAxis g) (sound-x .fit) (fit-says g ok .counts .wide) (line .«start_x») (line .«end_x») (sound-x .start-fits) (sound-x .end-fits)
@@ -117,11 +119,19 @@ module _ (g : Grid) (line : Segment) (ok : fit g ≡ true) (in-domain : segment 
   ]
 
   -- LAW 1: a line parallel to an axis is not refused, by 7 or at all
-  pub not-refused : GridInFormat g → straight line ≡ true → (why : Refusal) → segmentOf g line ≡ refused why → ⊥
+  pub not-refused : GridInFormat g → straight line ≡ true → (why : Refusal) → segmentOf mode g line ≡ refused why → ⊥
   not-refused m e why r = elim (or-cases (vertical line) (horizontal line) e) [
-    | inl v ↦ apart r (vertical-is v)
-    | inr l ↦ apart r (horizontal-is m l)
+    | inl v ↦ apart r (vertical-in v)
+    | inr l ↦ apart r (horizontal-in m l)
   ]
+
+-- in the Rust's mode, so under document 01's boundary rule
+module _ (g : Grid) (line : Segment) (ok : fit g ≡ true) (in-domain : segment line ≡ true) (in-format : InFormat line) where
+  pub vertical-is : vertical line ≡ true → segmentOf Rust g line ≡ gives (verticalCells g line)
+  vertical-is e = vertical-in Rust g line ok in-domain in-format e ∙ ap gives (rust-vertical g line)
+
+  pub horizontal-is : GridInFormat g → horizontal line ≡ true → segmentOf Rust g line ≡ gives (horizontalCells g line)
+  horizontal-is m e = horizontal-in Rust g line ok in-domain in-format m e ∙ ap gives (rust-horizontal g line)
 
 -- ---- the entry
 
@@ -141,21 +151,21 @@ module _ (n : ℕ) (g : Grid) (line : Segment) (in-format : InFormat line) where
       (unless-fine (segment line) 1 0 (andThen-left _ _ rest), unless-fine (fit g) 8 0 (andThen-right _ _ rest))
 
   -- the checks 3, 1 and 8; then the cells of the sentence
-  pub entry-vertical : vertical line ≡ true → entryOf n g line ≡ (entryCheck n g line then gives (verticalCells g line))
+  pub entry-vertical : vertical line ≡ true → entryOf Rust n g line ≡ (entryCheck n g line then gives (verticalCells g line))
   unfolding entryOf
   entry-vertical e =
-      by-check (entryCheck n g line) (segmentOf g line) (gives (verticalCells g line)) (λ h. vertical-is g line (passed h .1) (passed h .0) in-format e)
+      by-check (entryCheck n g line) (segmentOf Rust g line) (gives (verticalCells g line)) (λ h. vertical-is g line (passed h .1) (passed h .0) in-format e)
 
-  pub entry-horizontal : GridInFormat g → horizontal line ≡ true → entryOf n g line ≡ (entryCheck n g line then gives (horizontalCells g line))
+  pub entry-horizontal : GridInFormat g → horizontal line ≡ true → entryOf Rust n g line ≡ (entryCheck n g line then gives (horizontalCells g line))
   unfolding entryOf
-  entry-horizontal m e = by-check (entryCheck n g line) (segmentOf g line) (gives (horizontalCells g line)) (λ h. horizontal-is g line (passed h .1) (passed h .0) in-format m e)
+  entry-horizontal m e = by-check (entryCheck n g line) (segmentOf Rust g line) (gives (horizontalCells g line)) (λ h. horizontal-is g line (passed h .1) (passed h .0) in-format m e)
 
-  pub entry-not-7 : GridInFormat g → straight line ≡ true → (value : ℕ) → entryOf n g line ≡ refused (refusal 7 value) → ⊥
+  pub entry-not-7 : (mode : Mode) → GridInFormat g → straight line ≡ true → (value : ℕ) → entryOf mode n g line ≡ refused (refusal 7 value) → ⊥
   unfolding entryOf
-  entry-not-7 m e value r = go (entryCheck n g line) refl r
+  entry-not-7 mode m e value r = go (entryCheck n g line) refl r
     where
-      go : (c : Check) → entryCheck n g line ≡ c → (c then segmentOf g line) ≡ refused (refusal 7 value) → ⊥
-      go Fine h k = unfold _then_ in not-refused g line (passed h .1) (passed h .0) in-format m e (refusal 7 value) k
+      go : (c : Check) → entryCheck n g line ≡ c → (c then segmentOf mode g line) ≡ refused (refusal 7 value) → ⊥
+      go Fine h k = unfold _then_ in not-refused mode g line (passed h .1) (passed h .0) in-format m e (refusal 7 value) k
       go (Refused s) h k = unfold _then_ clears in true≢false (entry-spares g line n .says (refusal 7 value) (h ∙ ap Refused (same-refusal k)))
 
 cells-refused : (o : Outcome) (why : Refusal) → cellsOf o ≡ cells.Refused why → o ≡ refused why
@@ -164,7 +174,7 @@ cells-refused (refused w) why d = let e : w ≡ why = cc in ap refused e
 cells-refused (gives xs) why d = let z : _≡_ {A = ℕ} 0 1 = cc in absurd (omega arith)
 
 -- straight from what `walk::cells_of_segment` ensures: its answer is no refusal with 7
-pub entered-not-7 : (n : ℕ) {g : Grid} {line : Segment} {was : List ℕ} {r : Cells} {now : List ℕ} → straight line ≡ true → InFormat line → GridInFormat g
-    → Entered (entryOf n g line) was r now → (value : ℕ) → r ≡ cells.Refused (refusal 7 value) → ⊥
-entered-not-7 n {g} {line} e in-format m h value k =
-    entry-not-7 n g line in-format m e value (cells-refused (entryOf n g line) (refusal 7 value) (sym (h .answer) ∙ k))
+pub entered-not-7 : (mode : Mode) (n : ℕ) {g : Grid} {line : Segment} {was : List ℕ} {r : Cells} {now : List ℕ} → straight line ≡ true → InFormat line → GridInFormat g
+    → Entered (entryOf mode n g line) was r now → (value : ℕ) → r ≡ cells.Refused (refusal 7 value) → ⊥
+entered-not-7 mode n {g} {line} e in-format m h value k =
+    entry-not-7 n g line in-format mode m e value (cells-refused (entryOf mode n g line) (refusal 7 value) (sym (h .answer) ∙ k))

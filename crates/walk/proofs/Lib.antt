@@ -1,13 +1,18 @@
--- For the crates above: `Visits`, `Outcomes`, and `entry-is` of `Answer`. `Faithful` holds the definitions to document 01.
--- `Whole` and `Tolerance` hold the code's way to them. `Floats`, `Grows`, `Loop`, `Added`, `Spread`, `Answer` and `Entry` are the steps of the functions' proofs.
+-- For the crates above: `Visits`, `Outcomes`, and `entry-is` of `Answer`. `Faithful` and `Modes` hold the definitions to document 01.
+-- `Whole` and `Tolerance` hold the code's way to them. `Floats`, `Grows`, `Loop`, `Flat`, `Added`, `Spread`, `Room`, `Pushed`, `Answer` and `Entry` are the
+-- steps of the functions' proofs.
 pub mod Floats
 pub mod Whole
 pub mod Tolerance
 pub mod Grows
 pub mod Loop
+pub mod Flat
 pub mod Added
 pub mod Spread
+pub mod Modes
 pub mod Faithful
+pub mod Room
+pub mod Pushed
 pub mod Answer
 pub mod Visits
 pub mod Entry

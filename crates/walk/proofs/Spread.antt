@@ -4,16 +4,20 @@ use Prim.Native.Nat.{ℕ, zero, suc, _+_, _-_, _*_, _%_, _≤_, _<_}
 use native.Mathlib.Numerals.{add-one}
 use native.Mathlib.Omega.{arith}
 use mathlib.Core.Bool.{Bool, true, false, cond, _||_}
-use mathlib.Core.List.{List, [], _∷_}
+use mathlib.Core.List.{List, [], _∷_, _++_, flatMap, append-nil}
 use lib.ListN.{length, take, drop, getD, set, length-set}
 use lib.Seq.{drop-cons, getD-take, length-take-le, take-take, take-set-le, drop-set-lt, getD-set-same}
 use lib.Dec.{eqb}
 use borrow.Author.Tests.{eq-eqb, ne-eqb}
 use Rattle.slices.specs.Lists.{any}
 use Rattle.slices.proofs.Members.{any-append}
-use Rattle.walk.specs.Segment.{lowColOf, besideOf, addedOf}
-use Rattle.walk.specs.Inside.{Grown, Covers, share, lowerOf}
-use Rattle.walk.proofs.Added.{added-bound}
+use Rattle.walk.specs.declared.Neighbour.{Neighbour}
+use Rattle.walk.specs.declared.Neighbour.the-variants.{None, Lower}
+use Rattle.walk.specs.Neighbours.{lowColOf, columnOf, rowOf, besideOf}
+use Rattle.walk.specs.Inside.{Grown, Covers, lowerOf, manyOf, share}
+use Rattle.walk.proofs.Grows.{same}
+use Rattle.walk.proofs.Flat.{flat-none, flat-same}
+use Rattle.walk.proofs.Added.{beside-le, nothing-beside, row-only, added-bound}
 
 pub lower-none : (cols c : ℕ) → c % cols ≡ 0 → c ≡ lowerOf cols c
 unfolding lowerOf
@@ -63,7 +67,7 @@ pub record Spreading (cols n : ℕ) (xs : List ℕ) (i : ℕ) (ys : List ℕ) : 
   pub room : n + n ≤ length xs
   pub len : length ys ≡ length xs
   pub front : take i ys ≡ take i xs
-  pub back : (f : ℕ → Bool) → any f (take (n + n - (i + i)) (drop (i + i) ys)) ≡ (any f (drop i (take n xs)) || any f (addedOf true false cols (drop i (take n xs))))
+  pub back : (f : ℕ → Bool) → any f (take (n + n - (i + i)) (drop (i + i) ys)) ≡ (any f (drop i (take n xs)) || any f (flatMap (lowColOf cols) (drop i (take n xs))))
 
 none-left : (n : ℕ) (l : List ℕ) → length l ≤ n → drop n l ≡ []
 none-left zero [] h = refl
@@ -72,7 +76,7 @@ none-left zero (x ∷ l) h = absurd (omega arith)
 none-left (suc n) (x ∷ l) h = none-left n l (omega arith)
 
 pub spread-start : (cols n : ℕ) (xs : List ℕ) → n + n ≤ length xs → Spreading cols n xs n xs
-unfolding addedOf
+unfolding flatMap
 spread-start cols n xs h = record {
   at = omega arith;
   room = h;
@@ -87,7 +91,7 @@ spread-start cols n xs h = record {
 module _ {cols n : ℕ} {xs : List ℕ} {i : ℕ} {ys : List ℕ} (g : Spreading cols n xs i ys) where
   pub spread-more : 0 < i → (d : ℕ) → d ≡ lowerOf cols (getD ys (i - 1) 0)
       → Spreading cols n xs (i - 1) (set (set ys ((i - 1) + (i - 1) + 1) (getD ys (i - 1) 0)) ((i - 1) + (i - 1)) d)
-  unfolding addedOf besideOf
+  unfolding flatMap
   spread-more h d e =
       let j = i - 1 in
       let k = j + j in
@@ -113,14 +117,14 @@ module _ {cols n : ℕ} {xs : List ℕ} {i : ℕ} {ys : List ℕ} (g : Spreading
             ∙ less j i (omega arith) (g .front);
         back = λ f.
             rw (stored, many, cell, e)
-            (arranged cols c f (any f (take (n + n - (i + i)) (drop (i + i) ys))) (any f (drop i l)) (any f (addedOf true false cols (drop i l))) (g .back f)
-            ∙ ap (λ (z : Bool). (f c || any f (drop i l)) || z) (sym (any-append f (lowColOf cols c) (addedOf true false cols (drop i l)))));
+            (arranged cols c f (any f (take (n + n - (i + i)) (drop (i + i) ys))) (any f (drop i l)) (any f (flatMap (lowColOf cols) (drop i l))) (g .back f)
+            ∙ ap (λ (z : Bool). (f c || any f (drop i l)) || z) (sym (any-append f (lowColOf cols c) (flatMap (lowColOf cols) (drop i l)))));
       }
     where
       less : (a b : ℕ) → a ≤ b → take b ys ≡ take b xs → take a ys ≡ take a xs
       less a b u v = sym (take-take a b ys u) ∙ ap (take a) v ∙ take-take a b xs u
 
-  pub spread-done : i ≡ 0 → Covers xs ys n (n + n) n (addedOf true false cols (take n xs))
+  pub spread-done : i ≡ 0 → Covers xs ys n (n + n) n (flatMap (lowColOf cols) (take n xs))
   spread-done z = record {
     len = g .len;
     count = omega arith;
@@ -128,14 +132,54 @@ module _ {cols n : ℕ} {xs : List ℕ} {i : ℕ} {ys : List ℕ} (g : Spreading
     same = λ f.
         let k : n + n - (i + i) ≡ n + n = omega arith in
         let e : i + i ≡ 0 = omega arith in
-        rw (k, e, z) at (g .back f) ∙ sym (any-append f (take n xs) (addedOf true false cols (take n xs)));
+        rw (k, e, z) at (g .back f) ∙ sym (any-append f (take n xs) (flatMap (lowColOf cols) (take n xs)));
   }
 
 -- ---- what the line adds, one way or the other
 
-pub besides-cover : (v h : Bool) (cols : ℕ) {xs ys : List ℕ} {n m : ℕ} → n ≤ length xs → Grown xs ys n m (addedOf v h cols (take n xs)) → Covers xs ys n m (n * share v h) (addedOf v h cols (take n xs))
-besides-cover v h cols l g = record { len = g .len; count = added-bound v h cols l g; within = g .within; same = λ f. ap (any f) (g .is) }
+none-share : {x y : Neighbour} → x ≡ None → y ≡ None → share x y ≡ 0
+unfolding share manyOf
+none-share p q = rw (p, q)
 
-pub spread-covers : (v h : Bool) (cols : ℕ) (l : List ℕ) {xs ys : List ℕ} {n r : ℕ} → v ≡ true → h ≡ false → Covers xs ys n r n (addedOf true false cols l) → Covers xs ys n r (n * share v h) (addedOf v h cols l)
-unfolding share
-spread-covers v h cols l p q c = rw (p, q) (record { len = c .len; count = omega (arith, c .count); within = c .within; same = c .same })
+pub nothing-covers : (x y : Neighbour) (cols cells : ℕ) {xs : List ℕ} {n : ℕ} → x ≡ None → y ≡ None → n ≤ length xs
+    → Covers xs xs n n (n * share x y) (flatMap (besideOf x y cols cells) (take n xs))
+nothing-covers x y cols cells {xs} {n} p q l = record {
+  len = refl;
+  count = omega arith;
+  within = l;
+  same = λ f. ap (any f) (sym (ap (λ (z : List ℕ). take n xs ++ z) (flat-none (besideOf x y cols cells) (nothing-beside x y cols cells (none-share p q)) (take n xs)) ∙ append-nil (take n xs)));
+}
+
+pub besides-cover : (x y : Neighbour) (cols cells : ℕ) {xs ys : List ℕ} {n m : ℕ} → n ≤ length xs → Grown xs ys n m (flatMap (besideOf x y cols cells) (take n xs))
+    → Covers xs ys n m (n * share x y) (flatMap (besideOf x y cols cells) (take n xs))
+besides-cover x y cols cells l g = record {
+  len = g .len;
+  count = added-bound (besideOf x y cols cells) (share x y) (beside-le x y cols cells) l g;
+  within = g .within;
+  same = λ f. ap (any f) (g .is);
+}
+
+pub rows-share : (x y : Neighbour) → x ≡ None → share x y ≡ manyOf y
+unfolding share manyOf
+rows-share x y p = rw p (omega arith)
+
+pub rows-cover : (x y : Neighbour) (cols cells : ℕ) {xs ys : List ℕ} {n m : ℕ} → x ≡ None → n ≤ length xs → Grown xs ys n m (flatMap (rowOf y cols cells) (take n xs))
+    → Covers xs ys n m (n * share x y) (flatMap (besideOf x y cols cells) (take n xs))
+rows-cover x y cols cells {xs} {ys} {n} {m} p l g =
+    besides-cover x y cols cells l
+    (same (flat-same (rowOf y cols cells) (besideOf x y cols cells) (λ c. row-only x y cols cells c p) (take n xs)) g)
+
+lower-only : (cols cells c : ℕ) → lowColOf cols c ≡ besideOf Lower None cols cells c
+unfolding besideOf columnOf rowOf
+lower-only cols cells c =
+    sym (ap (λ (z : List ℕ). (lowColOf cols c ++ []) ++ z) (flat-none (rowOf None cols cells) (λ d. refl) (lowColOf cols c)) ∙ append-nil (lowColOf cols c ++ []) ∙ append-nil (lowColOf cols c))
+
+pub lower-share : {x y : Neighbour} → x ≡ Lower → y ≡ None → share x y ≡ 1
+unfolding share manyOf
+lower-share p q = rw (p, q)
+
+pub spread-covers : (x y : Neighbour) (cols cells : ℕ) (l : List ℕ) {xs ys : List ℕ} {n r : ℕ} → x ≡ Lower → y ≡ None → Covers xs ys n r n (flatMap (lowColOf cols) l)
+    → Covers xs ys n r (n * share x y) (flatMap (besideOf x y cols cells) l)
+spread-covers x y cols cells l {xs} {ys} {n} {r} p q c =
+    let e : flatMap (lowColOf cols) l ≡ flatMap (besideOf x y cols cells) l = rw (p, q) (flat-same (lowColOf cols) (besideOf Lower None cols cells) (lower-only cols cells) l) in
+    record { len = c .len; count = rw (lower-share p q) (omega (arith, c .count)); within = c .within; same = λ f. c .same f ∙ ap (λ (z : List ℕ). any f (take n xs ++ z)) e }

@@ -3,16 +3,19 @@ use mathlib.Core.Path.{_≡_}
 use mathlib.Core.Logic.{_⊎_}
 use mathlib.Core.Bool.{Bool, true, false, cond}
 use mathlib.Core.List.{List, _++_}
-use Prim.Native.Nat.{ℕ, zero, suc, _+_, _-_, _%_, _≤_}
+use Prim.Native.Nat.{ℕ, zero, suc, _+_, _-_, _*_, _%_, _≤_, _<_}
 use lib.ListN.{length, take, getD}
 use lib.Dec.{eqb}
 use lib.Ieee.{Float}
-use Rattle.slices.specs.Lists.{any}
+use Rattle.slices.specs.Lists.{any, Below}
 use Rattle.refusals.specs.Refusals.{refusal, refused, gives}
 use Rattle.grid.specs.declared.Grid.{Grid}
 use Rattle.grid.specs.declared.Segment.{Segment}
 use Rattle.grid.specs.Axes.{xAxis, yAxis}
 use Rattle.walk.specs.declared.Course.{Course}
+use Rattle.walk.specs.declared.Mode.{Mode}
+use Rattle.walk.specs.declared.Neighbour.{Neighbour}
+use Rattle.walk.specs.declared.Neighbour.the-variants.{None, Lower, Upper}
 use Rattle.walk.specs.declared.Position.{Position}
 use Rattle.walk.specs.declared.Walk.{Walk}
 use Rattle.walk.specs.declared.Way.{Way}
@@ -20,7 +23,7 @@ use Rattle.walk.specs.declared.Ran.{Ran}
 use Rattle.walk.specs.declared.Ran.the-variants.{Done, Over}
 use Rattle.walk.specs.Turns.{infinite}
 use Rattle.walk.specs.Pushes.{Outcome}
-use Rattle.walk.specs.Segment.{alongOn}
+use Rattle.walk.specs.Neighbours.{alongOn}
 use Rattle.walk.specs.Modular.{advancedBy}
 
 -- ys has `more` after the first n of xs, r in all
@@ -94,17 +97,32 @@ pub record Walks (way : Way) (w : Walk) (o : Outcome) (r : Ran) (s : List ℕ) :
   pub few : Straight way w → RanWithin r 5002
   pub least : Still way w → RanWithin r 2
 
+-- so many columns, and a number that is at most the number of cells, both of a fit grid: what is near is within 32 bits
+pub record Within (cols c : ℕ) : Type 0 where
+  pub some : 0 < cols
+  pub wide : cols ≤ 4004
+  pub low : c ≤ 1002001
+
+-- cells of a grid of so many columns and cells
+pub record AllWithin (cols cells : ℕ) (l : List ℕ) : Type 0 where
+  pub most : Within cols cells
+  pub inside : Below cells l
+
 -- the cell beside c in the lower column, and c itself where there is none
 unfoldable pub lowerOf : ℕ → ℕ → ℕ
 lowerOf cols c = cond (eqb (c % cols) 0) c (c - 1)
 
--- how many cells a cell adds at most
-unfoldable pub share : Bool → Bool → ℕ
-share true true = 3
-share true false = 1
-share false true = 1
-share false false = 0
+-- how many cells a neighbour is
+unfoldable pub manyOf : Neighbour → ℕ
+manyOf None = 0
+manyOf Lower = 1
+manyOf Upper = 1
+
+-- how many cells a cell adds at most: in x, in y, and in the corner
+unfoldable pub share : Neighbour → Neighbour → ℕ
+share x y = manyOf x + manyOf y + manyOf x * manyOf y
 
 -- how many cells the line adds at most to each that it walks
-unfoldable pub shareOf : Grid → Segment → ℕ
-shareOf g line = share (alongOn (xAxis g) (line .«start_x») (line .«end_x»)) (alongOn (yAxis g) (line .«start_y») (line .«end_y»))
+unfoldable pub shareOf : Mode → Grid → Segment → ℕ
+shareOf mode g line =
+    share (alongOn mode (xAxis g) (line .«start_x») (line .«end_x»)) (alongOn mode (yAxis g) (line .«start_y») (line .«end_y»))

@@ -1,14 +1,51 @@
 // What a line on a boundary, and its endpoints, add beside the walked cells.
+use crate::Mode;
+use crate::Neighbour;
 use grid::Axis;
 use grid::Grid;
 use grid::Segment;
+use grid::Side;
 ghost use mathlib.Core.Path.{_≡_};
-ghost use mathlib.Core.Bool.{true, false};
+ghost use mathlib.Core.List.{flatMap};
 ghost use Prim.Native.Nat.{_+_, _*_, _≤_, _<_};
+ghost use lib.Dec.{eqb};
 ghost use lib.ListN.{length, take};
+ghost use Rattle.slices.specs.Lists.{Below};
 ghost use Rattle.grid.proofs.Shapes.{Shape};
-ghost use Rattle.walk.specs.Segment.{lowColOf, lowRowOf, cornerOf, besideOf, addedOf, alongOn, cellOf, endOf, pushesOf};
-ghost use Rattle.walk.specs.Inside.{Grown, Covers, Complete, lowerOf, share, shareOf};
+ghost use Rattle.walk.specs.Neighbours.{neighbourFor, neighbourOn, alongOn, lowColOf, upColOf, lowRowOf, upRowOf, columnOf, rowOf, besideOf, cellOf, endOf};
+ghost use Rattle.walk.specs.Segment.{pushesOf};
+ghost use Rattle.walk.specs.Inside.{Grown, Covers, Complete, Within, AllWithin, lowerOf, manyOf, share, shareOf};
+
+// The one place where the mode is looked at.
+fn neighbour_for(mode: Mode, side: Side) -> Neighbour
+    ensures { λ r. ⌜ r ≡ neighbourFor mode side ⌝ }
+{
+    match side {
+        Side::Off => Neighbour::None,
+        Side::Above => Neighbour::Lower,
+        Side::Below => match mode {
+            Mode::Rust => Neighbour::Lower,
+            Mode::Sided => Neighbour::Upper,
+        },
+    }
+}
+
+// The neighbour that a coordinate adds on its axis.
+fn neighbour(mode: Mode, axis: Axis, v: f64) -> Neighbour
+    ensures { λ r. ⌜ r ≡ neighbourOn mode axis v ⌝ }
+{
+    neighbour_for(mode, axis.side(v))
+}
+
+// The neighbour that a whole line adds on the axis.
+fn along(mode: Mode, axis: Axis, start: f64, end: f64) -> Neighbour
+    ensures { λ r. ⌜ r ≡ alongOn mode axis start end ⌝ }
+{
+    if end - start == 0.0 {
+        return neighbour(mode, axis, start);
+    }
+    Neighbour::None
+}
 
 fn low_col(s: &mut [u32], n: usize, cols: u32, c: u32) -> usize
     requires { ⌜ n < length (now s) ⌝ ∗ ⌜ 0 < cols ⌝ }
@@ -19,6 +56,17 @@ fn low_col(s: &mut [u32], n: usize, cols: u32, c: u32) -> usize
     }
     s[n] = c - 1;
     n + 1
+}
+
+fn up_col(s: &mut [u32], n: usize, cols: u32, c: u32) -> usize
+    requires { ⌜ n < length (now s) ⌝ ∗ ⌜ Within cols c ⌝ }
+    ensures { λ r. ⌜ Grown (now (s .entry)) (now (s .exit)) n r (upColOf cols c) ⌝ }
+{
+    if c % cols + 1 < cols {
+        s[n] = c + 1;
+        return n + 1;
+    }
+    n
 }
 
 fn low_row(s: &mut [u32], n: usize, cols: u32, c: u32) -> usize
@@ -32,46 +80,90 @@ fn low_row(s: &mut [u32], n: usize, cols: u32, c: u32) -> usize
     n + 1
 }
 
-fn corner(s: &mut [u32], n: usize, cols: u32, c: u32) -> usize
-    requires { ⌜ n < length (now s) ⌝ ∗ ⌜ 0 < cols ⌝ }
-    ensures { λ r. ⌜ Grown (now (s .entry)) (now (s .exit)) n r (cornerOf cols c) ⌝ }
+fn up_row(s: &mut [u32], n: usize, cols: u32, cells: u32, c: u32) -> usize
+    requires { ⌜ n < length (now s) ⌝ ∗ ⌜ Within cols c ⌝ }
+    ensures { λ r. ⌜ Grown (now (s .entry)) (now (s .exit)) n r (upRowOf cols cells c) ⌝ }
 {
-    if c % cols == 0 {
-        return n;
-    }
-    low_row(s, n, cols, c - 1)
-}
-
-// Pushes the lower neighbours of a cell on a boundary of x or of y.
-fn beside(s: &mut [u32], n: usize, on_x: bool, on_y: bool, cols: u32, c: u32) -> usize
-    requires { ⌜ n + share «on_x» «on_y» ≤ length (now s) ⌝ ∗ ⌜ 0 < cols ⌝ }
-    ensures { λ r. ⌜ Grown (now (s .entry)) (now (s .exit)) n r (besideOf «on_x» «on_y» cols c) ⌝ }
-{
-    if on_x {
-        if on_y {
-            let a = low_col(s, n, cols, c);
-            let b = low_row(s, a, cols, c);
-            return corner(s, b, cols, c);
-        }
-        return low_col(s, n, cols, c);
-    }
-    if on_y {
-        return low_row(s, n, cols, c);
+    let next = c + cols;
+    if next < cells {
+        s[n] = next;
+        return n + 1;
     }
     n
 }
 
-// Pushes the lower neighbours of each of the first n.
-fn besides(s: &mut [u32], n: usize, on_x: bool, on_y: bool, cols: u32) -> usize
-    requires { ⌜ n + n * share «on_x» «on_y» ≤ length (now s) ⌝ ∗ ⌜ 0 < cols ⌝ }
-    ensures { λ r. ⌜ Grown (now (s .entry)) (now (s .exit)) n r (addedOf «on_x» «on_y» cols (take n (now (s .entry)))) ⌝ }
+// Pushes the neighbour of a cell in x.
+fn column(s: &mut [u32], n: usize, x: Neighbour, cols: u32, c: u32) -> usize
+    requires { ⌜ n + manyOf x ≤ length (now s) ⌝ ∗ ⌜ Within cols c ⌝ }
+    ensures { λ r. ⌜ Grown (now (s .entry)) (now (s .exit)) n r (columnOf x cols c) ⌝ }
+{
+    match x {
+        Neighbour::None => n,
+        Neighbour::Lower => low_col(s, n, cols, c),
+        Neighbour::Upper => up_col(s, n, cols, c),
+    }
+}
+
+// Pushes the neighbour of a cell in y.
+fn row(s: &mut [u32], n: usize, y: Neighbour, cols: u32, cells: u32, c: u32) -> usize
+    requires { ⌜ n + manyOf y ≤ length (now s) ⌝ ∗ ⌜ Within cols c ⌝ }
+    ensures { λ r. ⌜ Grown (now (s .entry)) (now (s .exit)) n r (rowOf y cols cells c) ⌝ }
+{
+    match y {
+        Neighbour::None => n,
+        Neighbour::Lower => low_row(s, n, cols, c),
+        Neighbour::Upper => up_row(s, n, cols, cells, c),
+    }
+}
+
+// Pushes the neighbours of a cell. Where one in x has been pushed, the corner is its neighbour in y.
+fn beside(
+    s: &mut [u32],
+    n: usize,
+    x: Neighbour,
+    y: Neighbour,
+    cols: u32,
+    cells: u32,
+    c: u32,
+) -> usize
+    requires { ⌜ n + share x y ≤ length (now s) ⌝ ∗ ⌜ Within cols (c + 1) ⌝ }
+    ensures { λ r. ⌜ Grown (now (s .entry)) (now (s .exit)) n r (besideOf x y cols cells c) ⌝ }
+{
+    let a = column(s, n, x, cols, c);
+    let b = row(s, a, y, cols, cells, c);
+    if n < a {
+        let next = s[n];
+        return row(s, b, y, cols, cells, next);
+    }
+    b
+}
+
+// Pushes the neighbours of each of the first n.
+fn besides(s: &mut [u32], n: usize, x: Neighbour, y: Neighbour, cols: u32, cells: u32) -> usize
+    requires { ⌜ n + n * share x y ≤ length (now s) ⌝ ∗ ⌜ AllWithin cols cells (take n (now s)) ⌝ }
+    ensures { λ r. ⌜ Grown (now (s .entry)) (now (s .exit)) n r (flatMap (besideOf x y cols cells) (take n (now (s .entry)))) ⌝ }
 {
     let mut m = n;
     let mut i = 0;
     while i < n {
         let c = s[i];
         i += 1;
-        m = beside(s, m, on_x, on_y, cols, c);
+        m = beside(s, m, x, y, cols, cells, c);
+    }
+    m
+}
+
+// Pushes the neighbours in y of each of the first n.
+fn rows(s: &mut [u32], n: usize, y: Neighbour, cols: u32, cells: u32) -> usize
+    requires { ⌜ n + n * manyOf y ≤ length (now s) ⌝ ∗ ⌜ AllWithin cols cells (take n (now s)) ⌝ }
+    ensures { λ r. ⌜ Grown (now (s .entry)) (now (s .exit)) n r (flatMap (rowOf y cols cells) (take n (now (s .entry)))) ⌝ }
+{
+    let mut m = n;
+    let mut i = 0;
+    while i < n {
+        let c = s[i];
+        i += 1;
+        m = row(s, m, y, cols, cells, c);
     }
     m
 }
@@ -89,7 +181,7 @@ fn lower(cols: u32, c: u32) -> u32
 // Writes the lower column of each of the first n beside it, from the last to the first: so a walk up or down a boundary stays in order.
 fn spread(s: &mut [u32], n: usize, cols: u32) -> usize
     requires { ⌜ n + n ≤ length (now s) ⌝ ∗ ⌜ 0 < cols ⌝ }
-    ensures { λ r. ⌜ Covers (now (s .entry)) (now (s .exit)) n r n (addedOf true false cols (take n (now (s .entry)))) ⌝ }
+    ensures { λ r. ⌜ Covers (now (s .entry)) (now (s .exit)) n r n (flatMap (lowColOf cols) (take n (now (s .entry)))) ⌝ }
 {
     let mut i = n;
     while 0 < i {
@@ -102,28 +194,36 @@ fn spread(s: &mut [u32], n: usize, cols: u32) -> usize
     n + n
 }
 
-// What the line adds to each of the first n.
-fn added(s: &mut [u32], n: usize, on_x: bool, on_y: bool, cols: u32) -> usize
-    requires { ⌜ n + n * share «on_x» «on_y» ≤ length (now s) ⌝ ∗ ⌜ 0 < cols ⌝ }
-    ensures { λ r. ⌜ Covers (now (s .entry)) (now (s .exit)) n r (n * share «on_x» «on_y») (addedOf «on_x» «on_y» cols (take n (now (s .entry)))) ⌝ }
+// What the line adds to each of the first n. Mostly it adds on one axis, or on none.
+fn added(s: &mut [u32], n: usize, x: Neighbour, y: Neighbour, cols: u32, cells: u32) -> usize
+    requires { ⌜ n + n * share x y ≤ length (now s) ⌝ ∗ ⌜ AllWithin cols cells (take n (now s)) ⌝ }
+    ensures { λ r. ⌜ Covers (now (s .entry)) (now (s .exit)) n r (n * share x y) (flatMap (besideOf x y cols cells) (take n (now (s .entry)))) ⌝ }
 {
-    if on_x {
-        if on_y {
-            return besides(s, n, on_x, on_y, cols);
-        }
-        return spread(s, n, cols);
+    match x {
+        Neighbour::None => match y {
+            Neighbour::None => n,
+            _ => rows(s, n, y, cols, cells),
+        },
+        Neighbour::Lower => match y {
+            Neighbour::None => spread(s, n, cols),
+            _ => besides(s, n, x, y, cols, cells),
+        },
+        Neighbour::Upper => besides(s, n, x, y, cols, cells),
     }
-    besides(s, n, on_x, on_y, cols)
 }
 
-// Whether a line runs along a boundary of the axis.
-fn along(axis: Axis, start: f64, end: f64) -> bool
-    ensures { λ r. ⌜ r ≡ alongOn axis start end ⌝ }
+fn nothing(x: Neighbour, y: Neighbour) -> bool
+    ensures { λ r. ⌜ r ≡ eqb (share x y) 0 ⌝ }
 {
-    if end - start == 0.0 {
-        return axis.on_boundary(start);
+    match x {
+        Neighbour::None => match y {
+            Neighbour::None => true,
+            Neighbour::Lower => false,
+            Neighbour::Upper => false,
+        },
+        Neighbour::Lower => false,
+        Neighbour::Upper => false,
     }
-    false
 }
 
 // The number of the cell of a point.
@@ -134,24 +234,35 @@ fn cell(grid: Grid, x: f64, y: f64) -> u32
     grid.y_axis().index(y) * grid.cols + grid.x_axis().index(x)
 }
 
-// Pushes what an endpoint adds.
-fn ended(s: &mut [u32], n: usize, grid: Grid, x: f64, y: f64) -> usize
+// Pushes what an endpoint adds. Mostly that is nothing, and its cell is not asked for.
+fn ended(s: &mut [u32], n: usize, mode: Mode, grid: Grid, x: f64, y: f64) -> usize
     requires { ⌜ n + 3 ≤ length (now s) ⌝ ∗ ⌜ Shape (grid .cols) (grid .rows) ⌝ ∗ ⌜ 0 < grid .cols ⌝ }
-    ensures { λ r. ⌜ Grown (now (s .entry)) (now (s .exit)) n r (endOf grid x y) ⌝ }
+    ensures { λ r. ⌜ Grown (now (s .entry)) (now (s .exit)) n r (endOf mode grid x y) ⌝ }
 {
-    let on_x = grid.x_axis().on_boundary(x);
-    let on_y = grid.y_axis().on_boundary(y);
-    beside(s, n, on_x, on_y, grid.cols, cell(grid, x, y))
+    let in_x = neighbour(mode, grid.x_axis(), x);
+    let in_y = neighbour(mode, grid.y_axis(), y);
+    if nothing(in_x, in_y) {
+        return n;
+    }
+    beside(
+        s,
+        n,
+        in_x,
+        in_y,
+        grid.cols,
+        grid.rows * grid.cols,
+        cell(grid, x, y),
+    )
 }
 
 // Pushes what the line and its endpoints add to the n walked cells.
-pub(crate) fn completed(s: &mut [u32], n: usize, grid: Grid, line: Segment) -> usize
-    requires { ⌜ Shape (grid .cols) (grid .rows) ⌝ ∗ ⌜ 0 < grid .cols ⌝ ∗ ⌜ n + n * shareOf grid line + 6 ≤ length (now s) ⌝ }
-    ensures { λ r. ⌜ Complete (now (s .exit)) r (pushesOf grid line (take n (now (s .entry)))) ⌝ }
+pub(crate) fn completed(s: &mut [u32], n: usize, mode: Mode, grid: Grid, line: Segment) -> usize
+    requires { ⌜ Shape (grid .cols) (grid .rows) ⌝ ∗ ⌜ 0 < grid .cols ⌝ ∗ ⌜ n + n * shareOf mode grid line + 6 ≤ length (now s) ⌝ ∗ ⌜ Below (grid .rows * grid .cols) (take n (now s)) ⌝ }
+    ensures { λ r. ⌜ Complete (now (s .exit)) r (pushesOf mode grid line (take n (now (s .entry)))) ⌝ }
 {
-    let on_x = along(grid.x_axis(), line.start_x, line.end_x);
-    let on_y = along(grid.y_axis(), line.start_y, line.end_y);
-    let a = added(s, n, on_x, on_y, grid.cols);
-    let b = ended(s, a, grid, line.start_x, line.start_y);
-    ended(s, b, grid, line.end_x, line.end_y)
+    let x = along(mode, grid.x_axis(), line.start_x, line.end_x);
+    let y = along(mode, grid.y_axis(), line.start_y, line.end_y);
+    let a = added(s, n, x, y, grid.cols, grid.rows * grid.cols);
+    let b = ended(s, a, mode, grid, line.start_x, line.start_y);
+    ended(s, b, mode, grid, line.end_x, line.end_y)
 }

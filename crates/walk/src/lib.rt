@@ -12,8 +12,23 @@ use refusals::Refusal;
 use turns::started;
 use turns::way_of;
 ghost use mathlib.Core.Path.{_≡_};
+ghost use Prim.Native.Nat.{_≤_, _<_};
 ghost use lib.ListN.{length};
-ghost use Rattle.walk.specs.Segment.{entryCheck, entryOf, Walked, Entered};
+ghost use Rattle.grid.proofs.Shapes.{Shape};
+ghost use Rattle.walk.specs.Segment.{byTurns, entryCheck, entryOf, Walked, Entered};
+
+// Which cells a walk adds beside a boundary: those that the Rust adds, or by the side of the boundary that a value lies on.
+pub enum Mode {
+    Rust,
+    Sided,
+}
+
+// Which neighbour of a cell is added on an axis.
+pub enum Neighbour {
+    None,
+    Lower,
+    Upper,
+}
 
 // The number of cells, which stand in the lent scratch, or a refusal.
 pub enum Cells {
@@ -71,24 +86,17 @@ fn check_entry(grid: Grid, line: Segment, n: usize) -> Check
     grid::checks::check_grid(grid)
 }
 
-// The walk of one line inside a larger call: its cells, increasing, none twice, at the start of the scratch. What is beyond them there is not zeroed.
-// Refusals 3, 1, 8 and 7.
-pub fn segment_cells(grid: Grid, line: Segment, scratch: &mut [u32]) -> Cells
-    ensures { λ r. ⌜ Walked (entryOf (length (now (scratch .entry))) grid line) (now (scratch .entry)) r (now (scratch .exit)) ⌝ }
+// The walk by turns: the cells that it walks, with those that its mode adds. Refusal 7.
+fn by_turns(mode: Mode, grid: Grid, line: Segment, scratch: &mut [u32]) -> Cells
+    requires { ⌜ 16384 ≤ length (now scratch) ⌝ ∗ ⌜ Shape (grid .cols) (grid .rows) ⌝ ∗ ⌜ 0 < grid .cols ⌝ }
+    ensures { λ r. ⌜ Walked (byTurns mode grid line) (now (scratch .entry)) r (now (scratch .exit)) ⌝ }
 {
-    let check = check_entry(grid, line, scratch.len());
-    if let Check::Refused(r) = check {
-        return Cells::Refused(r);
-    }
-    if grid.cols == 0 {
-        return Cells::Found(0);
-    }
     let way = way_of(grid, line);
     let start = started(grid, line);
     let r = walked(scratch, grid.cols, grid.rows, way, start);
     match r {
         Ran::Done(n) => {
-            let m = completed(scratch, n, grid, line);
+            let m = completed(scratch, n, mode, grid, line);
             let count = ordering::order_and_keep(scratch, m);
             Cells::Found(count)
         },
@@ -102,11 +110,27 @@ pub fn segment_cells(grid: Grid, line: Segment, scratch: &mut [u32]) -> Cells
     }
 }
 
-// The walk of one segment: the same, and zero beyond the cells.
-pub fn cells_of_segment(grid: Grid, line: Segment, scratch: &mut [u32]) -> Cells
-    ensures { λ r. ⌜ Entered (entryOf (length (now (scratch .entry))) grid line) (now (scratch .entry)) r (now (scratch .exit)) ⌝ }
+// The walk of one line inside a larger call: its cells, increasing, none twice, at the start of the scratch. What is beyond them there is not zeroed.
+// Refusals 3, 1, 8 and 7.
+pub fn segment_cells(mode: Mode, grid: Grid, line: Segment, scratch: &mut [u32]) -> Cells
+    ensures { λ r. ⌜ Walked (entryOf mode (length (now (scratch .entry))) grid line) (now (scratch .entry)) r (now (scratch .exit)) ⌝ }
 {
-    let r = segment_cells(grid, line, scratch);
+    let check = check_entry(grid, line, scratch.len());
+    if let Check::Refused(r) = check {
+        return Cells::Refused(r);
+    }
+    if grid.cols == 0 {
+        return Cells::Found(0);
+    }
+    // Every mode walks by turns. One that does not would part from them here.
+    by_turns(mode, grid, line, scratch)
+}
+
+// The walk of one segment: the same, and zero beyond the cells.
+pub fn cells_of_segment(mode: Mode, grid: Grid, line: Segment, scratch: &mut [u32]) -> Cells
+    ensures { λ r. ⌜ Entered (entryOf mode (length (now (scratch .entry))) grid line) (now (scratch .entry)) r (now (scratch .exit)) ⌝ }
+{
+    let r = segment_cells(mode, grid, line, scratch);
     match r {
         Cells::Found(n) => {
             slices::clear_from(scratch, n);

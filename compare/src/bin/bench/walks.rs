@@ -4,7 +4,7 @@ use super::clock::Clock;
 use compare::model::SCRATCH;
 use compare::oracle::Lines;
 use compare::random::Random;
-use compare::{inner, Grid, Line};
+use compare::{inner, Grid, Line, Mode};
 use morelturret::sys;
 use std::hint::black_box;
 
@@ -93,5 +93,5 @@ pub fn times(clock: &Clock, r: &mut Random) {
     );
     compared(clock, r, inner::inner_walk, BAR);
     clock.head("Walk of one segment (mt_segment_cells): the port also clears 16,384 entries of scratch.");
-    compared(clock, r, sys::segment_cells, None);
+    compared(clock, r, |g, x0, y0, x1, y1, scratch, out| sys::segment_cells(g, x0, y0, x1, y1, Mode::Rust as u32, scratch, out), None);
 }

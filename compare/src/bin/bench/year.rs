@@ -6,7 +6,7 @@ use compare::kinds::build::Columns;
 use compare::model::{Standing, SCRATCH};
 use compare::oracle::{self, Built, Lines};
 use compare::random::Random;
-use compare::{cases, port, Sizing};
+use compare::{cases, port, Mode, Sizing};
 use std::hint::black_box;
 
 const BAR: Option<f64> = Some(1.0);
@@ -69,8 +69,8 @@ impl Lent {
 
 fn port_build(y: &Year, lent: &mut Lent) {
     let mut out = [0u64; 8];
-    let square = Sizing::Square as u32;
-    let number = port::build(y.columns.coordinates(), square, &mut lent.offsets, &mut lent.items, &mut lent.globals, &mut lent.scratch, &mut out);
+    let (square, mode) = (Sizing::Square as u32, Mode::Rust as u32);
+    let number = port::build(y.columns.coordinates(), square, mode, &mut lent.offsets, &mut lent.items, &mut lent.globals, &mut lent.scratch, &mut out);
     assert_eq!(number, 0);
     black_box((&*lent, &out));
 }

@@ -12,7 +12,7 @@ build-spec =
     (λ c. search needs)
     (λ c. search needs)
     (λ c. search needs)
-    (λ c. c .before .before .before .before .before .before .before .before .build-none .ensures _)
+    (λ c. c .before .before .before .before .before .before .before .before .build-none .ensures)
     (λ c κs. search needs)
     (λ c. search needs)
     (λ c. search needs)

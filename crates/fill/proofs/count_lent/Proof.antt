@@ -14,7 +14,7 @@ count-all-requires c κs = lent-walkable (sym (c .before .before .before .before
 returns-2 : tie.Need-returns-2
 returns-2 c =
     let k = c .before .before .before .before .count-all in
-    lent-counted (sym (c .before .before .before .before .before .before .before .before .before .check .ensures) ∙ c .before .before .before .before .before .before .before .enum-told .given .1) (k .ensures) (k .kept .1 .1 .1 .1 .1 .0) (k .kept .1 .1 .1 .1 .1 .1 .0)
+    lent-counted (sym (c .before .before .before .before .before .before .before .before .before .check .ensures) ∙ c .before .before .before .before .before .before .before .enum-told .given .1) (k .ensures) (k .kept .1 .1 .1 .1 .1 .1 .0) (k .kept .1 .1 .1 .1 .1 .1 .1 .0)
 
 pub count-lent-spec : {M : Type 1} → statement M
 count-lent-spec =

@@ -5,12 +5,12 @@ use Rattle.fill.proofs.fill_on.Statement.{statement}
 use Rattle.fill.proofs.fill_on.Tie as tie
 
 fill-counted-requires : tie.Need-fill-counted-requires
-fill-counted-requires c κs = fill-asks (c .before .before .before .before .before .before .before .before .before .before .before .count-lent .ensures) _ (c .before .before .before .before .before .counted .given .1) (c .before .before .before .before .before .before .before .before .before .before .before .count-lent .kept .1 .1 .1 .1 .1 .1 .0)
+fill-counted-requires c κs = fill-asks (c .before .before .before .before .before .before .before .before .before .before .before .count-lent .ensures) _ (c .before .before .before .before .before .counted .given .1) (c .before .before .before .before .before .before .before .before .before .before .before .count-lent .kept .1 .1 .1 .1 .1 .1 .1 .0)
 
 returns : tie.Need-returns
 returns c =
     let k = c .before .before .before .before .before .before .before .before .before .before .before .before .before .before .before .before .before .before .before .before .count-lent in
-    fill-done (k .ensures) _ _ (c .before .before .before .before .before .before .before .before .before .before .before .before .before .before .counted .given .1) (c .before .before .before .before .before .before .before .before .fill-counted .ensures) (k .kept .1 .1 .1 .1 .1 .0) (k .kept .1 .1 .1 .1 .1 .1 .0)
+    fill-done (k .ensures) _ _ (c .before .before .before .before .before .before .before .before .before .before .before .before .before .before .counted .given .1) (c .before .before .before .before .before .before .before .before .fill-counted .ensures) (k .kept .1 .1 .1 .1 .1 .1 .0) (k .kept .1 .1 .1 .1 .1 .1 .1 .0)
 
 returns-2 : tie.Need-returns-2
 returns-2 c = fill-refused (c .before .before .before .before .before .before .before .before .before .before .before .before .before .before .before .before .before .before .before .before .count-lent .ensures) _ _ (c .before .before .before .before .before .before .before .before .before .before .before .before .before .before .counted2 .given .1) (c .before .before .before .before .before .before .before .before .refuse .ensures)

@@ -1,10 +1,12 @@
--- `capi::walking::mt_segment_cells` meets its contract: an `out` that is short, words that are too few, or what the entry answers and leaves. Assumes nothing.
-use mathlib.Core.Path.{refl, ap}
+-- `capi::walking::mt_segment_cells` meets its contract: an `out` that is short, words that are too few, a number that names no mode of
+-- walk, or what the entry answers and leaves. Assumes nothing.
+use mathlib.Core.Path.{refl, ap, _∙_}
 use native.Mathlib.Omega.{arith}
 use Rattle.walk.specs.Segment.{Entered}
 use Rattle.replies.specs.Answers.{ofCells}
 use Rattle.replies.proofs.Handing.{short-replies}
-use Rattle.capi.proofs.Handing.{few-replies, asked}
+use Rattle.capi.specs.Unknown.{lastMode}
+use Rattle.capi.proofs.Handing.{few-replies, asked, named-answer, above-replies}
 use borrow.Author.Needs.{needs}
 use Rattle.capi.proofs.walking.mt_segment_cells.Statement.{statement}
 use Rattle.capi.proofs.walking.mt_segment_cells.Tie as tie
@@ -12,24 +14,37 @@ use Rattle.capi.proofs.walking.mt_segment_cells.Tie as tie
 returns : tie.Need-returns
 returns c =
     let s = c .if1 .taken in
-    record { replies = short-replies 1 _ _ s; called = λ h k. absurd (omega (arith, h)); short = λ h. refl; few = λ h. refl }
+    record { replies = short-replies 1 _ _ s; called = λ h k m. absurd (omega (arith, h)); short = λ h. refl; few = λ h. refl; unwalked = λ h. refl }
 
 returns-2 : tie.Need-returns-2
 returns-2 c =
     let s = c .if2 .taken in
-    record { replies = few-replies 1 _ _ _ (c .before .if1 .left) s; called = λ h k. absurd (omega (arith, k)); short = λ h. refl; few = λ h. refl }
+    record { replies = few-replies 1 _ _ _ (c .before .if1 .left) s; called = λ h k m. absurd (omega (arith, k)); short = λ h. refl; few = λ h. refl; unwalked = λ h. refl }
 
 returns-3 : tie.Need-returns-3
 returns-3 c =
-    let h = c .before .before .before .before .before .before .before .before .before .before .if1 .left in
-    let k = c .before .before .before .before .before .before .before .before .before .if2 .left in
+    let s = c .if3 .taken in
+    record {
+      replies = asked 1 _ (c .before .if2 .left) refl (above-replies lastMode 103 _ 1 _ _ (c .before .before .if1 .left) s);
+      called = λ h k m. absurd (omega (arith, m));
+      short = λ h. refl;
+      few = λ h. refl;
+      unwalked = λ h. refl;
+    }
+
+returns-4 : tie.Need-returns-4
+returns-4 c =
+    let h = c .before .before .before .before .before .before .before .before .before .before .before .before .if1 .left in
+    let k = c .before .before .before .before .before .before .before .before .before .before .before .if2 .left in
+    let m = c .before .before .before .before .before .before .before .before .before .before .if3 .left in
     let e = c .before .before .before .before .before .before .cells-of-segment .ensures in
-    rw (← c .before .before .before .before .before .before .before .before .grid-by .ensures)
+    rw (← c .before .before .before .before .before .before .before .before .before .mode-by .ensures, ← c .before .before .before .before .before .before .before .before .grid-by .ensures)
     (record {
-      replies = asked 1 _ k (ap ofCells (e .answer)) (c .before .before .cells .ensures);
-      called = λ _ _. record { answer = refl; left = e .left };
+      replies = asked 1 _ k (ap ofCells (e .answer) ∙ named-answer lastMode 103 _ _ m) (c .before .before .cells .ensures);
+      called = λ _ _ _. record { answer = refl; left = e .left };
       short = λ s. absurd (omega (arith, s));
       few = λ s. absurd (omega (arith, s));
+      unwalked = λ s. absurd (omega (arith, s));
     })
 
 pub mt-segment-cells-spec : {M : Type 1} → statement M
@@ -38,9 +53,11 @@ mt-segment-cells-spec =
     (tie.spec
     returns
     returns-2
+    returns-3
+    (λ c κs. search needs)
     (λ c κs. search needs)
     (λ c κs. search needs)
     (λ c κs. search needs)
     (λ c. search needs)
     (λ c. search needs)
-    returns-3)
+    returns-4)

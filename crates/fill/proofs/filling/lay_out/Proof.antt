@@ -14,14 +14,14 @@ returns c =
     let a = c .before .before .before .before .before .before .before .before .before .before .before .before .before .before .before .before .before .before .before .before .before .before .before .before .before .before .before .pre in
     let k = c .before .before .before .before .before .before .before .before .before .before .before .before .before .before .before .before .running-sums in
     let e = lay-total a _ (c .before .before .before .before .before .before .before .before .before .before .before .before .before .before .before .before .before .before .cell-count .ensures .0) (k .ensures) in
-    lay-refused a 5 _ (omega arith) (omega arith) (space-short _ _ _ _ _ _ e (a .all .found) (c .before .before .before .before .before .before .before .before .before .before .before .before .before .if1 .taken)) (c .before .before .before .before .before .before .before .before .refuse .ensures) (k .kept .0)
+    lay-refused a 5 _ (omega arith) (omega arith) (space-short _ _ _ _ _ _ _ e (a .all .found) (c .before .before .before .before .before .before .before .before .before .before .before .before .before .if1 .taken)) (c .before .before .before .before .before .before .before .before .refuse .ensures) (k .kept .0)
 
 returns-2 : tie.Need-returns-2
 returns-2 c =
     let a = c .before .before .before .before .before .before .before .before .before .before .before .before .before .before .before .before .before .before .before .before .before .before .before .before .before .before .before .before .pre in
     let k = c .before .before .before .before .before .before .before .before .before .before .before .before .before .before .before .before .before .running-sums in
     let e = lay-total a _ (c .before .before .before .before .before .before .before .before .before .before .before .before .before .before .before .before .before .before .before .cell-count .ensures .0) (k .ensures) in
-    lay-refused a 6 _ (omega arith) (omega arith) (space-globals _ _ _ _ _ _ e (a .all .found) (c .before .before .before .before .before .before .before .before .before .before .before .before .before .before .if1 .left) (c .before .before .before .before .before .before .before .before .before .before .before .before .before .if2 .taken)) (c .before .before .before .before .before .before .before .before .refuse2 .ensures) (k .kept .0)
+    lay-refused a 6 _ (omega arith) (omega arith) (space-globals _ _ _ _ _ _ _ e (a .all .found) (c .before .before .before .before .before .before .before .before .before .before .before .before .before .before .if1 .left) (c .before .before .before .before .before .before .before .before .before .before .before .before .before .if2 .taken)) (c .before .before .before .before .before .before .before .before .refuse2 .ensures) (k .kept .0)
 
 place-lines-requires : tie.Need-place-lines-requires
 place-lines-requires c κs =
@@ -33,7 +33,7 @@ returns-3 c =
     let k = c .before .before .before .before .before .before .before .before .before .before .before .before .before .before .before .before .before .before .before .before .before .before .before .before .before .before .before .before .before .before .before .before .before .running-sums in
     let p = c .before .before .before .before .before .before .before .before .before .before .before .before .before .before .before .before .place-lines in
     lay-made (c .before .before .before .before .before .before .before .before .before .before .before .before .before .before .before .before .before .before .before .before .before .before .before .before .before .before .before .before .before .before .before .before .before .before .before .before .before .before .before .before .before .before .before .before .pre) _ (c .before .before .before .before .before .before .before .before .before .before .before .before .before .before .before .before .before .before .before .before .before .before .before .before .before .before .before .before .before .before .before .before .before .before .before .cell-count .ensures .0) (k .ensures) (p .ensures) (c .before .before .before .before .before .before .shift-back .ensures) (c .before .before .clear3 .ensures)
-    (c .before .before .before .before .before .before .shift-back .kept .0 ∙ p .kept .1 .1 .1 .1 .1 .0 ∙ k .kept .0) (p .kept .1 .1 .1 .1 .1 .1 .0 ∙ c .before .before .before .before .before .before .before .before .before .before .before .before .before .before .before .before .before .before .before .before .before .before .before .before .before .before .before .clear .kept .0) (c .before .before .before .before .before .before .before .before .before .before .before .before .before .before .before .before .before .before .before .before .before .before .before .clear2 .kept .0) (p .kept .1 .1 .1 .1 .1 .1 .1 .1 .0) (c .before .before .before .before .before .before .before .before .before .before .before .before .before .before .before .before .before .before .before .before .before .before .before .before .before .before .before .before .before .before .if1 .left) (c .before .before .before .before .before .before .before .before .before .before .before .before .before .before .before .before .before .before .before .before .before .before .before .before .before .before .before .before .before .if2 .left)
+    (c .before .before .before .before .before .before .shift-back .kept .0 ∙ p .kept .1 .1 .1 .1 .1 .1 .0 ∙ k .kept .0) (p .kept .1 .1 .1 .1 .1 .1 .1 .0 ∙ c .before .before .before .before .before .before .before .before .before .before .before .before .before .before .before .before .before .before .before .before .before .before .before .before .before .before .before .clear .kept .0) (c .before .before .before .before .before .before .before .before .before .before .before .before .before .before .before .before .before .before .before .before .before .before .before .clear2 .kept .0) (p .kept .1 .1 .1 .1 .1 .1 .1 .1 .1 .0) (c .before .before .before .before .before .before .before .before .before .before .before .before .before .before .before .before .before .before .before .before .before .before .before .before .before .before .before .before .before .before .if1 .left) (c .before .before .before .before .before .before .before .before .before .before .before .before .before .before .before .before .before .before .before .before .before .before .before .before .before .before .before .before .before .if2 .left)
 
 pub lay-out-spec : {M : Type 1} → statement M
 lay-out-spec =

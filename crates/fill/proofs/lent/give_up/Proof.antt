@@ -9,7 +9,7 @@ use Rattle.fill.proofs.lent.give_up.Tie as tie
 returns : tie.Need-returns
 unfolding answerBy leftIn filledOf writtenIn
 returns c =
-    λ g ls.
+    λ mode g ls.
     record { answer = refl; offsets-are = c .before .before .before .before .before .before .before .before .before .before .before .before .before .before .clear .ensures; items-are = c .before .before .before .before .before .before .before .before .before .before .clear2 .ensures; globals-are = c .before .before .before .before .before .before .clear3 .ensures; scratch-is = c .before .before .clear4 .ensures }
 
 pub give-up-spec : {M : Type 1} → statement M

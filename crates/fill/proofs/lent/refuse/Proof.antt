@@ -9,7 +9,7 @@ use Rattle.fill.proofs.lent.refuse.Tie as tie
 returns : tie.Need-returns
 unfolding answerBy leftIn filledOf writtenIn
 returns c =
-    λ g ls.
+    λ mode g ls.
     record { answer = refl; offsets-are = c .before .before .before .before .before .before .before .before .before .before .before .before .before .before .leave .ensures; items-are = c .before .before .before .before .before .before .before .before .before .before .leave2 .ensures; globals-are = c .before .before .before .before .before .before .leave3 .ensures; scratch-is = c .before .before .leave4 .ensures }
 
 pub refuse-spec : {M : Type 1} → statement M

@@ -10,11 +10,11 @@ use Rattle.fill.proofs.passes.count_lines.Statement.{statement}
 use Rattle.fill.proofs.passes.count_lines.Tie as tie
 
 abbrev Inv-loop : tie.InvT-loop
-Inv-loop start-x start-y end-x end-y grid offsets₀ scratch₀ globals₀ i₀ offsets scratch globals i =
-    CountingAll grid (lines start-x start-y end-x end-y) offsets₀ scratch₀ offsets scratch globals i
+Inv-loop mode start-x start-y end-x end-y grid offsets₀ scratch₀ globals₀ i₀ offsets scratch globals i =
+    CountingAll mode grid (lines start-x start-y end-x end-y) offsets₀ scratch₀ offsets scratch globals i
 
 abbrev μ-loop : tie.MeasureT-loop
-μ-loop start-x start-y end-x end-y grid offsets₀ scratch₀ globals₀ i₀ offsets scratch globals i = length start-x - i
+μ-loop mode start-x start-y end-x end-y grid offsets₀ scratch₀ globals₀ i₀ offsets scratch globals i = length start-x - i
 
 loop-holds : tie.Need-loop-holds Inv-loop μ-loop
 loop-holds c = counting-all (c .before .before .before .before .before .before .pre)
@@ -31,13 +31,13 @@ loop-less c = let l = c .before .before .before .before .before .before .before 
 loop-again : tie.Need-loop-again Inv-loop μ-loop
 loop-again c =
     let h = rw (c .before .line .given .1) at (c .before .before .before .before .before .before .before .count-line .ensures) in
-    counting-next (c .before .before .before .before .before .before .before .before .before .before .before .loop .inv) (c .before .before .before .before .before .before .before .before .before .before .loop-test .taken) h (c .before .before .before .before .before .before .before .count-line .kept .1 .1 .1 .1 .1 .1 .0) (c .before .before .before .before .before .before .before .count-line .kept .1 .1 .1 .1 .1 .1 .1 .0)
+    counting-next (c .before .before .before .before .before .before .before .before .before .before .before .loop .inv) (c .before .before .before .before .before .before .before .before .before .before .loop-test .taken) h (c .before .before .before .before .before .before .before .count-line .kept .1 .1 .1 .1 .1 .1 .1 .0) (c .before .before .before .before .before .before .before .count-line .kept .1 .1 .1 .1 .1 .1 .1 .1 .0)
 
 same-length : tie.Need-same-length Inv-loop μ-loop
-same-length c = c .before .before .before .before .before .before .before .count-line .kept .1 .1 .1 .1 .1 .1 .0 ∙ c .before .before .before .before .before .before .before .before .before .before .before .loop .inv .len
+same-length c = c .before .before .before .before .before .before .before .count-line .kept .1 .1 .1 .1 .1 .1 .1 .0 ∙ c .before .before .before .before .before .before .before .before .before .before .before .loop .inv .len
 
 same-length-2 : tie.Need-same-length-2 Inv-loop μ-loop
-same-length-2 c = c .before .before .before .before .before .before .before .count-line .kept .1 .1 .1 .1 .1 .1 .1 .0 ∙ c .before .before .before .before .before .before .before .before .before .before .before .loop .inv .len-scratch
+same-length-2 c = c .before .before .before .before .before .before .before .count-line .kept .1 .1 .1 .1 .1 .1 .1 .1 .0 ∙ c .before .before .before .before .before .before .before .before .before .before .before .loop .inv .len-scratch
 
 returns : tie.Need-returns Inv-loop μ-loop
 returns c = counting-over (c .before .before .before .before .before .before .before .before .before .before .before .loop .inv) (c .before .before .before .before .before .before .before .before .before .before .loop-test .taken) _ (rw (c .before .line2 .given .1) at (c .before .before .before .before .before .before .before .count-line .ensures))

@@ -7,7 +7,7 @@ use Rattle.fill.proofs.passes.place_line.Statement.{statement}
 use Rattle.fill.proofs.passes.place_line.Tie as tie
 
 returns : tie.Need-returns
-returns c = absurd (never _ (c .before .before .before .before .before .before .before .before .before .before .before .before .before .pre .ended) (walk-refused _ _ _ _ (rw (c .enum-told .given .1) at (c .before .before .before .before .walk-line .ensures)) .0))
+returns c = absurd (never _ (c .before .before .before .before .before .before .before .before .before .before .before .before .before .pre .ended) (walk-refused _ _ _ _ _ (rw (c .enum-told .given .1) at (c .before .before .before .before .walk-line .ensures)) .0))
 
 returns-2 : tie.Need-returns-2
 returns-2 c =

@@ -8,11 +8,11 @@ use Rattle.fill.proofs.passes.place_lines.Statement.{statement}
 use Rattle.fill.proofs.passes.place_lines.Tie as tie
 
 abbrev Inv-loop : tie.InvT-loop
-Inv-loop start-x start-y end-x end-y grid offsets₀ items₀ globals₀ scratch₀ found₀ i₀ offsets items globals scratch found i =
-    PlacingAll grid (lines start-x start-y end-x end-y) offsets₀ items₀ globals₀ scratch₀ offsets items globals scratch found i
+Inv-loop mode start-x start-y end-x end-y grid offsets₀ items₀ globals₀ scratch₀ found₀ i₀ offsets items globals scratch found i =
+    PlacingAll mode grid (lines start-x start-y end-x end-y) offsets₀ items₀ globals₀ scratch₀ offsets items globals scratch found i
 
 abbrev μ-loop : tie.MeasureT-loop
-μ-loop start-x start-y end-x end-y grid offsets₀ items₀ globals₀ scratch₀ found₀ i₀ offsets items globals scratch found i =
+μ-loop mode start-x start-y end-x end-y grid offsets₀ items₀ globals₀ scratch₀ found₀ i₀ offsets items globals scratch found i =
     length start-x - i
 
 loop-holds : tie.Need-loop-holds Inv-loop μ-loop
@@ -33,7 +33,7 @@ loop-less c = let l = c .before .before .before .before .before .before .before 
 loop-again : tie.Need-loop-again Inv-loop μ-loop
 loop-again c =
     let p = c .before .before .before .before .before .before .before .before .before .before .place-line in
-    placing-next (c .before .before .before .before .before .before .before .before .before .before .before .before .before .before .before .loop .inv) (c .before .before .before .before .before .before .before .before .before .before .before .before .before .before .loop-test .taken) (p .ensures) (c .before .before .list-global .ensures) (p .kept .1 .1 .1 .1 .1 .1 .0) (p .kept .1 .1 .1 .1 .1 .1 .1 .0) (c .before .before .list-global .kept .1 .1 .1 .0) (p .kept .1 .1 .1 .1 .1 .1 .1 .1 .0)
+    placing-next (c .before .before .before .before .before .before .before .before .before .before .before .before .before .before .before .loop .inv) (c .before .before .before .before .before .before .before .before .before .before .before .before .before .before .loop-test .taken) (p .ensures) (c .before .before .list-global .ensures) (p .kept .1 .1 .1 .1 .1 .1 .1 .0) (p .kept .1 .1 .1 .1 .1 .1 .1 .1 .0) (c .before .before .list-global .kept .1 .1 .1 .0) (p .kept .1 .1 .1 .1 .1 .1 .1 .1 .1 .0)
 
 pub place-lines-spec : {M : Type 1} → statement M
 place-lines-spec =

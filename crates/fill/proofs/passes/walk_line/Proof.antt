@@ -8,13 +8,13 @@ returns : tie.Need-returns
 returns c =
     let w = c .before .before .before .before .before .segment-cells in
     let h = rw (c .before .before .before .before .before .before .before .segment-at .ensures) at (w .ensures) in
-    walk-found _ _ _ (c .before .before .before .before .before .before .before .before .before .before .before .before .before .pre) (w .result) h _ (c .before .cells .given .1)
+    walk-found _ _ _ _ (c .before .before .before .before .before .before .before .before .before .before .before .before .before .pre) (w .result) h _ (c .before .cells .given .1)
 
 returns-2 : tie.Need-returns-2
 returns-2 c =
     let w = c .before .before .before .before .segment-cells in
     let h = rw (c .before .before .before .before .before .before .segment-at .ensures) at (w .ensures) in
-    walk-over _ _ _ (c .before .before .before .before .before .before .before .before .before .before .before .before .pre) (w .result) h _ (c .enum-told .given .1)
+    walk-over _ _ _ _ (c .before .before .before .before .before .before .before .before .before .before .before .before .pre) (w .result) h _ (c .enum-told .given .1)
 
 pub walk-line-spec : {M : Type 1} → statement M
 walk-line-spec =

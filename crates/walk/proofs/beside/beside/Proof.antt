@@ -1,65 +1,42 @@
 -- `walk::beside::beside` meets its contract. Assumes nothing.
 use native.Mathlib.Omega.{arith}
 use borrow.Author.Needs.{needs}
-use Rattle.walk.specs.Segment.{besideOf}
-use Rattle.walk.proofs.Grows.{none, then}
-use Rattle.walk.proofs.Added.{share-both, share-col, share-row, col-le, row-le}
+use Rattle.walk.proofs.Added.{within-less, column-room, row-room, corner-room, corner-within, with-corner, without-corner}
 use Rattle.walk.proofs.beside.beside.Statement.{statement}
 use Rattle.walk.proofs.beside.beside.Tie as tie
 
-low-col-requires : tie.Need-low-col-requires
-low-col-requires c κs = (omega (arith, share-both _ _ (c .before .before .if1 .taken) (c .before .if2 .taken)), omega arith)
+column-requires : tie.Need-column-requires
+column-requires c κs = let p = c .before .before .pre in (column-room _ _ _ _ (p .0), within-less (p .1))
 
-low-row-requires : tie.Need-low-row-requires
-low-row-requires c κs = let p = c .before .before .before .low-col .ensures in omega (arith, share-both _ _ (c .before .before .before .before .before .before .if1 .taken) (c .before .before .before .before .before .if2 .taken), p .len, p .count, col-le (c .before .before .before .before .before .before .before .before .args .cols) (c .before .before .before .before .before .before .before .before .args .c))
+row-requires : tie.Need-row-requires
+row-requires c κs =
+    let p = c .before .before .before .before .before .before .pre in
+    (row-room _ _ _ _ (c .before .before .before .column .ensures) (p .0), within-less (p .1))
 
-corner-requires : tie.Need-corner-requires
-corner-requires c κs = let p = c .before .before .before .before .before .before .before .low-col .ensures in let q = c .before .before .before .low-row .ensures in let a = c .before .before .before .before .before .before .before .before .before .before .before .before .args in (omega (arith, share-both _ _ (c .before .before .before .before .before .before .before .before .before .before .if1 .taken) (c .before .before .before .before .before .before .before .before .before .if2 .taken), p .len, p .count, q .len, q .count, col-le (a .cols) (a .c), row-le (a .cols) (a .c)), omega arith)
-
-same-length : tie.Need-same-length
-same-length c = search needs
+row-requires-2 : tie.Need-row-requires-2
+row-requires-2 c κs =
+    let p = c .before .before .before .before .before .before .before .before .before .before .before .before .pre in
+    let a = c .before .before .before .before .before .before .before .before .before .column .ensures in
+    let b = c .before .before .before .before .before .row .ensures in
+    let h = c .before .before .if1 .taken in
+    (corner-room (omega arith) _ _ _ _ _ a b h (p .0), corner-within (omega arith) _ _ _ _ _ a b h (p .1))
 
 returns : tie.Need-returns
-unfolding besideOf
-returns c = rw (c .before .before .before .before .before .before .before .before .before .before .before .before .before .if1 .taken, c .before .before .before .before .before .before .before .before .before .before .before .before .if2 .taken) (then (then (c .before .before .before .before .before .before .before .before .before .before .low-col .ensures) (c .before .before .before .before .before .before .low-row .ensures)) (c .before .before .corner .ensures))
-
-low-col-requires-2 : tie.Need-low-col-requires-2
-low-col-requires-2 c κs = (omega (arith, share-col _ _ (c .before .before .if1 .taken) (c .before .if2 .left)), omega arith)
-
-same-length-2 : tie.Need-same-length-2
-same-length-2 c = search needs
+returns c = with-corner (omega arith) _ _ _ _ _ (c .before .before .before .before .before .before .before .before .before .before .before .before .column .ensures) (c .before .before .before .before .before .before .before .before .row .ensures) (c .before .before .before .before .before .if1 .taken) (c .before .before .row2 .ensures)
 
 returns-2 : tie.Need-returns-2
-unfolding besideOf
-returns-2 c = rw (c .before .before .before .before .before .if1 .taken, c .before .before .before .before .if2 .left) (c .before .before .low-col2 .ensures)
-
-low-row-requires-2 : tie.Need-low-row-requires-2
-low-row-requires-2 c κs = omega (arith, share-row _ _ (c .before .before .if1 .left) (c .before .if3 .taken))
-
-same-length-3 : tie.Need-same-length-3
-same-length-3 c = search needs
-
-returns-3 : tie.Need-returns-3
-unfolding besideOf
-returns-3 c = rw (c .before .before .before .before .before .if1 .left, c .before .before .before .before .if3 .taken) (c .before .before .low-row2 .ensures)
-
-returns-4 : tie.Need-returns-4
-unfolding besideOf
-returns-4 c = rw (c .before .if1 .left, c .if3 .left) (none (omega arith))
+returns-2 c = without-corner (omega arith) _ _ _ _ _ (c .before .before .before .before .before .before .before .column .ensures) (c .before .before .before .row .ensures) (c .if1 .left)
 
 pub beside-spec : {M : Type 1} → statement M
 beside-spec =
     tie.close
     (tie.spec
-    low-col-requires
-    low-row-requires
-    corner-requires
-    same-length
+    column-requires
+    row-requires
+    (λ c. search needs)
+    (λ c. search needs)
+    row-requires-2
+    (λ c. search needs)
     returns
-    low-col-requires-2
-    same-length-2
-    returns-2
-    low-row-requires-2
-    same-length-3
-    returns-3
-    returns-4)
+    (λ c. search needs)
+    returns-2)

@@ -1,18 +1,20 @@
 -- `walk::beside::besides` meets its contract. Assumes nothing.
 use Prim.Native.Nat.{_-_}
 use native.Mathlib.Omega.{arith}
-use Rattle.walk.proofs.Added.{Adding, added-more, added-room, added-start, added-done}
+use Rattle.walk.specs.Neighbours.{besideOf}
+use Rattle.walk.specs.Inside.{share}
+use Rattle.walk.proofs.Added.{beside-le, Adding, added-room, added-within, added-more, added-start, added-done}
 use Rattle.walk.proofs.beside.besides.Statement.{statement}
 use Rattle.walk.proofs.beside.besides.Tie as tie
 
 abbrev Inv-loop : tie.InvT-loop
-Inv-loop s₀ n on-x on-y cols m₀ i₀ s m i = Adding on-x on-y cols n s₀ i m s
+Inv-loop s₀ n x y cols cells m₀ i₀ s m i = Adding (besideOf x y cols cells) (share x y) n s₀ i m s
 
 abbrev μ-loop : tie.MeasureT-loop
-μ-loop s₀ n on-x on-y cols m₀ i₀ s m i = n - i
+μ-loop s₀ n x y cols cells m₀ i₀ s m i = n - i
 
 loop-holds : tie.Need-loop-holds Inv-loop μ-loop
-loop-holds c = added-start _ _ _ _ _ (c .before .pre .0)
+loop-holds c = added-start _ _ _ _ (c .before .pre .0)
 
 mul-c : tie.Need-mul-c Inv-loop μ-loop
 mul-c c = omega arith
@@ -24,13 +26,13 @@ add-i : tie.Need-add-i Inv-loop μ-loop
 add-i c = omega arith
 
 beside-requires : tie.Need-beside-requires Inv-loop μ-loop
-beside-requires c κs = (added-room (c .before .before .before .loop .inv) (omega arith), c .before .before .before .before .before .pre .1)
+beside-requires c κs = (added-room (c .before .before .before .loop .inv) (omega arith), added-within (c .before .before .before .loop .inv) _ _ (omega arith) (c .before .before .before .before .before .pre .1) (omega arith))
 
 loop-less : tie.Need-loop-less Inv-loop μ-loop
 loop-less c = omega arith
 
 loop-again : tie.Need-loop-again Inv-loop μ-loop
-loop-again c = added-more (c .before .before .before .before .before .before .loop .inv) (omega arith) (omega arith) (c .before .before .beside .ensures)
+loop-again c = added-more (c .before .before .before .before .before .before .loop .inv) (beside-le _ _ _ _) (omega arith) (omega arith) (c .before .before .beside .ensures)
 
 same-length : tie.Need-same-length Inv-loop μ-loop
 same-length c = c .before .loop .inv .grown .len

@@ -4,7 +4,7 @@ use Prim.Native.Nat.{_<_}
 use native.Mathlib.Omega.{arith}
 use borrow.Author.Needs.{needs}
 use Rattle.grid.specs.declared.Axis.{Axis}
-use Rattle.walk.specs.Segment.{cellOf}
+use Rattle.walk.specs.Neighbours.{cellOf}
 use Rattle.walk.proofs.Grows.{number}
 use Rattle.walk.proofs.Floats.{index-le}
 use Rattle.walk.proofs.beside.cell.Statement.{statement}

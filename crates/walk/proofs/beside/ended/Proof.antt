@@ -1,47 +1,52 @@
 -- `walk::beside::ended` meets its contract. Assumes nothing.
-use mathlib.Core.Path.{_≡_}
+use mathlib.Core.Path.{_≡_, sym, _∙_}
+use Prim.Native.Nat.{ℕ, _*_}
 use native.Mathlib.Omega.{arith}
 use borrow.Author.Needs.{needs}
-use Rattle.walk.specs.Segment.{besideOf, endOf}
-use Rattle.walk.proofs.Added.{share-le}
-use Rattle.walk.proofs.Grows.{same}
+use borrow.Author.Tests.{eqb-true}
+use Rattle.walk.specs.Neighbours.{besideOf, cellOf, endOf}
+use Rattle.walk.proofs.Added.{share-le, nothing-beside, cell-within}
+use Rattle.walk.proofs.Grows.{none, same}
 use Rattle.walk.proofs.beside.ended.Statement.{statement}
 use Rattle.walk.proofs.beside.ended.Tie as tie
 
-x-axis-requires : tie.Need-x-axis-requires
-x-axis-requires c κs = search needs
-
-on-boundary-requires : tie.Need-on-boundary-requires
-on-boundary-requires c κs = search needs
-
-y-axis-requires : tie.Need-y-axis-requires
-y-axis-requires c κs = search needs
-
-on-boundary-requires-2 : tie.Need-on-boundary-requires-2
-on-boundary-requires-2 c κs = search needs
-
-cell-requires : tie.Need-cell-requires
-cell-requires c κs = search needs
-
-beside-requires : tie.Need-beside-requires
-beside-requires c κs = (omega (arith, share-le (c .before .before .before .before .on-boundary .result) (c .before .before .on-boundary2 .result)), c .before .before .before .before .before .before .before .pre .1 .1)
-
-same-length : tie.Need-same-length
-same-length c = search needs
+-- what the endpoint adds, by its neighbours
+added : (c : tie.After-neighbour2) → let a = c .before .before .before .before .before .args in
+    besideOf (c .before .before .neighbour .result) (c .neighbour2 .result) (a .grid .cols) (a .grid .rows * a .grid .cols) (cellOf (a .grid) (a .x) (a .y))
+    ≡ endOf (a .mode) (a .grid) (a .x) (a .y)
+unfolding endOf
+added c = rw (c .before .before .neighbour .ensures, c .neighbour2 .ensures, c .before .before .before .x-axis .ensures, c .before .y-axis .ensures)
 
 returns : tie.Need-returns
-unfolding endOf
-returns c = let a = c .before .before .before .before .before .before .before .before .before .before .args in let e : besideOf (c .before .before .before .before .before .before .before .on-boundary .result) (c .before .before .before .before .before .on-boundary2 .result) (a .grid .cols) (c .before .before .before .cell .result) ≡ endOf (a .grid) (a .x) (a .y) = rw (c .before .before .before .before .before .before .before .on-boundary .ensures, c .before .before .before .before .before .on-boundary2 .ensures, c .before .before .before .cell .ensures, c .before .before .before .before .before .before .before .before .x-axis .ensures, c .before .before .before .before .before .before .y-axis .ensures) in same e (c .before .before .beside .ensures)
+returns c =
+    let n = c .before .before in
+    let e = eqb-true _ 0 (sym (c .before .nothing .ensures) ∙ c .if1 .taken) in
+    same (sym (nothing-beside _ _ _ _ e _) ∙ added n) (none (omega arith))
+
+beside-requires : tie.Need-beside-requires
+beside-requires c κs =
+    let n = c .before .before .before .before .before in
+    let p = n .before .before .before .before .before .pre in
+    (omega (arith, p .0, share-le (n .before .before .neighbour .result) (n .neighbour2 .result)), cell-within _ _ _ _ (c .cell .ensures) (p .1 .0) (p .1 .1))
+
+returns-2 : tie.Need-returns-2
+returns-2 c =
+    let n = c .before .before .before .before .before .before .before .before in
+    let k = c .before .before .before .cell .ensures in
+    same (rw k (added n)) (c .before .before .beside .ensures)
 
 pub ended-spec : {M : Type 1} → statement M
 ended-spec =
     tie.close
     (tie.spec
-    x-axis-requires
-    on-boundary-requires
-    y-axis-requires
-    on-boundary-requires-2
-    cell-requires
+    (λ c κs. search needs)
+    (λ c κs. search needs)
+    (λ c κs. search needs)
+    (λ c κs. search needs)
+    (λ c κs. search needs)
+    returns
+    (λ c. search needs)
+    (λ c κs. search needs)
     beside-requires
-    same-length
-    returns)
+    (λ c. search needs)
+    returns-2)

@@ -1,0 +1,27 @@
+-- `grid::axes::side_of` meets its contract. Assumes nothing.
+use borrow.Author.Needs.{needs}
+use Rattle.grid.specs.Axes.{sideOf}
+use Rattle.grid.proofs.axes.side_of.Statement.{statement}
+use Rattle.grid.proofs.axes.side_of.Tie as tie
+
+near-whole-requires : tie.Need-near-whole-requires
+near-whole-requires c κs = search needs
+
+round-half-away-requires : tie.Need-round-half-away-requires
+round-half-away-requires c κs = search needs
+
+returns : tie.Need-returns
+unfolding sideOf
+returns c = rw (← c .before .before .before .near-whole .ensures, c .before .before .if1 .taken, ← c .before .round-half-away .ensures, c .if2 .taken)
+
+returns-2 : tie.Need-returns-2
+unfolding sideOf
+returns-2 c = rw (← c .before .before .before .near-whole .ensures, c .before .before .if1 .taken, ← c .before .round-half-away .ensures, c .if2 .left)
+
+returns-3 : tie.Need-returns-3
+unfolding sideOf
+returns-3 c = rw (← c .before .near-whole .ensures, c .if1 .left)
+
+pub side-of-spec : {M : Type 1} → statement M
+side-of-spec =
+    tie.close (tie.spec near-whole-requires round-half-away-requires returns returns-2 returns-3)

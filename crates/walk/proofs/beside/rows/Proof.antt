@@ -1,0 +1,57 @@
+-- `walk::beside::rows` meets its contract. Assumes nothing.
+use Prim.Native.Nat.{_-_}
+use native.Mathlib.Omega.{arith}
+use Rattle.walk.specs.Neighbours.{rowOf}
+use Rattle.walk.specs.Inside.{manyOf}
+use Rattle.walk.proofs.Added.{row-le, within-less, Adding, added-room, added-within, added-more, added-start, added-done}
+use Rattle.walk.proofs.beside.rows.Statement.{statement}
+use Rattle.walk.proofs.beside.rows.Tie as tie
+
+abbrev Inv-loop : tie.InvT-loop
+Inv-loop s₀ n y cols cells m₀ i₀ s m i = Adding (rowOf y cols cells) (manyOf y) n s₀ i m s
+
+abbrev μ-loop : tie.MeasureT-loop
+μ-loop s₀ n y cols cells m₀ i₀ s m i = n - i
+
+loop-holds : tie.Need-loop-holds Inv-loop μ-loop
+loop-holds c = added-start _ _ _ _ (c .before .pre .0)
+
+mul-c : tie.Need-mul-c Inv-loop μ-loop
+mul-c c = omega arith
+
+slice-read-c : tie.Need-slice-read-c Inv-loop μ-loop
+slice-read-c c = omega arith
+
+add-i : tie.Need-add-i Inv-loop μ-loop
+add-i c = omega arith
+
+row-requires : tie.Need-row-requires Inv-loop μ-loop
+row-requires c κs = (added-room (c .before .before .before .loop .inv) (omega arith), within-less (added-within (c .before .before .before .loop .inv) _ _ (omega arith) (c .before .before .before .before .before .pre .1) (omega arith)))
+
+loop-less : tie.Need-loop-less Inv-loop μ-loop
+loop-less c = omega arith
+
+loop-again : tie.Need-loop-again Inv-loop μ-loop
+loop-again c = added-more (c .before .before .before .before .before .before .loop .inv) (row-le _ _ _) (omega arith) (omega arith) (c .before .before .row .ensures)
+
+same-length : tie.Need-same-length Inv-loop μ-loop
+same-length c = c .before .loop .inv .grown .len
+
+returns : tie.Need-returns Inv-loop μ-loop
+returns c = added-done (c .before .loop .inv) (omega arith)
+
+pub rows-spec : {M : Type 1} → statement M
+rows-spec =
+    tie.close
+    (tie.spec
+    Inv-loop
+    μ-loop
+    loop-holds
+    mul-c
+    slice-read-c
+    add-i
+    row-requires
+    loop-less
+    loop-again
+    same-length
+    returns)

@@ -43,7 +43,7 @@ extern "C" {
 /* What is returned, and the value that is then in out[0]. README.md, "Refusals", has the same as a table, with what to do about each. */
 enum {
     MT_OK = 0,
-    MT_BAD_COORDINATE = 1,  /* a coordinate is not finite or above 1e9 in magnitude: the first such line (0 for a point or one segment) */
+    MT_BAD_COORDINATE = 1,  /* a coordinate is not finite or above 1e9 in magnitude: the first such line, or of many points the first (0 for one point or one segment) */
     MT_TOO_MANY_LINES = 2,  /* more than 65,536 lines: the number of lines */
     MT_BAD_LENGTHS = 3,     /* slices that belong together differ in length, or one is too short: 0 */
     MT_SHORT_OFFSETS = 4,   /* a grid tried has more cells + 1 than the lent offsets: that cells + 1 */
@@ -80,6 +80,10 @@ enum { MT_GRID = 0 };
 
 /* Whose a point is: outside the grid, a cell's, or in a seam between cells, which nobody owns. */
 enum { MT_OUTSIDE = 0, MT_OWNED = 1, MT_SEAM = 2 };
+
+/* The numbers of these two among the answers for many points, above that of every cell. */
+#define MT_SEAM_NUMBER UINT32_C(4294967294)
+#define MT_OUTSIDE_NUMBER UINT32_C(4294967295)
 
 /* ---- numbers: total on every double, nothing is refused ----
  *
@@ -142,6 +146,13 @@ uint32_t mt_overlap_owned(const uint64_t *grid, size_t grid_len, uint32_t row, u
  * out (3 words): MT_OWNED, its row, its column; MT_SEAM, 0, 0; or MT_OUTSIDE, 0, 0.
  * Refuses by 1, 8. */
 uint32_t mt_owner(const uint64_t *grid, size_t grid_len, double x, double y, uint64_t *out, size_t out_len);
+
+/* Whose each of many points (x[i], y[i]) is, as mt_owner says it for one: answers[i] is the number of its cell, row * cols + column; MT_SEAM_NUMBER
+ * in a seam; or MT_OUTSIDE_NUMBER. The three slices have one length, and every answer is written.
+ * out (1 word): nothing.
+ * Refuses by 3, 1 (the first such point), 8; each of them changes no answer. */
+uint32_t mt_owners(const uint64_t *grid, size_t grid_len, const double *x, size_t x_len, const double *y, size_t y_len,
+                   uint32_t *answers, size_t answers_len, uint64_t *out, size_t out_len);
 
 /* ---- the walk ---- */
 

@@ -11,6 +11,7 @@ pub mod build;
 pub mod lists;
 pub mod numbers;
 pub mod own;
+pub mod owners;
 pub mod seams;
 pub mod sided;
 pub mod snap;

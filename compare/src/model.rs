@@ -861,6 +861,32 @@ pub fn owner(g: &Grid, x: f64, y: f64, out: &mut [u64]) -> u32 {
     0
 }
 
+/// answers: for each point the number of the cell that owns it, 2^32 - 2 in a seam, 2^32 - 1 outside. A refusal leaves them.
+pub fn owners(g: &Grid, x: &[f64], y: &[f64], answers: &mut [u32], out: &mut [u64]) -> u32 {
+    if x.len() != y.len() || x.len() != answers.len() {
+        out[0] = 0;
+        return 3;
+    }
+    if let Some(bad) = x.iter().zip(y).position(|(&x, &y)| !coordinate_fits(x) || !coordinate_fits(y)) {
+        out[0] = bad as u64;
+        return 1;
+    }
+    if !grid_fits(g) {
+        out[0] = 0;
+        return 8;
+    }
+    for (answer, (&x, &y)) in answers.iter_mut().zip(x.iter().zip(y)) {
+        let mut one = [0; 3];
+        owner(g, x, y, &mut one);
+        *answer = match one {
+            [1, row, col] => (row * g.cols as u64 + col) as u32,
+            [2, ..] => u32::MAX - 1,
+            _ => u32::MAX,
+        };
+    }
+    0
+}
+
 fn snapped(v: f64, size: f64) -> f64 {
     if size == 0.0 {
         return v;

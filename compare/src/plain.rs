@@ -75,3 +75,12 @@ pub fn owner(g: &Grid, x: f64, y: f64) -> Option<(u32, u32)> {
     let row = first(g.min_y, g.cell_height, g.rows, y)?;
     Some((row, col))
 }
+
+/// The number of the cell that owns each point, and 2^32 - 1 where none does.
+#[inline(never)]
+pub fn owners(g: &Grid, x: &[f64], y: &[f64], answers: &mut [u32]) {
+    for (answer, (&x, &y)) in answers.iter_mut().zip(x.iter().zip(y)) {
+        let cell = first(g.min_x, g.cell_width, g.cols, x).and_then(|col| Some((first(g.min_y, g.cell_height, g.rows, y)?, col)));
+        *answer = cell.map_or(u32::MAX, |(row, col)| row * g.cols + col);
+    }
+}

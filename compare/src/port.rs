@@ -94,3 +94,9 @@ pub fn overlap_owned(g: &Grid, row: u32, col: u32, x: f64, y: f64, size: f64, st
 pub fn owner(g: &Grid, x: f64, y: f64, out: &mut [u64]) -> u32 {
     sys::owner(&g.words(), x, y, out)
 }
+
+/// answers: for each point the number of its cell, 2^32 - 2 in a seam, 2^32 - 1 outside. out: nothing, or a refusal's value.
+#[inline]
+pub fn owners(g: &Grid, x: &[f64], y: &[f64], answers: &mut [u32], out: &mut [u64]) -> u32 {
+    sys::owners(&g.words(), x, y, answers, out)
+}

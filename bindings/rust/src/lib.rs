@@ -55,7 +55,7 @@ mod walk;
 
 pub use lines::{LineVec, Lines};
 pub use mode::{Mode, Plan};
-pub use place::{overlap_owned, owner, point_owned, snap, strategies_agree, Grid, Owner, Strategy};
+pub use place::{overlap_owned, owner, owners, point_owned, snap, strategies_agree, Grid, Owner, Strategy};
 pub use read::{read_line_string, read_points};
 pub use refusal::Refusal;
 pub use sizing::Sizing;

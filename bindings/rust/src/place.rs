@@ -141,6 +141,23 @@ pub enum Owner {
     Outside,
 }
 
+impl Owner {
+    /// The number of a seam among the answers of [`owners`].
+    pub const SEAM: u32 = u32::MAX - 1;
+    /// The number of "outside" among the answers of [`owners`].
+    pub const OUTSIDE: u32 = u32::MAX;
+
+    /// The owner that a number among the answers of [`owners`] stands for, on a grid of so many columns. A number below the two constants is a
+    /// cell's; that the grid has such a cell is not asked.
+    pub fn by_number(number: u32, cols: u32) -> Owner {
+        match number {
+            Owner::SEAM => Owner::Seam,
+            Owner::OUTSIDE => Owner::Outside,
+            _ => Owner::Cell { row: number.checked_div(cols).unwrap_or(0), col: number.checked_rem(cols).unwrap_or(number) },
+        }
+    }
+}
+
 /// Whose the point (x, y) is: the first cell in row order that owns it, or else a seam, or outside.
 ///
 /// Refuses by 1 (a coordinate), 8 (the grid).
@@ -160,4 +177,24 @@ pub fn owner(grid: Grid, x: f64, y: f64) -> Result<Owner, Refusal> {
         2 => Owner::Seam,
         _ => Owner::Outside,
     })
+}
+
+/// Whose each of many points is, as [`owner`] says it for one: `answers[i]` is the number of the cell that owns (`x[i]`, `y[i]`), which is row *
+/// cols + column, or [`Owner::SEAM`], or [`Owner::OUTSIDE`]. The three slices have one length. A refusal changes no answer.
+///
+/// Refuses by 3 (the lengths), 1 (a coordinate: the first such point), 8 (the grid).
+///
+/// ```
+/// use morelturret::{owners, Grid, Owner};
+///
+/// let grid = Grid { min_x: 0.0, min_y: 0.0, cell_width: 0.1, cell_height: 1.0, cols: 7, rows: 4 };
+/// let mut answers = [0; 3];
+/// owners(grid, &[0.25, 0.6, 0.8], &[1.0; 3], &mut answers)?;
+/// assert_eq!(answers, [9, Owner::SEAM, Owner::OUTSIDE]);
+/// assert_eq!(Owner::by_number(answers[0], grid.cols), Owner::Cell { row: 1, col: 2 });
+/// # Ok::<(), morelturret::Refusal>(())
+/// ```
+pub fn owners(grid: Grid, x: &[f64], y: &[f64], answers: &mut [u32]) -> Result<(), Refusal> {
+    let [_] = answer(|out| sys::owners(&grid.words(), x, y, answers, out))?;
+    Ok(())
 }

@@ -25,6 +25,8 @@ extern "C" {
     fn mt_overlap_owned(grid: *const u64, grid_len: usize, row: u32, col: u32, x: f64, y: f64, size: f64, strategy: u32,
         out: *mut u64, out_len: usize) -> u32;
     fn mt_owner(grid: *const u64, grid_len: usize, x: f64, y: f64, out: *mut u64, out_len: usize) -> u32;
+    fn mt_owners(grid: *const u64, grid_len: usize, x: *const f64, x_len: usize, y: *const f64, y_len: usize,
+        answers: *mut u32, answers_len: usize, out: *mut u64, out_len: usize) -> u32;
     fn mt_segment_cells(grid: *const u64, grid_len: usize, start_x: f64, start_y: f64, end_x: f64, end_y: f64, mode: u32,
         scratch: *mut u32, scratch_len: usize, out: *mut u64, out_len: usize) -> u32;
     fn mt_build(start_x: *const f64, start_x_len: usize, start_y: *const f64, start_y_len: usize, end_x: *const f64, end_x_len: usize,
@@ -141,6 +143,14 @@ pub fn overlap_owned(grid: &[u64], row: u32, col: u32, x: f64, y: f64, size: f64
 pub fn owner(grid: &[u64], x: f64, y: f64, out: &mut [u64]) -> u32 {
     // SAFETY: numbers by value, and Rust slices that are lent for this call.
     unsafe { mt_owner(grid.as_ptr(), grid.len(), x, y, out.as_mut_ptr(), out.len()) }
+}
+
+/// `mt_owners` of the header.
+#[inline]
+pub fn owners(grid: &[u64], x: &[f64], y: &[f64], answers: &mut [u32], out: &mut [u64]) -> u32 {
+    // SAFETY: numbers by value, and Rust slices that are lent for this call.
+    unsafe { mt_owners(grid.as_ptr(), grid.len(), x.as_ptr(), x.len(), y.as_ptr(), y.len(), answers.as_mut_ptr(), answers.len(),
+        out.as_mut_ptr(), out.len()) }
 }
 
 /// `mt_segment_cells` of the header.

@@ -10,10 +10,11 @@ const FOUR: Grid = Grid { min_x: 0.0, min_y: 0.0, cell_width: 1.0, cell_height: 
 type Asked = (&'static str, fn(&[u64], &mut [u64]) -> u32, usize);
 
 /// Every function that takes a grid, each with arguments that it answers, on a grid of no lines but for the points.
-const TAKEN: [Asked; 9] = [
+const TAKEN: [Asked; 10] = [
     ("point_owned", |grid, out| sys::point_owned(grid, 0, 0, 0.5, 0.5, out), 1),
     ("overlap_owned", |grid, out| sys::overlap_owned(grid, 0, 0, 0.5, 0.5, 0.0, Strategy::Grid as u32, out), 1),
     ("owner", |grid, out| sys::owner(grid, 0.5, 0.5, out), 3),
+    ("owners", |grid, out| sys::owners(grid, &[0.5; 2], &[0.5; 2], &mut [7; 2], out), 1),
     ("segment_cells", |grid, out| sys::segment_cells(grid, 0.5, 0.5, 2.5, 0.5, Mode::Sided as u32, &mut vec![7; SCRATCH], out), 1),
     ("check_tables", |grid, out| sys::check_tables(grid, 0, &[0; 17], &[], &[], 0, out), 1),
     ("cell_list", |grid, out| sys::cell_list(grid, 0, &[0; 17], &[], &[], 0, 0, 0, out), 2),

@@ -58,7 +58,7 @@ fn sided_walks() {
 }
 
 #[test]
-fn owners() {
+fn who_owns_a_point() {
     assert_eq!(point_owned(FOUR, 0, 1, 1.0, 0.5), Ok(true), "P7");
     assert_eq!(point_owned(FOUR, 0, 0, 1.0, 0.5), Ok(false), "P7");
     assert_eq!(point_owned(FOUR, 3, 3, 4.0, 4.0), Ok(true), "P8");
@@ -96,6 +96,25 @@ fn seams() {
     assert_eq!(owner(Grid { cols: 0, rows: 0, ..tenths }, 0.0, 0.0), Ok(Owner::Outside), "no cells, no seam");
     let near_281 = Grid { min_x: 281.0, min_y: 36.0, cell_width: 0.4, cell_height: 0.05, cols: 5, rows: 5 };
     assert_eq!(owner(near_281, 281.79999999999995, 36.02), Ok(Owner::Seam), "docs/FINDINGS.md, 3");
+}
+
+/// Each answer for many points is that for one.
+#[test]
+fn many_owners() {
+    let tenths = Grid { cell_width: 0.1, cell_height: 0.1, cols: 7, rows: 7, ..FOUR };
+    let at: Vec<f64> = (-2..20).map(|i| i as f64 * 0.05).chain([0.6000000000000001, 1e9, -1e9, -0.0, 5e-324]).collect();
+    for grid in [tenths, FOUR, Grid { cols: 0, rows: 0, ..FOUR }] {
+        let (x, y): (Vec<f64>, Vec<f64>) = at.iter().flat_map(|&x| at.iter().map(move |&y| (x, y))).unzip();
+        let mut answers = vec![JUNK; x.len()];
+        assert_eq!(owners(grid, &x, &y, &mut answers), Ok(()));
+        for (i, &number) in answers.iter().enumerate() {
+            assert_eq!(owner(grid, x[i], y[i]), Ok(Owner::by_number(number, grid.cols)), "{} {}", x[i], y[i]);
+        }
+    }
+    let mut answers = [JUNK; 4];
+    assert_eq!(owners(tenths, &[0.25, 0.6, 0.8, 0.7], &[0.25, 0.05, 0.05, 0.7], &mut answers), Ok(()));
+    assert_eq!(answers, [2 * 7 + 2, Owner::SEAM, Owner::OUTSIDE, 6 * 7 + 6]);
+    assert_eq!(owners(FOUR, &[], &[], &mut []), Ok(()), "no points");
 }
 
 #[test]

@@ -60,6 +60,10 @@ fn one_a_coordinate() {
         assert_eq!(of(point_owned(FOUR, 0, 0, 0.0, bad)), (1, 0));
         assert_eq!(of(overlap_owned(FOUR, 0, 0, bad, 0.0, 1.0, Strategy::Grid)), (1, 0));
         assert_eq!(of(owner(FOUR, 0.0, bad)), (1, 0));
+        let mut answers = [JUNK; 4];
+        assert_eq!(of(owners(FOUR, &[0.5, 0.5, bad, 0.5], &[0.5, 0.5, 0.5, bad], &mut answers)), (1, 2), "the first such point");
+        assert_eq!(of(owners(UNFIT, &[0.5, 0.5, 0.5, 0.5], &[0.5, bad, 0.5, bad], &mut answers)), (1, 1), "1 before 8");
+        assert_eq!(answers, [JUNK; 4], "one bad point, and nothing is written");
         let mut scratch = vec![JUNK; SCRATCH];
         assert_eq!(of(segment_cells(FOUR, (0.0, 0.0), (bad, 0.0), Mode::Rust, &mut scratch)), (1, 0));
         assert!(scratch.iter().all(|&entry| entry == JUNK));
@@ -96,6 +100,11 @@ fn three_lengths() {
     ];
     let owned = square();
     let tables = Tables::of(owned.lines()).unwrap();
+    for (x, y, n) in [(3, 4, 4), (4, 3, 4), (4, 4, 3), (4, 4, 0), (0, 0, 1), (0, 1, 0)] {
+        let mut answers = [JUNK; 4];
+        assert_eq!(of(owners(UNFIT, &[f64::NAN; 4][..x], &v[..y], &mut answers[..n])), (3, 0), "3 before 1 and 8");
+        assert_eq!(answers, [JUNK; 4]);
+    }
     for lines in unequal {
         assert_eq!(refused_build(lines, ROOM, SCRATCH), ((3, 0), LEFT));
         assert_eq!(of(Tables::of(lines)), (3, 0));
@@ -197,6 +206,10 @@ fn eight_an_unfit_grid() {
         assert_eq!(of(point_owned(grid, 0, 0, 0.5, 0.5)), (8, 0));
         assert_eq!(of(overlap_owned(grid, 0, 0, 0.5, 0.5, 1.0, Strategy::Grid)), (8, 0));
         assert_eq!(of(owner(grid, 0.5, 0.5)), (8, 0));
+        let mut answers = [JUNK; 2];
+        assert_eq!(of(owners(grid, &[0.5; 2], &[0.5; 2], &mut answers)), (8, 0));
+        assert_eq!(of(owners(grid, &[], &[], &mut [])), (8, 0), "8 where there are no points too");
+        assert_eq!(answers, [JUNK; 2]);
         let standing = Standing { grid, ..tables.standing() };
         assert_eq!(of(standing.check_tables()), (8, 0));
         assert_eq!(of(Standing { offsets: &[], ..standing }.check_tables()), (8, 0), "8 before 10");

@@ -4,10 +4,10 @@
 //! The port takes part in every kind: --port may be said, and changes nothing.
 //! Ends with status 1 at the first difference.
 
-use compare::kinds::{self, build, lists, numbers, own, seams, sided, snap, straight, strategies, visit, walk, wkb};
+use compare::kinds::{self, build, lists, numbers, own, owners, seams, sided, snap, straight, strategies, visit, walk, wkb};
 
 /// The kinds, with the cases of a full run.
-const KINDS: [(&str, u64); 19] = [
+const KINDS: [(&str, u64); 21] = [
     ("sample", 1),
     ("numbers", 10_000_000),
     ("walk", 1_000_000),
@@ -27,6 +27,8 @@ const KINDS: [(&str, u64); 19] = [
     ("seams", 20_000),
     ("sided-walk", 1_000_000),
     ("sided-build", 2_000),
+    ("owners", 1_100),
+    ("axes-owners", 1_100),
 ];
 
 fn main() {
@@ -66,7 +68,9 @@ fn main() {
             "axes-own" => kinds::run::<own::Own<true>>(seed, n, vec![]),
             "seams" => kinds::run::<seams::Seams>(seed, n, seams::found(seed, n / 200 + 1)),
             "sided-walk" => kinds::run::<sided::SidedWalk>(seed, n, sided::fixed_walks()),
-            _ => kinds::run::<sided::SidedBuild>(seed, n, sided::fixed_builds(seed)),
+            "sided-build" => kinds::run::<sided::SidedBuild>(seed, n, sided::fixed_builds(seed)),
+            "owners" => kinds::run::<owners::Owners<false>>(seed, n, vec![]),
+            _ => kinds::run::<owners::Owners<true>>(seed, n, vec![]),
         };
         println!("  (seed {seed}, {:.1} s)", begun.elapsed().as_secs_f64());
         if !right {

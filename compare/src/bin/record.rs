@@ -75,7 +75,7 @@ type Draw = fn(&mut Random, usize) -> (&'static str, Vec<Line>);
 struct File {
     words: Vec<u64>,
     records: u32,
-    kinds: [(u32, usize); 11],
+    kinds: [(u32, usize); 12],
 }
 
 impl File {
@@ -385,6 +385,45 @@ impl File {
         }
     }
 
+    /// The owners of many points in one call, refused ones among them: each answer is the single one's.
+    fn many(&mut self, r: &mut Random) {
+        let tenths = Grid { min_x: 0.0, min_y: 0.0, cell_width: 0.1, cell_height: 0.1, cols: 7, rows: 7 };
+        let fixed = (tenths, vec![0.25, 0.6, 0.6, 0.7, 0.8, 0.0], vec![0.25, 0.05, 0.8, 0.7, 0.05, 0.0], 6);
+        let none = (tenths, vec![], vec![], 0);
+        let drawn = (0..16).map(|i| {
+            let mut grid = if i % 2 == 0 { cases::grid(r) } else { cases::oblong(r) };
+            let mut along = |low: f64, size: f64, count: u32| -> Vec<f64> { (0..30).map(|_| cases::coordinate(r, low, size, count)).collect() };
+            let mut x = along(grid.min_x, grid.cell_width, grid.cols);
+            let mut y = along(grid.min_y, grid.cell_height, grid.rows);
+            // one of each refusal, and two at once
+            match i {
+                10 => x[7] = f64::NAN,
+                11 => (y[0], x[29]) = (2e9, 2e9),
+                12 => grid.rows = 0,
+                13 => drop(x.pop()),
+                14 => (y[29], grid.cell_width) = (f64::INFINITY, 0.0),
+                _ => {}
+            }
+            (grid, x, y, if i == 15 { 29 } else { 30 })
+        });
+        for (grid, x, y, room) in [fixed, none].into_iter().chain(drawn.collect::<Vec<_>>()) {
+            let (mut answers, mut out) = (vec![0; room], [0; 1]);
+            let number = model::owners(&grid, &x, &y, &mut answers, &mut out);
+            if number == 0 {
+                for (answer, (&x, &y)) in answers.iter_mut().zip(x.iter().zip(&y)) {
+                    *answer = match own::scan(&grid, x, y) {
+                        [1, row, col] => row as u32 * grid.cols + col as u32,
+                        [2, ..] => u32::MAX - 1,
+                        _ => u32::MAX,
+                    };
+                }
+            }
+            let floats = |words: Words, v: &[f64]| words.list(v.iter().map(|&v| bits(v)).collect::<Vec<_>>().into_iter());
+            let question = floats(floats(Words::new().word(room as u64).grid(&grid), &x), &y);
+            self.put(11, question, Words::answer(number, out[0], &[0]).written(&answers));
+        }
+    }
+
     fn snaps(&mut self, r: &mut Random) {
         use compare::kinds::{snap, Kind};
         let fixed = [(0.49999999999999994, -2.5, 1.0, 0), (0.49999999999999994, -2.5, 1.0, 1), (-0.0, 0.0, 1.0, 0), (-0.0, 0.0, 1.0, 2)];
@@ -426,7 +465,7 @@ fn main() {
     }
     let path = path.expect("record [--seed S] OUT");
     let r = &mut Random::new(seed);
-    let mut file = File { words: Vec::new(), records: 0, kinds: [(0, 0); 11] };
+    let mut file = File { words: Vec::new(), records: 0, kinds: [(0, 0); 12] };
     file.numbers(r);
     file.walks(r);
     file.builds(r);
@@ -436,11 +475,12 @@ fn main() {
     file.axes(r);
     file.strategies(r);
     file.seams(r);
+    file.many(r);
     let records = file.records;
     let bytes: Vec<u8> = file.words.iter().flat_map(|w| w.to_le_bytes()).collect();
     std::fs::write(&path, &bytes).unwrap_or_else(|e| panic!("{path}: {e}"));
     println!("{records} records, {} bytes, seed {seed}", bytes.len());
-    let names = ["", "numbers", "walks", "builds", "batches", "tests", "points owned", "overlaps owned", "owners", "snaps", "strategies"];
+    let names = ["", "numbers", "walks", "builds", "batches", "tests", "points owned", "overlaps owned", "owners", "snaps", "strategies", "owners of many"];
     for (name, (count, bytes)) in names.iter().zip(file.kinds).skip(1) {
         println!("  {name}: {count}, {bytes} bytes");
     }

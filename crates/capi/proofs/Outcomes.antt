@@ -17,10 +17,11 @@ use Rattle.wkb.proofs.Outcomes as wkb
 use Rattle.walk.specs.Pushes.{Outcome}
 use Rattle.walk.proofs.Outcomes as walk
 use Rattle.build.proofs.Theorems as build
+use Rattle.own.proofs.ManyEnds as own
 use Rattle.visit.proofs.Outcomes as visit
 use Rattle.replies.proofs.Outcomes.{one-outcome}
 use Rattle.capi.specs.Unknown.{lastSizing, lastMode}
-use Rattle.capi.specs.Lent.{ReadReplies, WalkReplies, BuildReplies, BatchReplies}
+use Rattle.capi.specs.Lent.{ReadReplies, WalkReplies, OwnersReplies, BuildReplies, BatchReplies}
 
 -- `out` has the n words of a result, or is short
 by-room : (n : ℕ) (out : List ℕ) {P : Type 0} → (n ≤ length out → P) → (length out < n → P) → P
@@ -63,6 +64,16 @@ walk-one-outcome {words} {mode} {out = out} h k =
       by-words 1 out words
           (λ l m. by-name lastMode mode (λ n. walk.one-outcome (h .called l m n) (k .called l m n) .1) (λ n. h .unwalked n ∙ sym (k .unwalked n)))
           (λ l. h .short l ∙ sym (k .short l)) (λ m. h .few m ∙ sym (k .few m)),
+    )
+
+pub owners-one-outcome : {words : List ℕ} {g : Grid} {xs ys : List Float} {answers answers′ answers₁ out out′ out₁ : List ℕ} {r r₁ : ℕ}
+    → OwnersReplies words g xs ys answers out r answers′ out′ → OwnersReplies words g xs ys answers out r₁ answers₁ out₁
+    → (r ≡ r₁) × (out′ ≡ out₁) × (answers′ ≡ answers₁)
+owners-one-outcome {words} {out = out} h k =
+    let a = one-outcome (h .replies) (k .replies) in (
+      a .0,
+      a .1,
+      by-words 1 out words (λ l m. own.one-outcome (h .called l m) (k .called l m) .1) (λ l. h .short l ∙ sym (k .short l)) (λ m. h .few m ∙ sym (k .few m)),
     )
 
 pub build-one-outcome : {sizing mode : ℕ} {ls : Lines} {o o′ o₁ t t′ t₁ gs gs′ gs₁ s s′ s₁ out out′ out₁ : List ℕ} {r r₁ : ℕ}

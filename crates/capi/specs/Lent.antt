@@ -17,9 +17,10 @@ use Rattle.wkb.specs.Reading as wkb
 use Rattle.walk.specs.Pushes.{Outcome}
 use Rattle.walk.specs.Segment.{cellsOf, Entered}
 use Rattle.build.specs.Build as build
+use Rattle.own.specs.Many.{ownersCheck, OwnersAre}
 use Rattle.visit.specs.Entries.{batchAnswer, BatchIs}
 use Rattle.replies.specs.Replies.{Replies}
-use Rattle.replies.specs.Answers.{ofRead, ofCells, ofBuilt, ofBatch}
+use Rattle.replies.specs.Answers.{ofCheck, ofRead, ofCells, ofBuilt, ofBatch}
 use Rattle.capi.specs.Few.{unlessFew}
 use Rattle.capi.specs.Unknown.{lastSizing, modeBy, lastMode, planBy, unlessUnknown, unlessUnwalked}
 
@@ -52,6 +53,13 @@ pub record BuildReplies (sizing mode : ℕ) (ls : Lines) (offsets items globals 
   pub short : length out < 8 → (offsets′ ≡ offsets) × (items′ ≡ items) × (globals′ ≡ globals) × (scratch′ ≡ scratch)
   pub unknown : lastSizing < sizing → (offsets′ ≡ offsets) × (items′ ≡ items) × (globals′ ≡ globals) × (scratch′ ≡ scratch)
   pub unwalked : lastMode < mode → (offsets′ ≡ offsets) × (items′ ≡ items) × (globals′ ≡ globals) × (scratch′ ≡ scratch)
+
+-- the owners of many points, on the grid g that words say
+pub record OwnersReplies (words : List ℕ) (g : Grid) (xs ys : List Float) (answers out : List ℕ) (r : ℕ) (answers′ out′ : List ℕ) : Type 0 where
+  pub replies : Replies 1 (unlessFew words (ofCheck (ownersCheck g xs ys (length answers)))) out r out′
+  pub called : 1 ≤ length out → gridWords ≤ length words → OwnersAre g xs ys answers (ownersCheck g xs ys (length answers)) answers′
+  pub short : length out < 1 → answers′ ≡ answers
+  pub few : length words < gridWords → answers′ ≡ answers
 
 -- a batch from the bookmark b, on the grid g that words say
 pub record BatchReplies (words : List ℕ) (ls : Lines) (g : Grid) (t : Tables) (b : ℕ) (first second out : List ℕ) (r : ℕ) (first′ second′ out′ : List ℕ) : Type 0 where

@@ -13,15 +13,9 @@ use Rattle.grid.specs.Axes.{lowOn, highOn}
 use Rattle.own.specs.declared.Found.the-variants.{At, Nowhere}
 use Rattle.own.specs.Own.{ownsOn}
 use Rattle.own.specs.Owner.{firstFrom, firstOn, Searchable}
+use Rattle.own.specs.Inside.{Halved}
 use Rattle.own.proofs.Edges.{over-before, under-after}
 use Rattle.own.proofs.Firsts.{None, first-at, first-none}
-
--- the indexes left: p has reached the high edge of all before them, and is below that of the last of them, unless the axis ends there
-pub record Halved (a : Axis) (p : Float) (low high : ℕ) : Type 0 where
-  pub order : low ≤ high
-  pub inside : high < a .count
-  pub passed : (j : ℕ) → j < low → lt p (highOn a j) ≡ false
-  pub ahead : (suc high ≡ a .count) ⊎ (lt p (highOn a high) ≡ true)
 
 -- ---- the test as Bools: l is "low <= p", t is "p < high", n is "the last index" and e is "p = high"
 
@@ -42,6 +36,30 @@ empty-axis a p h = rw h
 module _ (a : Axis) (p : Float) (asks : Searchable a p) where
   pub whole-axis : 0 < a .count → Halved a p 0 (a .count - 1)
   whole-axis h = record { order = omega arith; inside = omega arith; passed = λ j l. absurd (omega arith); ahead = inl (omega arith) }
+
+  -- ---- about a guess g, by its high edge and that of the index before it
+
+  module _ (g : ℕ) (within : g < a .count) (edge : Float) (is : edge ≡ highOn a g) where
+    pub up-to : lt p edge ≡ true → Halved a p 0 g
+    up-to t = record { order = omega arith; inside = within; passed = λ j l. absurd (omega arith); ahead = inr (rw is at t) }
+
+    past : lt p edge ≡ false → (j : ℕ) → j < g + 1 → lt p (highOn a j) ≡ false
+    past t j l = over-before a (asks .low) (asks .size) p j g (asks .point) (omega arith) (omega (arith, asks .few)) (rw is at t)
+
+    pub just : (before : Float) → 0 < g → before ≡ highOn a (g - 1) → lt p edge ≡ true → lt p before ≡ false → Halved a p g g
+    just before some e t u =
+        record {
+          order = omega arith;
+          inside = within;
+          passed = λ j l. over-before a (asks .low) (asks .size) p j (g - 1) (asks .point) (omega arith) (omega (arith, asks .few)) (rw e at u);
+          ahead = inr (rw is at t);
+        }
+
+    pub at-last : lt p edge ≡ false → suc g ≡ a .count → Halved a p g g
+    at-last t e = record { order = omega arith; inside = within; passed = λ j l. past t j (omega arith); ahead = inl e }
+
+    pub after-it : lt p edge ≡ false → g + 1 < a .count → Halved a p (g + 1) (a .count - 1)
+    after-it t l = record { order = omega arith; inside = omega arith; passed = past t; ahead = inl (omega arith) }
 
   -- `edge` is the high edge of an index in between
   module _ (low high mid : ℕ) (h : Halved a p low high) (from : low ≤ mid) (to : mid < high) (edge : Float) (is : edge ≡ highOn a mid) where

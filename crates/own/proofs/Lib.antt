@@ -7,3 +7,5 @@ pub mod Owners
 pub mod Halving
 pub mod ThreeCases
 pub mod SeamLaws
+pub mod ManyLaws
+pub mod ManyEnds

@@ -22,13 +22,13 @@ use Rattle.own.proofs.EndLaws.{no-ends, two-ends}
 
 -- ---- a cell by its number in row order
 
-col-of : (cols r c : ℕ) → c < cols → (r * cols + c) % cols ≡ c
+pub col-of : (cols r c : ℕ) → c < cols → (r * cols + c) % cols ≡ c
 col-of cols r c h = mul-add-mod-self-right r cols c ∙ mod-eq-of-lt h
 
-row-of : (cols r c : ℕ) → c < cols → (r * cols + c) / cols ≡ r
+pub row-of : (cols r c : ℕ) → c < cols → (r * cols + c) / cols ≡ r
 row-of cols r c h = let some : 0 < cols = omega arith in let e = div-eq-of-lt h in let u = mul-add-div-right some r c in omega arith
 
-number-of : (rows cols r c : ℕ) → r < rows → c < cols → r * cols + c < rows * cols
+pub number-of : (rows cols r c : ℕ) → r < rows → c < cols → r * cols + c < rows * cols
 number-of rows cols r c h k = let m : suc r * cols ≤ rows * cols = mul-le-mul-right cols h in omega arith
 
 some-of : (rows cols k : ℕ) → k < rows * cols → 0 < cols

@@ -2,3 +2,5 @@
 pub mod Own
 pub mod Owner
 pub mod Cases
+pub mod Many
+pub mod Inside

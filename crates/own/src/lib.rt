@@ -1,7 +1,8 @@
 // Which cell owns a point or a collinear overlap, by the Rust's tests in `process_cell_candidate` and `handle_collinear`, and the
-// cell that owns a point.
+// cell that owns a point, or those that own many.
 mod axis;
 mod ends;
+pub mod many;
 
 use grid::Grid;
 use refusals::Check;
@@ -153,7 +154,7 @@ fn seam_or_outside(grid: Grid, x: f64, y: f64) -> Owner
 }
 
 // The first column that owns x, and the first row that owns y: ownership goes axis by axis, so theirs is the first cell.
-fn first_cell(grid: Grid, x: f64, y: f64) -> Owner
+pub(crate) fn first_cell(grid: Grid, x: f64, y: f64) -> Owner
     requires { ⌜ Searchable (xAxis grid) x ⌝ ∗ ⌜ Searchable (yAxis grid) y ⌝ }
     ensures { λ r. ⌜ r ≡ ownerOf grid x y ⌝ }
 {

@@ -43,6 +43,9 @@ fn ask(kind: u64, question: &[u64], answer: &mut [u64]) -> usize
     if kind == 10 {
         return points::strategies(question, answer);
     }
+    if kind == 11 {
+        return points::owners(question, answer);
+    }
     0
 }
 

@@ -37,6 +37,7 @@ fn say_kinds(w: &[u64]) {
     say(b"owners", records::count(w, 8));
     say(b"snaps", records::count(w, 9));
     say(b"strategies", records::count(w, 10));
+    say(b"owners of many", records::count(w, 11));
 }
 
 // The records up to the first word that differs, and that word, if there is one.

@@ -1,6 +1,8 @@
 // Kinds 6 to 10: ownership and snapping.
 use crate::answer;
 use crate::question;
+ghost use Prim.Native.Nat.{_≤_};
+ghost use lib.ListN.{length};
 
 pub(crate) fn point_owned(q: &[u64], answer: &mut [u64]) -> usize {
     let mut out = [0u64; 1];
@@ -61,4 +63,32 @@ pub(crate) fn strategies(q: &[u64], answer: &mut [u64]) -> usize {
         &mut out,
     );
     answer::reply(answer, number, &out)
+}
+
+// The owners of many points, in lent answers. All words of the question are at hand as floats.
+fn told(q: &[u64], floats: &[f64], answers: &mut [u32], answer: &mut [u64]) -> usize
+    requires { ⌜ length (now q) ≤ length (now floats) ⌝ }
+{
+    let mut out = [0u64; 1];
+    let number = capi::ownership::mt_owners(
+        question::words(q, 1, 0),
+        question::floats(q, 1, 1, floats),
+        question::floats(q, 1, 2, floats),
+        answers,
+        &mut out,
+    );
+    let to = answer::reply(answer, number, &out);
+    answer::written(answer, to, answers)
+}
+
+pub(crate) fn owners(q: &[u64], answer: &mut [u64]) -> usize
+    requires { ⌜ length (now q) ≤ 16384 ⌝ }
+{
+    let lent = question::lent(q, 0);
+    if 4096 < lent {
+        return 0;
+    }
+    let floats = question::all_floats(q);
+    let mut answers = [0u32; 4096];
+    told(q, &floats, &mut answers[..lent], answer)
 }

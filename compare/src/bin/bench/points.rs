@@ -47,6 +47,10 @@ pub fn owners(clock: &Clock, r: &mut Random) {
             &mut || points.iter().for_each(|&(x, y)| { black_box(plain::owner(&grid, x, y)); }),
         );
     }
+    let grid = Grid { min_x: 271.03, min_y: 29.7, cell_width: 0.0237, cell_height: 0.0237, cols: 1001, rows: 1001 };
+    let along = |r: &mut Random, low: f64| -> Vec<f64> { (0..POINTS).map(|_| coordinate(r, low, 0.0237, 1001)).collect() };
+    let (x, y) = (along(r, grid.min_x), along(r, grid.min_y));
+    many(clock, &grid, &x, &y);
     clock.head("Ownership by one cell: against the Rust's process_cell_candidate, whose intersection is laid down.");
     let grid = Grid { min_x: 271.03, min_y: 29.7, cell_width: 0.237, cell_height: 0.237, cols: 64, rows: 64 };
     let points: Vec<(u32, u32, f64, f64)> = (0..4096)
@@ -63,6 +67,26 @@ pub fn owners(clock: &Clock, r: &mut Random) {
         &mut || points.iter().for_each(|&(row, col, x, y)| { black_box(sys::point_owned(&words, row, col, x, y, &mut out)); }),
         &mut || points.iter().for_each(|&(row, col, x, y)| { black_box(test.point(row, col, x, y)); }),
     );
+}
+
+/// One call for all points, against a plain binary search in Rust, and against as many single calls.
+fn many(clock: &Clock, grid: &Grid, x: &[f64], y: &[f64]) {
+    clock.head("Owners of many points in one call: against a plain binary search in Rust over the same slices, and against single calls of the port.");
+    let words = grid.words();
+    let (mut of_port, mut of_rust, mut out) = (vec![0; POINTS], vec![0; POINTS], [0u64; 3]);
+    assert_eq!(sys::owners(&words, x, y, &mut of_port, &mut out), 0);
+    plain::owners(grid, x, y, &mut of_rust);
+    // the plain search has one answer for a seam and for outside
+    assert!(of_port.iter().zip(&of_rust).all(|(a, b)| a == b || (*a == u32::MAX - 1 && *b == u32::MAX)));
+    let mut one = [0u64; 3];
+    let times = clock.turns(&mut [
+        &mut || { black_box(sys::owners(&words, x, y, &mut of_port, &mut out)); black_box(&of_port); },
+        &mut || { plain::owners(grid, x, y, &mut of_rust); black_box(&of_rust); },
+        &mut || x.iter().zip(y).for_each(|(&x, &y)| { black_box(sys::owner(&words, x, y, &mut one)); black_box(&one); }),
+    ]);
+    clock.show(&format!("{} by {} cells, {POINTS} points", grid.cols, grid.rows), "point", POINTS, Some(1.0), &times, &["single calls"]);
+    let ratio = times.ratio(0, 2);
+    println!("  {:<44} {ratio:.3}{}", "by as many single calls", clock.held(ratio, Some(0.7)));
 }
 
 pub fn snaps(clock: &Clock, r: &mut Random) {

@@ -4,7 +4,9 @@ use mathlib.Core.Path.{sym, _∙_}
 use Prim.Native.Nat.{_-_}
 use native.Mathlib.Omega.{arith}
 use borrow.Author.Needs.{needs}
-use Rattle.own.proofs.Halving.{Halved, empty-axis, whole-axis, lower-half, upper-half, found, nowhere}
+use Rattle.own.specs.Inside.{Halved}
+use Rattle.own.specs.Inside.{Halved}
+use Rattle.own.proofs.Halving.{empty-axis, whole-axis, lower-half, upper-half, found, nowhere}
 use Rattle.own.proofs.axis.first.Statement.{statement}
 use Rattle.own.proofs.axis.first.Tie as tie
 
@@ -17,11 +19,14 @@ abbrev μ-loop : tie.MeasureT-loop
 returns : tie.Need-returns Inv-loop μ-loop
 returns c = empty-axis (c .before .before .args .axis) (c .before .before .args .p) (c .if1 .taken)
 
-sub-high : tie.Need-sub-high Inv-loop μ-loop
-sub-high c = omega arith
+index-requires : tie.Need-index-requires Inv-loop μ-loop
+index-requires c κs = search needs
+
+about-requires : tie.Need-about-requires Inv-loop μ-loop
+about-requires c κs = (c .before .before .before .pre, omega arith)
 
 loop-holds : tie.Need-loop-holds Inv-loop μ-loop
-loop-holds c = whole-axis _ _ (c .before .before .before .pre) (omega arith)
+loop-holds c = c .about .ensures
 
 sub-mid : tie.Need-sub-mid Inv-loop μ-loop
 sub-mid c = omega arith
@@ -36,7 +41,7 @@ loop-less : tie.Need-loop-less Inv-loop μ-loop
 loop-less c = omega arith
 
 loop-again : tie.Need-loop-again Inv-loop μ-loop
-loop-again c = lower-half _ _ (c .before .before .before .before .before .before .before .pre) _ _ _ (c .before .before .before .loop .inv) (omega arith) (omega arith) _ (c .before .high-edge .ensures) (c .if2 .taken)
+loop-again c = lower-half _ _ (c .before .before .before .before .before .before .before .before .pre) _ _ _ (c .before .before .before .loop .inv) (omega arith) (omega arith) _ (c .before .high-edge .ensures) (c .if2 .taken)
 
 add-low : tie.Need-add-low Inv-loop μ-loop
 add-low c = omega arith
@@ -45,16 +50,16 @@ loop-less-2 : tie.Need-loop-less-2 Inv-loop μ-loop
 loop-less-2 c = omega arith
 
 loop-again-2 : tie.Need-loop-again-2 Inv-loop μ-loop
-loop-again-2 c = upper-half _ _ (c .before .before .before .before .before .before .before .pre) _ _ _ (c .before .before .before .loop .inv) (omega arith) (omega arith) _ (c .before .high-edge .ensures) (c .if2 .left)
+loop-again-2 c = upper-half _ _ (c .before .before .before .before .before .before .before .before .pre) _ _ _ (c .before .before .before .loop .inv) (omega arith) (omega arith) _ (c .before .high-edge .ensures) (c .if2 .left)
 
 owns-requires : tie.Need-owns-requires Inv-loop μ-loop
 owns-requires c κs = search needs
 
 returns-2 : tie.Need-returns-2 Inv-loop μ-loop
-returns-2 c = found _ _ (c .before .before .before .before .before .before .before .pre) _ _ (c .before .before .before .loop .inv) (c .before .before .loop-test .left) (sym (c .if3 .taken) ∙ c .before .owns .ensures)
+returns-2 c = found _ _ (c .before .before .before .before .before .before .before .before .pre) _ _ (c .before .before .before .loop .inv) (c .before .before .loop-test .left) (sym (c .if3 .taken) ∙ c .before .owns .ensures)
 
 returns-3 : tie.Need-returns-3 Inv-loop μ-loop
-returns-3 c = nowhere _ _ (c .before .before .before .before .before .before .before .pre) _ _ (c .before .before .before .loop .inv) (c .before .before .loop-test .left) (sym (c .if3 .left) ∙ c .before .owns .ensures)
+returns-3 c = nowhere _ _ (c .before .before .before .before .before .before .before .before .pre) _ _ (c .before .before .before .loop .inv) (c .before .before .loop-test .left) (sym (c .if3 .left) ∙ c .before .owns .ensures)
 
 pub first-spec : {M : Type 1} → statement M
 first-spec =
@@ -63,7 +68,8 @@ first-spec =
     Inv-loop
     μ-loop
     returns
-    sub-high
+    index-requires
+    about-requires
     loop-holds
     sub-mid
     add-mid

@@ -1,0 +1,87 @@
+// The owners of many points in one call.
+use crate::Owner;
+use crate::first_cell;
+use grid::Grid;
+use refusals::Check;
+use refusals::Refusal;
+use refusals::refuse_unless;
+ghost use mathlib.Core.Path.{_≡_};
+ghost use lib.ListN.{length};
+ghost use Rattle.own.specs.Owner.{ownerOf};
+ghost use Rattle.own.specs.Many.{numberOf, ownersOf, alikeCheck, pointsCheck, OwnersAre};
+ghost use Rattle.own.specs.Inside.{Askable, Checked};
+
+// The numbers of the two answers that are no cell.
+pub const SEAM: u32 = 4294967294;
+
+pub const OUTSIDE: u32 = 4294967295;
+
+// The number of a point's owner.
+fn number_at(grid: Grid, x: f64, y: f64) -> u32
+    requires { ⌜ Askable grid x y ⌝ }
+    ensures { λ r. ⌜ r ≡ numberOf (grid .cols) (ownerOf grid x y) ⌝ }
+{
+    let owner = first_cell(grid, x, y);
+    match owner {
+        Owner::Cell { row, col } => row * grid.cols + col,
+        Owner::Seam => SEAM,
+        Owner::Outside => OUTSIDE,
+    }
+}
+
+// The three slices have one length.
+fn check_alike(xs: usize, ys: usize, answers: usize) -> Check
+    ensures { λ r. ⌜ r ≡ alikeCheck xs ys answers ⌝ }
+{
+    refuse_unless((ys == xs) & (answers == xs), 3, 0)
+}
+
+// The first point with a coordinate that breaks the rule. The slices have one length.
+fn check_points(x: &[f64], y: &[f64]) -> Check
+    requires { ⌜ length (now y) ≡ length (now x) ⌝ }
+    ensures { λ r. ⌜ r ≡ pointsCheck (now (x .entry)) (now (y .entry)) ⌝ }
+{
+    let mut i = 0;
+    while i < x.len() {
+        if !grid::checks::is_point(x[i], y[i]) {
+            return Check::Refused(Refusal {
+                number: 1,
+                value: i as u64,
+            });
+        }
+        i += 1;
+    }
+    Check::Fine
+}
+
+// Writes the answer of each point. All checks are passed.
+fn write_owners(grid: Grid, x: &[f64], y: &[f64], answers: &mut [u32])
+    requires { ⌜ Checked grid (now x) (now y) (now answers) ⌝ }
+    ensures { λ _. ⌜ now (answers .exit) ≡ ownersOf grid (now (x .entry)) (now (y .entry)) ⌝ }
+{
+    let mut i = 0;
+    while i < x.len() {
+        answers[i] = number_at(grid, x[i], y[i]);
+        i += 1;
+    }
+}
+
+// The owner of each point (x[i], y[i]), by its number: a cell's, SEAM or OUTSIDE. Refuses by 3, 1 and 8, before it writes.
+pub fn owners_of(grid: Grid, x: &[f64], y: &[f64], answers: &mut [u32]) -> Check
+    ensures { λ r. ⌜ OwnersAre grid (now (x .entry)) (now (y .entry)) (now (answers .entry)) r (now (answers .exit)) ⌝ }
+{
+    let alike = check_alike(x.len(), y.len(), answers.len());
+    if let Check::Refused(r) = alike {
+        return Check::Refused(r);
+    }
+    let points = check_points(x, y);
+    if let Check::Refused(r) = points {
+        return Check::Refused(r);
+    }
+    let fits = grid::checks::check_grid(grid);
+    if let Check::Refused(r) = fits {
+        return Check::Refused(r);
+    }
+    write_owners(grid, x, y, answers);
+    Check::Fine
+}

@@ -1,0 +1,75 @@
+"""What the library exports, its version and constants, and README's refusals. Written by tools/declarations, not by hand."""
+VERSION = "0.2.0-dev"
+SONAME = "libmorelturret.so.0.2"
+
+# name: the parameters, and the result; [TYPE] is a slice, and [mut TYPE] one that is written
+FUNCTIONS = {
+    "mt_least": "a: f64, b: f64 -> f64",
+    "mt_greatest": "a: f64, b: f64 -> f64",
+    "mt_magnitude": "v: f64 -> f64",
+    "mt_floor": "v: f64 -> f64",
+    "mt_clamped_floor": "v: f64, count: u32 -> u32",
+    "mt_ceiling": "v: f64 -> u64",
+    "mt_round_half_away": "v: f64 -> f64",
+    "mt_square_root": "v: f64 -> f64",
+    "mt_snap": "x: f64, y: f64, size: f64, strategy: u32, out: [mut u64] -> u32",
+    "mt_strategies_agree": "v: f64, size: f64, out: [mut u64] -> u32",
+    "mt_point_owned": "grid: [u64], row: u32, col: u32, x: f64, y: f64, out: [mut u64] -> u32",
+    "mt_overlap_owned": "grid: [u64], row: u32, col: u32, x: f64, y: f64, size: f64, strategy: u32, out: [mut u64] -> u32",
+    "mt_owner": "grid: [u64], x: f64, y: f64, out: [mut u64] -> u32",
+    "mt_owners": "grid: [u64], x: [f64], y: [f64], answers: [mut u32], out: [mut u64] -> u32",
+    "mt_segment_cells": "grid: [u64], start_x: f64, start_y: f64, end_x: f64, end_y: f64, mode: u32, scratch: [mut u32], out: [mut u64] -> u32",
+    "mt_build": "start_x: [f64], start_y: [f64], end_x: [f64], end_y: [f64], sizing: u32, mode: u32, offsets: [mut u32], items: [mut u32], globals: [mut u32], scratch: [mut u32], out: [mut u64] -> u32",
+    "mt_check_tables": "grid: [u64], lines: usize, offsets: [u32], items: [u32], globals: [u32], global_count: u64, out: [mut u64] -> u32",
+    "mt_cell_list": "grid: [u64], lines: usize, offsets: [u32], items: [u32], globals: [u32], global_count: u64, row: u32, col: u32, out: [mut u64] -> u32",
+    "mt_global_list": "grid: [u64], lines: usize, offsets: [u32], items: [u32], globals: [u32], global_count: u64, position: u64, out: [mut u64] -> u32",
+    "mt_test_at": "grid: [u64], start_x: [f64], start_y: [f64], end_x: [f64], end_y: [f64], offsets: [u32], items: [u32], globals: [u32], global_count: u64, bookmark: u64, out: [mut u64] -> u32",
+    "mt_batch": "grid: [u64], start_x: [f64], start_y: [f64], end_x: [f64], end_y: [f64], offsets: [u32], items: [u32], globals: [u32], global_count: u64, bookmark: u64, first: [mut u32], second: [mut u32], out: [mut u64] -> u32",
+    "mt_read_line_string": "bytes: [u8], x: [mut f64], y: [mut f64], out: [mut u64] -> u32",
+}
+
+CONSTANTS = {
+    "MT_OK": 0,
+    "MT_BAD_COORDINATE": 1,
+    "MT_TOO_MANY_LINES": 2,
+    "MT_BAD_LENGTHS": 3,
+    "MT_SHORT_OFFSETS": 4,
+    "MT_SHORT_ITEMS": 5,
+    "MT_SHORT_GLOBALS": 6,
+    "MT_WALK_TOO_LONG": 7,
+    "MT_UNFIT_GRID": 8,
+    "MT_BEYOND_END": 9,
+    "MT_MISFIT_TABLES": 10,
+    "MT_BAD_WKB": 11,
+    "MT_UNFIT_SNAP": 12,
+    "MT_OUT_SHORT": 100,
+    "MT_FEW_WORDS": 101,
+    "MT_NO_SIZING": 102,
+    "MT_NO_MODE": 103,
+    "MT_SQUARE": 0,
+    "MT_AXES": 1,
+    "MT_RUST": 0,
+    "MT_SIDED": 1,
+    "MT_GRID": 0,
+    "MT_OUTSIDE": 0,
+    "MT_OWNED": 1,
+    "MT_SEAM": 2,
+    "MT_SEAM_NUMBER": 4294967294,
+    "MT_OUTSIDE_NUMBER": 4294967295,
+}
+
+# number: when it is given, what its value is, what to do
+REFUSALS = {
+    1: ('a coordinate is not finite, or above 1e9 in magnitude', 'the first such line (0 for a point or one segment)', 'mend or leave out that line; in a chain, that point. (One point alone makes no line, so it may be anything)'),
+    2: ('more than 65,536 lines', 'the number of lines', 'take the lines in parts, two at a time'),
+    3: ("slices that belong together differ in length, or scratch has fewer than 16,384 entries, or the reader's point slices fewer than 1,024", '0', 'lend slices of the right lengths'),
+    4: ('a grid tried has more cells + 1 than the lent offsets', 'that cells + 1', 'lend at least so many offsets; a finer grid may ask for more, never for more than 1,002,002. In the program: drop repeated points, since most often over 500 lines fall into one cell, as a stuck sensor makes them'),
+    5: ('the items lent are too few', 'the number of items', 'lend at least so many. In the program: try the other sizing where the axes have different units; use the library, or take the chain in parts, two at a time'),
+    6: ('the globals lent are too few', 'the number of global lines', 'lend at least so many. In the program: use the library'),
+    7: ('a walk made 5,000 turns and would make another. A line with equal x, or equal y, at both ends never does, on any fit grid: that is proved, and so is that a build of such lines alone is never refused by 7', 'the line (0 for one segment)', 'in a build, that line is parallel to an axis but for a tiny difference: make the two coordinates equal. One segment: the same, or cut it to the grid'),
+    8: ('the grid record is unfit', '0', 'use the record that a build returned'),
+    9: ('a cell, global position or bookmark is beyond its end', "the cell's row, the position or the bookmark", "ask within the grid's rows and columns, the globals found, the total of tests"),
+    10: ('the tables do not fit', '0', 'use the tables that a build left, and its line count'),
+    11: ('the bytes are no LineString of 1 to 1,024 points, or bytes follow it', 'the byte position of the fault', 'look at the field that begins there: the byte order at 0, the type at 1, the count at 5, the points at 9; a fault at the end of input is a cut'),
+    12: ('the snap size is not 0 or 1e-6 to 1e6, or the strategy not 0', '0', 'choose such a size, and strategy 0'),
+}

@@ -1,0 +1,140 @@
+"""The build, its tables, and the visit of their tests."""
+import numpy as np
+
+from ._library import answer
+from .grid import DEFAULT_WALK, GRID_WORDS, SCRATCH, SIZINGS, WALKS, Grid, chosen
+from .once import Once
+from .refusal import Refusal
+
+MOST_LINES = 65_536  # above it refusal 2: see `parts`
+OFFSETS = 1_002_002  # enough for every build
+SHORT_ITEMS, SHORT_GLOBALS = 5, 6
+BATCH = 1 << 22  # pairs; every batch checks the tables once more, so few large ones are quicker than many small ones
+
+
+def build(lines, sizing="square", walk=DEFAULT_WALK):
+    """Picks a grid for the lines and lists, for each cell, the lines that visit it: `Tables`. The room that it takes is what refusals 5 and 6 ask for.
+
+    `sizing` is "square" or "axes"; `walk` is "rust", "sided" or, where the library has it, "covering", which is then the default. README says which to
+    choose.
+
+    >>> from morelturret import Lines, build
+    >>> tables = build(Lines.chain([0, 2, 2, 0, 0], [0, 0, 2, 2, 0]), walk="rust")
+    >>> tables.grid.cols, tables.grid.rows, tables.tests
+    (3, 3, 9)
+    >>> tables.cells[0, 0]
+    array([0, 3], dtype=uint32)
+    """
+    plan = chosen("sizing", sizing, SIZINGS), chosen("walk", walk, WALKS)
+    offsets, scratch = np.empty(OFFSETS, np.uint32), np.empty(SCRATCH, np.uint32)
+    room = {SHORT_ITEMS: 8 * len(lines) + 64, SHORT_GLOBALS: 64}
+    while True:
+        items, globals_ = (np.empty(entries, np.uint32) for entries in room.values())
+        try:
+            words = answer("mt_build", *lines.slices, *plan, offsets, items, globals_, scratch)
+        except Refusal as refusal:
+            if refusal.number not in room:
+                raise
+            room[refusal.number] = refusal.value
+            continue
+        grid = Grid.from_words(words)
+        item_count, global_count = words[GRID_WORDS : GRID_WORDS + 2]
+        return Tables(lines, grid, offsets[: grid.cols * grid.rows + 1].copy(), items[:item_count], globals_[:global_count], sizing, walk)
+
+
+class Tables:
+    """The tables of a build: `lines`, `grid`, `offsets`, `items`, `globals`, with the `sizing` and the `walk` that they were built by.
+
+    The list of cell c is items[offsets[c]:offsets[c + 1]]: the lines, increasing, that visit it. A line that visits more than 2,048 cells is in no list
+    but in `globals`.
+    """
+
+    def __init__(self, lines, grid, offsets, items, globals_, sizing, walk):
+        self.lines, self.grid, self.sizing, self.walk = lines, grid, sizing, walk
+        self.offsets, self.items, self.globals = offsets, items, globals_
+        self.cells = Cells(self)
+
+    def __repr__(self):
+        return f"Tables({len(self.lines)} lines, {self.grid.cols} by {self.grid.rows} cells, {len(self.items)} items, {len(self.globals)} globals)"
+
+    @property
+    def tests(self):
+        """How many tests a full visit makes: k(k - 1)/2 for each list of k lines, and for each global line one with every other line."""
+        k = np.diff(self.offsets.astype(np.int64))
+        globals_, lines = len(self.globals), len(self.lines)
+        return int((k * (k - 1) // 2).sum()) + globals_ * (lines - 1) - globals_ * (globals_ - 1) // 2
+
+    def batches(self, size=BATCH):
+        """A full visit: pairs of lines whose boxes overlap, as two arrays of at most `size` entries at a time, with the tests made up to there. A pair
+        comes once for each cell that lists both, or, where one is global, once.
+
+        >>> tables = build(Lines.chain([0, 2, 2, 0, 0], [0, 0, 2, 2, 0]), walk="rust")
+        >>> [(len(first), tests) for first, second, tests in tables.batches(size=5)]
+        [(5, 5), (4, 9)]
+        """
+        standing = self.grid.words, *self.lines.slices, self.offsets, self.items, self.globals, len(self.globals)
+        bookmark, total = 0, self.tests
+        while bookmark < total:
+            first, second = np.empty(size, np.uint32), np.empty(size, np.uint32)
+            _, pairs, bookmark, *_ = answer("mt_batch", *standing, bookmark, first, second)
+            yield first[:pairs], second[:pairs], bookmark
+
+    def pairs(self, once=True):
+        """The pairs of lines whose boxes overlap, as two arrays at a time. With `once` each pair comes once, the lower line first, in increasing order;
+        without, as `batches` has them. That a pair comes once is seen to here, by NumPy over the library's visit; it is no part of what is proved.
+
+        >>> tables = build(Lines.chain([0, 2, 2, 0, 0], [0, 0, 2, 2, 0]), walk="rust")
+        >>> [list(zip(*pairs)) for pairs in tables.pairs()]
+        [[(0, 1), (0, 3), (1, 2), (2, 3)]]
+        """
+        if once:
+            yield from Once(self)
+        else:
+            for first, second, _ in self.batches():
+                yield first, second
+
+    def owner(self, x, y):
+        """Whose each point is: see `Grid.owner`."""
+        return self.grid.owner(x, y)
+
+    def test(self, bookmark):
+        """One test by its bookmark: ("cell", row, column) or ("global", position), the first line, the second, and whether their boxes overlap. At the
+        end, none.
+
+        >>> build(Lines.chain([0, 2, 2, 0, 0], [0, 0, 2, 2, 0]), walk="rust").test(0)
+        (('cell', 0, 0), 0, 3, True)
+        """
+        standing = self.grid.words, *self.lines.slices, self.offsets, self.items, self.globals, len(self.globals)
+        kind, row, column, first, second, overlap, *_ = answer("mt_test_at", *standing, bookmark)
+        place = [("cell", row, column), ("global", row), None][kind]
+        return place and (place, first, second, bool(overlap))
+
+    def check(self):
+        """Refuses by 2, 8 or 10 where the tables are not such as a build leaves."""
+        answer("mt_check_tables", self.grid.words, len(self.lines), self.offsets, self.items, self.globals, len(self.globals))
+
+
+class Cells:
+    """The cells of tables: `cells[row, column]` is the list of one, `lengths` how many lines each lists, by row and column; iterated, the cells that
+    list some line, in row order, as (row, column, list)."""
+
+    def __init__(self, tables):
+        self.tables = tables
+
+    @property
+    def lengths(self):
+        grid = self.tables.grid
+        return np.diff(self.tables.offsets.astype(np.int64)).reshape(grid.rows, grid.cols)
+
+    def __getitem__(self, place):
+        row, column = place
+        grid = self.tables.grid
+        if not (0 <= row < grid.rows and 0 <= column < grid.cols):
+            raise IndexError(f"there are {grid.rows} rows and {grid.cols} columns")
+        cell = row * grid.cols + column
+        return self.tables.items[self.tables.offsets[cell] : self.tables.offsets[cell + 1]]
+
+    def __iter__(self):
+        for cell in np.flatnonzero(self.lengths):
+            row, column = divmod(int(cell), self.tables.grid.cols)
+            yield row, column, self[row, column]

@@ -1,0 +1,122 @@
+"""Well-known binary: LineStrings and MultiLineStrings, read and written.
+
+What the library's reader takes it reads: one LineString of at most 1,024 points. Longer ones, and MultiLineStrings, are read here, by the same rules but
+for the number of points; that part is plain Python. What neither takes is refused by 11, and `found` says what it is."""
+import struct
+
+import numpy as np
+
+from ._library import answer, whole
+from .refusal import Refusal
+
+LINE_STRING, MULTI_LINE_STRING = 2, 5
+MOST_POINTS = 1024
+BAD_WKB = 11
+TYPES = {1: "a Point", 3: "a Polygon", 4: "a MultiPoint", 6: "a MultiPolygon", 7: "a GeometryCollection"}
+
+
+def read_wkb(data):
+    """The points of a LineString or MultiLineString, and how many of them each member has: x, y, lengths. `data` is bytes, or a Shapely geometry.
+
+    >>> from morelturret import read_wkb, write_wkb
+    >>> x, y, lengths = read_wkb(write_wkb([0, 1, 5, 6], [0, 1, 5, 5], [2, 2]))
+    >>> x, lengths
+    (array([0., 1., 5., 6.]), array([2, 2], dtype=uint32))
+    >>> read_wkb(b"LINESTRING (0 0, 1 1)")
+    Traceback (most recent call last):
+    morelturret.refusal.Refusal: refused 11, value 0: the bytes are no LineString of 1 to 1,024 points, or bytes follow it (this is text, not well-known binary)
+    """
+    data = bytes(getattr(data, "wkb", data))
+    order, kind = head(data, 0)
+    if kind == LINE_STRING:
+        try:
+            x, y = (np.empty(MOST_POINTS) for _ in range(2))
+            count, *_ = answer("mt_read_line_string", np.frombuffer(data, np.uint8), x, y)
+            return x[:count].copy(), y[:count].copy(), whole([count])
+        except Refusal as refusal:
+            if refusal.number != BAD_WKB:
+                raise
+        members, at = [line_string(data, 0)], None
+        at = 9 + 16 * len(members[0])
+    else:
+        count = number(data, 5, order)
+        members, at = [], 9
+        for k in range(count):
+            if at == len(data):
+                raise bad(at, f"cut: {count} members were announced, and {k} are there")
+            if head(data, at)[1] != LINE_STRING:
+                raise bad(at + 1, f"member {k} is no LineString")
+            members.append(line_string(data, at))
+            at += 9 + 16 * len(members[-1])
+    if at != len(data):
+        raise bad(at, f"{len(data) - at} bytes follow the last point")
+    points = np.concatenate(members) if members else np.empty((0, 2))
+    return points[:, 0].copy(), points[:, 1].copy(), whole([len(member) for member in members])
+
+
+def write_wkb(x, y, lengths=None):
+    """A little-endian MultiLineString of chains, whose points stand one chain after the other; of one chain where there are no lengths."""
+    points = np.stack([np.asarray(x, "<f8"), np.asarray(y, "<f8")], axis=1)
+    lengths = [len(points)] if lengths is None else [int(length) for length in lengths]
+    if sum(lengths) != len(points) or min(lengths, default=1) < 1:
+        raise Refusal(3, 0)
+    ends = np.cumsum(lengths, dtype=np.int64)
+    members = (struct.pack("<BII", 1, LINE_STRING, length) + points[end - length : end].tobytes() for length, end in zip(lengths, ends))
+    return struct.pack("<BII", 1, MULTI_LINE_STRING, len(lengths)) + b"".join(members)
+
+
+def head(data, at):
+    """The byte order and the type of what begins there: a LineString or, at 0, a MultiLineString."""
+    if at == len(data):
+        raise bad(at, "the input is empty" if at == 0 else "cut")
+    if data[at] > 1:
+        raise bad(at, text(data) if at == 0 else "a member's byte order is neither 0 nor 1")
+    order = "<" if data[at] else ">"
+    kind = number(data, at + 1, order)
+    if kind not in (LINE_STRING, MULTI_LINE_STRING):
+        raise bad(at + 1, other_type(kind, data, at, order))
+    return order, kind
+
+
+def line_string(data, at):
+    """The points of the LineString that begins there, as rows."""
+    order = "<" if data[at] else ">"
+    count = number(data, at + 5, order)
+    if count == 0:
+        raise bad(at + 5, "a LineString without points")
+    there = (len(data) - at - 9) // 16
+    if count > there:
+        raise bad(len(data), f"cut: {count} points were announced, and {there} are there")
+    return np.frombuffer(data, order + "f8", 2 * count, at + 9).reshape(count, 2).astype(float)
+
+
+def number(data, at, order):
+    """The whole number of four bytes that begins there."""
+    if at + 4 > len(data):
+        raise bad(len(data), "cut within its first bytes")
+    return struct.unpack_from(order + "I", data, at)[0]
+
+
+def bad(at, found):
+    return Refusal(BAD_WKB, at, found)
+
+
+def text(data):
+    """What bytes are that begin with no byte order."""
+    try:
+        line = data.decode("ascii").strip()
+    except UnicodeDecodeError:
+        return "this is no well-known binary: it begins with neither 0 nor 1"
+    if len(line) > 9 and set(line) <= set("0123456789abcdefABCDEF"):
+        return "this is well-known binary in hex: take the bytes by bytes.fromhex"
+    return "this is text, not well-known binary"
+
+
+def other_type(kind, data, at, order):
+    """What a type that is none of the two stands for: EWKB's flags are 2^31 for Z, 2^30 for M, 2^29 for a SRID; ISO adds 1000 for Z, 2000 for M."""
+    if kind & 0x20000000:
+        return f"this is EWKB with a SRID ({number(data, at + 5, order)}): write it without one"
+    if kind & 0xC0000000 or (kind < 4000 and kind >= 1000):
+        has = ("Z" if kind & 0x80000000 or kind // 1000 in (1, 3) else "") + ("M" if kind & 0x40000000 or kind // 1000 in (2, 3) else "")
+        return f"its points have {' and '.join(has)} beside x and y: write them with two coordinates"
+    return f"this is {TYPES.get(kind, f'of the type {kind}')}, no LineString and no MultiLineString"

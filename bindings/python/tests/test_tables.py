@@ -1,0 +1,155 @@
+"""Builds and visits: the examples' expected output, and document 01's values."""
+import itertools
+import unittest
+
+import numpy as np
+
+from morelturret import OUTSIDE, SEAM, WALKS, Grid, Lines, Refusal, build, snap, strategies_agree
+from morelturret.wkb import read_wkb
+
+from .shared import EXAMPLES, loops, pair_set
+
+FOUR = Grid(0, 0, 1, 1, 4, 4)
+ROOMY = {"refused 4", "refused 5", "refused 6"}  # the program's room, not the library's
+
+
+def printed(tables):
+    """Tables in the program's words, but for the count of overlaps."""
+    bits = [f"{int(word):016x}" for word in tables.grid.words[2:4]]
+    yield f"grid {tables.grid.cols} {tables.grid.rows} {' '.join(bits)} {len(tables.items)} {len(tables.globals)}"
+    for row, column, lines in tables.cells:
+        yield " ".join(map(str, ["cell", row, column, *lines]))
+    if len(tables.globals):
+        yield " ".join(map(str, ["global", *tables.globals]))
+    yield f"visit {tables.tests} {sum(len(first) for first, _, _ in tables.batches())}"
+
+
+class Examples(unittest.TestCase):
+    def test_every_example_in_every_plan(self):
+        held = refused = 0
+        for path, sizing, walk in itertools.product(sorted(EXAMPLES.glob("*.wkb")), ("square", "axes"), WALKS):
+            words = [path.stem, *(["axes"] if sizing == "axes" else []), *([walk] if walk != "rust" else []), "out"]
+            out = EXAMPLES / ".".join(words)
+            if not out.exists():
+                continue
+            expected = out.read_text().splitlines()
+            if expected[0] in ROOMY or path.stem.startswith("refused_11"):
+                continue
+            with self.subTest(path=path.name, sizing=sizing, walk=walk):
+                try:
+                    tables = build(Lines.from_wkb(path.read_bytes()), sizing, walk)
+                except Refusal as refusal:
+                    self.assertEqual(expected, [f"refused {refusal.number}"])
+                    refused += 1
+                else:
+                    self.assertEqual(expected, list(printed(tables)))
+                    tables.check()
+                    held += 1
+        self.assertGreater(held, 20)
+        self.assertGreater(refused, 5)
+
+
+class Documented(unittest.TestCase):
+    def test_walks(self):
+        cells = lambda *line, walk="rust": list(FOUR.cells_of(line[:2], line[2:], walk))
+        self.assertEqual(cells(0.5, 0.5, 2.5, 0.5), [0, 1, 2])
+        self.assertEqual(cells(1, 0.5, 1, 2.5), [0, 1, 4, 5, 8, 9])
+        self.assertEqual(cells(1, 1, 1, 1), [0, 1, 4, 5])
+        hair = 1 - 2**-41
+        self.assertEqual(cells(hair, 0.5, hair, 0.5), [0])
+        self.assertEqual(cells(hair, 0.5, hair, 0.5, walk="sided"), [0, 1])
+
+    def test_owners(self):
+        self.assertEqual(FOUR.owner([1, 4, 4.5], [0.5, 4, 1]).tolist(), [1, 15, OUTSIDE])
+        self.assertEqual(Grid(281, 36, 0.4, 0.05, 5, 5).owner([281.79999999999995], [36.02]).tolist(), [SEAM])
+        self.assertEqual(Grid(0, 0, 1, 1, 0, 0).owner([], []).tolist(), [])
+
+    def test_snapping(self):
+        self.assertEqual(snap(0.49999999999999994, -2.5, 1), (0.0, -3.0))
+        self.assertFalse(strategies_agree(0.49999999999999994, 1))
+
+    def test_refusals(self):
+        for number, value, call in (
+            (1, 1, lambda: build(Lines.chain([0, 1, np.nan], [0, 0, 0]))),
+            (2, 65_537, lambda: build(Lines.chain(np.zeros(65_538), np.zeros(65_538)))),
+            (3, 0, lambda: build(Lines([0, 1], [0], [1], [1]))),
+            (8, 0, lambda: Grid(0, 0, 1, 1, 5000, 1).owner([0], [0])),
+            (9, 9, lambda: build(Lines.chain([0, 2, 2, 0, 0], [0, 0, 2, 2, 0]), walk="rust").test(10)),
+            (12, 0, lambda: snap(0, 0, 1e7)),
+        ):
+            with self.subTest(number=number), self.assertRaises(Refusal) as raised:
+                call()
+            self.assertEqual(raised.exception.number, number)
+            if number != 9:
+                self.assertEqual(raised.exception.value, value)
+            self.assertTrue(raised.exception.sentence)
+            self.assertTrue(raised.exception.advice)
+
+    def test_names_that_there_are_not(self):
+        for words in ({"sizing": "round"}, {"walk": "long"}):
+            with self.assertRaises(ValueError):
+                build(Lines.chain([0, 1], [0, 1]), **words)
+
+
+class Visits(unittest.TestCase):
+    def setUp(self):
+        self.tables = build(loops(40, 12), "axes")
+
+    def test_no_copy(self):
+        x, y = np.arange(5.0), np.zeros(5)
+        lines = Lines.chain(x, y)
+        self.assertTrue(np.shares_memory(lines.start_x, x) and np.shares_memory(lines.end_x, x))
+        self.assertIs(build(lines).lines, lines)
+
+    def test_room_is_found(self):
+        # legs over the whole width are in far more cells than there is room for at first; two swings in a stuck chain are global
+        tables = build(Lines.chain([280 + 20 * (k % 2) for k in range(400)], [30 + k * 0.05 for k in range(400)]))
+        self.assertGreater(len(tables.items), 8 * 400 + 64)
+        many = build(Lines.chain([1000 * (k % 2) for k in range(503)], [0] * 503), walk="rust")
+        self.assertGreater(len(many.globals), 64)
+
+    def test_batches_are_the_tests_in_order(self):
+        tables, lines = self.tables, self.tables.lines
+        low_x, high_x = np.minimum(lines.start_x, lines.end_x), np.maximum(lines.start_x, lines.end_x)
+        low_y, high_y = np.minimum(lines.start_y, lines.end_y), np.maximum(lines.start_y, lines.end_y)
+        expected, tests = [], 0
+        for _, _, listed in tables.cells:
+            for i, j in itertools.combinations(listed.tolist(), 2):
+                tests += 1
+                if low_x[i] <= high_x[j] and low_x[j] <= high_x[i] and low_y[i] <= high_y[j] and low_y[j] <= high_y[i]:
+                    expected.append((i, j))
+        self.assertEqual((tables.tests, len(tables.globals)), (tests, 0))
+        for size in (1, 97, 1 << 20):
+            handed = [pair for first, second, _ in tables.batches(size) for pair in zip(first.tolist(), second.tolist())]
+            self.assertEqual(handed, expected)
+        place, first, second, overlap = tables.test(0)
+        self.assertEqual(list(tables.cells[place[1:]][:2]), [first, second])
+        self.assertIsInstance(overlap, bool)
+        self.assertIsNone(tables.test(tables.tests))
+
+    def test_each_pair_once(self):
+        plain, handed = pair_set(self.tables.pairs(once=False))
+        once, listed = pair_set(self.tables.pairs())
+        self.assertEqual(once, plain)
+        self.assertEqual(listed, len(once))
+        self.assertLess(listed, handed)
+
+    def test_global_lines_once(self):
+        swings = build(Lines.chain([1000 * (k % 2) for k in range(503)], [0] * 503), walk="rust")
+        once, listed = pair_set(swings.pairs())
+        self.assertEqual((len(once), listed), (502 * 501 // 2, 502 * 501 // 2))
+
+    def test_cells_beyond_the_end(self):
+        with self.assertRaises(IndexError):
+            self.tables.cells[self.tables.grid.rows, 0]
+        none = build(Lines.chain([1], [1]))
+        self.assertEqual((list(none.cells), none.tests, list(none.pairs())), ([], 0, []))
+
+    def test_lines_from_geometries(self):
+        class Geometry:
+            wkb = (EXAMPLES / "square.wkb").read_bytes()
+
+        self.assertEqual(len(Lines.from_wkb([Geometry(), Geometry()])), 8)
+        self.assertEqual(list(read_wkb(Geometry())[2]), [5])
+        with self.assertRaises(ValueError):
+            Lines.chains([0, 1], [0, 1], [3])

@@ -19,12 +19,14 @@ from ._declared import VERSION as __version__
 from .crossings import Crossings, crossings
 from .grid import DEFAULT_WALK, OUTSIDE, SEAM, SIZINGS, WALKS, Grid, snap, strategies_agree
 from .lines import Lines
+from .page import page
 from .parts import Parts
+from .picture import picture
 from .refusal import Refusal
 from .tables import Cells, Tables, build
 from .wkb import read_wkb, write_wkb
 
 __all__ = [
     "DEFAULT_WALK", "OUTSIDE", "SEAM", "SIZINGS", "WALKS", "Cells", "Crossings", "Grid", "Lines", "Parts", "Refusal", "Tables", "build", "crossings",
-    "read_wkb", "snap", "strategies_agree", "write_wkb",
+    "page", "picture", "read_wkb", "snap", "strategies_agree", "write_wkb",
 ]  # fmt: skip

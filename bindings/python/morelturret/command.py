@@ -1,6 +1,6 @@
 """The command `python3 -m morelturret FILE..`."""
 import argparse
-import contextlib
+import pathlib
 import sys
 
 from ._declared import VERSION
@@ -9,7 +9,9 @@ from .files import BadFile, read
 from .grid import DEFAULT_WALK, SIZINGS, WALKS
 from .lines import Lines
 from .once import Once
+from .page import page
 from .parts import Parts
+from .picture import LABELS, picture
 from .progress import Bar
 from .refusal import Refusal
 
@@ -29,6 +31,9 @@ def arguments():
     parser.add_argument("--walk", choices=WALKS, default=DEFAULT_WALK, help=f"how a leg finds its cells (the default is {DEFAULT_WALK}; ./morelturret has rust)")
     parser.add_argument("--crossings", action="store_true", help="print the pairs that share a point, as CSV; all else then goes to standard error")
     parser.add_argument("--joints", action="store_true", help="with --crossings: also each leg and the next, which share their joint")
+    parser.add_argument("--svg", metavar="OUT", help="write a picture: the cells, the chain coloured by time, the crossings")
+    parser.add_argument("--html", metavar="OUT", help="write a page to look at: one file with all in it, to drag, zoom and click")
+    parser.add_argument("--labels", metavar="X,Y", help="what the axes are called (else as in a header, or kelvin and parts per billion)")
     parser.add_argument("--version", action="version", version=f"morelturret {VERSION}")
     return parser
 
@@ -58,30 +63,62 @@ def stop(said, status):
     return status
 
 
+def labels(asked, chains):
+    """What the axes are called."""
+    named = asked.labels.split(",") if asked.labels else chains[0].names
+    if named and len(named) != 2:
+        raise BadFile(f"--labels takes two names with a comma between them, not {asked.labels!r}")
+    return named or LABELS
+
+
+def title(asked):
+    """The names of the files, without their folders."""
+    return ", ".join(pathlib.PurePath(path).name for path in asked.files)
+
+
+def written(shown, path):
+    """A picture or a page goes to its file."""
+    try:
+        shown.save(path)
+    except OSError as problem:
+        raise BadFile(f"{path} can't be written: {problem.strerror}") from problem
+
+
+def described(tables, pairs, report):
+    """A build and its visit, in lines of text."""
+    grid = tables.grid
+    print(f"lines {len(tables.lines)}", file=report)
+    print(f"grid {grid.cols} columns, {grid.rows} rows, cells {grid.cell_width:.9g} by {grid.cell_height:.9g}", file=report)
+    print(f"items {len(tables.items)}\nglobals {len(tables.globals)}\ntests {tables.tests}", file=report)
+    print(f"overlaps {pairs.handed}\npairs {len(pairs)}", file=report)
+
+
 def run(asked, bar):
     chains = [read(path) for path in asked.files]
     lines = Lines.together([one.lines for one in chains]) if len(chains) > 1 else chains[0].lines
     report = sys.stderr if asked.crossings else sys.stdout
-    parts = Parts(lines, asked.sizing, asked.walk)
-
+    parts, built = Parts(lines, asked.sizing, asked.walk), []
     if len(parts) > 1:
         print(f"lines {len(lines)} in {parts.count} parts, every two of them in one build: {len(parts)} builds", file=report)
 
     def told(tables, pairs):
         bar.clear()
-        grid = tables.grid
-        print(f"lines {len(tables.lines)}", file=report)
-        print(f"grid {grid.cols} columns, {grid.rows} rows, cells {grid.cell_width:.9g} by {grid.cell_height:.9g}", file=report)
-        print(f"items {len(tables.items)}\nglobals {len(tables.globals)}\ntests {tables.tests}", file=report)
-        print(f"overlaps {pairs.handed}\npairs {len(pairs)}", file=report)
+        described(tables, pairs, report)
+        if len(parts) == 1:  # several builds have no grid in common that could be shown
+            built.append(tables)
 
-    if asked.crossings:
-        found = crossings(lines, asked.sizing, asked.walk, asked.joints, bar, told)
-        bar.clear()
-        print(f"crossings {len(found)}, and {found.joints} joints that are left out", file=report)
-        sys.stdout.writelines(found.rows())
-    else:
+    if not (asked.crossings or asked.svg or asked.html):
         for number, part in enumerate(parts):
             told(part.tables, Once(part.tables, lambda share, what: bar((number + share) / len(parts), what)))
+        sys.stdout.flush()
+        return 0
+    found = crossings(lines, asked.sizing, asked.walk, asked.joints, bar, told)
+    bar.clear()
+    print(f"crossings {len(found)}, and {found.joints} joints that are left out", file=report)
+    for make, path in ((picture, asked.svg), (page, asked.html)):
+        if path:
+            written(make(lines, built[0] if built else None, found, labels(asked, chains), title(asked)), path)
+    if asked.crossings:
+        sys.stdout.writelines(found.rows())
     sys.stdout.flush()
     return 0

@@ -4,6 +4,7 @@ import numpy as np
 from ._library import answer
 from .grid import DEFAULT_WALK, GRID_WORDS, SCRATCH, SIZINGS, WALKS, Grid, chosen
 from .once import Once
+from .picture import picture
 from .refusal import Refusal
 
 MOST_LINES = 65_536  # above it refusal 2: see `parts`
@@ -108,6 +109,10 @@ class Tables:
         kind, row, column, first, second, overlap, *_ = answer("mt_test_at", *standing, bookmark)
         place = [("cell", row, column), ("global", row), None][kind]
         return place and (place, first, second, bool(overlap))
+
+    def picture(self, found=None, **words):
+        """The picture of the tables and their lines, with the crossings that were found: see `picture`."""
+        return picture(self.lines, self, found, **words)
 
     def check(self):
         """Refuses by 2, 8 or 10 where the tables are not such as a build leaves."""

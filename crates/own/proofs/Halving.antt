@@ -1,6 +1,6 @@
 -- The search for the first index of an axis that owns p: it halves the indexes from `low` to `high`, among which is the first with
 -- p < high edge, or else the last. That index is the first owner, if it owns p; else there is none. Assumes nothing.
-use mathlib.Core.Path.{_≡_, refl, sym, ap, _∙_}
+use mathlib.Core.Path.{_≡_, refl, sym, ap, _∙_, subst}
 use mathlib.Core.Logic.{_⊎_, inl, inr, ⊎-elim}
 use mathlib.Core.Bool.{Bool, true, false, _&&_, _||_}
 use Prim.Native.Nat.{ℕ, suc, _+_, _-_, _≤_, _<_}
@@ -37,30 +37,6 @@ module _ (a : Axis) (p : Float) (asks : Searchable a p) where
   pub whole-axis : 0 < a .count → Halved a p 0 (a .count - 1)
   whole-axis h = record { order = omega arith; inside = omega arith; passed = λ j l. absurd (omega arith); ahead = inl (omega arith) }
 
-  -- ---- about a guess g, by its high edge and that of the index before it
-
-  module _ (g : ℕ) (within : g < a .count) (edge : Float) (is : edge ≡ highOn a g) where
-    pub up-to : lt p edge ≡ true → Halved a p 0 g
-    up-to t = record { order = omega arith; inside = within; passed = λ j l. absurd (omega arith); ahead = inr (rw is at t) }
-
-    past : lt p edge ≡ false → (j : ℕ) → j < g + 1 → lt p (highOn a j) ≡ false
-    past t j l = over-before a (asks .low) (asks .size) p j g (asks .point) (omega arith) (omega (arith, asks .few)) (rw is at t)
-
-    pub just : (before : Float) → 0 < g → before ≡ highOn a (g - 1) → lt p edge ≡ true → lt p before ≡ false → Halved a p g g
-    just before some e t u =
-        record {
-          order = omega arith;
-          inside = within;
-          passed = λ j l. over-before a (asks .low) (asks .size) p j (g - 1) (asks .point) (omega arith) (omega (arith, asks .few)) (rw e at u);
-          ahead = inr (rw is at t);
-        }
-
-    pub at-last : lt p edge ≡ false → suc g ≡ a .count → Halved a p g g
-    at-last t e = record { order = omega arith; inside = within; passed = λ j l. past t j (omega arith); ahead = inl e }
-
-    pub after-it : lt p edge ≡ false → g + 1 < a .count → Halved a p (g + 1) (a .count - 1)
-    after-it t l = record { order = omega arith; inside = omega arith; passed = past t; ahead = inl (omega arith) }
-
   -- `edge` is the high edge of an index in between
   module _ (low high mid : ℕ) (h : Halved a p low high) (from : low ≤ mid) (to : mid < high) (edge : Float) (is : edge ≡ highOn a mid) where
     pub lower-half : lt p edge ≡ true → Halved a p low mid
@@ -93,6 +69,17 @@ module _ (a : Axis) (p : Float) (asks : Searchable a p) where
   only-low : (i : ℕ) → lt p (highOn a i) ≡ true → owns i ≡ false → le (lowOn a i) p ≡ false
   unfolding ownsOn
   only-low i t h = not-low (le (lowOn a i) p) (lt p (highOn a i)) _ t h
+
+  -- an index that owns p, where p has reached the high edge before it
+  pub at-guess : (i : ℕ) → 0 < i → i < a .count → (edge : Float) → edge ≡ highOn a (i - 1) → lt p edge ≡ false → true ≡ owns i → At i ≡ firstOn a p
+  unfolding firstOn
+  at-guess i some within edge is t o = sym (first-at owns (a .count) i (record { from = omega arith; within = within; passes = sym o; before = before }))
+    where
+      reached : lt p (highOn a (i - 1)) ≡ false
+      reached = subst (λ (e : Float). lt p e ≡ false) is t
+
+      before : None owns 0 i
+      before j u l = behind j (omega arith) (over-before a (asks .low) (asks .size) p j (i - 1) (asks .point) (omega arith) (omega (arith, asks .few)) reached)
 
   module _ (i high : ℕ) (h : Halved a p i high) (met : high ≤ i) where
     inside : i < a .count

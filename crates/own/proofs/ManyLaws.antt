@@ -54,6 +54,20 @@ cell-below g x y row col e =
     let h = subst (Case g x y) (sym e) (its-case g x y) in
     number-of (g .rows) (g .cols) row col (h .inRow) (h .inCol)
 
+-- and a cell's number fits wherever the number of its owner does
+pub cell-fits : (cols : ℕ) (o : Owner) (row col limit : ℕ) → o ≡ Cell row col → numberOf cols o < limit → row * cols + col < limit
+unfolding numberOf
+cell-fits cols o row col limit e h = rw e at h
+
+number-below : (g : Grid) (x y : Float) → g .rows * g .cols ≤ 1002001 → (o : Owner) → Case g x y o → numberOf (g .cols) o < 4294967296
+unfolding numberOf
+number-below g x y few (Cell row col) h = let n = number-of (g .rows) (g .cols) row col (h .inRow) (h .inCol) in omega arith
+number-below g x y few Seam h = omega arith
+number-below g x y few Outside h = omega arith
+
+pub number-fits : (g : Grid) (x y : Float) (o : Owner) → g .rows * g .cols ≤ 1002001 → o ≡ ownerOf g x y → numberOf (g .cols) o < 4294967296
+number-fits g x y o few e = number-below g x y few o (subst (Case g x y) (sym e) (its-case g x y))
+
 -- ---- the answers, entry by entry
 
 pub owners-length : (g : Grid) (xs ys : List Float) → length ys ≡ length xs → length (ownersOf g xs ys) ≡ length xs

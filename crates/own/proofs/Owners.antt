@@ -1,5 +1,5 @@
 -- The owner of a point, from the first column and the first row that own it, and what the checks say for their search. Assumes nothing.
-use mathlib.Core.Path.{_≡_, sym, ap, ap₂, _∙_}
+use mathlib.Core.Path.{_≡_, refl, sym, ap, ap₂, _∙_}
 use mathlib.Core.Bool.{Bool, true, false, _&&_, cond}
 use Prim.Native.Nat.{ℕ, _+_, _*_, _/_, _%_}
 use lib.Ieee.{Float}
@@ -51,6 +51,10 @@ module _ (g : Grid) (x y : Float) where
       let n = g .cols in
       sym (ap (cellOf n (seamOrOutside g x y)) (first-at cell (g .rows * n) (r * n + c) (first-cell column row n (g .rows) c r a b))
       ∙ ap₂ Cell (row-is column row n (g .rows) c r a b) (column-is column row n (g .rows) c r a b))
+
+  -- on axes that were read off the grid
+  pub cell-of : (ax ay : Axis) (c r : ℕ) → ax ≡ xAxis g → ay ≡ yAxis g → At c ≡ firstOn ax x → At r ≡ firstOn ay y → Cell r c ≡ ownerOf g x y
+  cell-of ax ay c r d k h j = both-own c r (answered ax (xAxis g) x (At c) (At c) h d refl) (answered ay (yAxis g) y (At r) (At r) j k refl)
 
   -- ---- where no cell owns it: u and v are what the two axes answer
 

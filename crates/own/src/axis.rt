@@ -2,10 +2,12 @@
 use crate::Found;
 use grid::Axis;
 ghost use mathlib.Core.Path.{_≡_};
+ghost use mathlib.Core.Bool.{true};
 ghost use Rattle.own.specs.Own.{ownsOn, holdsOn};
-ghost use Prim.Native.Nat.{_<_};
+ghost use Prim.Native.Nat.{_<_, _≤_};
 ghost use Rattle.own.specs.Owner.{Searchable, firstOn};
 ghost use Rattle.own.specs.Inside.{Halved};
+ghost use Rattle.own.specs.declared.Found.the-variants.{At};
 
 // The indexes from `low` to `high`.
 struct Stretch {
@@ -40,55 +42,95 @@ pub(crate) fn holds(axis: Axis, i: u32, p: f64) -> bool
     false
 }
 
-// The indexes among which the search goes on: at a good guess that one alone, as its high edge and the one before it say. Any guess will do.
-fn about(axis: Axis, p: f64, guess: u32) -> Stretch
-    requires { ⌜ Searchable axis p ⌝ ∗ ⌜ 0 < axis .count ⌝ }
-    ensures { λ r. ⌜ Halved axis p (r .low) (r .high) ⌝ }
+// A guess at the index of p, from how many cells p lies above the low end of its axis, cut to a whole number; the count, where that is
+// beyond the end. Any guess will do.
+pub(crate) fn guessed(cells: f64, count: u32) -> u32
+    ensures { λ r. ⌜ r ≤ count ⌝ }
 {
-    let last = axis.count - 1;
-    if guess > last {
-        return Stretch { low: 0, high: last };
-    }
-    if p < axis.high_edge(guess) {
-        if guess == 0 {
-            return Stretch {
-                low: 0,
-                high: guess,
-            };
+    if cells > 0.0 {
+        if cells < 18446744073709551616.0 {
+            let cut = std::num::truncating_f64_to_u64(cells);
+            if cut < count as u64 {
+                return cut as u32;
+            }
+            return count;
         }
-        if p < axis.high_edge(guess - 1) {
-            return Stretch {
-                low: 0,
-                high: guess - 1,
-            };
-        }
-        return Stretch {
-            low: guess,
-            high: guess,
-        };
     }
-    if guess == last {
-        return Stretch {
-            low: guess,
-            high: guess,
-        };
-    }
-    Stretch {
-        low: guess + 1,
-        high: last,
-    }
+    0
 }
 
-// The first index that owns p. The edges keep their order along the axis, so the first index with p below its high edge, or else the
-// last, is found by halving, about the index that a division gives; if that index does not own p, none does.
-pub(crate) fn first(axis: Axis, p: f64) -> Found
+// Whether a guess is seen to be the first index that owns p: it owns p, and p has reached the high edge before it. Mostly it is, and then
+// nothing else is asked.
+pub(crate) fn settled(axis: Axis, p: f64, guess: u32) -> bool
     requires { ⌜ Searchable axis p ⌝ }
+    ensures { λ r. ⌜ (r ≡ true → At guess ≡ firstOn axis p) ⌝ }
+{
+    if guess == 0 {
+        return false;
+    }
+    if axis.count <= guess {
+        return false;
+    }
+    if p < axis.high_edge(guess - 1) {
+        return false;
+    }
+    owns(axis, guess, p)
+}
+
+// What the high edge of an index leaves of the indexes among which the search goes on.
+fn narrowed(axis: Axis, p: f64, left: Stretch, at: u32) -> Stretch
+    requires { ⌜ Searchable axis p ⌝ ∗ ⌜ Halved axis p (left .low) (left .high) ⌝ }
+    ensures { λ r. ⌜ Halved axis p (r .low) (r .high) ⌝ }
+{
+    if left.low <= at {
+        if at < left.high {
+            if p < axis.high_edge(at) {
+                return Stretch {
+                    low: left.low,
+                    high: at,
+                };
+            }
+            return Stretch {
+                low: at + 1,
+                high: left.high,
+            };
+        }
+    }
+    left
+}
+
+fn two_before(i: u32) -> u32
+    ensures { λ r. ⌜ r ≤ i ⌝ }
+{
+    if i < 2 {
+        return 0;
+    }
+    i - 2
+}
+
+// The indexes among which the search goes on: one alone, where the guess is right or one beside it is.
+fn about(axis: Axis, p: f64, guess: u32) -> Stretch
+    requires { ⌜ Searchable axis p ⌝ ∗ ⌜ 0 < axis .count ⌝ ∗ ⌜ guess ≤ axis .count ⌝ }
+    ensures { λ r. ⌜ Halved axis p (r .low) (r .high) ⌝ }
+{
+    let whole = Stretch {
+        low: 0,
+        high: axis.count - 1,
+    };
+    let from = two_before(guess);
+    let there = narrowed(axis, p, whole, from + 2);
+    let before = narrowed(axis, p, there, from + 1);
+    let further = narrowed(axis, p, before, from);
+    narrowed(axis, p, further, from + 3)
+}
+
+// The first index that owns p, sought about a guess. The edges keep their order along the axis, so the first index with p below its high
+// edge, or else the last, is found by halving; if that index does not own p, none does.
+fn searched(axis: Axis, p: f64, guess: u32) -> Found
+    requires { ⌜ Searchable axis p ⌝ ∗ ⌜ 0 < axis .count ⌝ ∗ ⌜ guess ≤ axis .count ⌝ }
     ensures { λ r. ⌜ r ≡ firstOn axis p ⌝ }
 {
-    if axis.count == 0 {
-        return Found::Nowhere;
-    }
-    let stretch = about(axis, p, axis.index(p));
+    let stretch = about(axis, p, guess);
     let mut low = stretch.low;
     let mut high = stretch.high;
     while low < high {
@@ -103,4 +145,19 @@ pub(crate) fn first(axis: Axis, p: f64) -> Found
         return Found::At(low);
     }
     Found::Nowhere
+}
+
+// The first index that owns p, by a guess that a division gives, or else by the search about it.
+pub(crate) fn first(axis: Axis, p: f64) -> Found
+    requires { ⌜ Searchable axis p ⌝ }
+    ensures { λ r. ⌜ r ≡ firstOn axis p ⌝ }
+{
+    if axis.count == 0 {
+        return Found::Nowhere;
+    }
+    let guess = guessed(axis.scaled(p), axis.count);
+    if settled(axis, p, guess) {
+        return Found::At(guess);
+    }
+    searched(axis, p, guess)
 }

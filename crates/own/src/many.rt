@@ -1,11 +1,14 @@
 // The owners of many points in one call.
 use crate::Owner;
+use crate::axis::guessed;
+use crate::axis::settled;
 use crate::first_cell;
 use grid::Grid;
 use refusals::Check;
 use refusals::Refusal;
 use refusals::refuse_unless;
 ghost use mathlib.Core.Path.{_≡_};
+ghost use Prim.Native.Nat.{_<_};
 ghost use lib.ListN.{length};
 ghost use Rattle.own.specs.Owner.{ownerOf};
 ghost use Rattle.own.specs.Many.{numberOf, ownersOf, alikeCheck, pointsCheck, OwnersAre};
@@ -16,17 +19,32 @@ pub const SEAM: u32 = 4294967294;
 
 pub const OUTSIDE: u32 = 4294967295;
 
-// The number of a point's owner.
-fn number_at(grid: Grid, x: f64, y: f64) -> u32
-    requires { ⌜ Askable grid x y ⌝ }
-    ensures { λ r. ⌜ r ≡ numberOf (grid .cols) (ownerOf grid x y) ⌝ }
+// The number of an owner on so many columns.
+fn numbered(cols: u32, owner: Owner) -> u32
+    requires { ⌜ numberOf cols owner < 4294967296 ⌝ }
+    ensures { λ r. ⌜ r ≡ numberOf cols owner ⌝ }
 {
-    let owner = first_cell(grid, x, y);
     match owner {
-        Owner::Cell { row, col } => row * grid.cols + col,
+        Owner::Cell { row, col } => row * cols + col,
         Owner::Seam => SEAM,
         Owner::Outside => OUTSIDE,
     }
+}
+
+// The number of a point's owner, by a guess on each axis, or else by the search of a single call. So many columns and rows go into a unit
+// of length: to multiply is quicker than to divide, and a guess need not be exact.
+fn number_at(grid: Grid, columns: f64, rows: f64, x: f64, y: f64) -> u32
+    requires { ⌜ Askable grid x y ⌝ }
+    ensures { λ r. ⌜ r ≡ numberOf (grid .cols) (ownerOf grid x y) ⌝ }
+{
+    let col = guessed((x - grid.min_x) * columns, grid.cols);
+    let row = guessed((y - grid.min_y) * rows, grid.rows);
+    if settled(grid.x_axis(), x, col) {
+        if settled(grid.y_axis(), y, row) {
+            return row * grid.cols + col;
+        }
+    }
+    numbered(grid.cols, first_cell(grid, x, y))
 }
 
 // The three slices have one length.
@@ -59,9 +77,11 @@ fn write_owners(grid: Grid, x: &[f64], y: &[f64], answers: &mut [u32])
     requires { ⌜ Checked grid (now x) (now y) (now answers) ⌝ }
     ensures { λ _. ⌜ now (answers .exit) ≡ ownersOf grid (now (x .entry)) (now (y .entry)) ⌝ }
 {
+    let columns = 1.0 / grid.cell_width;
+    let rows = 1.0 / grid.cell_height;
     let mut i = 0;
     while i < x.len() {
-        answers[i] = number_at(grid, x[i], y[i]);
+        answers[i] = number_at(grid, columns, rows, x[i], y[i]);
         i += 1;
     }
 }

@@ -1,84 +1,39 @@
--- `own::axis::first` meets its contract. The loop's invariant is `Halved`; the measure is what is left between the two ends.
--- Assumes nothing.
-use mathlib.Core.Path.{sym, _∙_}
-use Prim.Native.Nat.{_-_}
+-- `own::axis::first` meets its contract: by the guess where that is settled, else by the search about it. Assumes nothing.
 use native.Mathlib.Omega.{arith}
 use borrow.Author.Needs.{needs}
-use Rattle.own.specs.Inside.{Halved}
-use Rattle.own.specs.Inside.{Halved}
-use Rattle.own.proofs.Halving.{empty-axis, whole-axis, lower-half, upper-half, found, nowhere}
+use Rattle.own.proofs.Halving.{empty-axis}
 use Rattle.own.proofs.axis.first.Statement.{statement}
 use Rattle.own.proofs.axis.first.Tie as tie
 
-abbrev Inv-loop : tie.InvT-loop
-Inv-loop axis p low₀ high₀ low high = Halved axis p low high
-
-abbrev μ-loop : tie.MeasureT-loop
-μ-loop axis p low₀ high₀ low high = high - low
-
-returns : tie.Need-returns Inv-loop μ-loop
+returns : tie.Need-returns
 returns c = empty-axis (c .before .before .args .axis) (c .before .before .args .p) (c .if1 .taken)
 
-index-requires : tie.Need-index-requires Inv-loop μ-loop
-index-requires c κs = search needs
+scaled-requires : tie.Need-scaled-requires
+scaled-requires c κs = search needs
 
-about-requires : tie.Need-about-requires Inv-loop μ-loop
-about-requires c κs = (c .before .before .before .pre, omega arith)
+guessed-requires : tie.Need-guessed-requires
+guessed-requires c κs = search needs
 
-loop-holds : tie.Need-loop-holds Inv-loop μ-loop
-loop-holds c = c .about .ensures
+settled-requires : tie.Need-settled-requires
+settled-requires c κs = search needs
 
-sub-mid : tie.Need-sub-mid Inv-loop μ-loop
-sub-mid c = omega arith
+returns-2 : tie.Need-returns-2
+returns-2 c = c .before .settled .ensures (c .if2 .taken)
 
-add-mid : tie.Need-add-mid Inv-loop μ-loop
-add-mid c = omega arith
+searched-requires : tie.Need-searched-requires
+searched-requires c κs = (c .before .before .before .before .before .before .pre, (omega arith, c .before .before .guessed .ensures))
 
-high-edge-requires : tie.Need-high-edge-requires Inv-loop μ-loop
-high-edge-requires c κs = search needs
-
-loop-less : tie.Need-loop-less Inv-loop μ-loop
-loop-less c = omega arith
-
-loop-again : tie.Need-loop-again Inv-loop μ-loop
-loop-again c = lower-half _ _ (c .before .before .before .before .before .before .before .before .pre) _ _ _ (c .before .before .before .loop .inv) (omega arith) (omega arith) _ (c .before .high-edge .ensures) (c .if2 .taken)
-
-add-low : tie.Need-add-low Inv-loop μ-loop
-add-low c = omega arith
-
-loop-less-2 : tie.Need-loop-less-2 Inv-loop μ-loop
-loop-less-2 c = omega arith
-
-loop-again-2 : tie.Need-loop-again-2 Inv-loop μ-loop
-loop-again-2 c = upper-half _ _ (c .before .before .before .before .before .before .before .before .pre) _ _ _ (c .before .before .before .loop .inv) (omega arith) (omega arith) _ (c .before .high-edge .ensures) (c .if2 .left)
-
-owns-requires : tie.Need-owns-requires Inv-loop μ-loop
-owns-requires c κs = search needs
-
-returns-2 : tie.Need-returns-2 Inv-loop μ-loop
-returns-2 c = found _ _ (c .before .before .before .before .before .before .before .before .pre) _ _ (c .before .before .before .loop .inv) (c .before .before .loop-test .left) (sym (c .if3 .taken) ∙ c .before .owns .ensures)
-
-returns-3 : tie.Need-returns-3 Inv-loop μ-loop
-returns-3 c = nowhere _ _ (c .before .before .before .before .before .before .before .before .pre) _ _ (c .before .before .before .loop .inv) (c .before .before .loop-test .left) (sym (c .if3 .left) ∙ c .before .owns .ensures)
+returns-3 : tie.Need-returns-3
+returns-3 c = c .searched .ensures
 
 pub first-spec : {M : Type 1} → statement M
 first-spec =
     tie.close
     (tie.spec
-    Inv-loop
-    μ-loop
     returns
-    index-requires
-    about-requires
-    loop-holds
-    sub-mid
-    add-mid
-    high-edge-requires
-    loop-less
-    loop-again
-    add-low
-    loop-less-2
-    loop-again-2
-    owns-requires
+    scaled-requires
+    guessed-requires
+    settled-requires
     returns-2
+    searched-requires
     returns-3)

@@ -1,43 +1,64 @@
--- `own::many::number_at` meets its contract: the number of each case of the owner. Assumes nothing.
-use mathlib.Core.Path.{sym, ap, _∙_}
+-- `own::many::number_at` meets its contract: a guess that is settled on both axes is the owner's cell, and the search gives the owner. Assumes
+-- nothing.
+use mathlib.Core.Path.{ap, _∙_}
 use native.Mathlib.Omega.{arith}
 use borrow.Author.Needs.{needs}
 use Rattle.own.specs.Many.{numberOf}
-use Rattle.own.proofs.ManyLaws.{cell-below}
+use Rattle.own.proofs.Owners.{asked, cell-of}
+use Rattle.own.proofs.ManyLaws.{cell-below, number-fits}
 use Rattle.own.proofs.many.number_at.Statement.{statement}
 use Rattle.own.proofs.many.number_at.Tie as tie
 
-first-cell-requires : tie.Need-first-cell-requires
-first-cell-requires c κs = (c .pre .across, c .pre .up)
+guessed-requires : tie.Need-guessed-requires
+guessed-requires c κs = search needs
+
+guessed-requires-2 : tie.Need-guessed-requires-2
+guessed-requires-2 c κs = search needs
+
+x-axis-requires : tie.Need-x-axis-requires
+x-axis-requires c κs = search needs
+
+settled-requires : tie.Need-settled-requires
+settled-requires c κs = asked _ _ _ (c .x-axis .ensures) (c .before .before .before .before .before .pre .across)
+
+y-axis-requires : tie.Need-y-axis-requires
+y-axis-requires c κs = search needs
+
+settled-requires-2 : tie.Need-settled-requires-2
+settled-requires-2 c κs = asked _ _ _ (c .y-axis .ensures) (c .before .before .before .before .before .before .before .before .pre .up)
 
 mul-result : tie.Need-mul-result
-mul-result c = let l = cell-below _ _ _ _ _ (sym (c .before .before .owner .given .1) ∙ c .before .before .before .before .first-cell .ensures) in omega (arith, c .before .before .before .before .before .pre .few)
+mul-result c = let l = cell-below _ _ _ _ _ (cell-of _ _ _ _ _ _ _ (c .before .before .before .before .before .before .x-axis .ensures) (c .before .before .before .y-axis .ensures) (c .before .before .before .before .before .settled .ensures (c .before .before .before .before .if1 .taken)) (c .before .before .settled2 .ensures (c .before .if2 .taken))) in omega (arith, c .before .before .before .before .before .before .before .before .before .before .before .pre .few)
 
 add-result : tie.Need-add-result
-add-result c = let l = cell-below _ _ _ _ _ (sym (c .before .before .owner .given .1) ∙ c .before .before .before .before .first-cell .ensures) in omega (arith, c .before .before .before .before .before .pre .few)
+add-result c = let l = cell-below _ _ _ _ _ (cell-of _ _ _ _ _ _ _ (c .before .before .before .before .before .before .x-axis .ensures) (c .before .before .before .y-axis .ensures) (c .before .before .before .before .before .settled .ensures (c .before .before .before .before .if1 .taken)) (c .before .before .settled2 .ensures (c .before .if2 .taken))) in omega (arith, c .before .before .before .before .before .before .before .before .before .before .before .pre .few)
 
 returns : tie.Need-returns
 unfolding numberOf
-returns c = ap (numberOf _) (sym (c .before .before .owner .given .1) ∙ c .before .before .before .before .first-cell .ensures)
+returns c = ap (numberOf _) (cell-of _ _ _ _ _ _ _ (c .before .before .before .before .before .before .x-axis .ensures) (c .before .before .before .y-axis .ensures) (c .before .before .before .before .before .settled .ensures (c .before .before .before .before .if1 .taken)) (c .before .before .settled2 .ensures (c .before .if2 .taken)))
+
+first-cell-requires : tie.Need-first-cell-requires
+first-cell-requires c κs = search needs
+
+numbered-requires : tie.Need-numbered-requires
+numbered-requires c κs = number-fits _ _ _ _ (c .before .before .before .before .before .before .before .before .pre .few) (c .first-cell .ensures)
 
 returns-2 : tie.Need-returns-2
-unfolding numberOf
-returns-2 c = ap (numberOf _) (sym (c .enum-told .given .1) ∙ c .before .before .first-cell .ensures)
-
-returns-3 : tie.Need-returns-3
-unfolding numberOf
-returns-3 c = ap (numberOf _) (sym (c .enum-told2 .given .1) ∙ c .before .before .first-cell .ensures)
+returns-2 c = c .numbered .ensures ∙ ap (numberOf _) (c .before .first-cell .ensures)
 
 pub number-at-spec : {M : Type 1} → statement M
 number-at-spec =
     tie.close
     (tie.spec
-    first-cell-requires
-    (λ c. search needs)
+    guessed-requires
+    guessed-requires-2
+    x-axis-requires
+    settled-requires
+    y-axis-requires
+    settled-requires-2
     mul-result
     add-result
-    (λ c. search needs)
-    (λ c. search needs)
     returns
-    returns-2
-    returns-3)
+    first-cell-requires
+    numbered-requires
+    returns-2)

@@ -8,16 +8,16 @@ use Rattle.own.proofs.many.write_owners.Statement.{statement}
 use Rattle.own.proofs.many.write_owners.Tie as tie
 
 abbrev Inv-loop : tie.InvT-loop
-Inv-loop grid x y answers₀ i₀ answers i = Telling grid x y answers₀ answers i
+Inv-loop grid x y answers₀ columns rows i₀ answers i = Telling grid x y answers₀ answers i
 
 abbrev μ-loop : tie.MeasureT-loop
-μ-loop grid x y answers₀ i₀ answers i = length x - i
+μ-loop grid x y answers₀ columns rows i₀ answers i = length x - i
 
 loop-holds : tie.Need-loop-holds Inv-loop μ-loop
-loop-holds c = telling-none _ _ _ _ (c .before .before .before .pre .alike) (c .before .before .before .pre .room)
+loop-holds c = telling-none _ _ _ _ (c .before .before .before .before .before .pre .alike) (c .before .before .before .before .before .pre .room)
 
 number-at-requires : tie.Need-number-at-requires Inv-loop μ-loop
-number-at-requires c κs = askable _ _ _ (c .before .before .before .before .before .before .before .pre .fits) (point-at _ _ _ (c .before .before .before .before .before .before .before .pre .points) (omega arith))
+number-at-requires c κs = askable _ _ _ (c .before .before .before .before .before .before .before .before .before .pre .fits) (point-at _ _ _ (c .before .before .before .before .before .before .before .before .before .pre .points) (omega arith))
 
 loop-again : tie.Need-loop-again Inv-loop μ-loop
 loop-again c = telling-more (c .before .before .before .before .loop .inv) _ (omega arith) (c .number-at .ensures)

@@ -1,100 +1,84 @@
 #!/usr/bin/env python3
-"""exact_check.py [--sizing square|axes] [--walk rust|sided] FILE..: which legs of a chain share a point, by exact arithmetic, and
-which of those pairs the visit never tests.
+"""exact_check.py [--sizing square|axes|all] [--walk rust|sided|all] FILE..: which legs of a chain share a point, by exact arithmetic, and which of those
+pairs a visit never tests. On square cells and by the Rust's walk, where nothing else is said.
 
-FILE is one LineString in well-known binary. Coordinates are floats, so each is a fraction, and nothing is rounded here. The program is run
-on FILE (./morelturret, which builds it on demand, with the sizing and the walk that are named); a pair of legs is tested if the
-two share a `cell` line or one is on the `global` line.
-Consecutive legs share their joint, so they count too.
-Prints a line for each FILE, and one for each pair that is missing. Status 0: none is missing; 1: some are; 2: a FILE was refused or not read."""
+FILE is what `python3 -m morelturret` takes: a table of two columns, or a LineString or MultiLineString in well-known binary, of any number of legs; above
+65,536 they are built in parts, every two together. The pairs that share a point are found by a sweep in x, without a grid, and each decided exactly; then
+the library builds and visits, by each sizing and walk that is named. Consecutive legs share their joint, so they count too.
+Prints a line for each FILE, sizing and walk, and one for each pair that is missing. Status 0: none is missing; 1: some are; 2: a FILE was refused or not
+read. Needs NumPy and the shared library (tools/build_library)."""
+import argparse
+import os
 import pathlib
-import struct
-import subprocess
 import sys
 
 TOP = pathlib.Path(__file__).resolve().parent.parent
+sys.path.insert(0, str(TOP / "bindings" / "python"))
+try:
+    import numpy as np
+except ImportError:
+    if sys.executable == "/usr/bin/python3" or not os.path.exists("/usr/bin/python3"):
+        sys.exit("exact_check: NumPy is needed: apt install python3-numpy")
+    os.execv("/usr/bin/python3", ["/usr/bin/python3", *sys.argv])  # Debian's, which has Debian's NumPy
+
+from morelturret import SIZINGS, WALKS, Parts, Refusal
+from morelturret.files import BadFile, read
+from morelturret.once import Once
+from morelturret.progress import Bar
+from morelturret.sweep import meeting_pairs
 
 
-def points_of(data):
-    order = "<" if data[:1] == b"\1" else ">"
-    count = struct.unpack(order + "I", data[5:9])[0]
-    return list(struct.iter_unpack(order + "dd", data[9 : 9 + 16 * count]))
+def never_tested(lines, first, second, sizing, walk, bar):
+    """Of pairs that share a point, those that no visit hands out. Their boxes overlap, so whatever is tested is handed out."""
+    parts, missing = Parts(lines, sizing, walk), np.ones(len(first), bool)
+    for number, part in enumerate(parts):
+        visit = Once(part.tables, lambda share, what: bar((number + share) / len(parts), what))
+        one, other = part.local(first), part.local(second)
+        at = np.flatnonzero((one >= 0) & (other >= 0))
+        at = at[part.kept(one[at], other[at])]
+        missing[at] = ~visit.has(one[at], other[at])
+    return np.flatnonzero(missing)
 
 
-def whole(points):
-    """The points times one power of two, as whole numbers."""
-    ratios = [(x.as_integer_ratio(), y.as_integer_ratio()) for x, y in points]
-    scale = max(d for p in ratios for _, d in p)
-    return [(x[0] * (scale // x[1]), y[0] * (scale // y[1])) for x, y in ratios]
-
-
-def side(a, b, c):
-    """The sign of the turn from a to b to c."""
-    v = (b[0] - a[0]) * (c[1] - a[1]) - (b[1] - a[1]) * (c[0] - a[0])
-    return (v > 0) - (v < 0)
-
-
-def share_a_point(a, b, c, d):
-    """Whether the closed segments ab and cd share a point: touching ends, overlaps and single points included."""
-    for k in (0, 1):
-        if max(a[k], b[k]) < min(c[k], d[k]) or max(c[k], d[k]) < min(a[k], b[k]):
-            return False
-    return side(a, b, c) * side(a, b, d) <= 0 and side(c, d, a) * side(c, d, b) <= 0
-
-
-def tested_of(printed, legs):
-    """For each leg, the set of the legs that it is tested with."""
-    tested = [set() for _ in range(legs)]
-    for line in printed.splitlines():
-        word, *numbers = line.split()
-        numbers = [int(n) for n in numbers] if word in ("cell", "global") else []
-        if word == "cell":
-            listed = numbers[2:]
-            for i in listed:
-                tested[i].update(listed)
-        elif word == "global":
-            for g in numbers:
-                tested[g].update(range(legs))
-                for i in range(legs):
-                    tested[i].add(g)
-    return tested
-
-
-def check(path, options):
+def check(path, sizings, walks, bar):
+    """The worst status of a file's plans."""
     try:
-        data = pathlib.Path(path).read_bytes()
-    except OSError as e:
-        print(f"{path}: {e.strerror}", file=sys.stderr)
+        lines = read(path).lines
+    except BadFile as problem:
+        print(f"exact_check: {problem}", file=sys.stderr)
         return 2
-    run = subprocess.run([TOP / "morelturret", *options, path], capture_output=True, text=True)
-    if run.returncode != 0:
-        sys.stderr.write(run.stderr)
-        return 2
-    printed = run.stdout
-    if not printed.startswith("grid "):
-        print(f"{path}: {printed.strip()}: there is nothing to check", file=sys.stderr)
-        return 2
-    points = points_of(data)
-    at = whole(points)
-    legs = len(at) - 1
-    tested = tested_of(printed, legs)
-    meeting = [(i, j) for i in range(legs) for j in range(i + 1, legs) if share_a_point(at[i], at[i + 1], at[j], at[j + 1])]
-    missing = [(i, j) for i, j in meeting if j not in tested[i]]
-    joints = sum(j == i + 1 for i, j in meeting)
-    print(f"{path}: {legs} legs; {len(meeting)} pairs share a point, {joints} of them consecutive; {len(missing)} of these pairs are never tested")
-    for i, j in missing:
-        leg = lambda k: f"leg {k} {points[k]}-{points[k + 1]}"
-        print(f"  never tested: {leg(i)} and {leg(j)}")
-    return 1 if missing else 0
+    # what the library refuses by 1 is not swept
+    taken = all((np.abs(values) <= 1e9).all() for values in lines.slices)
+    first, second = meeting_pairs(lines if taken else lines[:0], bar)
+    joints = int(((second == first + 1) & lines.follows[second]).sum())
+    status = 0
+    for sizing, walk in ((sizing, walk) for sizing in sizings for walk in walks):
+        plan = "" if len(sizings) == len(walks) == 1 else f" ({sizing}, {walk})"
+        try:
+            missing = never_tested(lines, first, second, sizing, walk, bar)
+        except Refusal as refusal:
+            bar.clear()
+            print(f"exact_check: {path}{plan}: {refusal}: there is nothing to check", file=sys.stderr)
+            status = 2
+            continue
+        bar.clear()
+        print(f"{path}{plan}: {len(lines)} legs; {len(first)} pairs share a point, {joints} of them consecutive; {len(missing)} of these pairs are never tested")
+        for k in missing.tolist():
+            leg = lambda i: f"leg {i} {(lines.start_x[i], lines.start_y[i])}-{(lines.end_x[i], lines.end_y[i])}"
+            print(f"  never tested: {leg(first[k])} and {leg(second[k])}")
+        status = max(status, 1 if len(missing) else 0)
+    return status
 
 
 def main():
-    words, options = sys.argv[1:], []
-    while words[:1] in (["--sizing"], ["--walk"]):
-        options, words = options + words[:2], words[2:]
-    if not words or words[0] in ("-h", "--help"):
-        sys.exit(__doc__)
-    sys.exit(max(check(path, options) for path in words))
+    parser = argparse.ArgumentParser(description=__doc__, formatter_class=argparse.RawDescriptionHelpFormatter)
+    parser.add_argument("--sizing", choices=[*SIZINGS, "all"], default="square")
+    parser.add_argument("--walk", choices=[*WALKS, "all"], default="rust")
+    parser.add_argument("files", nargs="+", metavar="FILE")
+    asked = parser.parse_args()
+    named = lambda word, among: list(among) if word == "all" else [word]
+    bar = Bar()
+    sys.exit(max(check(path, named(asked.sizing, SIZINGS), named(asked.walk, WALKS), bar) for path in asked.files))
 
 
 if __name__ == "__main__":

@@ -24,6 +24,10 @@ class Once:
             self.handed += len(first)
             progress(tests / total, "pairs")
 
+    def has(self, first, second):
+        """Which of these pairs, lower line first, the visit hands out."""
+        return self.marks[self.starts[first] + second - first - 1]
+
     def __len__(self):
         return int(np.count_nonzero(self.marks))
 

@@ -70,11 +70,21 @@ class Part:
         self.start, self.lower, self.upper_start = start, lower, upper_start
         self.keeps_lower, self.keeps_upper = keeps_lower, keeps_upper
 
+    def kept(self, first, second):
+        """Which pairs are kept from this build."""
+        one, other = first < self.lower, second < self.lower
+        return (one != other) | (one & other & self.keeps_lower) | ~(one | other) & self.keeps_upper
+
     def numbers(self, first, second):
         """The pairs that are kept from this build, by the numbers of their lines among all."""
-        one, other = first < self.lower, second < self.lower
-        kept = (one != other) | (one & other & self.keeps_lower) | ~(one | other) & self.keeps_upper
+        kept = self.kept(first, second)
         return self.number(first[kept]), self.number(second[kept])
+
+    def local(self, number):
+        """The number in this build of a line by its number among all; -1 where it is none of this build's."""
+        lower, upper = number - self.start, number - self.upper_start + self.lower
+        inside = (upper >= self.lower) & (upper < len(self.tables.lines))
+        return np.where((lower >= 0) & (lower < self.lower), lower, np.where(inside, upper, -1))
 
     def number(self, line):
         """The number among all of a line of this build."""

@@ -1,10 +1,13 @@
 """The command, as a user runs it; and what an import says where something is missing."""
+import io
 import os
 import pathlib
 import subprocess
 import sys
 import tempfile
 import unittest
+
+from morelturret.progress import Bar
 
 from .shared import EXAMPLES, TOP
 
@@ -17,6 +20,22 @@ def run(*words, before="", stdin=None, **environment):
     env = {**os.environ, "PYTHONPATH": str(PACKAGE), **environment}
     done = subprocess.run([sys.executable, "-c", code, *map(str, words)], input=stdin, capture_output=True, env=env, cwd=TOP)
     return done.stdout.decode(), done.stderr.decode(), done.returncode
+
+
+class Progress(unittest.TestCase):
+    class Terminal(io.StringIO):
+        def isatty(self):
+            return True
+
+    def test_a_bar(self):
+        for stream, shown in ((self.Terminal(), True), (io.StringIO(), False)):
+            bar = Bar(stream)
+            bar(0.25, "pairs")
+            self.assertEqual(stream.getvalue(), "")  # no second has passed
+            bar.next = 0
+            bar(0.5, "pairs")
+            bar.clear()
+            self.assertEqual(stream.getvalue(), "\rpairs [" + 20 * "#" + 20 * "." + "]  50 %\033[K\r\033[K" if shown else "")
 
 
 class Command(unittest.TestCase):

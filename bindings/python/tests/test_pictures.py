@@ -9,7 +9,7 @@ import numpy as np
 
 from morelturret import Lines, build, crossings
 from morelturret.page import MOST_CROSSINGS, page
-from morelturret.picture import HEIGHT, WIDTH, picture
+from morelturret.picture import HEIGHT, SHADES, TIMES, WIDTH, picture
 
 from .browser import PATH, Browser
 from .shared import EXAMPLES, TOP, loops
@@ -63,6 +63,17 @@ class Pictures(unittest.TestCase):
                     for other in stand[:k]:
                         apart = one[0] >= other[2] or other[0] >= one[2] or one[1] >= other[3] or other[1] >= one[3]
                         self.assertTrue(apart, (one, other))
+
+    def test_lightness_alone_tells_times_and_lists_apart(self):
+        def light(colour):
+            """The relative luminance of a colour: what is left of it for whoever sees no hue."""
+            red, green, blue = ((int(colour[k : k + 2], 16) / 255) ** 2.2 for k in (1, 3, 5))
+            return 0.2126 * red + 0.7152 * green + 0.0722 * blue
+
+        times, shades = [light(colour) for colour in TIMES], [light(colour) for colour in SHADES]
+        self.assertEqual((times, shades), (sorted(times), sorted(shades, reverse=True)))
+        self.assertTrue(all(b > 1.1 * a for a, b in zip(times, times[1:])))
+        self.assertTrue(all(a > 1.1 * b for a, b in zip(shades, shades[1:])))
 
     def test_large_pictures_stay_small(self):
         lines = loops(400, 160)

@@ -10,7 +10,7 @@ from morelturret.wkb import read_wkb
 from .shared import EXAMPLES, loops, pair_set
 
 FOUR = Grid(0, 0, 1, 1, 4, 4)
-ROOMY = {"refused 4", "refused 5", "refused 6"}  # the program's room, not the library's
+THE_PROGRAMS = {"refused 4", "refused 5", "refused 6", "refused 11"}  # its room and its reader, which are not the package's
 
 
 def printed(tables):
@@ -33,7 +33,7 @@ class Examples(unittest.TestCase):
             if not out.exists():
                 continue
             expected = out.read_text().splitlines()
-            if expected[0] in ROOMY or path.stem.startswith("refused_11"):
+            if expected[0] in THE_PROGRAMS:
                 continue
             with self.subTest(path=path.name, sizing=sizing, walk=walk):
                 try:

@@ -22,9 +22,9 @@ def read_wkb(data):
     >>> x, y, lengths = read_wkb(write_wkb([0, 1, 5, 6], [0, 1, 5, 5], [2, 2]))
     >>> x, lengths
     (array([0., 1., 5., 6.]), array([2, 2], dtype=uint32))
-    >>> read_wkb(b"LINESTRING (0 0, 1 1)")
+    >>> read_wkb(b"LINESTRING (0 0, 1 1)")  # doctest: +ELLIPSIS
     Traceback (most recent call last):
-    morelturret.refusal.Refusal: refused 11, value 0: the bytes are no LineString of 1 to 1,024 points, or bytes follow it (this is text, not well-known binary)
+    morelturret.refusal.Refusal: refused 11, value 0: the bytes are no LineString ... (this is text, not well-known binary)
     """
     data = bytes(getattr(data, "wkb", data))
     order, kind = head(data, 0)

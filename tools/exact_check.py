@@ -12,6 +12,13 @@ import os
 import pathlib
 import sys
 
+# The words come first: help needs neither NumPy nor the library.
+parser = argparse.ArgumentParser(description=__doc__, formatter_class=argparse.RawDescriptionHelpFormatter)
+parser.add_argument("--sizing", default="square")
+parser.add_argument("--walk", default="rust")
+parser.add_argument("files", nargs="+", metavar="FILE")
+asked = parser.parse_args() if __name__ == "__main__" else None
+
 TOP = pathlib.Path(__file__).resolve().parent.parent
 sys.path.insert(0, str(TOP / "bindings" / "python"))
 try:
@@ -71,14 +78,13 @@ def check(path, sizings, walks, bar):
 
 
 def main():
-    parser = argparse.ArgumentParser(description=__doc__, formatter_class=argparse.RawDescriptionHelpFormatter)
-    parser.add_argument("--sizing", choices=[*SIZINGS, "all"], default="square")
-    parser.add_argument("--walk", choices=[*WALKS, "all"], default="rust")
-    parser.add_argument("files", nargs="+", metavar="FILE")
-    asked = parser.parse_args()
-    named = lambda word, among: list(among) if word == "all" else [word]
-    bar = Bar()
-    sys.exit(max(check(path, named(asked.sizing, SIZINGS), named(asked.walk, WALKS), bar) for path in asked.files))
+    def named(option, word, among):
+        if word not in (*among, "all"):
+            parser.error(f"--{option} takes {', '.join(among)} or all")
+        return list(among) if word == "all" else [word]
+
+    sizings, walks, bar = named("sizing", asked.sizing, SIZINGS), named("walk", asked.walk, WALKS), Bar()
+    sys.exit(max(check(path, sizings, walks, bar) for path in asked.files))
 
 
 if __name__ == "__main__":

@@ -5,10 +5,10 @@ NAME.axes.sided.out. Nothing here is random: each run writes the
 same bytes.
 
 With points of your own, `write(path, points)` makes a file that the program reads: little-endian, type 2, 1 to 1,024 points (x, y)."""
+import argparse
 import math
 import pathlib
 import struct
-import sys
 
 
 def line_string(points, big=False):
@@ -94,7 +94,9 @@ def examples():
 
 
 def main():
-    folder = pathlib.Path(sys.argv[1]) if len(sys.argv) > 1 else pathlib.Path(__file__).resolve().parent.parent / "examples"
+    parser = argparse.ArgumentParser(description=__doc__, formatter_class=argparse.RawDescriptionHelpFormatter)
+    parser.add_argument("folder", metavar="FOLDER", nargs="?", type=pathlib.Path, default=pathlib.Path(__file__).resolve().parent.parent / "examples")
+    folder = parser.parse_args().folder
     folder.mkdir(parents=True, exist_ok=True)
     for name, data in examples():
         (folder / f"{name}.wkb").write_bytes(data)

@@ -19,7 +19,7 @@ def year(lines=70_080, legs=12, seed=1):
 
 
 def main():
-    parser = argparse.ArgumentParser(description=__doc__)
+    parser = argparse.ArgumentParser(description=__doc__, formatter_class=argparse.RawDescriptionHelpFormatter)
     parser.add_argument("--lines", type=int, default=70_080)
     parser.add_argument("--legs", type=float, default=12)
     parser.add_argument("--seed", type=int, default=1)

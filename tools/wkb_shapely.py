@@ -4,14 +4,16 @@
 For each LineString it writes OUT/NAME.wkb and OUT/NAME.points: a line for each point, the bit patterns of x and y in 16 hex digits. The
 patterns come from the numbers themselves and not from the file. Where Shapely is not installed (Debian: python3-shapely, for
 /usr/bin/python3) it writes nothing and says so. Shapely makes no LineString of one point."""
+import argparse
 import math
 import pathlib
 import random
 import struct
 import sys
 
-if len(sys.argv) != 2:
-    sys.exit(__doc__)
+parser = argparse.ArgumentParser(description=__doc__, formatter_class=argparse.RawDescriptionHelpFormatter)
+parser.add_argument("out", metavar="OUT", type=pathlib.Path)
+out = parser.parse_args().out
 try:
     import shapely
     from shapely import wkb
@@ -27,7 +29,6 @@ lines = {
     "orbit": [(250.0 + 60.0 * math.sin(i / 7.0), chance.uniform(-40.0, 40.0)) for i in range(300)],
     "most": [(chance.uniform(-1e9, 1e9), chance.uniform(-1e9, 1e9)) for _ in range(1024)],
 }
-out = pathlib.Path(sys.argv[1])
 out.mkdir(parents=True, exist_ok=True)
 for name, points in lines.items():
     for order in ("little", "big"):

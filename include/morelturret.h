@@ -55,6 +55,7 @@ enum {
     MT_MISFIT_TABLES = 10,  /* the tables do not fit: 0 */
     MT_BAD_WKB = 11,        /* not a LineString that the reader takes: the byte position */
     MT_UNFIT_SNAP = 12,     /* snap size or strategy unfit: 0 */
+    MT_OFF_GRID = 16,       /* an end of one segment is off the grid of the covering walk: 0 */
     MT_OUT_SHORT = 100,     /* `out` has too few words; nothing is written */
     MT_FEW_WORDS = 101,     /* a grid has too few words; nothing is written */
     MT_NO_SIZING = 102,     /* there is no sizing of this number; nothing is written */
@@ -69,11 +70,14 @@ enum {
  *               1e-9 that a grid reaches beyond the lines is not lost. */
 enum { MT_SQUARE = 0, MT_AXES = 1 };
 
-/* Modes of walk: which cells are added where an end, or a whole line that is parallel to an axis, lies on a boundary between cells, which is within
- * 1e-12 of it, in cells. At a corner each axis goes by itself, and the cell across both is added too. A cell beyond the grid is not.
- *   MT_RUST     the lower neighbour, on whichever side of the boundary the value lies.
- *   MT_SIDED    the neighbour across the boundary: the lower one for a value at the boundary or just above it, the upper one for a value just below. */
-enum { MT_RUST = 0, MT_SIDED = 1 };
+/* Modes of walk. The first two go by turns and differ in which cells are added where an end, or a whole line that is parallel to an axis, lies on a
+ * boundary between cells, which is within 1e-12 of it, in cells. At a corner each axis goes by itself, and the cell across both is added too. A cell
+ * beyond the grid is not.
+ *   MT_RUST       the lower neighbour, on whichever side of the boundary the value lies.
+ *   MT_SIDED      the neighbour across the boundary: the lower one for a value at the boundary or just above it, the upper one for a value just below.
+ *   MT_COVERING   no turns: row by row, the columns that the line comes to, with small margins. After a build in this mode a full visit tests, and hands
+ *                 out, every two lines that share an exact point. Refusal 7 cannot come. */
+enum { MT_RUST = 0, MT_SIDED = 1, MT_COVERING = 2 };
 
 /* The snap strategy. Any other number is refused by 12. */
 enum { MT_GRID = 0 };
@@ -156,18 +160,19 @@ uint32_t mt_owners(const uint64_t *grid, size_t grid_len, const double *x, size_
 
 /* ---- the walk ---- */
 
-/* The cells that the segment from (start_x, start_y) to (end_x, end_y) visits in a mode of walk (MT_RUST or MT_SIDED), increasing, none
- * twice, at the start of the scratch; zero beyond them. The scratch has at least 16,384 entries.
+/* The cells that the segment from (start_x, start_y) to (end_x, end_y) visits in a mode of walk (MT_RUST, MT_SIDED or MT_COVERING), increasing,
+ * none twice, at the start of the scratch; zero beyond them. The scratch has at least 16,384 entries.
  * out (1 word): the number of cells.
- * Refuses by 3, 1, 8, 7. */
+ * Refuses by 3, 1, 8, 7; in MT_COVERING by 3, 1, 8, 16: an end is below min_x or min_y, or 4,095 cells and more above it, on a grid that has
+ * cells. Such a segment counts as being in every cell, and these need not fit the scratch. */
 uint32_t mt_segment_cells(const uint64_t *grid, size_t grid_len, double start_x, double start_y, double end_x, double end_y, uint32_t mode,
                           uint32_t *scratch, size_t scratch_len, uint64_t *out, size_t out_len);
 
 /* ---- the build ---- */
 
-/* Picks a grid for the lines, its cells sized by `sizing` (MT_SQUARE or MT_AXES), and writes its tables, by the walk of `mode` (MT_RUST or
- * MT_SIDED). Line i goes from (start_x[i], start_y[i]) to (end_x[i], end_y[i]). The list of cell c is items[offsets[c]] up to items[offsets[c +
- * 1]]: the lines, increasing, that visit it. A line that visits more than 2,048 cells is in no list but in globals. Where a cell would list more
+/* Picks a grid for the lines, its cells sized by `sizing` (MT_SQUARE or MT_AXES), and writes its tables, by the walk of `mode` (MT_RUST,
+ * MT_SIDED or MT_COVERING). Line i goes from (start_x[i], start_y[i]) to (end_x[i], end_y[i]). The list of cell c is items[offsets[c]] up to
+ * items[offsets[c + 1]]: the lines, increasing, that visit it. A line that visits more than 2,048 cells is in no list but in globals. Where a cell would list more
  * than 500 lines and 4 times the cells are below 1,000,000, both sizes are halved, at most twice. Beyond what is written offsets, items and
  * globals are zeroed, and so is all of the scratch, which has at least 16,384 entries. Offsets for 1,002,002 entries, items for 2,048 times the
  * lines and globals for the lines are always enough.

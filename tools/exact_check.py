@@ -1,5 +1,5 @@
 #!/usr/bin/env python3
-"""exact_check.py [--sizing square|axes|all] [--walk rust|sided|all] FILE..: which legs of a chain share a point, by exact arithmetic, and which of those
+"""exact_check.py [--sizing square|axes|all] [--walk rust|sided|covering|all] FILE..: which legs of a chain share a point, by exact arithmetic, and which of those
 pairs a visit never tests. On square cells and by the Rust's walk, where nothing else is said.
 
 FILE is what `python3 -m morelturret` takes: a table of two columns, or a LineString or MultiLineString in well-known binary, of any number of legs; above

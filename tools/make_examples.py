@@ -1,7 +1,7 @@
 #!/usr/bin/env python3
 """make_examples.py [FOLDER]: writes the LineStrings of examples/ (well-known binary) to FOLDER, or to examples/ beside this script's folder.
-What the program prints for NAME.wkb stands in NAME.out, by `--sizing axes` in NAME.axes.out, and by `--walk sided` in NAME.sided.out and
-NAME.axes.sided.out. Nothing here is random: each run writes the
+What the program prints for NAME.wkb stands in NAME.out, by `--sizing axes` in NAME.axes.out, by `--walk sided` in NAME.sided.out and
+NAME.axes.sided.out, by `--walk covering` in NAME.covering.out and NAME.axes.covering.out. Nothing here is random: each run writes the
 same bytes.
 
 With points of your own, `write(path, points)` makes a file that the program reads: little-endian, type 2, 1 to 1,024 points (x, y)."""

@@ -1,13 +1,23 @@
-//! The inner walk, as a build takes it: it leaves the scratch beyond the cells as it comes. And the ordering of its cells. They are no part of the
-//! library, and their archive stands apart. `tools/declarations` writes what stands between the marks.
+//! The inner walk, as a build takes it, and the covering walk: they leave the scratch beyond the cells as it comes. And the ordering of a walk's cells.
+//! They are no part of the library, and their archive stands apart. `tools/declarations` writes what stands between the marks.
 
 #![allow(clippy::too_many_arguments)]
 
 // ---- written by tools/declarations: from here
 extern "C" {
+    fn mt_inner_cover(grid: *const u64, grid_len: usize, start_x: f64, start_y: f64, end_x: f64, end_y: f64,
+        scratch: *mut u32, scratch_len: usize, out: *mut u64, out_len: usize) -> u32;
     fn mt_inner_order(entries: *mut u32, entries_len: usize) -> u32;
     fn mt_inner_walk(grid: *const u64, grid_len: usize, start_x: f64, start_y: f64, end_x: f64, end_y: f64,
         scratch: *mut u32, scratch_len: usize, out: *mut u64, out_len: usize) -> u32;
+}
+
+/// `mt_inner_cover` of the crate `inner_walk`.
+#[inline]
+pub fn inner_cover(grid: &[u64], start_x: f64, start_y: f64, end_x: f64, end_y: f64, scratch: &mut [u32], out: &mut [u64]) -> u32 {
+    // SAFETY: numbers by value, and Rust slices that are lent for this call.
+    unsafe { mt_inner_cover(grid.as_ptr(), grid.len(), start_x, start_y, end_x, end_y, scratch.as_mut_ptr(), scratch.len(),
+        out.as_mut_ptr(), out.len()) }
 }
 
 /// `mt_inner_order` of the crate `inner_walk`.

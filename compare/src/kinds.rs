@@ -8,11 +8,13 @@ use crate::Grid;
 use std::collections::BTreeMap;
 
 pub mod build;
+pub mod cover;
 pub mod lists;
 pub mod numbers;
 pub mod own;
 pub mod owners;
 pub mod seams;
+pub mod covering;
 pub mod sided;
 pub mod snap;
 pub mod straight;
@@ -134,6 +136,7 @@ pub fn word(number: u32) -> &'static str {
     match number {
         100 => "out is short",
         102 => "no such sizing",
+        16 => "refused 16",
         103 => "no such mode",
         _ => [
             "answered", "refused 1", "refused 2", "refused 3", "refused 4", "refused 5", "refused 6", "refused 7", "refused 8", "refused 9",

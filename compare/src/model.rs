@@ -2,7 +2,7 @@
 //! Numbers are worked out on bit patterns. Each entry has the port's own shape: lent slices, an answer by number, values in `out`.
 //! The walk counts its turns, so that the Rust is never asked for a walk that may not end.
 
-use crate::{Grid, Line, Mode, Sizing};
+use crate::{cover, Grid, Line, Mode, Sizing};
 
 /// The turns that a walk may make.
 pub const BUDGET: u32 = 5000;
@@ -193,7 +193,7 @@ impl Axis {
     /// The step to the neighbour that p adds: none off a boundary; the lower one, but in the sided mode the upper one just below a boundary.
     fn added(self, mode: Mode, p: f64) -> i64 {
         match (mode, self.side(p)) {
-            (_, Side::Off) => 0,
+            (_, Side::Off) | (Mode::Covering, _) => 0,
             (Mode::Sided, Side::Below) => 1,
             (Mode::Sided, Side::AtOrAbove) | (Mode::Rust, _) => -1,
         }
@@ -280,6 +280,10 @@ pub fn walk(mode: Mode, g: &Grid, line: &Line, cells: &mut Vec<u32>) -> Option<u
     if g.cols == 0 || g.rows == 0 {
         return Some(0);
     }
+    if mode == Mode::Covering {
+        cells.extend(cover::cells(g, line));
+        return Some(0);
+    }
     let [x0, y0, x1, y1] = *line;
     let (across, up) = axes(g);
     let (mut x, mut y) = (Way::new(across, x0, x1), Way::new(up, y0, y1));
@@ -338,7 +342,7 @@ fn neighbours(pushed: &mut Pushed, col: i64, row: i64, (dx, dy): (i64, i64)) {
     }
 }
 
-/// The mode is asked for by its number: 0 is the Rust's, 1 the sided one.
+/// The mode is asked for by its number: 0 is the Rust's, 1 the sided one, 2 the covering one.
 pub fn segment_cells(g: &Grid, line: &Line, mode: u32, scratch: &mut [u32], out: &mut [u64]) -> u32 {
     if out.is_empty() {
         return SHORT;
@@ -358,6 +362,9 @@ pub fn segment_cells(g: &Grid, line: &Line, mode: u32, scratch: &mut [u32], out:
     }
     if !grid_fits(g) {
         return refuse(8, 0);
+    }
+    if mode == Mode::Covering && cover::off(g, line) {
+        return refuse(16, 0);
     }
     let mut cells = Vec::new();
     if walk(mode, g, line, &mut cells).is_none() {
@@ -532,6 +539,7 @@ pub fn mode_of(number: u32) -> Option<Mode> {
     match number {
         0 => Some(Mode::Rust),
         1 => Some(Mode::Sided),
+        2 => Some(Mode::Covering),
         _ => None,
     }
 }

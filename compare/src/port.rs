@@ -1,4 +1,4 @@
-//! The port: the functions of the library, as `bindings/rust` declares them, and the inner walk with its ordering, which are no part of it. Here they
+//! The port: the functions of the library, as `bindings/rust` declares them, and the inner walks with their ordering, which are no part of it. Here they
 //! take what the model takes. The answer is document 01's number, 0 for success, with values in `out`. A wrapper is inlined, so that what is timed is
 //! one call.
 
@@ -27,6 +27,13 @@ pub fn segment_cells(g: &Grid, line: &Line, mode: u32, scratch: &mut [u32], out:
 pub fn inner_walk(g: &Grid, line: &Line, scratch: &mut [u32], out: &mut [u64]) -> u32 {
     let [x0, y0, x1, y1] = *line;
     inner::inner_walk(&g.words(), x0, y0, x1, y1, scratch, out)
+}
+
+/// The covering walk. out: the number of cells. It answers 16 where the line is in every cell of a grid of more than 2,048.
+#[inline]
+pub fn inner_cover(g: &Grid, line: &Line, scratch: &mut [u32], out: &mut [u64]) -> u32 {
+    let [x0, y0, x1, y1] = *line;
+    inner::inner_cover(&g.words(), x0, y0, x1, y1, scratch, out)
 }
 
 /// The ordering of a walk's cells.

@@ -1,9 +1,9 @@
-/* visit_chain [--sizing square|axes] [--walk rust|sided] FILE: from a chain of points to the pairs of lines that may cross, by the library's C functions.
+/* visit_chain [--sizing square|axes] [--walk rust|sided|covering] FILE: from a chain of points to the pairs of lines that may cross, by the library's C functions.
  *
  * FILE holds one LineString in well-known binary. Consecutive points make lines, numbered from 0. Printed are the grid that the library picks for
  * them, how long its tables are, how many tests a whole visit makes, how many of them found two lines whose boxes overlap, and the first such pairs.
  * The grid's cells are square, or, by `--sizing axes`, as wide and as high as each axis by itself asks for. On a boundary the walk adds the cells
- * that the Rust adds, or, by `--walk sided`, those across it.
+ * that the Rust adds, or, by `--walk sided`, those across it; `--walk covering` misses no two with a common point.
  * The exit status is 0; 1 where the library refuses, which is printed with its number and value; 2 where FILE can't be read or standard
  * output can't be written.
  *
@@ -62,6 +62,15 @@ static int either(const char *word, const char *first, const char *second, uint3
     return *which || strcmp(word, first) == 0;
 }
 
+/* Whether the word names a walk, which then stands in *mode. */
+static int walk_of(const char *word, uint32_t *mode) {
+    if (strcmp(word, "covering") == 0) {
+        *mode = MT_COVERING;
+        return 1;
+    }
+    return either(word, "rust", "sided", mode);
+}
+
 /* Whether the words ask for one file, with options before it; then what they ask for stands in *sizing, *mode and *path. */
 static int asked(int argc, char **argv, uint32_t *sizing, uint32_t *mode, const char **path) {
     *sizing = MT_SQUARE;
@@ -70,7 +79,7 @@ static int asked(int argc, char **argv, uint32_t *sizing, uint32_t *mode, const 
     if (argc < 2 || argc % 2 != 0) return 0;
     for (int i = 1; i + 1 < argc; i += 2) {
         int known = strcmp(argv[i], "--sizing") == 0 ? either(argv[i + 1], "square", "axes", sizing)
-                  : strcmp(argv[i], "--walk") == 0   ? either(argv[i + 1], "rust", "sided", mode)
+                  : strcmp(argv[i], "--walk") == 0   ? walk_of(argv[i + 1], mode)
                                                      : 0;
         if (!known) return 0;
     }
@@ -81,7 +90,7 @@ int main(int argc, char **argv) {
     uint32_t sizing, mode;
     const char *path;
     if (!asked(argc, argv, &sizing, &mode, &path)) {
-        fprintf(stderr, "visit_chain: [--sizing square|axes], [--walk rust|sided] and one FILE are needed, a LineString in well-known binary\n");
+        fprintf(stderr, "visit_chain: [--sizing square|axes], [--walk rust|sided|covering] and one FILE are needed, a LineString in well-known binary\n");
         return 2;
     }
 

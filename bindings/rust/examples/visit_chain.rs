@@ -1,9 +1,9 @@
-//! visit_chain [--sizing square|axes] [--walk rust|sided] FILE: from a chain of points to the pairs of lines that may cross.
+//! visit_chain [--sizing square|axes] [--walk rust|sided|covering] FILE: from a chain of points to the pairs of lines that may cross.
 //!
 //! FILE holds one LineString in well-known binary. Consecutive points make lines, numbered from 0. Printed are the grid that is picked for them, how
 //! long its tables are, how many tests a whole visit makes, how many of them found two lines whose boxes overlap, and the first such pairs. The grid's
 //! cells are square, or, by `--sizing axes`, as wide and as high as each axis by itself asks for. On a boundary the walk adds the cells that the Rust
-//! adds, or, by `--walk sided`, those across it.
+//! adds, or, by `--walk sided`, those across it; `--walk covering` misses no two with a common point.
 //! The exit status is 0; 1 where the library refuses, which is printed with its number and value; 2 where FILE can't be read or standard
 //! output can't be written.
 //!
@@ -22,7 +22,7 @@ const SHOWN: usize = 5;
 fn main() -> ExitCode {
     let words: Vec<OsString> = std::env::args_os().skip(1).collect();
     let Some((plan, path)) = asked(&words) else {
-        eprintln!("visit_chain: [--sizing square|axes], [--walk rust|sided] and one FILE are needed, a LineString in well-known binary");
+        eprintln!("visit_chain: [--sizing square|axes], [--walk rust|sided|covering] and one FILE are needed, a LineString in well-known binary");
         return ExitCode::from(2);
     };
     let Ok(bytes) = std::fs::read(&path) else {
@@ -52,6 +52,7 @@ fn asked(words: &[OsString]) -> Option<(Plan, &OsString)> {
             ["--sizing", "axes"] => plan.sizing = Sizing::Axes,
             ["--walk", "rust"] => plan.mode = Mode::Rust,
             ["--walk", "sided"] => plan.mode = Mode::Sided,
+            ["--walk", "covering"] => plan.mode = Mode::Covering,
             _ => return None,
         }
     }

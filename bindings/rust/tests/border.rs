@@ -82,7 +82,7 @@ fn counts_beyond_32_bits_are_unfit() {
 fn a_built_grid_is_handed_on_as_it_comes() {
     let (x, y) = ([0.0, 2.0, 2.0, 0.0, 0.0], [0.0, 0.0, 2.0, 2.0, 0.0]);
     let (mut offsets, mut items, mut globals, mut scratch) = ([0; 16], [0; 32], [0; 4], vec![0; SCRATCH]);
-    for (sizing, mode) in [(Sizing::Square, Mode::Rust), (Sizing::Axes, Mode::Rust), (Sizing::Square, Mode::Sided), (Sizing::Axes, Mode::Sided)] {
+    for (sizing, mode) in [Mode::Rust, Mode::Sided, Mode::Covering].into_iter().flat_map(|mode| [(Sizing::Square, mode), (Sizing::Axes, mode)]) {
         let (mut built, mut out) = ([0; 8], [0; 3]);
         let number =
             sys::build(&x[..4], &y[..4], &x[1..], &y[1..], sizing as u32, mode as u32, &mut offsets, &mut items, &mut globals, &mut scratch, &mut built);
@@ -92,7 +92,9 @@ fn a_built_grid_is_handed_on_as_it_comes() {
             sys::batch(&built, &x[..4], &y[..4], &x[1..], &y[1..], &offsets, &items, &globals, built[7], 0, first, second, out)
         };
         assert_eq!(visit(&mut first, &mut second, &mut out), 0, "{sizing:?} {mode:?}");
-        assert_eq!(out, [9, 9, 9], "{sizing:?} {mode:?}");
+        // the covering walk lists a corner in one cell, the others list it in those beside it too
+        let tests = if mode == Mode::Covering { 4 } else { 9 };
+        assert_eq!(out, [tests; 3], "{sizing:?} {mode:?}");
     }
 }
 
@@ -135,7 +137,7 @@ fn an_unknown_sizing_after_a_short_out_and_an_unknown_mode_after_that() {
         }
         let wanted = match plan {
             (2.., _) => (102, true),
-            (_, 2..) => (103, true),
+            (_, 3..) => (103, true),
             _ => (0, false),
         };
         assert_eq!(built(line, plan, 1, SCRATCH, 8), wanted, "{plan:?}");
@@ -161,11 +163,11 @@ fn walked(line: [f64; 4], mode: u32, grid: usize, scratch: usize, words: usize) 
 fn an_unknown_mode_of_one_walk() {
     let line = [0.5, 0.5, 2.5, 0.5];
     for mode in NAMES {
-        let wanted = if mode < 2 { (0, false) } else { (103, true) };
+        let wanted = if mode < 3 { (0, false) } else { (103, true) };
         assert_eq!(walked(line, mode, 6, SCRATCH, 1), wanted, "mode {mode}");
         assert_eq!(walked(line, mode, 6, SCRATCH, 0), (100, true), "a short out comes first");
         assert_eq!(walked(line, mode, 5, SCRATCH, 1), (101, true), "then a grid of too few words");
-        if mode > 1 {
+        if mode > 2 {
             // before every refusal: the scratch, a coordinate
             assert_eq!(walked(line, mode, 6, SCRATCH - 1, 2), wanted);
             assert_eq!(walked([f64::NAN, 0.5, 2.5, 0.5], mode, 6, SCRATCH, 2), wanted);
@@ -173,11 +175,11 @@ fn an_unknown_mode_of_one_walk() {
     }
 }
 
-/// Each mode has its own number: 1 is the sided one.
+/// Each mode has its own number: 1 is the sided one, and 2 the covering one, which knows no boundaries.
 #[test]
 fn the_numbers_of_the_modes() {
     let x = 1.0 - 2f64.powi(-41);
-    for (mode, count) in [(0, 1), (1, 2)] {
+    for (mode, count) in [(0, 1), (1, 2), (2, 1)] {
         let (mut scratch, mut out) = (vec![7; SCRATCH], [JUNK]);
         assert_eq!((sys::segment_cells(&FOUR.words(), x, 0.5, x, 0.5, mode, &mut scratch, &mut out), out), (0, [count]), "mode {mode}");
         // the same in a build, on a grid whose cells are 1 by 1

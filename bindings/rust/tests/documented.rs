@@ -57,6 +57,30 @@ fn sided_walks() {
     assert_eq!(Mode::default(), Mode::Rust);
 }
 
+/// The covering walk: no neighbours at a boundary, and all cells that a line comes near. The examples whose pairs the Rust's walk drops share a cell.
+#[test]
+fn covering_walks() {
+    let cells = |line| cells_in(Mode::Covering, FOUR, line);
+    assert_eq!(cells([0.5, 0.5, 2.5, 0.5]), [0, 1, 2], "P1");
+    assert_eq!(cells([1.0, 0.5, 1.0, 2.5]), [1, 5, 9], "P2: column 1 alone, since the ends are in it");
+    assert_eq!(cells([1.0; 4]), [5], "P3");
+    assert_eq!(cells([1.0 - 2f64.powi(-41), 0.5, 1.0 - 2f64.powi(-41), 0.5]), [0], "P6");
+    assert_eq!(cells([0.5, 0.5, 1.5, 1.5]), [0, 1, 4, 5], "through a corner: all four cells");
+    assert_eq!(cells([1.5, 0.5, 0.5, 1.5]), [0, 1, 4, 5], "the same, falling");
+    assert_eq!(cells([0.5, 3.5, 0.5, 1000.0]), [12], "beyond the grid the last row counts");
+    assert!(cells_in(Mode::Covering, Grid { cols: 0, rows: 0, ..FOUR }, [-0.5, 0.5, 2.5, 0.5]).is_empty(), "a grid of 0 columns visits nothing");
+    let near_1024 = [(1024.64, 1024.04), (1024.18, 1024.27), (1024.0, 1024.0), (1024.24, 1024.24)];
+    let (x, y): (Vec<f64>, Vec<f64>) = near_1024.into_iter().unzip();
+    let lines = Lines::chain(&x, &y);
+    for (mode, tests) in [(Mode::Rust, 2), (Mode::Covering, 3)] {
+        let tables = Tables::planned(lines, mode).unwrap();
+        let mut pairs: Vec<(u32, u32)> = tables.pairs(lines, 64).unwrap().collect();
+        pairs.sort_unstable();
+        pairs.dedup();
+        assert_eq!(pairs.len(), tests, "{mode:?}: legs 0 and 2 touch");
+    }
+}
+
 #[test]
 fn who_owns_a_point() {
     assert_eq!(point_owned(FOUR, 0, 1, 1.0, 0.5), Ok(true), "P7");

@@ -352,12 +352,35 @@ fn twelve_a_strategy() {
 }
 
 #[test]
+fn sixteen_an_end_off_the_grid() {
+    let mut scratch = vec![JUNK; SCRATCH];
+    let large = Grid { cols: 683, rows: 3, ..FOUR };
+    for grid in [FOUR, large] {
+        for (start, end) in [((-1.0, 0.5), (2.5, 0.5)), ((0.5, 0.5), (0.5, -5e-324)), ((4095.0, 0.5), (0.5, 0.5)), ((0.5, 1e9), (0.5, 0.5))] {
+            assert_eq!(of(segment_cells(grid, start, end, Mode::Covering, &mut scratch)), (16, 0), "{start:?}-{end:?} on {grid:?}");
+            assert!(scratch.iter().all(|&entry| entry == JUNK), "16 changes nothing");
+        }
+    }
+    // behind 3, 1 and 8
+    assert_eq!(of(segment_cells(FOUR, (-1.0, 0.5), (2.5, 0.5), Mode::Covering, &mut scratch[..SCRATCH - 1])), (3, 0));
+    assert_eq!(of(segment_cells(FOUR, (-1.0, 0.5), (f64::NAN, 0.5), Mode::Covering, &mut scratch)), (1, 0));
+    assert_eq!(of(segment_cells(UNFIT, (-1.0, 0.5), (2.5, 0.5), Mode::Covering, &mut scratch)), (8, 0));
+    // the guard is at 4,095 cells, and not at the grid's edge
+    assert_eq!(segment_cells(FOUR, (4094.9, 0.5), (3.5, 0.5), Mode::Covering, &mut scratch).unwrap(), [3]);
+    assert_eq!(segment_cells(FOUR, (-0.0, 0.5), (0.5, 0.5), Mode::Covering, &mut scratch).unwrap(), [0]);
+    // the other modes know no such refusal
+    for mode in [Mode::Rust, Mode::Sided] {
+        assert_eq!(segment_cells(FOUR, (-1.0, 0.5), (2.5, 0.5), mode, &mut scratch).unwrap(), [0, 1, 2]);
+    }
+}
+
+#[test]
 fn words() {
-    let texts: Vec<String> = (1..=12).map(|number| Refusal { number, value: 77 }.to_string()).collect();
-    for (i, text) in texts.iter().enumerate() {
-        assert!(text.starts_with(&format!("refused {}: ", i + 1)), "{text}");
+    for number in (1..=12).chain([16]) {
+        let text = Refusal { number, value: 77 }.to_string();
+        assert!(text.starts_with(&format!("refused {number}: ")), "{text}");
         // those whose value says something say it
-        assert_eq!(text.contains("77"), [1, 2, 4, 5, 6, 7, 9, 11].contains(&(i + 1)), "{text}");
+        assert_eq!(text.contains("77"), [1, 2, 4, 5, 6, 7, 9, 11].contains(&number), "{text}");
         assert!(!text.contains("value"), "{text} has words of its own");
     }
     let error: Box<dyn std::error::Error> = Box::new(Refusal { number: Refusal::MISFIT_TABLES, value: 0 });

@@ -1,13 +1,13 @@
 //! compare [--seed S] [--cases N | --share P] [KIND..]: the port beside the Rust, kind by kind. Without kinds, all of them; without N, a full run
 //! of each, or P hundredths of one. The kinds named axes-, and seams, are of cells whose width and height are kept apart, those named sided- of the
-//! second mode of walk.
+//! second mode of walk, and those named covering- of the third; `cover` is the covering walk itself.
 //! The port takes part in every kind: --port may be said, and changes nothing.
 //! Ends with status 1 at the first difference.
 
-use compare::kinds::{self, build, lists, numbers, own, owners, seams, sided, snap, straight, strategies, visit, walk, wkb};
+use compare::kinds::{self, build, cover, covering, lists, numbers, own, owners, seams, sided, snap, straight, strategies, visit, walk, wkb};
 
 /// The kinds, with the cases of a full run.
-const KINDS: [(&str, u64); 21] = [
+const KINDS: [(&str, u64); 24] = [
     ("sample", 1),
     ("numbers", 10_000_000),
     ("walk", 1_000_000),
@@ -29,6 +29,9 @@ const KINDS: [(&str, u64); 21] = [
     ("sided-build", 2_000),
     ("owners", 1_100),
     ("axes-owners", 1_100),
+    ("cover", 3_000_000),
+    ("covering-walk", 1_000_000),
+    ("covering-build", 2_000),
 ];
 
 fn main() {
@@ -70,7 +73,10 @@ fn main() {
             "sided-walk" => kinds::run::<sided::SidedWalk>(seed, n, sided::fixed_walks()),
             "sided-build" => kinds::run::<sided::SidedBuild>(seed, n, sided::fixed_builds(seed)),
             "owners" => kinds::run::<owners::Owners<false>>(seed, n, vec![]),
-            _ => kinds::run::<owners::Owners<true>>(seed, n, vec![]),
+            "axes-owners" => kinds::run::<owners::Owners<true>>(seed, n, vec![]),
+            "covering-walk" => kinds::run::<covering::CoveringWalk>(seed, n, covering::fixed_walks()),
+            "covering-build" => kinds::run::<covering::CoveringBuild>(seed, n, vec![]),
+            _ => kinds::run::<cover::Cover>(seed, n, cover::fixed()),
         };
         println!("  (seed {seed}, {:.1} s)", begun.elapsed().as_secs_f64());
         if !right {

@@ -130,7 +130,7 @@ impl<const AXES: bool> Kind for Build<AXES> {
             5 => case.offsets = Room::Exactly(r.below(3) as usize),
             6 => case.items = Room::Exactly(r.below(3) as usize),
             7 => case.lines.clear(),
-            8 => case.mode = r.pick(&[2, 3, 256, 1 << 31, u32::MAX]),
+            8 => case.mode = r.pick(&[3, 4, 256, 1 << 31, u32::MAX]),
             9 => case.sizing = r.pick(&[0, 1, 2, 3, 256, 1 << 31, u32::MAX]),
             _ => (case.out, case.sizing) = (r.below(WORDS as u64 + 1) as usize, r.pick(&[case.sizing, 2])),
         }

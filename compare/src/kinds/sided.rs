@@ -167,7 +167,7 @@ pub fn fixed_builds(seed: u64) -> Vec<(&'static str, build::Case)> {
     // a mode that there is not comes after a short `out` and an unknown sizing, and before every refusal
     let one = build::ample(vec![[0.0, 0.0, 2.0, 2.0]], Sizing::Square);
     let mut border = Vec::new();
-    for (sizing, mode, out) in [(0, 2, 8), (0, u32::MAX, 8), (1, 2, 9), (2, 2, 8), (0, 2, 7), (3, 1, 7)] {
+    for (sizing, mode, out) in [(0, 3, 8), (0, u32::MAX, 8), (1, 3, 9), (2, 3, 8), (0, 3, 7), (3, 1, 7)] {
         border.push(build::Case { sizing, mode, out, ..one.clone() });
         border.push(build::Case { sizing, mode, out, scratch: SCRATCH - 1, ..one.clone() });
     }

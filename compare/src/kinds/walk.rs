@@ -53,7 +53,7 @@ impl<const AXES: bool> Kind for Walk<AXES> {
             2 => case.grid.min_x = v,
             3 => cases::resize::<AXES>(r, &mut case.grid),
             4 => (case.grid.cols, case.grid.rows) = r.pick(&[(0, 0), (0, 1), (4005, 1), (1, 4005), (4004, 251), (1002, 1001), (u32::MAX, u32::MAX)]),
-            5 => case.mode = r.pick(&[2, 3, 256, 1 << 31, u32::MAX]),
+            5 => case.mode = r.pick(&[3, 4, 256, 1 << 31, u32::MAX]),
             _ => case.scratch = r.pick(&[0, 1, SCRATCH - 1, SCRATCH, SCRATCH + 1, 20000]),
         }
         ("edge of the domain", case)

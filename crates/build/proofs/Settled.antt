@@ -4,7 +4,7 @@ use mathlib.Core.Path.{_≡_, refl, sym, ap, _∙_}
 use mathlib.Core.Bool.{Bool, true, false, cond, _&&_}
 use Prim.Native.Nat.{ℕ, zero, suc, _+_, _*_, _≤_, _<_}
 use native.Mathlib.Omega.{arith}
-use borrow.Author.Tests.{leb-true, ltb-true}
+use borrow.Author.Tests.{le-leb, leb-true, ltb-true}
 use lib.Dec.{leb, ltb}
 use lib.ListN.{length}
 use Rattle.refusals.specs.declared.Refusal.{Refusal}
@@ -23,7 +23,7 @@ use Rattle.sizing.specs.declared.Size.{Size}
 use Rattle.sizing.specs.Bounds.{extentOf}
 use Rattle.sizing.specs.Size.{firstSize, halfOf}
 use Rattle.sizing.specs.Counts.{gridOf, emptyGrid}
-use Rattle.sizing.proofs.FitLaws.{AllFit, all-fit, empty-fits}
+use Rattle.sizing.proofs.FitLaws.{AllFit, all-fit, AllSome, all-some, empty-fits}
 use Rattle.fill.specs.OnGrid.{cells, listOn, globalsOn, total}
 use Rattle.fill.specs.Checks.{roomCheck, turnsCheck, triedCheck, spaceCheck}
 use Rattle.fill.specs.Fill.{above}
@@ -73,6 +73,26 @@ choice-settled plan ls room g f h =
     let u = then-passed (triedCheck (plan .mode) emptyGrid ls room) (gives emptyGrid) n in
     settled-here (plan .mode) emptyGrid g ls room empty-fits (u .0) (u .1)) h
 
+-- ---- a grid of some lines has a column
+
+some-here : (f g : Grid) → 1 ≤ f .cols → _≡_ {A = Answer Grid} (gives f) (gives g) → 1 ≤ g .cols
+some-here f g a h = let e : f ≡ g = cc in rw e at a
+
+chosen-some : (mode : Mode) (e : Extent) (ls : Lines) (room : ℕ) (g : Grid) (left : ℕ) (s : Size) → AllSome left e s → choosing.chosen mode left e s ls room ≡ gives g → 1 ≤ g .cols
+unfolding choosing.chosen
+chosen-some mode e ls room g zero s f h = some-here (gridOf e s) g f (then-passed (triedCheck mode (gridOf e s) ls room) (gives (gridOf e s)) h .1)
+chosen-some mode e ls room g (suc left) s f h =
+    let next = choosing.chosen mode left e (halfOf s) ls room in
+    let u = then-passed (triedCheck mode (gridOf e s) ls room) (cond (crowded mode (gridOf e s) ls) next (gives (gridOf e s))) h in
+    if-settled (1 ≤ g .cols) (crowded mode (gridOf e s) ls) next (gives (gridOf e s)) g
+    (λ c n. chosen-some mode e ls room g left (halfOf s) (f .1 (crowded-few mode (gridOf e s) ls c)) n)
+    (λ n. some-here (gridOf e s) g (f .0) n) (u .1)
+
+choice-some : (plan : Plan) (ls : Lines) (room : ℕ) (g : Grid) → LinesFit ls → 1 ≤ count ls → choice plan ls room ≡ gives g → 1 ≤ g .cols
+unfolding choice chosenFirst
+choice-some plan ls room g f N h =
+    chosen-some (plan .mode) (extentOf ls) ls room g 2 (firstSize (plan .sizing) (extentOf ls) (count ls)) (all-some (plan .sizing) ls f N) (rw (le-leb 1 (count ls) N) at h)
+
 -- ---- an end on a grid
 
 turns-say : (mode : Mode) (g : Grid) (ls : Lines) (room : ℕ) → triedCheck mode g ls room ≡ Fine → turnsCheck mode g ls ≡ Fine
@@ -98,6 +118,7 @@ module _ (mode : Mode) (g : Grid) (ls : Lines) (items globals : ℕ) (h : spaceC
 pub record Made (mode : Mode) (ls : Lines) (offsets items globals : ℕ) (g : Grid) : Type 0 where
   pub lines-fit : LinesFit ls
   pub fits : fit g ≡ true
+  pub some : 1 ≤ count ls → 1 ≤ g .cols
   pub turns : turnsCheck mode g ls ≡ Fine
   pub room : cells g + 1 ≤ offsets
   pub space : total mode g ls ≤ items
@@ -117,6 +138,7 @@ made-says plan ls offsets items globals scratch g h =
     (record {
       lines-fit = f;
       fits = s .fits;
+      some = λ N. choice-some plan ls offsets k f N c;
       turns = turns-say (plan .mode) k ls offsets (s .tried);
       room = room-says (plan .mode) k ls offsets (s .tried);
       space = space-items (plan .mode) k ls items globals (b .0);

@@ -11,7 +11,7 @@ use Rattle.refusals.specs.Refusals.{andThen, Answer, refused, gives, _into_, an
 use Rattle.refusals.proofs.Checks.{each-says, andThen-right}
 use Rattle.refusals.proofs.Answers.{then-passed}
 use Rattle.grid.specs.declared.Grid.{Grid}
-use Rattle.grid.specs.Domain.{Lines, count, scratchCheck, linesCheck}
+use Rattle.grid.specs.Domain.{Lines, count, fit, scratchCheck, linesCheck}
 use Rattle.walk.specs.Pushes.{Outcome}
 use Rattle.walk.specs.declared.Mode.{Mode}
 use Rattle.tables.specs.Tables.{tables, listIn}
@@ -130,6 +130,14 @@ module _ (plan : Plan) {ls : Lines} {o t gs s : List ℕ} {r : Built} {o′ t′
   unfolding turnsCheck cellsOn
   walks-end k l =
       ended-found (walkOn (plan .mode) (st .grid) ls k) (each-says (λ i. ends (walkOn (plan .mode) (st .grid) ls i)) 7 (count ls) 0 k (success plan h ok .turns) (omega arith) (omega arith))
+
+  -- the final grid is fit, and has a column where there is a line
+  pub grid-fits : (fit (st .grid) ≡ true) × (1 ≤ count ls → 1 ≤ st .grid .cols)
+  grid-fits =
+      let e = endOf plan ls (length o) (length t) (length gs) (length s) in
+      let a = answer-made (plan .mode) e ls st (sym (h .answer) ∙ ok) in
+      let m = made-says plan ls (length o) (length t) (length gs) (length s) (st .grid) (a .0) in
+      (m .fits, m .some)
 
   -- the lines passed the checks 3, 2 and 1
   pub lines-passed : linesCheck ls ≡ Fine

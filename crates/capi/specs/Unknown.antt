@@ -6,7 +6,7 @@ use lib.Dec.{leb}
 use Rattle.sizing.specs.declared.Sizing.{Sizing}
 use Rattle.sizing.specs.declared.Sizing.the-variants.{Square, Axes}
 use Rattle.walk.specs.declared.Mode.{Mode}
-use Rattle.walk.specs.declared.Mode.the-variants.{Rust, Sided}
+use Rattle.walk.specs.declared.Mode.the-variants.{Rust, Sided, Covering}
 use Rattle.build.specs.declared.Plan.{Plan}
 use Rattle.replies.specs.Replies.{Reply}
 
@@ -20,13 +20,14 @@ sizingBy (suc n) = Axes
 abbrev pub lastSizing : ℕ
 lastSizing = 1
 
--- 0 is the Rust's walk, 1 the sided one, and no further number is asked for
+-- 0 is the Rust's walk, 1 the sided one, 2 the covering one, and no further number is asked for
 unfoldable pub modeBy : ℕ → Mode
 modeBy zero = Rust
-modeBy (suc n) = Sided
+modeBy (suc zero) = Sided
+modeBy (suc (suc n)) = Covering
 
 abbrev pub lastMode : ℕ
-lastMode = 1
+lastMode = 2
 
 -- the plan of a build
 abbrev pub planBy : ℕ → ℕ → Plan

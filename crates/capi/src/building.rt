@@ -8,7 +8,7 @@ use replies::SHORT;
 ghost use Rattle.grid.specs.Domain.{lines};
 ghost use Rattle.capi.specs.Lent.{BuildReplies};
 
-// Sizing: 0 for the square one, 1 for the one by axis. Mode: 0 for the Rust's walk, 1 for the sided one.
+// Sizing: 0 for the square one, 1 for the one by axis. Mode: 0 for the Rust's walk, 1 for the sided one, 2 for the covering one.
 // Out: the bits of min_x, min_y, cell_width and cell_height, cols, rows, the number of items, the number of globals.
 #[no_mangle]
 pub extern "C" fn mt_build(

@@ -11,7 +11,7 @@ pub(crate) const LAST_SIZING: u32 = 1;
 pub(crate) const NO_SIZING: u32 = 102;
 
 // The last mode of walk, and the number of a function that is asked for one beyond it.
-pub(crate) const LAST_MODE: u32 = 1;
+pub(crate) const LAST_MODE: u32 = 2;
 
 pub(crate) const NO_MODE: u32 = 103;
 
@@ -30,7 +30,10 @@ pub(crate) fn mode_by(mode: u32) -> Mode
     if mode == 0 {
         return Mode::Rust;
     }
-    Mode::Sided
+    if mode == 1 {
+        return Mode::Sided;
+    }
+    Mode::Covering
 }
 
 pub(crate) fn plan_by(sizing: u32, mode: u32) -> Plan

@@ -14,7 +14,7 @@ ghost use Rattle.grid.specs.Words.{gridBy};
 ghost use Rattle.capi.specs.Unknown.{modeBy};
 ghost use Rattle.capi.specs.Lent.{WalkReplies};
 
-// Mode: 0 for the Rust's walk, 1 for the sided one.
+// Mode: 0 for the Rust's walk, 1 for the sided one, 2 for the covering one.
 // Out: the number of cells. They stand at the start of the scratch, and zero beyond them.
 #[no_mangle]
 pub extern "C" fn mt_segment_cells(

@@ -1,6 +1,6 @@
 -- The walks of lines on a fit grid. Assumes nothing.
 use mathlib.Core.Path.{_≡_, refl, sym, ap, _∙_}
-use mathlib.Core.Bool.{Bool, true, false}
+use mathlib.Core.Bool.{Bool, true, false, true≢false}
 use mathlib.Core.List.{List, []}
 use Prim.Native.Nat.{ℕ, _+_, _*_, _≤_, _<_, _^_}
 use native.Mathlib.Omega.{arith}
@@ -15,12 +15,12 @@ use Rattle.grid.specs.declared.Grid.{Grid}
 use Rattle.grid.specs.Domain.{Lines, count, segmentAt, lineFits, fit}
 use Rattle.grid.proofs.Shapes.{shape-says, fit-shape}
 use Rattle.walk.specs.declared.Mode.{Mode}
-use Rattle.walk.specs.declared.Cells.{Cells}
-use Rattle.walk.specs.declared.Cells.the-variants as cells-are
+use Rattle.walk.specs.declared.Reached.{Reached}
+use Rattle.walk.specs.declared.Reached.the-variants as reached
 use Rattle.walk.specs.Pushes.{Outcome}
 use Rattle.walk.specs.Segment as walk
-use Rattle.walk.proofs.Visits.{segment-visits}
-use Rattle.walk.proofs.Answer.{entry-is}
+use Rattle.walk.proofs.Visits.{Cells, segment-visits}
+use Rattle.walk.proofs.Answer.{reach-is}
 use Rattle.tables.specs.Lists.{Walks, long, local}
 use Rattle.tables.specs.States.{Line}
 use Rattle.tables.proofs.Lists.{local-walks, local-short}
@@ -31,45 +31,74 @@ use Rattle.fill.specs.Inside.{CountAs, Walkable, WalkAsks, Front, localO
 
 -- ---- what the walk answers, as a count
 
--- the answer names the cells, and they stand at the front; or the answer is a refusal
-walked-found : (o : Outcome) (was : List ℕ) (n : ℕ) (s : List ℕ) → walk.Walked o was (cells-are.Found n) s → length s ≡ length was → length (visited o) ≤ length was
-    → (ends o ≡ true) × (n ≡ length (visited o)) × (n ≤ length s) × (take n s ≡ visited o)
-unfolding walk.cellsOf answerBy
-walked-found (refused why) was n s h e l = let z : _≡_ {A = ℕ} 0 1 = cc (h .answer) in absurd (omega arith)
-walked-found (gives xs) was n s h e l =
+-- the answer names the cells, and they stand at the front; or they are all; or the answer is a refusal
+walked-found : (o : Outcome) (all : Bool) (was : List ℕ) (n : ℕ) (s : List ℕ) → walk.Walked all o was (reached.Found n) s
+    → (ends o ≡ true) × (all ≡ false) × (n ≡ length (visited o)) × (take n s ≡ visited o)
+unfolding walk.reachedOf answerBy
+walked-found (refused why) all was n s h = let z : _≡_ {A = ℕ} 0 1 = cc (h .answer) in absurd (omega arith)
+walked-found (gives xs) true was n s h = let z : _≡_ {A = ℕ} 0 1 = cc (h .answer) in absurd (omega arith)
+walked-found (gives xs) false was n s h =
     let k : n ≡ length xs = cc (h .answer) in
-    (refl, k, omega arith, rw k (h .left))
+    (refl, refl, k, rw k (h .left))
 
-walked-refused : (o : Outcome) (was : List ℕ) (r : Refusal) (s : List ℕ) → walk.Walked o was (cells-are.Refused r) s → ends o ≡ false
-unfolding walk.cellsOf answerBy
-walked-refused (refused why) was r s h = refl
-walked-refused (gives xs) was r s h = let z : _≡_ {A = ℕ} 0 1 = cc (h .answer) in absurd (omega arith)
+walked-everywhere : (o : Outcome) (all : Bool) (was s : List ℕ) → walk.Walked all o was reached.Everywhere s → (ends o ≡ true) × (all ≡ true)
+unfolding walk.reachedOf answerBy
+walked-everywhere (refused why) all was s h = let z : _≡_ {A = ℕ} 0 1 = cc (h .answer) in absurd (omega arith)
+walked-everywhere (gives xs) true was s h = (refl, refl)
+walked-everywhere (gives xs) false was s h = let z : _≡_ {A = ℕ} 0 1 = cc (h .answer) in absurd (omega arith)
+
+walked-refused : (o : Outcome) (all : Bool) (was : List ℕ) (r : Refusal) (s : List ℕ) → walk.Walked all o was (reached.Refused r) s → ends o ≡ false
+unfolding walk.reachedOf answerBy
+walked-refused (refused why) all was r s h = refl
+walked-refused (gives xs) true was r s h = let z : _≡_ {A = ℕ} 0 1 = cc (h .answer) in absurd (omega arith)
+walked-refused (gives xs) false was r s h = let z : _≡_ {A = ℕ} 0 1 = cc (h .answer) in absurd (omega arith)
 
 module _ (mode : Mode) (g : Grid) (ls : Lines) (i : ℕ) where
   -- the cells of a line increase and are inside the grid
-  visits : fit g ≡ true → Rising 0 (cellsOn mode g ls i) × Below (cells g) (cellsOn mode g ls i) × (length (cellsOn mode g ls i) ≤ 15008)
+  visits : fit g ≡ true → Rising 0 (cellsOn mode g ls i) × Below (cells g) (cellsOn mode g ls i)
   unfolding cellsOn walkOn
   visits h = go (walkOn mode g ls i) refl
     where
-      go : (o : Outcome) → walkOn mode g ls i ≡ o → Rising 0 (visited o) × Below (cells g) (visited o) × (length (visited o) ≤ 15008)
-      go (refused why) e = (tt, tt, omega arith)
-      go (gives xs) e = let v = segment-visits mode g _ xs (fit-shape g h) e in (v .rising, v .inside, v .few)
+      go : (o : Outcome) → walkOn mode g ls i ≡ o → Rising 0 (visited o) × Below (cells g) (visited o)
+      go (refused why) e = (tt, tt)
+      go (gives xs) e = let v = segment-visits mode g _ h xs e in (v .rising, v .inside)
+
+  -- of a walk that ends: they fit the scratch, or they are all
+  line-cells : fit g ≡ true → ends (walkOn mode g ls i) ≡ true → Cells mode g (segmentAt ls i) (cellsOn mode g ls i)
+  unfolding cellsOn walkOn
+  line-cells h = go (walkOn mode g ls i) refl
+    where
+      go : (o : Outcome) → walkOn mode g ls i ≡ o → ends o ≡ true → Cells mode g (segmentAt ls i) (visited o)
+      go (refused why) e k = absurd (true≢false (sym k))
+      go (gives xs) e k = segment-visits mode g (segmentAt ls i) h xs e
 
   -- the scratch, the line and the grid pass, so the walk can be refused by 7 alone
-  module _ {s : List ℕ} (a : WalkAsks g ls i s) (r : Cells) {s′ : List ℕ} (h : walk.Walked (walk.entryOf mode (length s) g (segmentAt ls i)) s r s′) where
-    inner : walk.Walked (walkOn mode g ls i) s r s′
-    unfolding walkOn lineFits
-    inner = let w = a .walkable in rw (entry-is mode g _ (length s) (w .space) (w .each i (a .at)) (w .fits)) at h
+  module _ {s : List ℕ} (a : WalkAsks g ls i s) (r : Reached) {s′ : List ℕ}
+      (h : walk.Walked (walk.everywhereIn mode g (segmentAt ls i)) (walk.reachOf mode (length s) g (segmentAt ls i)) s r s′) where
+    abbrev all : Bool
+    all = walk.everywhereIn mode g (segmentAt ls i)
 
-    pub walk-found : (n : ℕ) → r ≡ cells-are.Found n → CountAs (walkCheck mode g ls i) (Front mode g ls i s′) (counted.Of n)
+    inner : walk.Walked all (walkOn mode g ls i) s r s′
+    unfolding walkOn lineFits
+    inner = let w = a .walkable in rw (reach-is mode g _ (length s) (w .space) (w .each i (a .at)) (w .fits)) at h
+
+    pub walk-found : (n : ℕ) → r ≡ reached.Found n → CountAs (walkCheck mode g ls i) (Front mode g ls i s′) (counted.Of n)
     unfolding cellsOn walkCheck unless
     walk-found n e =
-        let k = walked-found (walkOn mode g ls i) s n s′ (rw e at inner) (inner .size) (omega (arith, visits (a .walkable .fits) .2, a .walkable .space)) in
-        (rw (k .0), record { size = k .1; within = k .2; front = k .3 })
+        let k = walked-found (walkOn mode g ls i) all s n s′ (rw e at inner) in
+        let few : n ≤ length s′ = omega (arith, line-cells (a .walkable .fits) (k .0) .few (k .1), a .walkable .space, inner .size, k .2) in
+        (rw (k .0), record { size = k .2; front = λ _. (few, k .3) })
 
-    pub walk-over : (q : Refusal) → r ≡ cells-are.Refused q → CountAs (walkCheck mode g ls i) (Front mode g ls i s′) (counted.Refused (refusal 7 i))
+    pub walk-everywhere : (n : ℕ) → r ≡ reached.Everywhere → n ≡ cells g → CountAs (walkCheck mode g ls i) (Front mode g ls i s′) (counted.Of n)
     unfolding walkCheck unless
-    walk-over q e = rw (walked-refused (walkOn mode g ls i) s q s′ (rw e at inner))
+    walk-everywhere n e d =
+        let k = walked-everywhere (walkOn mode g ls i) all s s′ (rw e at inner) in
+        let v = line-cells (a .walkable .fits) (k .0) .all (k .1) in
+        (rw (k .0), record { size = d ∙ sym (v .0); front = λ l. absurd (omega (arith, v .1)) })
+
+    pub walk-over : (q : Refusal) → r ≡ reached.Refused q → CountAs (walkCheck mode g ls i) (Front mode g ls i s′) (counted.Refused (refusal 7 i))
+    unfolding walkCheck unless
+    walk-over q e = rw (walked-refused (walkOn mode g ls i) all s q s′ (rw e at inner))
 
 -- ---- what a pass learns of a line
 
@@ -112,7 +141,7 @@ line-at {mode} {g} {ls} {i = i} w l k b =
       lines-small = omega (arith, w .few);
       cells-small = omega (arith, shape-says (g .cols) (g .rows) (fit-shape g (w .fits)) .cells);
       few = omega arith;
-      fits = k .within;
+      fits = k .front b .0;
       size = rw e (k .size);
-      cells-are = rw e (k .front);
+      cells-are = rw e (k .front b .1);
     }

@@ -35,11 +35,10 @@ pub record Walkable (g : Grid) (ls : Lines) (s : List ℕ) : Type 0 where
   pub fits : fit g ≡ true
   pub space : 16384 ≤ length s
 
--- the n cells of line i stand at the front of the scratch
+-- line i has n cells, and they stand at the front of the scratch, where they are no more than a line has that is not global
 pub record Front (mode : Mode) (g : Grid) (ls : Lines) (i : ℕ) (s : List ℕ) (n : ℕ) : Type 0 where
   pub size : n ≡ length (cellsOn mode g ls i)
-  pub within : n ≤ length s
-  pub front : take n s ≡ cellsOn mode g ls i
+  pub front : n ≤ 2048 → (n ≤ length s) × (take n s ≡ cellsOn mode g ls i)
 
 -- a line that a walk can work on
 pub record WalkAsks (g : Grid) (ls : Lines) (i : ℕ) (s : List ℕ) : Type 0 where

@@ -13,8 +13,8 @@ use crate::Count;
 use grid::Grid;
 use grid::segments::segment_at;
 use refusals::Refusal;
-use walk::Cells;
 use walk::Mode;
+use walk::Reached;
 
 // The number of cells of a grid.
 pub(crate) fn cell_count(grid: Grid) -> usize
@@ -24,7 +24,7 @@ pub(crate) fn cell_count(grid: Grid) -> usize
     (grid.rows as usize) * (grid.cols as usize)
 }
 
-// The walk of line i, in a mode. All but refusal 7 is checked before.
+// The walk of line i, in a mode. All but refusal 7 is checked before. A line that is everywhere has more cells than the scratch need hold, and is global.
 fn walk_line(
     mode: Mode,
     start_x: &[f64],
@@ -43,8 +43,9 @@ fn walk_line(
     let line = segment_at(start_x, start_y, end_x, end_y, i);
     let cells = walk::segment_cells(mode, grid, line, scratch);
     match cells {
-        Cells::Found(n) => Count::Of(n),
-        Cells::Refused(_) => Count::Refused(Refusal {
+        Reached::Found(n) => Count::Of(n),
+        Reached::Everywhere => Count::Of(cell_count(grid)),
+        Reached::Refused(_) => Count::Refused(Refusal {
             number: 7,
             value: i as u64,
         }),

@@ -2,4 +2,5 @@
 pub mod Bools
 pub mod Fine
 pub mod Shapes
+pub mod Floats
 pub mod Saying

@@ -3,3 +3,4 @@ pub mod Domain
 pub mod Boxes
 pub mod Axes
 pub mod Words
+pub mod Points

@@ -1,22 +1,33 @@
--- The exported walk: document 01's number and value for each outcome, and what is left in each lent slice. Definitions only.
+-- The exported walks: the number and the value of each outcome, and what is left in each lent slice. Definitions only.
 use Prim.Native.Nat.{ℕ}
 use mathlib.Core.Path.{_≡_}
 use mathlib.Core.List.{List}
 use lib.ListN.{length, set}
-use Rattle.refusals.specs.Refusals.{answerBy}
-use Rattle.walk.specs.Pushes.{Outcome}
-use Rattle.walk.specs.Segment.{cellsOf, Walked}
+use Rattle.grid.specs.declared.Grid.{Grid}
+use Rattle.grid.specs.declared.Segment.{Segment}
+use Rattle.walk.specs.declared.Mode.{Mode}
+use Rattle.walk.specs.declared.Reached.{Reached}
+use Rattle.walk.specs.declared.Reached.the-variants.{Found, Everywhere, Refused}
+use Rattle.walk.specs.Segment.{everywhereIn, reachOf, reachedOf, Walked}
 
--- 0, or the refusal's number
-unfoldable pub numberOf : Outcome → ℕ
-numberOf o = answerBy (λ r. r .number) (λ xs. 0) o
+-- 0, 16 where the line is everywhere, or the refusal's number
+unfoldable pub reachNumber : Reached → ℕ
+reachNumber (Found n) = 0
+reachNumber Everywhere = 16
+reachNumber (Refused r) = r .number
 
--- the number of cells, or the refusal's value
-unfoldable pub valueOf : Outcome → ℕ
-valueOf o = answerBy (λ r. r .value) length o
+-- the number of cells, 0 where the line is everywhere, or the refusal's value
+unfoldable pub reachValue : Reached → ℕ
+reachValue (Found n) = n
+reachValue Everywhere = 0
+reachValue (Refused r) = r .value
 
--- the walk whose outcome is o: its number, its value at the start of `out`, and the scratch as the walk promises it
-pub record WalkReplies (o : Outcome) (scratch out : List ℕ) (r : ℕ) (scratch′ out′ : List ℕ) : Type 0 where
-  pub number : r ≡ numberOf o
-  pub value : out′ ≡ set out 0 (valueOf o)
-  pub walked : Walked o scratch (cellsOf o) scratch′
+-- what the walk of a line answers inside a larger call, with a scratch of n entries
+abbrev pub reachedIn : Mode → Grid → Segment → ℕ → Reached
+reachedIn mode g line n = reachedOf (everywhereIn mode g line) (reachOf mode n g line)
+
+-- its number, its value at the start of `out`, and the scratch as the walk promises it
+pub record WalkReplies (mode : Mode) (g : Grid) (line : Segment) (scratch out : List ℕ) (r : ℕ) (scratch′ out′ : List ℕ) : Type 0 where
+  pub number : r ≡ reachNumber (reachedIn mode g line (length scratch))
+  pub value : out′ ≡ set out 0 (reachValue (reachedIn mode g line (length scratch)))
+  pub walked : Walked (everywhereIn mode g line) (reachOf mode (length scratch) g line) scratch (reachedIn mode g line (length scratch)) scratch′

@@ -1,16 +1,16 @@
-// The walk of one line as a build takes it, and the ordering of its cells, for whoever times them. They are no part of the library.
+// The walk of one line as a build takes it, the ordering of its cells, and the covering walk, for whoever times or compares them. They are no part of the
+// library.
 use grid::Segment;
 use grid::words::grid_by;
-use walk::Cells;
 use walk::Mode;
+use walk::Reached;
 ghost use mathlib.Core.Path.{_≡_};
 ghost use lib.ListN.{length, set};
 ghost use Rattle.grid.specs.Domain.{segmentBy};
 ghost use Rattle.grid.specs.Words.{gridBy};
 ghost use Rattle.slices.specs.Slices.{sorted};
-ghost use Rattle.walk.specs.declared.Mode.the-variants.{Rust};
-ghost use Rattle.walk.specs.Segment.{entryOf};
-ghost use Rattle.inner_walk.specs.Replies.{WalkReplies};
+ghost use Rattle.walk.specs.declared.Mode.the-variants.{Rust, Covering};
+ghost use Rattle.inner_walk.specs.Replies.{reachNumber, reachValue, WalkReplies};
 
 // Writes the first entry, where there is one.
 fn put(value: u64, out: &mut [u64])
@@ -31,8 +31,27 @@ pub extern "C" fn mt_inner_order(entries: &mut [u32]) -> u32
     0
 }
 
-// The grid is said by its words. Answers 0 or the refusal's number. Out: the number of cells, or the refusal's value. The cells stand at the
-// start of the scratch; what is beyond them there is open.
+// The answer of a walk in numbers: 0, the refusal's number, or 16 where the line is everywhere. Out: the number of cells, the refusal's value, or 0.
+fn answer(r: Reached, out: &mut [u64]) -> u32
+    ensures { λ n. ⌜ (n ≡ reachNumber r) × (now (out .exit) ≡ set (now (out .entry)) 0 (reachValue r)) ⌝ }
+{
+    match r {
+        Reached::Found(n) => {
+            put(n as u64, out);
+            0
+        },
+        Reached::Everywhere => {
+            put(0, out);
+            16
+        },
+        Reached::Refused(why) => {
+            put(why.value, out);
+            why.number
+        },
+    }
+}
+
+// The Rust's walk. The grid is said by its words. The cells stand at the start of the scratch; what is beyond them there is open.
 #[no_mangle]
 pub extern "C" fn mt_inner_walk(
     grid: &[u64],
@@ -43,9 +62,9 @@ pub extern "C" fn mt_inner_walk(
     scratch: &mut [u32],
     out: &mut [u64],
 ) -> u32
-    ensures { λ r. let s = now (scratch .entry) in
-        let o = entryOf Rust (length s) (gridBy (now (grid .entry))) (segmentBy «start_x» «start_y» «end_x» «end_y») in
-        ⌜ WalkReplies o s (now (out .entry)) r (now (scratch .exit)) (now (out .exit)) ⌝ }
+    ensures { λ r. let g = gridBy (now (grid .entry)) in
+        let line = segmentBy «start_x» «start_y» «end_x» «end_y» in
+        ⌜ WalkReplies Rust g line (now (scratch .entry)) (now (out .entry)) r (now (scratch .exit)) (now (out .exit)) ⌝ }
 {
     let line = Segment {
         start_x,
@@ -53,15 +72,35 @@ pub extern "C" fn mt_inner_walk(
         end_x,
         end_y,
     };
-    let cells = walk::segment_cells(Mode::Rust, grid_by(grid), line, scratch);
-    match cells {
-        Cells::Found(n) => {
-            put(n as u64, out);
-            0
-        },
-        Cells::Refused(r) => {
-            put(r.value, out);
-            r.number
-        },
-    }
+    answer(
+        walk::segment_cells(Mode::Rust, grid_by(grid), line, scratch),
+        out,
+    )
+}
+
+// The covering walk, in the same words.
+#[no_mangle]
+pub extern "C" fn mt_inner_cover(
+    grid: &[u64],
+    start_x: f64,
+    start_y: f64,
+    end_x: f64,
+    end_y: f64,
+    scratch: &mut [u32],
+    out: &mut [u64],
+) -> u32
+    ensures { λ r. let g = gridBy (now (grid .entry)) in
+        let line = segmentBy «start_x» «start_y» «end_x» «end_y» in
+        ⌜ WalkReplies Covering g line (now (scratch .entry)) (now (out .entry)) r (now (scratch .exit)) (now (out .exit)) ⌝ }
+{
+    let line = Segment {
+        start_x,
+        start_y,
+        end_x,
+        end_y,
+    };
+    answer(
+        walk::segment_cells(Mode::Covering, grid_by(grid), line, scratch),
+        out,
+    )
 }

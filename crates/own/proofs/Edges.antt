@@ -7,20 +7,19 @@ use native.Mathlib.Nat.{mul-pos, mul-le-mul-right, le-trans}
 use native.Mathlib.Omega.{arith}
 use lib.Dec.{T, lit≤}
 use lib.IntN.{pos}
-use lib.Ieee.{Float, nan, inf, fin, Format, binary64, up, down, round, ofInt, mul, lt, le, eq}
+use lib.Ieee.{Float, nan, inf, fin, Format, binary64, up, down, round, ofInt, mul, lt, le}
 use lib.Ieee.Exact.{HasValue}
 use lib.Ieee.Back.{round-whole}
 use lib.Ieee.Fits.{down-pos}
 use lib.Ieee.Order.{round-mono}
 use lib.Ieee.Scale.{round-same, finite}
-use lib.Ieee.Positive.{num, den, den-pos, positive, positive-finite, between}
-use Rattle.numbers.specs.Order.{magnitudeOf}
+use lib.Ieee.Positive.{num, den, den-pos, positive, positive-finite}
 use Rattle.numbers.proofs.FloatOrder.{number, float-le-trans, at-most, not-under}
 use Rattle.numbers.proofs.FloatSum.{round-number, add-number, add-mono, add-swap}
 use Rattle.grid.specs.declared.Axis.{Axis}
 use Rattle.grid.specs.Axes.{lowOn, highOn}
 use Rattle.grid.specs.Domain.{coordinate, sizeFits}
-use Rattle.grid.proofs.Bools.{and-left, and-right}
+use Rattle.grid.proofs.Floats.{coordinate-finite, size-positive}
 
 -- ---- what the domain says of the floats
 
@@ -30,23 +29,10 @@ holds b h = subst T (sym h) tt
 clash : (b : Bool) → b ≡ false → T b → ⊥
 clash b h t = subst T h t
 
-pub coordinate-finite : (v : Float) → coordinate v ≡ true → T (finite v)
-unfolding coordinate magnitudeOf le lt eq round
-coordinate-finite nan h = holds false h
-coordinate-finite (inf s) h = holds false h
-coordinate-finite (fin s m e) h = tt
-
 pub coordinate-number : (v : Float) → coordinate v ≡ true → T (number v)
 coordinate-number nan h = coordinate-finite nan h
 coordinate-number (inf s) h = tt
 coordinate-number (fin s m e) h = tt
-
-size-positive : (v : Float) → sizeFits v ≡ true → T (positive v)
-unfolding sizeFits round
-size-positive v h =
-    let lo = round binary64 false 1 4000000 in
-    let hi = round binary64 false 2000000000 1 in
-    between lo v hi tt tt (holds (le lo v) (and-left (le lo v) (le v hi) h)) (holds (le v hi) (and-right (le lo v) (le v hi) h))
 
 -- ---- i x size is i * size, rounded
 

@@ -20,7 +20,7 @@ use Rattle.sizing.specs.Counts.{countOn}
 use Rattle.sizing.proofs.Constants.{two, two-is}
 use Rattle.sizing.proofs.Reach.{Spans}
 use Rattle.numbers.proofs.FloatQuotient.{num-pos}
-use Rattle.sizing.proofs.Plain.{nonneg, own-value, nonneg-of-value, nonneg-of-positive, div-at, nonneg-under, values-of-le, Times}
+use Rattle.numbers.proofs.FloatFractions.{nonneg, own-value, nonneg-of-value, nonneg-of-positive, div-at, nonneg-under, values-of-le, Times}
 use Rattle.sizing.proofs.Width.{stretched, Stretched, stretched-is}
 use Rattle.sizing.proofs.Halving.{Sized, half-low, half-sized, times-half, one-value, twice-value}
 

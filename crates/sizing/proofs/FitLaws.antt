@@ -27,7 +27,7 @@ use Rattle.sizing.specs.Size.{firstSize, halfOf}
 use Rattle.sizing.specs.Counts.{countOn, gridOf, emptyGrid}
 use Rattle.sizing.proofs.Constants.{quarter, quarter-is, 2e9, 2e9-is}
 use Rattle.sizing.proofs.Reach.{Lie, Spans, lowest-obeys, reach-spans}
-use Rattle.sizing.proofs.Plain.{nonneg-of-positive, cross→le}
+use Rattle.numbers.proofs.FloatFractions.{nonneg-of-positive, cross→le}
 use Rattle.sizing.proofs.Width.{stretched}
 use Rattle.sizing.proofs.Halving.{Sized}
 use Rattle.sizing.proofs.CountLaws.{count-exact, count-most, count-some, count-twice, half-across}
@@ -223,6 +223,26 @@ all-fit z ls f N =
     let e = extentOf ls in
     let w : Within e = lines-within ls f N in
     tried-all 2 e 0 (firstSize z e (count ls)) w refl (first-tried z e (count ls) w N (f .few))
+
+-- the same of grids that have a column
+abbrev pub AllSome : ℕ → Extent → Size → Type 0
+AllSome zero e s = 1 ≤ gridOf e s .cols
+AllSome (suc left) e s = (1 ≤ gridOf e s .cols) × (gridOf e s .rows * gridOf e s .cols * 4 < 1000000 → AllSome left e (halfOf s))
+
+tried-some : (e : Extent) (k : ℕ) (s : Size) → Within e → Tried e k s → 1 ≤ gridOf e s .cols
+unfolding gridOf
+tried-some e k s w t = cols-some e w (2 ^ k) s (t .sized) (power-within k (t .few))
+
+some-all : (left : ℕ) (e : Extent) (k : ℕ) (s : Size) → Within e → k + left ≡ 2 → Tried e k s → AllSome left e s
+some-all zero e k s w z t = tried-some e k s w t
+some-all (suc left) e k s w z t = (tried-some e k s w t, λ few. some-all left e (k + 1) (halfOf s) w (omega arith) (again-tried e k s w t (omega arith) few))
+
+-- every grid that can be tried for some lines has a column
+pub all-some : (z : Sizing) (ls : Lines) → LinesFit ls → 1 ≤ count ls → AllSome 2 (extentOf ls) (firstSize z (extentOf ls) (count ls))
+all-some z ls f N =
+    let e = extentOf ls in
+    let w : Within e = lines-within ls f N in
+    some-all 2 e 0 (firstSize z e (count ls)) w refl (first-tried z e (count ls) w N (f .few))
 
 -- ---- what the counts and the size of a tried grid are
 

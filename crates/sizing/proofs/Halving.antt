@@ -16,7 +16,7 @@ use Rattle.numbers.proofs.Values.{fits-says, pow-le-back}
 use Rattle.numbers.proofs.FloatQuotient.{num-pos}
 use Rattle.sizing.specs.Size.{half}
 use Rattle.sizing.proofs.Constants.{two, two-is}
-use Rattle.sizing.proofs.Plain.{nonneg, own-value, nonneg-of-positive, div-at, round-value, Times}
+use Rattle.numbers.proofs.FloatFractions.{nonneg, own-value, nonneg-of-positive, div-at, round-value, Times}
 
 -- ---- 2 ^ e / 2 is a whole number of the format's smallest values, if 2 * down e is at most 2 ^ l
 low-pos : (f : Format) → 0 < low f

@@ -19,7 +19,7 @@ use Rattle.numbers.proofs.FloatSum.{zero-le, add-mono, add-swap}
 use Rattle.grid.specs.Domain.{coordinate}
 use Rattle.sizing.specs.Bounds.{picked, lowest, highest, reach}
 use Rattle.sizing.proofs.Constants.{nought, 1e9, 1e9-is, 2e9, top, top-is, bottom-is}
-use Rattle.sizing.proofs.Extremes.{least-one, greatest-one, least-under, greatest-over}
+use Rattle.numbers.proofs.Extremes.{least-one, greatest-one, least-under, greatest-over}
 
 -- ---- what a coordinate is: finite, and from -1e9 to 1e9
 

@@ -29,9 +29,9 @@ use Rattle.sizing.specs.declared.Extent.{Extent}
 use Rattle.sizing.specs.declared.Size.{Size}
 use Rattle.sizing.specs.Size.{largest, areaOf, squareSide, sideOn, firstSize}
 use Rattle.sizing.proofs.Constants.{nought, 1e-9, 1e-9-is, 1e-6, 1e-6-is, thousand, thousand-is, 2e9, 2e9-is}
-use Rattle.sizing.proofs.Extremes.{greatest-one, greatest-over}
+use Rattle.numbers.proofs.Extremes.{greatest-one, greatest-over}
 use Rattle.sizing.proofs.Reach.{Spans}
-use Rattle.sizing.proofs.Plain.{own-value, nonneg-of-positive, le→cross, div-at, neg-zero-of}
+use Rattle.numbers.proofs.FloatFractions.{own-value, nonneg-of-positive, le→cross, div-at, neg-zero-of}
 use Rattle.sizing.proofs.Width.{width-times}
 use Rattle.sizing.proofs.Halving.{Sized}
 use Rattle.sizing.proofs.CountLaws.{Across}

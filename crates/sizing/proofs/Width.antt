@@ -1,11 +1,11 @@
 -- A width, stretched by 1e-9, is at most 1,001 times a cell size that is at least a thousandth of the width, and at least 1e-6. The stretch is a
 -- thousandth of the least size, and a rounding changes a value by less than a millionth of it, so 1,001 has room. Assumes nothing.
 use mathlib.Core.Path.{_≡_, refl, sym, ap, _∙_, subst}
-use mathlib.Core.Bool.{Bool, true, false, not}
+use mathlib.Core.Bool.{true, false}
 use Prim.Native.Nat.{ℕ, _+_, _-_, _*_, _^_, _≤_, _<_}
-use native.Mathlib.Nat.{le-trans, le-of-eq, mul-assoc, mul-left-comm, mul-one, mul-le-mul-right, mul-le-mul-left, le-of-mul-le-mul-right, mul-pos}
+use native.Mathlib.Nat.{le-trans, le-of-eq, mul-assoc, mul-left-comm, mul-one, mul-le-mul-right, le-of-mul-le-mul-right, mul-pos}
 use native.Mathlib.Omega.{arith}
-use lib.Dec.{T, leb, leb→le, nleb→lt, lit≤, lit<}
+use lib.Dec.{T, lit≤, lit<}
 use lib.Pow.{pow-pos}
 use lib.Ieee.{Float, nan, inf, fin, Format, binary32, binary64, round, add, div, le, low}
 use lib.Ieee.Exact.{HasValue}
@@ -14,27 +14,10 @@ use lib.Ieee.Positive.{num, den, den-pos, positive, positive-finite, between}
 use Rattle.numbers.proofs.FloatSum.{add-mono}
 use Rattle.sizing.proofs.Constants.{nought, 1e-9, 1e-9-is, 1e-6, thousand, 2e9}
 use Rattle.sizing.proofs.Reach.{Spans}
-use Rattle.sizing.proofs.Rounding.{half, grid-over-any, grid-under-any}
-use Rattle.sizing.proofs.Plain.{nonneg, le→cross, finite-under, nonneg-of-positive, own-value, values-of-le, add-is, div-at, round-value, cross→le, neg-zero-add, neg-zero-of, Times, times-of-values}
+use Rattle.numbers.proofs.Rounding.{half, over-by, under-by}
+use Rattle.numbers.proofs.FloatFractions.{nonneg, le→cross, finite-under, nonneg-of-positive, own-value, values-of-le, add-is, div-at, round-value, cross→le, neg-zero-add, neg-zero-of, Times, times-of-values}
 
 -- ---- the arithmetic, over plain numbers
--- a relative error of 1 / (2 h) is one of 1 / q
-weaken : (x z n c h q : ℕ) → q ≤ 2 * h → x * (2 * h) ≤ z * (2 * h) + n + h * c → x * q ≤ z * q + n + q * c
-weaken x z n c h q H a = go (leb x (z + c)) (leb→le x (z + c)) (nleb→lt x (z + c))
-  where
-    far : (y : ℕ) → x ≡ z + c + y → x * q ≤ z * q + n + q * c
-    far y e =
-        let k : y * q ≤ y * (2 * h) = mul-le-mul-left y H in
-        let b : (z + c + y) * (2 * h) ≤ z * (2 * h) + n + h * c = rw e at a in
-        rw e (omega arith)
-
-    rest : z + c < x → x ≡ z + c + (x - (z + c))
-    rest l = omega arith
-
-    go : (b : Bool) → (T b → x ≤ z + c) → (T (not b) → z + c < x) → x * q ≤ z * q + n + q * c
-    go true h k = omega (arith, mul-le-mul-right q (h tt))
-    go false h k = far (x - (z + c)) (rest (k tt))
-
 core : (a b c d e t x : ℕ) → a * 1000000 ≤ (b + t) * 1000001 + 1000000 * e → b * 1000000 ≤ 1000 * d * 1000000 + b + 1000000 * (1000 * e)
     → d ≤ c → x ≤ c → 999 * t ≤ x → 1000000 * e ≤ x → a ≤ 1001 * c
 core a b c d e t x e1 e2 e3 e4 e5 e6 = omega arith
@@ -83,18 +66,6 @@ million : (f : Format) → 1000000 ≤ 2 * half f
 million binary32 = lit≤ tt
 million binary64 = lit≤ tt
 
-split-one : (x n h c : ℕ) → x ≤ n * (2 * h + 1) + h * c → x ≤ n * (2 * h) + n + h * c
-split-one x n h c k = omega arith
-
-module _ (f : Format) (a c : ℕ) (C : 0 < c) where
-  over-million : grid f a c * c * 1000000 ≤ a * 2 ^ low f * 1000000 + a * 2 ^ low f + 1000000 * c
-  over-million =
-      weaken (grid f a c * c) (a * 2 ^ low f) (a * 2 ^ low f) c (half f) 1000000 (million f)
-      (split-one (grid f a c * c * (2 * half f)) (a * 2 ^ low f) (half f) c (grid-over-any f a c C))
-
-  under-million : a * 2 ^ low f * 1000000 ≤ grid f a c * c * 1000000 + a * 2 ^ low f + 1000000 * c
-  under-million = weaken (a * 2 ^ low f) (grid f a c * c) (a * 2 ^ low f) c (half f) 1000000 (million f) (grid-under-any f a c C)
-
 -- ---- the law, for either format and any constants that meet the conditions
 module _ (f : Format) (w t9 t6 k s : Float) (w+ : T (nonneg w)) (t9+ : T (positive t9)) (t6+ : T (positive t6)) (s+ : T (positive s)) (k+ : T (positive k))
     (k-is : HasValue k false 1000 1) (small : num t9 * den t6 * 999 ≤ num t6 * den t9) (big : den t6 * 1000000 ≤ num t6 * 2 ^ low f)
@@ -129,8 +100,8 @@ module _ (f : Format) (w t9 t6 k s : Float) (w+ : T (nonneg w)) (t9+ : T (positi
   exact-le =
       main (grid f A1 C1) (grid f (num w) (1000 * den w)) (2 ^ low f) (num w) (den w) (num t9) (den t9) (num s) (den s) (num t6) (den t6)
       (den-pos w) (den-pos t9) (den-pos t6)
-      (over-million f A1 C1 (mul-pos (den-pos w) (den-pos t9)))
-      (under-million f (num w) (1000 * den w) C2)
+      (over-by f A1 C1 (mul-pos (den-pos w) (den-pos t9)) 1000000 (million f))
+      (under-by f (num w) (1000 * den w) C2 1000000 (million f))
       (values-of-le (div f w k) s (grid f (num w) (1000 * den w)) (2 ^ low f) (num s) (den s) quot-value (own-value s s-nonneg) above-v)
       (le→cross t6 s (nonneg-of-positive t6 t6+) s-nonneg above-t)
       small big

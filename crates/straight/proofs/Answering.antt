@@ -29,12 +29,12 @@ use Rattle.walk.specs.declared.Neighbour.the-variants.{None}
 use Rattle.walk.specs.Turns.{nought, signOf, deltaOf, firstOn, strideOn, progressOn, Ray, rayOf, startOf}
 use Rattle.walk.specs.Pushes.{walkedOf}
 use Rattle.walk.specs.Neighbours.{neighbourOn, alongOn, besideOf, lineOf, cellOf, endOf}
-use Rattle.walk.specs.Segment.{pushesOf, answered, segmentOf}
+use Rattle.walk.specs.Segment.{pushesOf, answered, turning, segmentOf}
 use Rattle.walk.proofs.Floats.{index-le}
 use Rattle.walk.proofs.Flat.{any-flat}
 use Rattle.walk.proofs.Room.{first-far}
 use Rattle.walk.proofs.Answer.{segment-is}
-use Rattle.walk.proofs.Visits.{segment-visits}
+use Rattle.walk.proofs.Visits.{turns-visit}
 use Rattle.straight.specs.Sentence.{between, nextTo, besideOn, sentence, verticalBy, horizontalBy, verticalIn, horizontalIn}
 use Rattle.straight.proofs.Walking.{stateBy, rayBy, cellBy, Inside, stepBy, Ahead, stops, along, at, Finite, walked-all}
 use Rattle.straight.proofs.Listed.{by-facts, or-cases, or-left, or-right, heldIndex, runIndex, besideBy, adds, cell-by, beside-by, stops-are, any-map, any-same, any-and, any-adds, any-one, any-none, pushed-said, those-rising, those-are}
@@ -193,7 +193,7 @@ ahead-few false n j e c a p q = omega arith
 
 -- ---- the answer
 
-module _ (mode : Mode) (v : Bool) (g : Grid) (line : Segment)
+module _ (mode : Mode) (turns : turning mode ≡ true) (v : Bool) (g : Grid) (line : Segment)
     (keeps : Keeps (heldOf v g) (heldStart v line) (heldEnd v line))
     (goes : Goes (runOf v g) (runStart v line) (runEnd v line))
     (fine : v ≡ false → StaysFinite (runOf v g) (runStart v line) (runEnd v line) goes)
@@ -332,7 +332,7 @@ module _ (mode : Mode) (v : Bool) (g : Grid) (line : Segment)
 
   found : segmentOf mode g line ≡ gives (distinctOf (sorted (pushesOf mode g line walks)))
   unfolding answered _into_
-  found = segment-is mode g line (λ z. omega (arith, some)) ∙ ap (answered mode g line) walked-is
+  found = segment-is mode g line turns (λ z. omega (arith, some)) ∙ ap (answered mode g line) walked-is
 
   pub answer : segmentOf mode g line ≡ gives (cellsBy mode v g line)
   answer = found ∙ ap gives (rising-members 0 0 xs (cellsBy mode v g line) (one-of-each-rising (pushesOf mode g line walks)) (rising v) same)
@@ -361,7 +361,7 @@ module _ (mode : Mode) (v : Bool) (g : Grid) (line : Segment)
       at u false h = outside (elem u xs) refl
         where
           outside : (b : Bool) → elem u xs ≡ b → b ≡ false
-          outside true k = absurd (omega (arith, ltb-false u (g .rows * g .cols) h, below-elem (g .rows * g .cols) u xs (segment-visits mode g line xs shaped found .inside) k))
+          outside true k = absurd (omega (arith, ltb-false u (g .rows * g .cols) h, below-elem (g .rows * g .cols) u xs (turns-visit mode g line turns xs shaped found .inside) k))
           outside false k = refl
 
       same : (u : ℕ) → elem u xs ≡ elem u (cellsBy mode v g line)

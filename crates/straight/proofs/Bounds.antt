@@ -19,7 +19,7 @@ use Rattle.numbers.specs.Order.{greatestOf, magnitudeOf}
 use Rattle.numbers.proofs.Values.{neg-round}
 use Rattle.numbers.proofs.FloatOrder.{plus, minus}
 use Rattle.numbers.proofs.FloatSum.{Rounds, over, short, add-rounds}
-use Rattle.sizing.proofs.Plain.{nonneg-of-value, own-value, values-of-le, finite-under, nonneg-under}
+use Rattle.numbers.proofs.FloatFractions.{nonneg-of-value, own-value, values-of-le, finite-under, nonneg-under}
 
 pub record Bounded (q k : ℕ) (v : Float) : Type 0 where
   pub fine : T (finite v)

@@ -1,5 +1,5 @@
 -- THE LAW OF A BUILD: where every line is parallel to an axis, no walk meets refusal 7, on any fit grid; so no build of such lines is refused with 7.
--- Assumes nothing.
+-- `spared-by` has the step from walks that end to the build, for any lines and any mode. Assumes nothing.
 use mathlib.Core.Path.{_≡_, refl, sym, ap, _∙_, subst}
 use mathlib.Core.Logic.{inl, inr}
 use Prim.Native.Nat.{ℕ, zero, suc, _+_, _-_, _*_, _≤_, _<_}
@@ -98,63 +98,32 @@ ends-of : (o : Outcome) → ((why : Refusal) → o ≡ refused why → ⊥) → 
 ends-of (refused why) h = absurd (h why refl)
 ends-of (gives xs) h = refl
 
-each-fine : (ok : ℕ → Bool) (n left i : ℕ) → ((k : ℕ) → i ≤ k → k < i + left → ok k ≡ true) → eachFrom ok n left i ≡ Fine
+pub each-fine : (ok : ℕ → Bool) (n left i : ℕ) → ((k : ℕ) → i ≤ k → k < i + left → ok k ≡ true) → eachFrom ok n left i ≡ Fine
 unfolding eachFrom unless andThen
 each-fine ok n zero i h = refl
 each-fine ok n (suc left) i h = rw (h i (omega arith) (omega arith)) (each-fine ok n left (suc i) (λ k l m. h k (omega arith) (omega arith)))
 
-module _ (plan : Plan) (ls : Lines) (lines-fit : LinesFit ls) (straight : AllStraight ls) (in-format : AllInFormat ls) where
-  pub turns-fine : (g : Grid) → fit g ≡ true → GridInFormat g → turnsCheck (plan .mode) g ls ≡ Fine
-  unfolding turnsCheck walkOn
-  turns-fine g ok m =
-      each-fine (λ i. ends (walkOn (plan .mode) g ls i)) 7 (count ls) 0
-      (λ k l h. ends-of (segmentOf (plan .mode) g (segmentAt ls k)) (not-refused (plan .mode) g (segmentAt ls k) ok (unfold lineFits in lines-fit .each k (omega arith))
-      (in-format k (omega arith)) m (straight k (omega arith))))
+-- ---- from walks that end on every grid that can be tried, to the choice of a grid
 
+-- no walk on a grid that can be tried meets 7
+abbrev pub Ending : Plan → Lines → Type 0
+Ending plan ls = (size : Size) → fit (gridOf (extentOf ls) size) ≡ true → turnsCheck (plan .mode) (gridOf (extentOf ls) size) ls ≡ Fine
+
+module _ (plan : Plan) (ls : Lines) (lines-fit : LinesFit ls) (ending : 1 ≤ count ls → Ending plan ls) where
   tried-spares : (g : Grid) (room : ℕ) → turnsCheck (plan .mode) g ls ≡ Fine → Spares (triedCheck (plan .mode) g ls room)
   unfolding triedCheck roomCheck
   tried-spares g room h =
       spares-then (roomCheck g room) (turnsCheck (plan .mode) g ls) (spares-unless (leb (cells g + 1) room) 4 (cells g + 1) refl) (spares-fine (turnsCheck (plan .mode) g ls) h)
 
-  -- ---- the grids of a build hold values of the format: a minimum is some line's coordinate
-
-  among-in-format : (starts ends : List Float) (n : ℕ) (v : Float)
-      → ((i : ℕ) → i < n → T (fits binary64 (getD starts i nan)) × T (fits binary64 (getD ends i nan))) → Among starts ends n v → T (fits binary64 v)
-  among-in-format starts ends n v h (i, l, inl e) = subst (λ (x : Float). T (fits binary64 x)) (sym e) (h i l .0)
-  among-in-format starts ends n v h (i, l, inr e) = subst (λ (x : Float). T (fits binary64 x)) (sym e) (h i l .1)
-
-  holds-at : (n : ℕ) → whole ls ≡ suc n → count ls ≡ suc n → (size : Size) → GridInFormat (gridOf (extentOf ls) size)
-  unfolding gridOf extentOf
-  holds-at n k c size =
-      let x : Lie (ls .«start_x») (ls .«end_x») (suc n) = subst (λ (m : ℕ). Lie (ls .«start_x») (ls .«end_x») m) c (lie-x ls lines-fit) in
-      let y : Lie (ls .«start_y») (ls .«end_y») (suc n) = subst (λ (m : ℕ). Lie (ls .«start_y») (ls .«end_y») m) c (lie-y ls lines-fit) in
-      record {
-        «min-x» =
-            subst (λ (m : ℕ). T (fits binary64 (lowest (ls .«start_x») (ls .«end_x») m))) (sym k)
-            (among-in-format (ls .«start_x») (ls .«end_x») (suc n) (lowest (ls .«start_x») (ls .«end_x») (suc n))
-            (λ i l. (in-format i (omega arith) .«start-x», in-format i (omega arith) .«end-x»))
-            (lowest-among (ls .«start_x») (ls .«end_x») n x));
-        «min-y» =
-            subst (λ (m : ℕ). T (fits binary64 (lowest (ls .«start_y») (ls .«end_y») m))) (sym k)
-            (among-in-format (ls .«start_y») (ls .«end_y») (suc n) (lowest (ls .«start_y») (ls .«end_y») (suc n))
-            (λ i l. (in-format i (omega arith) .«start-y», in-format i (omega arith) .«end-y»))
-            (lowest-among (ls .«start_y») (ls .«end_y») n y));
-      }
-
-  holds-of : 1 ≤ count ls → (size : Size) → GridInFormat (gridOf (extentOf ls) size)
-  holds-of h = let c : count ls ≡ suc (count ls - 1) = omega arith in holds-at (count ls - 1) (whole-count ls lines-fit ∙ c) c
-
-  -- ---- the choice of a grid
-
   chosen-spared : 1 ≤ count ls → (left : ℕ) (size : Size) (room : ℕ) → AllFit left (extentOf ls) size → Spared (chosen (plan .mode) left (extentOf ls) size ls room)
   unfolding chosen
   chosen-spared h zero size room f =
       let g = gridOf (extentOf ls) size in
-      spared-then (triedCheck (plan .mode) g ls room) (gives g) (tried-spares g room (turns-fine g f (holds-of h size))) (λ z. spared-gives g)
+      spared-then (triedCheck (plan .mode) g ls room) (gives g) (tried-spares g room (ending h size f)) (λ z. spared-gives g)
   chosen-spared h (suc left) size room f =
       let g = gridOf (extentOf ls) size in
       spared-then (triedCheck (plan .mode) g ls room) (cond (crowded (plan .mode) g ls) (chosen (plan .mode) left (extentOf ls) (halfOf size) ls room) (gives g))
-      (tried-spares g room (turns-fine g (f .0) (holds-of h size)))
+      (tried-spares g room (ending h size (f .0)))
       (λ z. spared-if (crowded (plan .mode) g ls) (chosen (plan .mode) left (extentOf ls) (halfOf size) ls room) (gives g) (λ c. chosen-spared h left (halfOf size) room (f .1 (few g c)))
       (spared-gives g))
     where
@@ -188,23 +157,71 @@ room-spared mode ls items globals g =
     (spares-then _ _ (spares-unless (leb (total mode g ls) items) 5 (total mode g ls) refl)
     (spares-unless (leb (length (globalsOn mode g ls)) globals) 6 (length (globalsOn mode g ls)) refl)) (λ z. spared-gives g)
 
-module _ (plan : Plan) (ls : Lines) (straight : AllStraight ls) (in-format : AllInFormat ls) where
-  pub build-spared : (offsets items globals scratch : ℕ) → Spared (endOf plan ls offsets items globals scratch)
-  unfolding endOf scratchCheck
-  build-spared offsets items globals scratch =
-      spared-then (andThen (scratchCheck scratch) (linesCheck ls)) (choice plan ls offsets into roomOn (plan .mode) ls items globals)
-      (spares-then (scratchCheck scratch) (linesCheck ls) (spares-unless (leb 16384 scratch) 3 0 refl) (lines-spare-7 ls))
-      (λ h. spared-into (choice plan ls offsets) (roomOn (plan .mode) ls items globals)
-      (choice-spared plan ls (lines-fine ls (andThen-right (scratchCheck scratch) (linesCheck ls) h)) straight in-format offsets) (room-spared (plan .mode) ls items globals))
+pub spared-by : (plan : Plan) (ls : Lines) → (LinesFit ls → 1 ≤ count ls → Ending plan ls) → (offsets items globals scratch : ℕ) → Spared (endOf plan ls offsets items globals scratch)
+unfolding endOf scratchCheck
+spared-by plan ls ending offsets items globals scratch =
+    spared-then (andThen (scratchCheck scratch) (linesCheck ls)) (choice plan ls offsets into roomOn (plan .mode) ls items globals)
+    (spares-then (scratchCheck scratch) (linesCheck ls) (spares-unless (leb 16384 scratch) 3 0 refl) (lines-spare-7 ls))
+    (λ h. let f = lines-fine ls (andThen-right (scratchCheck scratch) (linesCheck ls) h) in
+    spared-into (choice plan ls offsets) (roomOn (plan .mode) ls items globals) (choice-spared plan ls f (ending f) offsets) (room-spared (plan .mode) ls items globals))
 
 answer-refused : (mode : Mode) (a : Answer Grid) (ls : Lines) (why : Refusal) → answerOf mode a ls ≡ built.Refused why → a ≡ refused why
 unfolding answerOf answerBy builtOn
 answer-refused mode (refused w) ls why d = let e : w ≡ why = cc in ap refused e
 answer-refused mode (gives g) ls why d = let z : _≡_ {A = ℕ} 0 1 = cc in absurd (omega arith)
 
--- straight from what `build::build` ensures: its answer is no refusal with 7
+-- from what `build::build` ensures: its answer is no refusal with 7
+pub not-7-by : (plan : Plan) {ls : Lines} {o t gs s : List ℕ} {r : Built} {o′ t′ gs′ s′ : List ℕ} → (LinesFit ls → 1 ≤ count ls → Ending plan ls)
+    → BuildIs (plan .mode) ls o t gs s r o′ t′ gs′ s′ (endOf plan ls (length o) (length t) (length gs) (length s)) → (value : ℕ) → r ≡ built.Refused (refusal 7 value) → ⊥
+not-7-by plan {ls} {o} {t} {gs} {s} {r} ending h value e =
+    let a = endOf plan ls (length o) (length t) (length gs) (length s) in
+    spared-by plan ls ending (length o) (length t) (length gs) (length s) .says value (answer-refused (plan .mode) a ls (refusal 7 value) (sym (h .answer) ∙ e))
+
+-- ---- lines parallel to an axis
+
+module _ (plan : Plan) (ls : Lines) (lines-fit : LinesFit ls) (straight : AllStraight ls) (in-format : AllInFormat ls) where
+  pub turns-fine : (g : Grid) → fit g ≡ true → GridInFormat g → turnsCheck (plan .mode) g ls ≡ Fine
+  unfolding turnsCheck walkOn
+  turns-fine g ok m =
+      each-fine (λ i. ends (walkOn (plan .mode) g ls i)) 7 (count ls) 0
+      (λ k l h. ends-of (segmentOf (plan .mode) g (segmentAt ls k)) (not-refused (plan .mode) g (segmentAt ls k) ok (unfold lineFits in lines-fit .each k (omega arith))
+      (in-format k (omega arith)) m (straight k (omega arith))))
+
+  -- ---- the grids of a build hold values of the format: a minimum is some line's coordinate
+
+  among-in-format : (starts ends : List Float) (n : ℕ) (v : Float)
+      → ((i : ℕ) → i < n → T (fits binary64 (getD starts i nan)) × T (fits binary64 (getD ends i nan))) → Among starts ends n v → T (fits binary64 v)
+  among-in-format starts ends n v h (i, l, inl e) = subst (λ (x : Float). T (fits binary64 x)) (sym e) (h i l .0)
+  among-in-format starts ends n v h (i, l, inr e) = subst (λ (x : Float). T (fits binary64 x)) (sym e) (h i l .1)
+
+  holds-at : (n : ℕ) → whole ls ≡ suc n → count ls ≡ suc n → (size : Size) → GridInFormat (gridOf (extentOf ls) size)
+  unfolding gridOf extentOf
+  holds-at n k c size =
+      let x : Lie (ls .«start_x») (ls .«end_x») (suc n) = subst (λ (m : ℕ). Lie (ls .«start_x») (ls .«end_x») m) c (lie-x ls lines-fit) in
+      let y : Lie (ls .«start_y») (ls .«end_y») (suc n) = subst (λ (m : ℕ). Lie (ls .«start_y») (ls .«end_y») m) c (lie-y ls lines-fit) in
+      record {
+        «min-x» =
+            subst (λ (m : ℕ). T (fits binary64 (lowest (ls .«start_x») (ls .«end_x») m))) (sym k)
+            (among-in-format (ls .«start_x») (ls .«end_x») (suc n) (lowest (ls .«start_x») (ls .«end_x») (suc n))
+            (λ i l. (in-format i (omega arith) .«start-x», in-format i (omega arith) .«end-x»))
+            (lowest-among (ls .«start_x») (ls .«end_x») n x));
+        «min-y» =
+            subst (λ (m : ℕ). T (fits binary64 (lowest (ls .«start_y») (ls .«end_y») m))) (sym k)
+            (among-in-format (ls .«start_y») (ls .«end_y») (suc n) (lowest (ls .«start_y») (ls .«end_y») (suc n))
+            (λ i l. (in-format i (omega arith) .«start-y», in-format i (omega arith) .«end-y»))
+            (lowest-among (ls .«start_y») (ls .«end_y») n y));
+      }
+
+  holds-of : 1 ≤ count ls → (size : Size) → GridInFormat (gridOf (extentOf ls) size)
+  holds-of h = let c : count ls ≡ suc (count ls - 1) = omega arith in holds-at (count ls - 1) (whole-count ls lines-fit ∙ c) c
+
+  pub straight-ending : 1 ≤ count ls → Ending plan ls
+  straight-ending h size f = turns-fine (gridOf (extentOf ls) size) f (holds-of h size)
+
+pub build-spared : (plan : Plan) (ls : Lines) → AllStraight ls → AllInFormat ls → (offsets items globals scratch : ℕ) → Spared (endOf plan ls offsets items globals scratch)
+build-spared plan ls straight in-format = spared-by plan ls (λ f. straight-ending plan ls f straight in-format)
+
+-- straight from what `build::build` ensures
 pub build-not-7 : (plan : Plan) {ls : Lines} {o t gs s : List ℕ} {r : Built} {o′ t′ gs′ s′ : List ℕ} → AllStraight ls → AllInFormat ls
     → BuildIs (plan .mode) ls o t gs s r o′ t′ gs′ s′ (endOf plan ls (length o) (length t) (length gs) (length s)) → (value : ℕ) → r ≡ built.Refused (refusal 7 value) → ⊥
-build-not-7 plan {ls} {o} {t} {gs} {s} {r} straight in-format h value e =
-    let a = endOf plan ls (length o) (length t) (length gs) (length s) in
-    build-spared plan ls straight in-format (length o) (length t) (length gs) (length s) .says value (answer-refused (plan .mode) a ls (refusal 7 value) (sym (h .answer) ∙ e))
+build-not-7 plan {ls} straight in-format h value e = not-7-by plan (λ f. straight-ending plan ls f straight in-format) h value e

@@ -15,7 +15,7 @@ use lib.Ieee.Order.{drop, kept}
 use lib.Ieee.Scale.{grid, overflow, round-val}
 use Rattle.numbers.proofs.Values.{value-unique, neg-round}
 use Rattle.slices.proofs.Laws.{le-or}
-use Rattle.sizing.proofs.Rounding.{closest-over, closest-under}
+use Rattle.numbers.proofs.Rounding.{closest-over, closest-under}
 
 -- ---- over plain numbers: h is half of the significands, w the last kept place, c how many of it, and Z = q * x
 

@@ -7,7 +7,7 @@ use mathlib.Core.List.{List, [], _++_, flatMap}
 use lib.ListN.{length, take, drop}
 use lib.Seq.{take-at}
 use lib.Dec.{eqb}
-use borrow.Author.Tests.{le-leb, leb-true}
+use borrow.Author.Tests.{le-leb}
 use Rattle.slices.specs.Lists.{any}
 use Rattle.slices.specs.Slices.{sorted, distinctOf, OneOfEach, clearedFrom}
 use Rattle.slices.proofs.Distinct.{same-members}
@@ -15,14 +15,12 @@ use Rattle.refusals.specs.declared.Refusal.{Refusal}
 use Rattle.refusals.specs.declared.Check.the-variants.{Fine}
 use Rattle.refusals.specs.declared.Check.the-variants as check
 use Rattle.refusals.specs.Refusals.{refusal, unless, andThen, refused, gives, _then_, _into_, answerBy, clears, leftBy}
-use Rattle.refusals.proofs.Checks.{unless-fine, andThen-left, andThen-right}
 use Rattle.refusals.proofs.Answers.{then-refused, then-fine}
-use Rattle.refusals.proofs.Leaving.{left-zero, left-same, Clearing, clearing-unless, clearing-then}
+use Rattle.refusals.proofs.Leaving.{left-zero, left-same}
 use Rattle.grid.specs.declared.Grid.{Grid}
 use Rattle.grid.specs.declared.Segment.{Segment}
 use Rattle.grid.specs.Axes.{xAxis, yAxis}
 use Rattle.grid.specs.Domain.{segment, fit, scratchCheck, segmentCheck, gridCheck}
-use Rattle.grid.proofs.Fine.{scratch-spares, grid-spares}
 use Rattle.grid.proofs.Shapes.{Shape}
 use Rattle.walk.specs.declared.Mode.{Mode}
 use Rattle.walk.specs.declared.Neighbour.{Neighbour}
@@ -30,18 +28,20 @@ use Rattle.walk.specs.declared.Walk.{Walk}
 use Rattle.walk.specs.declared.Way.{Way}
 use Rattle.walk.specs.declared.Ran.{Ran}
 use Rattle.walk.specs.declared.Ran.the-variants.{Done, Over}
-use Rattle.walk.specs.declared.Cells.{Cells}
-use Rattle.walk.specs.declared.Cells.the-variants.{Found, Refused}
+use Rattle.walk.specs.declared.Reached.{Reached}
+use Rattle.walk.specs.declared.Reached.the-variants.{Found, Refused}
 use Rattle.walk.specs.Turns.{rayOf, startOf}
 use Rattle.walk.specs.Pushes.{Outcome, walkedOf}
 use Rattle.walk.specs.Modular.{wayBy, startBy, walkedBy}
 use Rattle.walk.specs.Neighbours.{alongOn, besideOf, lineOf, endOf}
-use Rattle.walk.specs.Segment.{pushesOf, answered, byTurns, unlessNone, segmentOf, entryCheck, entryOf, cellsOf, Walked}
+use Rattle.walk.specs.Segment.{pushesOf, answered, byTurns, unlessNone, turnsOf, turning, segmentOf, entryCheck, reachOf, reachedOf, Walked}
 use Rattle.walk.specs.Inside.{Grown, Covers, Complete, WalkedTo, Walks}
 use Rattle.walk.proofs.Whole.{walked-is}
 use Rattle.walk.proofs.Grows.{and-then}
 use Rattle.walk.proofs.Added.{end-le}
 use Rattle.walk.proofs.Faithful.{same-answer}
+use Rattle.walk.proofs.Checked.{entry-spares}
+use Rattle.walk.proofs.Reaching.{segment-turns}
 
 module _ (mode : Mode) (g : Grid) (line : Segment) where
   -- ---- what is completed
@@ -55,32 +55,14 @@ module _ (mode : Mode) (g : Grid) (line : Segment) where
       let z = and-then 3 (end-le mode g (line .«end_x») (line .«end_y»)) (and-then 3 (end-le mode g (line .«start_x») (line .«start_y»)) p q) k in
       record { within = z .within; same = rw (← e, ← f) (z .same) }
 
-module _ (g : Grid) (line : Segment) where
-  -- ---- the refusals, and the walk behind them
-
-  module _ (n : ℕ) where
-    -- none of them refuses by 4 to 7
-    pub entry-spares : Clearing false (entryCheck n g line)
-    unfolding entryCheck segmentCheck clears
-    entry-spares = clearing-then (scratch-spares n) (clearing-then (clearing-unless _ 1 0 refl) (grid-spares g))
-
-    -- what a scratch and a grid say that pass them
-    pub entry-room : entryCheck n g line ≡ Fine → 16384 ≤ n
-    unfolding entryCheck scratchCheck
-    entry-room h = leb-true 16384 n (unless-fine _ 3 0 (andThen-left _ _ h))
-
-    pub entry-fit : entryCheck n g line ≡ Fine → fit g ≡ true
-    unfolding entryCheck gridCheck
-    entry-fit h = unless-fine (fit g) 8 0 (andThen-right _ _ (andThen-right _ _ h))
-
 module _ (mode : Mode) (g : Grid) (line : Segment) where
-  -- of a scratch, a segment and a grid that pass them
-  pub entry-is : (n : ℕ) → 16384 ≤ n → segment line ≡ true → fit g ≡ true → entryOf mode n g line ≡ segmentOf mode g line
-  unfolding entryOf entryCheck scratchCheck segmentCheck gridCheck _then_ andThen unless
-  entry-is n h i k = rw (le-leb 16384 n h, i, k)
+  -- of a scratch, a segment and a grid that pass the checks
+  pub reach-is : (n : ℕ) → 16384 ≤ n → segment line ≡ true → fit g ≡ true → reachOf mode n g line ≡ segmentOf mode g line
+  unfolding reachOf entryCheck scratchCheck segmentCheck gridCheck _then_ andThen unless
+  reach-is n h i k = rw (le-leb 16384 n h, i, k)
 
-  none-is : g .cols ≡ 0 → segmentOf mode g line ≡ gives []
-  unfolding segmentOf unlessNone
+  none-is : g .cols ≡ 0 → turnsOf mode g line ≡ gives []
+  unfolding turnsOf unlessNone
   none-is e = rw e
 
   some : (n : ℕ) (o : Outcome) → (n ≡ 0 → ⊥) → unlessNone n o ≡ o
@@ -88,22 +70,23 @@ module _ (mode : Mode) (g : Grid) (line : Segment) where
   some zero o h = absurd (h refl)
   some (suc n) o h = refl
 
-  some-is : (g .cols ≡ 0 → ⊥) → segmentOf mode g line ≡ byTurns mode g line
-  unfolding segmentOf
+  some-is : (g .cols ≡ 0 → ⊥) → turnsOf mode g line ≡ byTurns mode g line
+  unfolding turnsOf
   some-is h = some (g .cols) _ h
 
-  pub segment-is : (g .cols ≡ 0 → ⊥) → segmentOf mode g line ≡ answered mode g line (walkedOf (g .cols) (g .rows) (rayOf g line) (startOf g line))
+  -- in a mode that walks by turns
+  pub segment-is : turning mode ≡ true → (g .cols ≡ 0 → ⊥) → segmentOf mode g line ≡ answered mode g line (walkedOf (g .cols) (g .rows) (rayOf g line) (startOf g line))
   unfolding byTurns
-  segment-is h = some-is h
+  segment-is t h = segment-turns mode g line t ∙ some-is h
 
 -- ---- the answers
 
-refused-walked : (o : Outcome) (why : Refusal) (was now : List ℕ) → o ≡ refused why → length now ≡ length was → now ≡ leftBy 0 why was → Walked o was (Refused why) now
-unfolding cellsOf answerBy
+refused-walked : (o : Outcome) (why : Refusal) (was now : List ℕ) → o ≡ refused why → length now ≡ length was → now ≡ leftBy 0 why was → Walked false o was (Refused why) now
+unfolding reachedOf answerBy
 refused-walked o why was now e l h = rw e (record { answer = refl; size = l; left = h })
 
-found-walked : (o : Outcome) (xs was now : List ℕ) (r : ℕ) → o ≡ gives xs → length now ≡ length was → r ≡ length xs → take (length xs) now ≡ xs → Walked o was (Found r) now
-unfolding cellsOf answerBy
+found-walked : (o : Outcome) (xs was now : List ℕ) (r : ℕ) → o ≡ gives xs → length now ≡ length was → r ≡ length xs → take (length xs) now ≡ xs → Walked false o was (Found r) now
+unfolding reachedOf answerBy
 found-walked o xs was now r e l c h = rw (e, c) (record { answer = refl; size = l; left = h })
 
 -- by turns
@@ -121,7 +104,7 @@ module _ (mode : Mode) (g : Grid) (line : Segment) (shape : Shape (g .cols) (g .
 
   pub found-answer : (n m r : ℕ) (t u : List ℕ) → R ≡ Done n → Complete t m (pushesOf mode g line (take n s)) → length u ≡ length was
       → OneOfEach (sorted (take m t)) (sorted (take m t) ++ drop m t) u r
-      → Walked (byTurns mode g line) was (Found r) u
+      → Walked false (byTurns mode g line) was (Found r) u
   found-answer n m r t u d q l k =
       found-walked _ (distinctOf (sorted (take m t))) was u r
       (turned ∙ ordered (walkedBy (g .cols) (g .rows) way w) n (take m t) (subst (λ (z : Ran). WalkedTo (walkedBy (g .cols) (g .rows) way w) z s) d (run .ran)) (q .same))
@@ -133,7 +116,7 @@ module _ (mode : Mode) (g : Grid) (line : Segment) (shape : Shape (g .cols) (g .
   budget (gives xs) p = absurd p
 
   -- 7 clears
-  pub over-answer : (t : List ℕ) → R ≡ Over → length s ≡ length was → length t ≡ length s → t ≡ clearedFrom 0 s → Walked (byTurns mode g line) was (Refused (refusal 7 0)) t
+  pub over-answer : (t : List ℕ) → R ≡ Over → length s ≡ length was → length t ≡ length s → t ≡ clearedFrom 0 s → Walked false (byTurns mode g line) was (Refused (refusal 7 0)) t
   unfolding clears clearedFrom
   over-answer t d l k c =
       let z : length s - 0 ≡ length was = omega arith in
@@ -143,17 +126,18 @@ module _ (mode : Mode) (g : Grid) (line : Segment) (shape : Shape (g .cols) (g .
 
 -- behind the checks
 module _ (mode : Mode) (g : Grid) (line : Segment) (was : List ℕ) where
-  pub check-answer : (r : Refusal) → entryCheck (length was) g line ≡ check.Refused r → Walked (entryOf mode (length was) g line) was (Refused r) was
-  unfolding entryOf
+  abbrev o : Outcome
+  o = entryCheck (length was) g line then turnsOf mode g line
+
+  pub check-answer : (r : Refusal) → entryCheck (length was) g line ≡ check.Refused r → Walked false o was (Refused r) was
   check-answer r e = refused-walked _ r was was (then-refused _ _ r e) refl (sym (left-same 0 r was (entry-spares g line (length was) .says r e)))
 
   module _ (fine : entryCheck (length was) g line ≡ Fine) where
-    walks-on : entryOf mode (length was) g line ≡ segmentOf mode g line
-    unfolding entryOf
+    walks-on : o ≡ turnsOf mode g line
     walks-on = then-fine _ _ fine
 
-    pub none-answer : g .cols ≡ 0 → Walked (entryOf mode (length was) g line) was (Found 0) was
+    pub none-answer : g .cols ≡ 0 → Walked false o was (Found 0) was
     none-answer e = found-walked _ [] was was 0 (walks-on ∙ none-is mode g line e) refl refl refl
 
-    pub turns-answer : (r : Cells) (now : List ℕ) → (g .cols ≡ 0 → ⊥) → Walked (byTurns mode g line) was r now → Walked (entryOf mode (length was) g line) was r now
-    turns-answer r now h k = subst (λ (o : Outcome). Walked o was r now) (sym (walks-on ∙ some-is mode g line h)) k
+    pub turns-answer : (r : Reached) (now : List ℕ) → (g .cols ≡ 0 → ⊥) → Walked false (byTurns mode g line) was r now → Walked false o was r now
+    turns-answer r now h k = subst (λ (o : Outcome). Walked false o was r now) (sym (walks-on ∙ some-is mode g line h)) k

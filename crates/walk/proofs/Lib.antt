@@ -1,6 +1,6 @@
--- For the crates above: `Visits`, `Outcomes`, and `entry-is` of `Answer`. `Faithful` and `Modes` hold the definitions to document 01.
--- `Whole` and `Tolerance` hold the code's way to them. `Floats`, `Grows`, `Loop`, `Flat`, `Added`, `Spread`, `Room`, `Pushed`, `Answer` and `Entry` are the
--- steps of the functions' proofs.
+-- For the crates above: `Visits`, `Outcomes`, `Reaching`, which says which walk a mode is, and `reach-is` of `Answer`. `Faithful` and `Modes` hold the
+-- definitions to document 01. `Whole` and `Tolerance` hold the code's way to them. `Floats`, `Grows`, `Loop`, `Flat`, `Added`, `Spread`, `Room`, `Pushed`,
+-- `Checked`, `Answer` and `Entry` are the steps of the functions' proofs.
 pub mod Floats
 pub mod Whole
 pub mod Tolerance
@@ -13,6 +13,8 @@ pub mod Modes
 pub mod Faithful
 pub mod Room
 pub mod Pushed
+pub mod Checked
+pub mod Reaching
 pub mod Answer
 pub mod Visits
 pub mod Entry

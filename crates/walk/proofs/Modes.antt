@@ -10,27 +10,21 @@ use Rattle.grid.specs.declared.Side.{Side}
 use Rattle.grid.specs.declared.Side.the-variants.{Off, Above, Below}
 use Rattle.grid.specs.Axes.{xAxis, yAxis, scaledOn, nearWhole, boundaryOn, sideOf, sideOn}
 use Rattle.walk.specs.declared.Mode.{Mode}
-use Rattle.walk.specs.declared.Mode.the-variants.{Rust, Sided}
+use Rattle.walk.specs.declared.Mode.the-variants.{Rust, Sided, Covering}
 use Rattle.walk.specs.declared.Neighbour.{Neighbour}
 use Rattle.walk.specs.declared.Neighbour.the-variants.{None, Lower, Upper}
 use Rattle.walk.specs.Neighbours.{neighbourFor, neighbourOn, alongOn, lineOf, endOf}
-use Rattle.walk.specs.Segment.{pushesOf, answered, byTurns, segmentOf}
+use Rattle.walk.specs.Segment.{pushesOf, answered, byTurns, turnsOf, turning, segmentOf}
 
 -- ---- the table, by rows of the code
 
-module _ {side : Side} where
-  pub for-off : (mode : Mode) → side ≡ Off → None ≡ neighbourFor mode side
-  unfolding neighbourFor
-  for-off Rust e = rw e
-  for-off Sided e = rw e
+-- a row, where the mode and the side are known
+pub by-row : {mode m : Mode} {side s : Side} {to : Neighbour} → mode ≡ m → side ≡ s → to ≡ neighbourFor m s → to ≡ neighbourFor mode side
+by-row e d h = rw (e, d) h
 
-  pub for-above : (mode : Mode) → side ≡ Above → Lower ≡ neighbourFor mode side
-  unfolding neighbourFor
-  for-above Rust e = rw e
-  for-above Sided e = rw e
-
-  pub for-below : (mode : Mode) {to : Neighbour} → side ≡ Below → to ≡ neighbourFor mode Below → to ≡ neighbourFor mode side
-  for-below mode e h = rw e h
+pub covering-none : {mode : Mode} (side : Side) → mode ≡ Covering → None ≡ neighbourFor mode side
+unfolding neighbourFor
+covering-none side e = rw e
 
 -- ---- the Rust's mode is document 01's rule: on a boundary, on either side of it, the lower neighbour
 
@@ -45,7 +39,7 @@ rust-neighbour a v = go (nearWhole (scaledOn a v)) (lt (scaledOn a v) (roundAway
 
 -- ---- where no coordinate is just below a boundary, the modes agree
 
--- a side at which both modes add the same
+-- a side at which both modes that walk by turns add the same
 abbrev pub Alike : Side → Type 0
 Alike side = neighbourFor Sided side ≡ neighbourFor Rust side
 
@@ -59,5 +53,5 @@ module _ (g : Grid) (line : Segment)
     (sx : Alike (sideOn (xAxis g) (line .«start_x»))) (sy : Alike (sideOn (yAxis g) (line .«start_y»)))
     (ex : Alike (sideOn (xAxis g) (line .«end_x»))) (ey : Alike (sideOn (yAxis g) (line .«end_y»))) where
   pub modes-agree : segmentOf Sided g line ≡ segmentOf Rust g line
-  unfolding segmentOf byTurns answered pushesOf lineOf endOf alongOn neighbourOn
+  unfolding segmentOf turning turnsOf byTurns answered pushesOf lineOf endOf alongOn neighbourOn
   modes-agree = rw (sx, sy, ex, ey)

@@ -1,9 +1,10 @@
--- What a segment's cells are, for the crates above: increasing, inside the grid, few, and just the cells that were pushed. Assumes nothing.
+-- What a segment's cells are, for the crates above: increasing, inside the grid, few unless they are all; by turns also just the cells that were pushed.
+-- Assumes nothing.
 use mathlib.Core.Path.{_≡_, refl, sym, ap, _∙_, subst}
 use Prim.Native.Nat.{ℕ, zero, suc, _+_, _-_, _*_, _/_, _%_, _≤_, _<_}
 use native.Mathlib.Nat.{div-lt-iff-lt-mul, div-add-mod'}
 use native.Mathlib.Omega.{arith}
-use mathlib.Core.Bool.{Bool, true, false, cond}
+use mathlib.Core.Bool.{Bool, true, false, cond, true≢false}
 use mathlib.Core.List.{List, [], _∷_, _++_, flatMap}
 use lib.ListN.{length, length-append}
 use lib.Dec.{ltb, eqb}
@@ -15,11 +16,14 @@ use Rattle.slices.proofs.Members.{elem-one-of-each, below-append, below-one-of-
 use Rattle.slices.proofs.Distinct.{one-of-each-rising, length-one-of-each}
 use Rattle.refusals.specs.declared.Refusal.{Refusal}
 use Rattle.refusals.specs.Refusals.{refusal, refused, gives, _into_}
+use Rattle.refusals.proofs.Answers.{apart}
 use Rattle.grid.specs.declared.Grid.{Grid}
 use Rattle.grid.specs.declared.Segment.{Segment}
 use Rattle.grid.specs.Axes.{xAxis, yAxis}
-use Rattle.grid.specs.Domain.{shape}
-use Rattle.grid.proofs.Shapes.{Shape, shape-says}
+use Rattle.grid.specs.Domain.{shape, fit}
+use Rattle.grid.proofs.Shapes.{Shape, shape-says, fit-shape}
+use Rattle.cover.specs.Covering.{coveringOf, everywhere}
+use Rattle.cover.proofs.Laws.{covering-rises, found-few, everywhere-all}
 use Rattle.walk.specs.declared.Mode.{Mode}
 use Rattle.walk.specs.declared.Neighbour.{Neighbour}
 use Rattle.walk.specs.declared.Neighbour.the-variants.{None, Lower, Upper}
@@ -27,7 +31,7 @@ use Rattle.walk.specs.Turns.{Ray, State, rayOf, startOf, turnOf}
 use Rattle.walk.specs.Pushes.{pushOf, pushedOf, Outcome, before, after, nextOf, goingOf, turns, walkedOf}
 use Rattle.walk.specs.Modular.{wayBy, startBy, walkedBy}
 use Rattle.walk.specs.Neighbours.{neighbourOn, alongOn, lowColOf, upColOf, lowRowOf, upRowOf, columnOf, rowOf, besideOf, lineOf, cellOf, endOf}
-use Rattle.walk.specs.Segment.{pushesOf, answered, byTurns, unlessNone, segmentOf}
+use Rattle.walk.specs.Segment.{pushesOf, answered, byTurns, unlessNone, turnsOf, turning, segmentOf, everywhereIn}
 use Rattle.walk.specs.Inside.{Straight, Still, share}
 use Rattle.walk.proofs.Whole.{walked-is}
 use Rattle.walk.proofs.Grows.{number}
@@ -36,6 +40,7 @@ use Rattle.walk.proofs.Added.{beside-le, cell-below, end-le, share-room
 use Rattle.walk.proofs.Room.{straight-x, straight-y, still}
 use Rattle.walk.proofs.Pushed.{no-cells, same-cells, walked-pushed}
 use Rattle.walk.proofs.Answer.{segment-is}
+use Rattle.walk.proofs.Reaching.{segment-turns, segment-covers, covering-everywhere, everywhere-covers}
 
 -- ---- what is added is inside the grid
 
@@ -120,22 +125,55 @@ module _ (mode : Mode) (g : Grid) (line : Segment) where
   unless-visits zero o xs e h = subst (λ (z : List ℕ). Visits g z) (same-cells [] xs e) (record { rising = tt; inside = tt; few = omega arith })
   unless-visits (suc n) o xs e h = h (omega arith) e
 
-  -- on a grid whose counts have a shape
-  pub segment-visits : (xs : List ℕ) → shape (g .cols) (g .rows) ≡ true → segmentOf mode g line ≡ gives xs → Visits g xs
-  unfolding segmentOf byTurns
-  segment-visits xs s e =
+  -- by turns, on a grid whose counts have a shape
+  pub turns-visit : turning mode ≡ true → (xs : List ℕ) → shape (g .cols) (g .rows) ≡ true → segmentOf mode g line ≡ gives xs → Visits g xs
+  unfolding turnsOf byTurns
+  turns-visit t xs s e =
       let w = walkedOf (g .cols) (g .rows) (rayOf g line) (startOf g line) in
       let k = shape-says (g .cols) (g .rows) s in
-      unless-visits (g .cols) (answered mode g line w) xs e (λ h d. answer-visits w xs k h (walked-is g line k) d)
+      unless-visits (g .cols) (answered mode g line w) xs (sym (segment-turns mode g line t) ∙ e) (λ h d. answer-visits w xs k h (walked-is g line k) d)
 
   -- the cells are those that were pushed: the walked ones and the added ones
-  pub segment-members : (walked xs : List ℕ) → (g .cols ≡ 0 → ⊥) → walkedOf (g .cols) (g .rows) (rayOf g line) (startOf g line) ≡ gives walked
+  pub segment-members : turning mode ≡ true → (walked xs : List ℕ) → (g .cols ≡ 0 → ⊥) → walkedOf (g .cols) (g .rows) (rayOf g line) (startOf g line) ≡ gives walked
       → segmentOf mode g line ≡ gives xs → (v : ℕ) → elem v xs ≡ elem v (pushesOf mode g line walked)
   unfolding answered _into_
-  segment-members walked xs h e d v =
+  segment-members t walked xs h e d v =
       let is : segmentOf mode g line ≡ gives (distinctOf (sorted (pushesOf mode g line walked))) =
-      segment-is mode g line h ∙ ap (answered mode g line) e in
+      segment-is mode g line t h ∙ ap (answered mode g line) e in
       ap (elem v) (same-cells xs (distinctOf (sorted (pushesOf mode g line walked))) (sym d ∙ is)) ∙ elem-one-of-each v (pushesOf mode g line walked)
+
+-- ---- in any mode, on a fit grid
+
+pub record Cells (mode : Mode) (g : Grid) (line : Segment) (xs : List ℕ) : Type 0 where
+  pub rising : Rising 0 xs
+  pub inside : Below (g .rows * g .cols) xs
+  -- they fit the scratch, or they are all, and more than 2,048
+  pub few : everywhereIn mode g line ≡ false → length xs ≤ 16384
+  pub all : everywhereIn mode g line ≡ true → (length xs ≡ g .rows * g .cols) × (2048 < g .rows * g .cols)
+
+module _ (mode : Mode) (g : Grid) (line : Segment) (fits : fit g ≡ true) where
+  by-turns : turning mode ≡ true → (xs : List ℕ) → segmentOf mode g line ≡ gives xs → Cells mode g line xs
+  by-turns t xs e =
+      let v = turns-visit mode g line t xs (fit-shape g fits) e in
+      record { rising = v .rising; inside = v .inside; few = λ _. omega (arith, v .few); all = λ h. absurd (true≢false (sym t ∙ everywhere-covers mode g line h)) }
+
+  by-covering : turning mode ≡ false → Cells mode g line (coveringOf g line)
+  by-covering t =
+      let v = covering-rises g fits line in
+      let e = covering-everywhere mode g line t in
+      record {
+        rising = v .0;
+        inside = v .1;
+        few = λ h. omega (arith, found-few g fits line (sym e ∙ h));
+        all = λ h. everywhere-all g line (sym e ∙ h);
+      }
+
+  pub segment-visits : (xs : List ℕ) → segmentOf mode g line ≡ gives xs → Cells mode g line xs
+  segment-visits xs e = go (turning mode) refl
+    where
+      go : (b : Bool) → turning mode ≡ b → Cells mode g line xs
+      go true t = by-turns t xs e
+      go false t = subst (λ (z : List ℕ). Cells mode g line z) (same-cells (coveringOf g line) xs (sym (segment-covers mode g line t) ∙ e)) (by-covering t)
 
 -- ---- the one refusal
 
@@ -176,9 +214,16 @@ module _ (mode : Mode) (g : Grid) (line : Segment) (why : Refusal) where
   unless-refused zero o d = absurd (no-cells why [] (sym d))
   unless-refused (suc n) o d = d
 
-  pub segment-refused : segmentOf mode g line ≡ refused why → why ≡ refusal 7 0
-  unfolding segmentOf byTurns
-  segment-refused e =
+  turns-refused-by : turnsOf mode g line ≡ refused why → why ≡ refusal 7 0
+  unfolding turnsOf byTurns
+  turns-refused-by e =
       let o = walkedOf (g .cols) (g .rows) (rayOf g line) (startOf g line) in
       walked-refused (g .cols) (g .rows) (rayOf g line) (startOf g line) why
       (answer-refused o (unless-refused (g .cols) (answered mode g line o) e))
+
+  pub segment-refused : segmentOf mode g line ≡ refused why → why ≡ refusal 7 0
+  segment-refused e = go (turning mode) refl
+    where
+      go : (b : Bool) → turning mode ≡ b → why ≡ refusal 7 0
+      go true t = turns-refused-by (sym (segment-turns mode g line t) ∙ e)
+      go false t = apart e (segment-covers mode g line t)

@@ -11,15 +11,16 @@ use Rattle.grid.specs.declared.Side.{Side}
 use Rattle.grid.specs.declared.Side.the-variants.{Off, Above, Below}
 use Rattle.grid.specs.Axes.{xAxis, yAxis, indexOn, sideOn}
 use Rattle.walk.specs.declared.Mode.{Mode}
-use Rattle.walk.specs.declared.Mode.the-variants.{Rust, Sided}
+use Rattle.walk.specs.declared.Mode.the-variants.{Rust, Sided, Covering}
 use Rattle.walk.specs.declared.Neighbour.{Neighbour}
 use Rattle.walk.specs.declared.Neighbour.the-variants.{None, Lower, Upper}
 use Rattle.walk.specs.Turns.{nought}
 
 -- ---- which neighbour
 
--- The neighbour that a coordinate adds on its axis, by the side of a boundary that it is on. In this table the modes differ, and nowhere else: just below
--- a boundary the Rust's walk adds the lower neighbour, as it does at it and just above; the sided walk adds the upper one, which is across the boundary.
+-- The neighbour that a coordinate adds on its axis, by the side of a boundary that it is on. In this table the modes that walk by turns differ, and nowhere
+-- else: just below a boundary the Rust's walk adds the lower neighbour, as it does at it and just above; the sided walk adds the upper one, which is across
+-- the boundary. The covering walk knows no boundaries.
 unfoldable pub neighbourFor : Mode → Side → Neighbour
 neighbourFor Rust Off = None
 neighbourFor Rust Above = Lower
@@ -27,6 +28,7 @@ neighbourFor Rust Below = Lower
 neighbourFor Sided Off = None
 neighbourFor Sided Above = Lower
 neighbourFor Sided Below = Upper
+neighbourFor Covering side = None
 
 -- of a coordinate, which an endpoint adds
 unfoldable pub neighbourOn : Mode → Axis → Float → Neighbour

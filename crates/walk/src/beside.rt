@@ -16,17 +16,22 @@ ghost use Rattle.walk.specs.Neighbours.{neighbourFor, neighbourOn, along
 ghost use Rattle.walk.specs.Segment.{pushesOf};
 ghost use Rattle.walk.specs.Inside.{Grown, Covers, Complete, Within, AllWithin, lowerOf, manyOf, share, shareOf};
 
-// The one place where the mode is looked at.
+// Where the modes that walk by turns differ.
 fn neighbour_for(mode: Mode, side: Side) -> Neighbour
     ensures { λ r. ⌜ r ≡ neighbourFor mode side ⌝ }
 {
-    match side {
-        Side::Off => Neighbour::None,
-        Side::Above => Neighbour::Lower,
-        Side::Below => match mode {
-            Mode::Rust => Neighbour::Lower,
-            Mode::Sided => Neighbour::Upper,
+    match mode {
+        Mode::Rust => match side {
+            Side::Off => Neighbour::None,
+            Side::Above => Neighbour::Lower,
+            Side::Below => Neighbour::Lower,
         },
+        Mode::Sided => match side {
+            Side::Off => Neighbour::None,
+            Side::Above => Neighbour::Lower,
+            Side::Below => Neighbour::Upper,
+        },
+        Mode::Covering => Neighbour::None,
     }
 }
 

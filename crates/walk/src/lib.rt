@@ -4,6 +4,7 @@ mod pushes;
 mod turns;
 
 use beside::completed;
+use cover::Covered;
 use grid::Grid;
 use grid::Segment;
 use pushes::walked;
@@ -12,15 +13,20 @@ use refusals::Refusal;
 use turns::started;
 use turns::way_of;
 ghost use mathlib.Core.Path.{_≡_};
+ghost use mathlib.Core.Bool.{false};
 ghost use Prim.Native.Nat.{_≤_, _<_};
 ghost use lib.ListN.{length};
+ghost use Rattle.refusals.specs.Refusals.{gives, _then_};
 ghost use Rattle.grid.proofs.Shapes.{Shape};
-ghost use Rattle.walk.specs.Segment.{byTurns, entryCheck, entryOf, Walked, Entered};
+ghost use Rattle.cover.specs.Covering.{coveringOf, everywhere};
+ghost use Rattle.walk.specs.Segment.{byTurns, turnsOf, turning, everywhereIn, entryCheck, offIn, entryOf, reachOf, Walked, Entered};
 
-// Which cells a walk adds beside a boundary: those that the Rust adds, or by the side of the boundary that a value lies on.
+// Which cells a line visits. By turns, and beside a boundary those that the Rust adds, or by the side of the boundary that a value lies on; or those of the
+// covering walk, so that two lines with a common exact point share a cell.
 pub enum Mode {
     Rust,
     Sided,
+    Covering,
 }
 
 // Which neighbour of a cell is added on an axis.
@@ -33,6 +39,13 @@ pub enum Neighbour {
 // The number of cells, which stand in the lent scratch, or a refusal.
 pub enum Cells {
     Found(usize),
+    Refused(Refusal),
+}
+
+// The same inside a larger call; or that the line is in every cell of a grid of more than 2,048. Their number is then the grid's, and they are not listed.
+pub enum Reached {
+    Found(usize),
+    Everywhere,
     Refused(Refusal),
 }
 
@@ -87,9 +100,9 @@ fn check_entry(grid: Grid, line: Segment, n: usize) -> Check
 }
 
 // The walk by turns: the cells that it walks, with those that its mode adds. Refusal 7.
-fn by_turns(mode: Mode, grid: Grid, line: Segment, scratch: &mut [u32]) -> Cells
+fn by_turns(mode: Mode, grid: Grid, line: Segment, scratch: &mut [u32]) -> Reached
     requires { ⌜ 16384 ≤ length (now scratch) ⌝ ∗ ⌜ Shape (grid .cols) (grid .rows) ⌝ ∗ ⌜ 0 < grid .cols ⌝ }
-    ensures { λ r. ⌜ Walked (byTurns mode grid line) (now (scratch .entry)) r (now (scratch .exit)) ⌝ }
+    ensures { λ r. ⌜ Walked false (byTurns mode grid line) (now (scratch .entry)) r (now (scratch .exit)) ⌝ }
 {
     let way = way_of(grid, line);
     let start = started(grid, line);
@@ -98,11 +111,11 @@ fn by_turns(mode: Mode, grid: Grid, line: Segment, scratch: &mut [u32]) -> Cells
         Ran::Done(n) => {
             let m = completed(scratch, n, mode, grid, line);
             let count = ordering::order_and_keep(scratch, m);
-            Cells::Found(count)
+            Reached::Found(count)
         },
         Ran::Over => {
             slices::clear_from(scratch, 0);
-            Cells::Refused(Refusal {
+            Reached::Refused(Refusal {
                 number: 7,
                 value: 0,
             })
@@ -110,32 +123,92 @@ fn by_turns(mode: Mode, grid: Grid, line: Segment, scratch: &mut [u32]) -> Cells
     }
 }
 
+// The same behind refusals 3, 1 and 8. A grid of 0 columns visits nothing.
+fn turned(mode: Mode, grid: Grid, line: Segment, scratch: &mut [u32]) -> Reached
+    ensures { λ r. let o = entryCheck (length (now (scratch .entry))) grid line then turnsOf mode grid line in
+        ⌜ Walked false o (now (scratch .entry)) r (now (scratch .exit)) ⌝ }
+{
+    let check = check_entry(grid, line, scratch.len());
+    if let Check::Refused(r) = check {
+        return Reached::Refused(r);
+    }
+    if grid.cols == 0 {
+        return Reached::Found(0);
+    }
+    by_turns(mode, grid, line, scratch)
+}
+
+// The covering walk, which checks 3, 1 and 8 itself.
+fn covered(grid: Grid, line: Segment, scratch: &mut [u32]) -> Reached
+    ensures { λ r. let o = entryCheck (length (now (scratch .entry))) grid line then gives (coveringOf grid line) in
+        ⌜ Walked (everywhere grid line) o (now (scratch .entry)) r (now (scratch .exit)) ⌝ }
+{
+    let cells = cover::cover_segment(grid, line, scratch);
+    match cells {
+        Covered::Found(n) => Reached::Found(n),
+        Covered::Everywhere => Reached::Everywhere,
+        Covered::Refused(r) => Reached::Refused(r),
+    }
+}
+
+// Whether a mode walks by turns.
+fn is_turning(mode: Mode) -> bool
+    ensures { λ r. ⌜ r ≡ turning mode ⌝ }
+{
+    match mode {
+        Mode::Rust => true,
+        Mode::Sided => true,
+        Mode::Covering => false,
+    }
+}
+
 // The walk of one line inside a larger call: its cells, increasing, none twice, at the start of the scratch. What is beyond them there is not zeroed.
 // Refusals 3, 1, 8 and 7.
-pub fn segment_cells(mode: Mode, grid: Grid, line: Segment, scratch: &mut [u32]) -> Cells
-    ensures { λ r. ⌜ Walked (entryOf mode (length (now (scratch .entry))) grid line) (now (scratch .entry)) r (now (scratch .exit)) ⌝ }
+pub fn segment_cells(mode: Mode, grid: Grid, line: Segment, scratch: &mut [u32]) -> Reached
+    ensures { λ r. let o = reachOf mode (length (now (scratch .entry))) grid line in
+        ⌜ Walked (everywhereIn mode grid line) o (now (scratch .entry)) r (now (scratch .exit)) ⌝ }
+{
+    if is_turning(mode) {
+        return turned(mode, grid, line, scratch);
+    }
+    covered(grid, line, scratch)
+}
+
+// Whether an end of the line is off the grid of the covering walk.
+fn is_off(mode: Mode, grid: Grid, line: Segment) -> bool
+    ensures { λ r. ⌜ r ≡ offIn mode grid line ⌝ }
+{
+    if is_turning(mode) {
+        return false;
+    }
+    cover::is_off(grid, line)
+}
+
+// The walk of one segment: the same, and zero beyond the cells. In the covering mode a line with an end off the grid is refused by 16.
+pub fn cells_of_segment(mode: Mode, grid: Grid, line: Segment, scratch: &mut [u32]) -> Cells
+    ensures { λ r. ⌜ Entered (entryOf mode (length (now (scratch .entry))) grid line) (now (scratch .entry)) r (now (scratch .exit)) ⌝ }
 {
     let check = check_entry(grid, line, scratch.len());
     if let Check::Refused(r) = check {
         return Cells::Refused(r);
     }
-    if grid.cols == 0 {
-        return Cells::Found(0);
+    if is_off(mode, grid, line) {
+        return Cells::Refused(Refusal {
+            number: 16,
+            value: 0,
+        });
     }
-    // Every mode walks by turns. One that does not would part from them here.
-    by_turns(mode, grid, line, scratch)
-}
-
-// The walk of one segment: the same, and zero beyond the cells.
-pub fn cells_of_segment(mode: Mode, grid: Grid, line: Segment, scratch: &mut [u32]) -> Cells
-    ensures { λ r. ⌜ Entered (entryOf mode (length (now (scratch .entry))) grid line) (now (scratch .entry)) r (now (scratch .exit)) ⌝ }
-{
     let r = segment_cells(mode, grid, line, scratch);
     match r {
-        Cells::Found(n) => {
+        Reached::Found(n) => {
             slices::clear_from(scratch, n);
             Cells::Found(n)
         },
-        Cells::Refused(why) => Cells::Refused(why),
+        // a line that is everywhere is off the grid, and was refused above
+        Reached::Everywhere => Cells::Refused(Refusal {
+            number: 16,
+            value: 0,
+        }),
+        Reached::Refused(why) => Cells::Refused(why),
     }
 }

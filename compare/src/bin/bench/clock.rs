@@ -114,7 +114,7 @@ impl Clock {
         let met = ratio <= bar;
         self.bars.set(self.bars.get() + 1);
         self.met.set(self.met.get() + met as usize);
-        format!("  bar {bar:.1} {}", if met { "ok" } else { "MISSED" })
+        format!("  bar {bar:?} {}", if met { "ok" } else { "MISSED" })
     }
 
     /// How the time grows from one size to the next. `work` says how often as much work that is.

@@ -2,6 +2,7 @@
 //! Prints medians, port / Rust, and beside a ratio that has a bar, the bar and whether it is met. Without stages, all of them.
 
 mod clock;
+mod covers;
 mod heap;
 mod numbers;
 mod orderings;
@@ -34,6 +35,10 @@ fn main() {
     if wanted("walks") {
         walks::times(clock, r);
     }
+    if wanted("covers") {
+        covers::times(clock, &mut Random::new(seed));
+        covers::builds(clock, &mut Random::new(seed));
+    }
     if wanted("orderings") {
         orderings::times(clock, &mut Random::new(seed));
     }
@@ -59,7 +64,7 @@ fn main() {
     clock.end();
 }
 
-const STAGES: [&str; 8] = ["numbers", "walks", "orderings", "builds", "visits", "memory", "points", "sizings"];
+const STAGES: [&str; 9] = ["numbers", "walks", "covers", "orderings", "builds", "visits", "memory", "points", "sizings"];
 
 fn stop() -> ! {
     eprintln!("bench [--seed S] [--rounds R] [STAGE..], with STAGE one of {}", STAGES.join(" "));

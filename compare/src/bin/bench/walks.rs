@@ -40,8 +40,8 @@ fn lines(r: &mut Random, least: f64, most: f64, n: usize, left: bool, down: bool
 /// A walk on the grid that words say.
 type Walk = fn(&[u64], f64, f64, f64, f64, &mut [u32], &mut [u64]) -> u32;
 
-/// One walk of the port against the Rust's, each length in each direction. The bar speaks of the slowest direction.
-fn compared(clock: &Clock, r: &mut Random, walk: Walk, bar: Option<f64>) {
+/// One walk of the port against the Rust's, each length in each direction. The bar speaks of the slowest direction. The cells are the Rust's, or cover them.
+fn compared(clock: &Clock, r: &mut Random, walk: Walk, covers: bool, bar: Option<f64>) {
     let mut scratch = vec![0u32; SCRATCH];
     // neither side knows the grid beforehand
     let grid = &black_box(GRID);
@@ -56,7 +56,9 @@ fn compared(clock: &Clock, r: &mut Random, walk: Walk, bar: Option<f64>) {
                 let [x0, y0, x1, y1] = *line;
                 assert_eq!(walk(&words, x0, y0, x1, y1, &mut scratch, &mut out), 0);
                 let walked = &scratch[..out[0] as usize];
-                assert!(rust_lines.cells(i, grid).iter().map(|&c| c as u32).eq(walked.iter().copied()), "the walk of {line:?}");
+                let rust: Vec<u32> = rust_lines.cells(i, grid).iter().map(|&c| c as u32).collect();
+                let right = if covers { rust.iter().all(|c| walked.binary_search(c).is_ok()) } else { rust == walked };
+                assert!(right, "the walk of {line:?}");
                 cells += walked.len();
             }
             let times = clock.turns(&mut [
@@ -91,7 +93,9 @@ pub fn times(clock: &Clock, r: &mut Random) {
         "Walk, as a build takes it (mt_inner_walk): the port also checks the segment and the grid, and neither side clears anything. In brackets the \
          cells of a line on average.",
     );
-    compared(clock, r, inner::inner_walk, BAR);
+    compared(clock, r, inner::inner_walk, false, BAR);
     clock.head("Walk of one segment (mt_segment_cells): the port also clears 16,384 entries of scratch.");
-    compared(clock, r, |g, x0, y0, x1, y1, scratch, out| sys::segment_cells(g, x0, y0, x1, y1, Mode::Rust as u32, scratch, out), None);
+    compared(clock, r, |g, x0, y0, x1, y1, scratch, out| sys::segment_cells(g, x0, y0, x1, y1, Mode::Rust as u32, scratch, out), false, None);
+    clock.head("The covering walk (mt_inner_cover), beside the Rust's walk.");
+    compared(clock, r, inner::inner_cover, true, Some(0.4));
 }

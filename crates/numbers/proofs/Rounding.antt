@@ -1,8 +1,8 @@
--- The error of `round`, in units of the format's smallest value: at most half of a unit of the last digit kept, for subnormal results too.
--- Assumes nothing.
+-- The error of `round`, in units of the format's smallest value: at most half of a unit of the last digit kept, for subnormal results too. `over-by` and
+-- `under-by` say it as a q-th of the value and one unit, for any q that the format's digits allow. Assumes nothing.
 use mathlib.Core.Path.{_≡_, ap, _∙_, subst}
 use Prim.Native.Nat.{ℕ, _+_, _-_, _*_, _/_, _%_, _^_, _≤_, _<_, compare, Ordering, Ordering·lt, Ordering·eq, Ordering·gt}
-use native.Mathlib.Nat.{le-trans, le-of-eq, le-of-lt, mul-comm, mul-assoc, mul-left-comm, add-mul, mul-le-mul-right, mul-one, mod-lt, le-add-right, le-add-left, div-add-mod', le-div-iff-mul-le, mul-pos}
+use native.Mathlib.Nat.{le-trans, le-of-eq, le-of-lt, mul-comm, mul-assoc, mul-left-comm, add-mul, mul-le-mul-right, mul-le-mul-left, mul-one, mod-lt, le-add-right, le-add-left, div-add-mod', le-div-iff-mul-le, mul-pos}
 use native.Mathlib.Omega.{arith}
 use mathlib.Core.Bool.{Bool, true, false, not}
 use lib.Dec.{T, leb, isLe, isEq, leb→le, nleb→lt, eqb→eq}
@@ -119,8 +119,39 @@ module _ (f : Format) (a c : ℕ) (C : 0 < c) where
   under-half : 2 * n ≤ 2 * (grid f a c * c) + unit (prec f) n c P C
   under-half = rw grid-is (closest-under n (unit (prec f) n c P C) (unit-pos (prec f) n c P C))
 
-  pub grid-over-any : grid f a c * c * (2 * half f) ≤ a * 2 ^ low f * (2 * half f + 1) + half f * c
+  grid-over-any : grid f a c * c * (2 * half f) ≤ a * 2 ^ low f * (2 * half f + 1) + half f * c
   grid-over-any = over-any (grid f a c * c) n (unit (prec f) n c P C) (half f) c over-half (unit-le (prec f) n c P C)
 
-  pub grid-under-any : a * 2 ^ low f * (2 * half f) ≤ grid f a c * c * (2 * half f) + a * 2 ^ low f + half f * c
+  grid-under-any : a * 2 ^ low f * (2 * half f) ≤ grid f a c * c * (2 * half f) + a * 2 ^ low f + half f * c
   grid-under-any = under-any (grid f a c * c) n (unit (prec f) n c P C) (half f) c under-half (unit-le (prec f) n c P C)
+
+-- ---- a q-th of the value, and one unit
+
+-- a relative error of 1 / (2 h) is one of 1 / q
+weaken : (x z n c h q : ℕ) → q ≤ 2 * h → x * (2 * h) ≤ z * (2 * h) + n + h * c → x * q ≤ z * q + n + q * c
+weaken x z n c h q H a = go (leb x (z + c)) (leb→le x (z + c)) (nleb→lt x (z + c))
+  where
+    far : (y : ℕ) → x ≡ z + c + y → x * q ≤ z * q + n + q * c
+    far y e =
+        let k : y * q ≤ y * (2 * h) = mul-le-mul-left y H in
+        let b : (z + c + y) * (2 * h) ≤ z * (2 * h) + n + h * c = rw e at a in
+        rw e (omega arith)
+
+    rest : z + c < x → x ≡ z + c + (x - (z + c))
+    rest l = omega arith
+
+    go : (b : Bool) → (T b → x ≤ z + c) → (T (not b) → z + c < x) → x * q ≤ z * q + n + q * c
+    go true h k = omega (arith, mul-le-mul-right q (h tt))
+    go false h k = far (x - (z + c)) (rest (k tt))
+
+split-one : (x n h c : ℕ) → x ≤ n * (2 * h + 1) + h * c → x ≤ n * (2 * h) + n + h * c
+split-one x n h c k = omega arith
+
+module _ (f : Format) (a c : ℕ) (C : 0 < c) (q : ℕ) (wide : q ≤ 2 * half f) where
+  pub over-by : grid f a c * c * q ≤ a * 2 ^ low f * q + a * 2 ^ low f + q * c
+  over-by =
+      weaken (grid f a c * c) (a * 2 ^ low f) (a * 2 ^ low f) c (half f) q wide
+      (split-one (grid f a c * c * (2 * half f)) (a * 2 ^ low f) (half f) c (grid-over-any f a c C))
+
+  pub under-by : a * 2 ^ low f * q ≤ grid f a c * c * q + a * 2 ^ low f + q * c
+  under-by = weaken (a * 2 ^ low f) (grid f a c * c) (a * 2 ^ low f) c (half f) q wide (grid-under-any f a c C)

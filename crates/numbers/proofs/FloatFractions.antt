@@ -1,22 +1,22 @@
 -- The values that are finite with a clear sign, zero included, each as a fraction `num` / `den`: their order, their sum, and their quotient by a value
 -- above zero. Assumes nothing.
-use mathlib.Core.Path.{_≡_, refl, sym, ap, ap₂, _∙_}
-use Prim.Native.Nat.{ℕ, _+_, _-_, _*_, _^_, _≤_, _<_}
+use mathlib.Core.Path.{_≡_, refl, sym, ap, ap₂, _∙_, subst}
+use Prim.Native.Nat.{ℕ, zero, suc, _+_, _-_, _*_, _^_, _≤_, _<_}
 use native.Mathlib.Nat.{le-trans, le-of-eq, mul-comm, mul-assoc, mul-left-comm, mul-pos, zero-mul, eq-of-mul-eq-mul-right}
 use native.Mathlib.Omega.{arith}
 use mathlib.Core.Bool.{Bool, true, false, not, _&&_, cond, true≢false}
 use lib.IntN.{ℤ, pos}
 use lib.Dec.{T, lit<, ltb, ltb→lt, lt→ltb}
-use lib.Ieee.{Float, nan, inf, fin, Format, up, down, round, sum, add, div, le, low}
-use lib.Ieee.Fits.{up-pos, down-pos}
+use lib.Ieee.{Float, nan, inf, fin, Format, prec, emax, up, down, odd, units, round, sum, add, div, le, low}
+use lib.Ieee.Fits.{up-pos, down-pos, round-is}
 use lib.Ieee.Exact.{HasValue}
-use lib.Ieee.Order.{transfer, le-of-values}
+use lib.Ieee.Order.{transfer, le-of-values, kept, drop}
 use lib.Ieee.Scale.{round-same, round-val, round-under, grid, finite}
 use lib.Ieee.Positive.{num, den, den-pos, positive, value→cross}
 use Rattle.numbers.proofs.Sums.{sum-at}
 use Rattle.numbers.proofs.FloatOrder as Signed
 use Rattle.numbers.proofs.FloatSum.{zero-le}
 use Rattle.numbers.proofs.FloatQuotient.{num-pos, div-is}
 
 abbrev pub nonneg : Float → Bool
 nonneg nan = false
@@ -64,7 +64,7 @@ pub add-is : (f : Format) (x y : Float) → T (nonneg x) → T (nonneg y) → ad
 add-is f x y p q = sum-at f false x y (num x) (den x) (num y) (den y) (den-pos x) (den-pos y) (own-value x p) (own-value y q)
 
 -- ---- the quotient by a value above zero
-div-own : (f : Format) (x y : Float) → T (nonneg x) → T (positive y) → div f x y ≡ round f false (num x * den y) (num y * den x)
+pub div-own : (f : Format) (x y : Float) → T (nonneg x) → T (positive y) → div f x y ≡ round f false (num x * den y) (num y * den x)
 div-own f nan y p q = absurd p
 div-own f (inf s) y p q = absurd p
 div-own f (fin true m e) y p q = absurd p
@@ -86,6 +86,35 @@ div-at f x y a c b d q C B h k =
 -- ---- a rounded fraction's value, where it is finite
 pub round-value : (f : Format) (a c : ℕ) → T (finite (round f false a c)) → HasValue (round f false a c) false (grid f a c) (2 ^ low f)
 round-value f a c t = round-val f a c (round-under f a c t)
+
+-- ---- a rounded fraction's sign is clear, that of an infinity included
+
+abbrev pub clear : Float → Bool
+clear nan = false
+clear (inf s) = not s
+clear (fin s m e) = not s
+
+odd-clear : (d q k l : ℕ) → T (clear (odd d false q k l))
+unfolding odd
+odd-clear d zero k l = tt
+odd-clear d (suc q) k l = tt
+
+units-clear : (f : Format) (q k : ℕ) → T (clear (units f false q k))
+unfolding units
+units-clear f q k = go (ltb (q * 2 ^ k) (2 ^ (low f + suc (emax f))))
+  where
+    go : (b : Bool) → T (clear (cond b (odd (suc (prec f)) false q k (low f)) (inf false)))
+    go true = odd-clear (suc (prec f)) q k (low f)
+    go false = tt
+
+pub round-clear : (f : Format) (a c : ℕ) → T (clear (round f false a c))
+round-clear f a c = subst (λ (z : Float). T (clear z)) (sym (round-is f false a c)) (units-clear f (kept (prec f) (a * 2 ^ low f) c) (drop (prec f) (a * 2 ^ low f) c))
+
+pub clear-nonneg : (x : Float) → T (clear x) → T (finite x) → T (nonneg x)
+clear-nonneg nan c h = absurd c
+clear-nonneg (inf s) c h = absurd h
+clear-nonneg (fin true m e) c h = absurd c
+clear-nonneg (fin false m e) c h = tt
 
 -- ---- what lies between zero and a finite value is finite
 squeeze : (z hi : Float) → T (nonneg hi) → T (le (fin false 0 (pos 0)) z) → T (le z hi) → T (finite z)

@@ -1,0 +1,2 @@
+-- Which lines pass the guard of the covering walk.
+pub mod Builds

@@ -7,9 +7,9 @@ from ._declared import CONSTANTS
 from ._library import answer, floats, from_bits, whole
 
 SIZINGS = {"square": CONSTANTS["MT_SQUARE"], "axes": CONSTANTS["MT_AXES"]}
-WALKS = {name: CONSTANTS["MT_" + name.upper()] for name in ("rust", "sided", "covering") if "MT_" + name.upper() in CONSTANTS}
-# In this package nobody compares with the Rust: the walk that loses no crossing, where the library has it.
-DEFAULT_WALK = "covering" if "covering" in WALKS else "rust"
+WALKS = {"rust": CONSTANTS["MT_RUST"], "sided": CONSTANTS["MT_SIDED"], "covering": CONSTANTS["MT_COVERING"]}
+# In this package nobody compares with the Rust: the walk by which no two lines that share a point are lost.
+DEFAULT_WALK = "covering"
 
 # Among the answers of `owner`: a point in a seam between cells, which nobody owns, and one outside the grid.
 SEAM, OUTSIDE = CONSTANTS["MT_SEAM_NUMBER"], CONSTANTS["MT_OUTSIDE_NUMBER"]
@@ -58,7 +58,7 @@ class Grid(NamedTuple):
         return answers
 
     def cells_of(self, start, end, walk=DEFAULT_WALK):
-        """The numbers of the cells that the segment from start to end visits, increasing.
+        """The numbers of the cells that the segment from start to end visits, increasing. The covering walk refuses by 16 an end that is off the grid.
 
         >>> Grid(0, 0, 1, 1, 4, 4).cells_of((0.5, 0.5), (2.5, 0.5), walk="rust")
         array([0, 1, 2], dtype=uint32)

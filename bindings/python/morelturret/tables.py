@@ -16,8 +16,8 @@ BATCH = 1 << 22  # pairs; every batch checks the tables once more, so few large 
 def build(lines, sizing="square", walk=DEFAULT_WALK):
     """Picks a grid for the lines and lists, for each cell, the lines that visit it: `Tables`. The room that it takes is what refusals 5 and 6 ask for.
 
-    `sizing` is "square" or "axes"; `walk` is "rust", "sided" or, where the library has it, "covering", which is then the default. README says which to
-    choose.
+    `sizing` is "square" or "axes"; `walk` is "rust", "sided" or "covering", by which a full visit hands out every two lines that share a point. README
+    says which to choose.
 
     >>> from morelturret import Lines, build
     >>> tables = build(Lines.chain([0, 2, 2, 0, 0], [0, 0, 2, 2, 0]), walk="rust")

@@ -5,7 +5,7 @@ import unittest
 
 import numpy as np
 
-from morelturret import DEFAULT_WALK, SIZINGS, Lines, Parts, Refusal, build, crossings
+from morelturret import SIZINGS, Lines, Parts, Refusal, build, crossings
 from morelturret.meeting import APART, CROSS, KINDS, OVERLAP, TOUCH, kinds_of, points_of
 
 from .shared import EXAMPLES, lattice, loops, meeting, pair_set, share_a_point
@@ -65,7 +65,6 @@ class Meeting(unittest.TestCase):
 
 class InParts(unittest.TestCase):
     def test_every_crossing_is_found(self):
-        # not by the sided walk's or the Rust's promise, but so on these; the covering walk promises it
         for chain in (loops(30, 11), lattice(3, 200, 40, chain=True)):
             expected = meeting(chain)
             for sizing in SIZINGS:
@@ -121,12 +120,10 @@ class Listed(unittest.TestCase):
         self.assertEqual(found.joints, 0)
 
     def test_dropped_touch(self):
-        """The pair that the Rust's walk never tests: the covering walk does, where the library has it."""
-        lines = Lines.from_wkb((EXAMPLES / "dropped_touch.wkb").read_bytes())
-        by_rust = crossings(lines, walk="rust")
-        self.assertEqual(len(by_rust), 0)
-        self.assertEqual(len(crossings(lines, walk="sided")), 1)
-        if DEFAULT_WALK == "covering":
+        """Pairs that the Rust's walk never tests, and of which the sided walk tests two: the covering walk tests all."""
+        for name, sided in (("dropped_touch", 1), ("dropped_touch_near_281_K", 1), ("dropped_crossing", 0)):
+            lines = Lines.from_wkb((EXAMPLES / f"{name}.wkb").read_bytes())
+            self.assertEqual([len(crossings(lines, walk=walk)) for walk in ("rust", "sided", "covering")], [0, sided, 1])
             self.assertEqual(len(crossings(lines)), 1)
 
     def test_no_lines(self):

@@ -39,7 +39,12 @@ class ExactCheck(unittest.TestCase):
     def test_every_plan(self):
         said, _, status = exact_check("--sizing", "all", "--walk", "all", "examples/dropped_touch.wkb")
         self.assertEqual(status, 1)
-        self.assertIn("examples/dropped_touch.wkb (square, sided): 3 legs; 3 pairs share a point, 2 of them consecutive; 0 of these pairs are never tested", said)
+        for plan in ("square, sided", "square, covering", "axes, covering"):
+            self.assertIn(f"examples/dropped_touch.wkb ({plan}): 3 legs; 3 pairs share a point, 2 of them consecutive; 0 of these pairs are never tested", said)
+
+    def test_by_the_covering_walk_none_is_missing(self):
+        for path in sorted((TOP / "examples").glob("dropped_*.wkb")):
+            self.assertEqual(exact_check("--walk", "covering", "--sizing", "all", path)[1:], ("", 0))
 
     def test_refusals(self):
         for name, word in (("refused_11_cut", "cut: 5 points were announced"), ("refused_1_not_a_number", "refused 1, value"), ("refused_7_endless_walk", "refused 7, value 1")):

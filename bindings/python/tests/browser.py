@@ -2,10 +2,12 @@
 import base64
 import json
 import os
+import select
 import shutil
 import subprocess
 import tempfile
 
+PATIENCE = 300  # seconds without a word after which the browser is taken to hang
 PATH = shutil.which("chromium") or shutil.which("chromium-browser") or shutil.which("google-chrome")
 
 
@@ -44,6 +46,9 @@ class Browser:
 
     def next(self):
         while b"\0" not in self.left:
+            if not select.select([self.read], [], [], PATIENCE)[0]:
+                self.process.kill()
+                raise RuntimeError("the browser does not answer")
             some = os.read(self.read, 1 << 20)
             if not some:
                 raise RuntimeError("the browser has gone")

@@ -1,4 +1,5 @@
-/* visit_chain [--sizing square|axes] [--walk rust|sided|covering] FILE: from a chain of points to the pairs of lines that may cross, by the library's C functions.
+/* visit_chain [--sizing square|axes] [--walk rust|sided|covering] FILE: from a chain of points to the pairs of lines that may cross, by the structs of
+ * morelturret_structs.h.
  *
  * FILE holds one LineString in well-known binary. Consecutive points make lines, numbered from 0. Printed are the grid that the library picks for
  * them, how long its tables are, how many tests a whole visit makes, how many of them found two lines whose boxes overlap, and the first such pairs.
@@ -11,26 +12,26 @@
  *   tools/build_library
  *   cc -O2 -Itarget/library examples/c/visit_chain.c target/library/libmorelturret.a -o visit_chain
  * `tools/run_examples` does that, and runs it beside bindings/rust/examples/visit_chain.rs, which prints the same. */
-#include "morelturret.h"
+#include "morelturret_structs.h"
 #include <inttypes.h>
 #include <stdio.h>
 #include <string.h>
 
-/* The reader takes up to 1,024 points, and its slices have room for all of them. */
-enum { POINTS = 1024, LINES = POINTS - 1 };
+/* The reader takes so many points; its slices have room for all of them. */
+enum { LINES = MT_MAX_POINTS - 1 };
 
 /* 9 bytes of byte order, type and count, 16 for each point, and one more: so a byte after the last point is seen, and refused. */
-enum { BYTES = 9 + 16 * POINTS + 1 };
+enum { BYTES = 9 + 16 * MT_MAX_POINTS + 1 };
 
-/* What is enough for every build of so many lines (the header tells). The library allocates nothing: all memory is the caller's. */
-enum { OFFSETS = 1002002, ITEMS = 2048 * LINES, SCRATCH = 16384 };
+/* What is enough for every build of so many lines. The library allocates nothing: all memory is the caller's. */
+enum { ITEMS = MT_MAX_ITEMS_OF_LINE * LINES };
 
 /* How many pairs one batch hands out, and how many are printed. */
 enum { BATCH = 256, SHOWN = 5 };
 
 static uint8_t bytes[BYTES];
-static double x[POINTS], y[POINTS];
-static uint32_t offsets[OFFSETS], items[ITEMS], globals[LINES], scratch[SCRATCH];
+static double x[MT_MAX_POINTS], y[MT_MAX_POINTS];
+static uint32_t offsets[MT_MAX_OFFSETS], items[ITEMS], globals[LINES], scratch[MT_SCRATCH];
 static uint32_t first[BATCH], second[BATCH];
 
 /* The status to end with. A stream keeps a mark of each write that failed, and what it still holds back is written now: so one look at the end
@@ -41,19 +42,10 @@ static int ended(int status) {
     return 2;
 }
 
-/* Every function that can refuse returns 0, or the number of the refusal, and then its value stands in out[0]. */
-static int refused(uint32_t number, uint64_t value) {
-    printf("refused %" PRIu32 ", value %" PRIu64 "\n", number, value);
+/* Every function that can refuse returns a number and a value; the number is MT_OK where nothing was refused. mt_message has its sentence. */
+static int refused(mt_refusal refusal) {
+    printf("refused %" PRIu32 ", value %" PRIu64 "\n", refusal.number, refusal.value);
     return ended(1);
-}
-
-/* The double of a bit pattern: floats come back as their bits. */
-static double of_bits(uint64_t bits) {
-    union {
-        uint64_t bits;
-        double value;
-    } word = {bits};
-    return word.value;
 }
 
 /* Whether a word is one of two; then 0 or 1 stands in *which. */
@@ -103,48 +95,46 @@ int main(int argc, char **argv) {
     }
     fclose(file);
 
-    /* 2. Bytes to points. A slice is passed as its address and its length; `out` takes what the function answers. */
-    uint64_t out[3];
-    uint32_t number = mt_read_line_string(bytes, length, x, POINTS, y, POINTS, out, 3);
-    if (number != MT_OK) return refused(number, out[0]);
+    /* 2. Bytes to points. A struct points at memory that is lent, and says how much room there is. */
+    mt_points points = {x, y, MT_MAX_POINTS, 0};
+    mt_refusal refusal = mt_points_read(&points, bytes, length);
+    if (refusal.number != MT_OK) return refused(refusal);
 
-    /* 3. Points to lines: line i goes from point i to point i + 1, so the ends are the starts from the second on. Nothing is copied: slices that
-     * are only read may overlap. */
-    size_t lines = (size_t)out[0] - 1;
-    const double *start_x = x, *start_y = y, *end_x = x + 1, *end_y = y + 1;
+    /* 3. Points to lines: line i goes from point i to point i + 1. Nothing is copied. */
+    mt_lines lines = mt_lines_chain(x, y, points.count);
 
-    /* 4. A grid, and the tables on it: the list of cell c is items[offsets[c]] up to items[offsets[c + 1]]. The words that are answered begin with
-     * those of the grid, and are handed on as they are. */
-    uint64_t built[8];
-    number = mt_build(start_x, lines, start_y, lines, end_x, lines, end_y, lines, sizing, mode, offsets, OFFSETS, items, ITEMS,
-                      globals, LINES, scratch, SCRATCH, built, 8);
-    if (number != MT_OK) return refused(number, built[0]);
-    uint64_t width = built[2], height = built[3], item_count = built[6], global_count = built[7];
-    printf("lines %zu\n", lines);
-    printf("grid %" PRIu64 " columns, %" PRIu64 " rows, cells %.9f by %.9f ", built[4], built[5], of_bits(width), of_bits(height));
-    printf("(bits %016" PRIx64 " %016" PRIx64 ")\n", width, height);
-    printf("items %" PRIu64 "\n", item_count);
-    printf("globals %" PRIu64 "\n", global_count);
+    /* 4. A grid, and the tables on it: the list of cell c is items[offsets[c]] up to items[offsets[c + 1]]. */
+    mt_tables tables = {0};
+    tables.offsets = offsets, tables.offset_room = MT_MAX_OFFSETS;
+    tables.items = items, tables.item_room = ITEMS;
+    tables.globals = globals, tables.global_room = LINES;
+    tables.scratch = scratch, tables.scratch_room = MT_SCRATCH;
+    refusal = mt_tables_build(&tables, &lines, sizing, mode);
+    if (refusal.number != MT_OK) return refused(refusal);
+    const mt_grid *grid = &tables.grid;
+    printf("lines %zu\n", lines.count);
+    printf("grid %" PRIu32 " columns, %" PRIu32 " rows, cells %.9f by %.9f ", grid->cols, grid->rows, grid->cell_width, grid->cell_height);
+    printf("(bits %016" PRIx64 " %016" PRIx64 ")\n", mt_bits_of(grid->cell_width), mt_bits_of(grid->cell_height));
+    printf("items %zu\n", tables.item_count);
+    printf("globals %zu\n", tables.global_count);
 
-    /* 5. The visit. A batch makes tests from a bookmark on until its outputs are full of pairs, or the end comes. The bookmark that comes back, the
-     * number of tests made so far, is where the next batch starts. A batch that leaves room in its outputs came to the end. */
-    uint64_t bookmark = 0, overlaps = 0, pairs;
+    /* 5. The visit, in batches of pairs. The bookmark, the number of tests made so far, is where the next batch starts. A batch that leaves room came
+     * to the end. */
+    mt_pairs_room pairs = {first, second, BATCH, 0};
+    uint64_t bookmark = 0, overlaps = 0;
     uint32_t shown[SHOWN][2];
     do {
-        number = mt_batch(built, 8, start_x, lines, start_y, lines, end_x, lines, end_y, lines, offsets, OFFSETS, items, ITEMS, globals, LINES,
-                          global_count, bookmark, first, BATCH, second, BATCH, out, 3);
-        if (number != MT_OK) return refused(number, out[0]);
-        pairs = out[1];
-        bookmark = out[2];
+        refusal = mt_tables_pairs(&tables, &lines, &bookmark, &pairs);
+        if (refusal.number != MT_OK) return refused(refusal);
         /* This is where a program would work on its pairs. Here the first few are kept, to be printed. */
-        for (uint64_t k = 0; k < pairs; k++) {
+        for (size_t k = 0; k < pairs.count; k++) {
             if (overlaps + k < SHOWN) {
                 shown[overlaps + k][0] = first[k];
                 shown[overlaps + k][1] = second[k];
             }
         }
-        overlaps += pairs;
-    } while (pairs == BATCH);
+        overlaps += pairs.count;
+    } while (pairs.count == pairs.room);
 
     printf("tests %" PRIu64 "\n", bookmark);
     printf("overlaps %" PRIu64 "\n", overlaps);

@@ -1,0 +1,136 @@
+/* structs FILE..: the functions of morelturret_structs.h, held to those of morelturret.h on each FILE, a LineString in well-known binary. C11 and C++17.
+ * Prints how many answers were held, and ends with status 1 at the first that differs. */
+#include "morelturret_structs.h"
+#include <stdio.h>
+#include <stdlib.h>
+
+enum { LINES = MT_MAX_POINTS - 1, ITEMS = MT_MAX_ITEMS_OF_LINE * LINES, BYTES = 9 + 16 * MT_MAX_POINTS + 1, ROOM = 4096 };
+
+static uint8_t bytes[BYTES];
+static double x[MT_MAX_POINTS], y[MT_MAX_POINTS], flat_x[MT_MAX_POINTS], flat_y[MT_MAX_POINTS];
+static uint32_t offsets[MT_MAX_OFFSETS], items[ITEMS], globals[LINES], scratch[MT_SCRATCH];
+static uint32_t flat_offsets[MT_MAX_OFFSETS], flat_items[ITEMS], flat_globals[LINES], flat_scratch[MT_SCRATCH];
+static uint32_t first[ROOM], second[ROOM], flat_first[ROOM], flat_second[ROOM], owners[MT_MAX_POINTS], flat_owners[MT_MAX_POINTS];
+static unsigned long held;
+
+static void same(int is_so, const char *what, const char *path) {
+    if (!is_so) {
+        printf("structs: %s: %s differs\n", path, what);
+        exit(1);
+    }
+    held++;
+}
+
+/* The number and the value are those of the flat function; answers whether nothing was refused. */
+static int alike(mt_refusal refusal, uint32_t number, uint64_t value, const char *what, const char *path) {
+    same(refusal.number == number && refusal.value == (number == MT_OK ? 0 : value), what, path);
+    return number == MT_OK;
+}
+
+static void visit(const mt_tables *tables, const mt_lines *lines, const uint64_t *grid, const char *path) {
+    const size_t n = lines->count;
+    const double *sx = lines->start_x, *sy = lines->start_y, *ex = lines->end_x, *ey = lines->end_y;
+    uint64_t bookmark = 0, flat_bookmark = 0, out[6];
+    mt_pairs_room pairs = {first, second, ROOM, 0};
+    do {
+        mt_test test = {0, 0, 0, 0, 0, 0};
+        uint32_t number = mt_test_at(grid, 8, sx, n, sy, n, ex, n, ey, n, flat_offsets, MT_MAX_OFFSETS, flat_items, ITEMS, flat_globals, LINES, grid[7], bookmark, out, 6);
+        if (alike(mt_tables_test(tables, lines, bookmark, &test), number, out[0], "a test", path)) {
+            same(test.kind == out[0] && test.row == out[1] && test.col == out[2] && test.first == out[3] && test.second == out[4] &&
+                 (uint64_t)test.overlap == out[5], "a test's answer", path);
+        }
+        number = mt_batch(grid, 8, sx, n, sy, n, ex, n, ey, n, flat_offsets, MT_MAX_OFFSETS, flat_items, ITEMS, flat_globals, LINES, grid[7], flat_bookmark, flat_first, ROOM, flat_second, ROOM, out, 3);
+        if (!alike(mt_tables_pairs(tables, lines, &bookmark, &pairs), number, out[0], "a batch", path)) return;
+        flat_bookmark = out[2];
+        same(bookmark == out[2] && pairs.count == out[1] && !memcmp(first, flat_first, sizeof first) && !memcmp(second, flat_second, sizeof second), "a batch's pairs", path);
+    } while (pairs.count == pairs.room);
+    /* beyond the end, which leaves what was there */
+    uint64_t beyond = bookmark + 1;
+    uint32_t number = mt_batch(grid, 8, sx, n, sy, n, ex, n, ey, n, flat_offsets, MT_MAX_OFFSETS, flat_items, ITEMS, flat_globals, LINES, grid[7], beyond, flat_first, ROOM, flat_second, ROOM, out, 3);
+    size_t count = pairs.count;
+    alike(mt_tables_pairs(tables, lines, &beyond, &pairs), number, out[0], "a batch beyond the end", path);
+    same(number == MT_BEYOND_END && beyond == bookmark + 1 && pairs.count == count, "what a batch beyond the end leaves", path);
+}
+
+static void on_grid(const mt_tables *tables, const mt_points *points, const uint64_t *grid, const char *path) {
+    const mt_grid *g = &tables->grid;
+    uint64_t out[3];
+    mt_list list = {items, 0};
+    for (uint32_t row = 0; row <= g->rows && row < 5; row++) {
+        for (uint32_t col = 0; col <= g->cols && col < 5; col++) {
+            uint32_t number = mt_cell_list(grid, 8, tables->line_count, flat_offsets, MT_MAX_OFFSETS, flat_items, ITEMS, flat_globals, LINES, grid[7], row, col, out, 2);
+            if (alike(mt_tables_cell(tables, row, col, &list), number, out[0], "a cell", path)) same(list.lines == items + out[0] && list.count == out[1], "a cell's list", path);
+        }
+    }
+    for (uint64_t position = 0; position <= tables->global_count && position < 5; position++) {
+        uint32_t number = mt_global_list(grid, 8, tables->line_count, flat_offsets, MT_MAX_OFFSETS, flat_items, ITEMS, flat_globals, LINES, grid[7], position, out, 2);
+        if (alike(mt_tables_global(tables, position, &list), number, out[0], "a global line", path)) same(list.lines == globals + out[0] && list.count == out[1], "a global line's list", path);
+    }
+    uint32_t number = mt_owners(grid, 8, x, points->count, y, points->count, flat_owners, points->count, out, 1);
+    if (alike(mt_grid_owners(g, x, y, points->count, owners), number, out[0], "owners", path)) same(!memcmp(owners, flat_owners, points->count * sizeof *owners), "the owners", path);
+    for (size_t i = 0; i < points->count && i < 20; i++) {
+        mt_place place = {0, 0, 0};
+        int owned = 0;
+        size_t cells = 0;
+        double to[4] = {x[i], y[i], x[0], y[0]}, snapped_x = x[i], snapped_y = y[i];
+        number = mt_owner(grid, 8, x[i], y[i], out, 3);
+        if (alike(mt_grid_owner(g, x[i], y[i], &place), number, out[0], "an owner", path)) same(place.kind == out[0] && place.row == out[1] && place.col == out[2], "the owner", path);
+        number = mt_point_owned(grid, 8, 0, 0, x[i], y[i], out, 1);
+        if (alike(mt_grid_owns(g, 0, 0, x[i], y[i], &owned), number, out[0], "ownership", path)) same((uint64_t)owned == out[0], "whether it is owned", path);
+        number = mt_segment_cells(grid, 8, to[0], to[1], to[2], to[3], MT_SIDED, flat_scratch, MT_SCRATCH, out, 1);
+        if (alike(mt_grid_cells(g, to, MT_SIDED, scratch, MT_SCRATCH, &cells), number, out[0], "a walk", path)) same(cells == out[0] && !memcmp(scratch, flat_scratch, sizeof scratch), "a walk's cells", path);
+        number = mt_snap(x[i], y[i], 0.25, MT_GRID, out, 2);
+        if (alike(mt_snap_point(&snapped_x, &snapped_y, 0.25), number, out[0], "a snap", path)) same(mt_bits_of(snapped_x) == out[0] && mt_bits_of(snapped_y) == out[1], "the snapped point", path);
+    }
+}
+
+static void build(const mt_lines *lines, const mt_points *points, uint32_t sizing, uint32_t mode, const char *path) {
+    const size_t n = lines->count;
+    uint64_t built[8];
+    mt_tables tables;
+    memset(&tables, 0, sizeof tables);
+    tables.offsets = offsets, tables.offset_room = MT_MAX_OFFSETS;
+    tables.items = items, tables.item_room = ITEMS;
+    tables.globals = globals, tables.global_room = LINES;
+    tables.scratch = scratch, tables.scratch_room = MT_SCRATCH;
+    uint32_t number = mt_build(lines->start_x, n, lines->start_y, n, lines->end_x, n, lines->end_y, n, sizing, mode, flat_offsets, MT_MAX_OFFSETS, flat_items,
+                               ITEMS, flat_globals, LINES, flat_scratch, MT_SCRATCH, built, 8);
+    if (!alike(mt_tables_build(&tables, lines, sizing, mode), number, number < MT_OUT_SHORT ? built[0] : 0, "a build", path)) return;
+    uint64_t words[6];
+    mt_grid_words(&tables.grid, words);
+    same(!memcmp(words, built, sizeof words) && tables.item_count == built[6] && tables.global_count == built[7] && tables.line_count == n, "what a build answers", path);
+    same(!memcmp(offsets, flat_offsets, sizeof offsets) && !memcmp(items, flat_items, sizeof items) && !memcmp(globals, flat_globals, sizeof globals), "the tables", path);
+    same(mt_tables_check(&tables).number == MT_OK, "the tables' fit", path);
+    visit(&tables, lines, built, path);
+    on_grid(&tables, points, built, path);
+    tables.grid.cols = 4005;
+    same(mt_tables_check(&tables).number == MT_UNFIT_GRID, "the fit of a grid of 4,005 columns", path);
+}
+
+int main(int argc, char **argv) {
+    for (int i = 1; i < argc; i++) {
+        FILE *file = fopen(argv[i], "rb");
+        if (!file) {
+            printf("structs: %s can't be read\n", argv[i]);
+            return 2;
+        }
+        size_t length = fread(bytes, 1, BYTES, file);
+        fclose(file);
+        uint64_t out[1];
+        mt_points points = {x, y, MT_MAX_POINTS, 0};
+        uint32_t number = mt_read_line_string(bytes, length, flat_x, MT_MAX_POINTS, flat_y, MT_MAX_POINTS, out, 1);
+        if (!alike(mt_points_read(&points, bytes, length), number, out[0], "the reader", argv[i])) continue;
+        same(points.count == out[0] && !memcmp(x, flat_x, sizeof x) && !memcmp(y, flat_y, sizeof y), "the points", argv[i]);
+        mt_lines lines = mt_lines_chain(x, y, points.count);
+        same(lines.count == points.count - 1, "the lines", argv[i]);
+        for (uint32_t sizing = MT_SQUARE; sizing <= MT_AXES; sizing++) {
+            for (uint32_t mode = MT_RUST; mode <= MT_COVERING; mode++) build(&lines, &points, sizing, mode, argv[i]);
+        }
+        build(&lines, &points, 99, MT_RUST, argv[i]);
+    }
+    same(mt_lines_chain(x, y, 0).count == 0, "a chain of no points", "no file");
+    for (uint32_t number = 1; number <= MT_UNFIT_SNAP; number++) same(strcmp(mt_message(number), mt_message(MT_OK)) != 0, "a message", "no file");
+    same(MT_VERSION_AT_LEAST(MT_VERSION_MAJOR, MT_VERSION_MINOR, MT_VERSION_PATCH) && MT_VERSION_AT_LEAST(0, 1, 9) && !MT_VERSION_AT_LEAST(MT_VERSION_MAJOR + 1, 0, 0), "the version", "no file");
+    printf("structs: %lu answers held to those of the flat functions\n", held);
+    return 0;
+}

@@ -1,4 +1,5 @@
-//! Links the static library: from the folder that MORELTURRET_LIB names, else from target/library at the top of the repository.
+//! Links the static library: from the folder that MORELTURRET_LIB names; else from target/library at the top of the repository, or, where this crate was
+//! installed in PREFIX/share/morelturret/rust, from PREFIX/lib.
 
 use std::env;
 use std::path::PathBuf;
@@ -11,6 +12,7 @@ fn main() {
     let manifest = PathBuf::from(env::var_os("CARGO_MANIFEST_DIR").expect("cargo names the manifest's folder"));
     let folder = match &named {
         Some(folder) => PathBuf::from(folder),
+        None if manifest.ends_with("share/morelturret/rust") => manifest.join("../../../lib"),
         None => manifest.join("../../target/library"),
     };
     let library = folder.join("libmorelturret.a");

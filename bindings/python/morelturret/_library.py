@@ -21,11 +21,12 @@ WORDS = 16
 
 
 def find():
-    """The shared library: in the folder that MORELTURRET_LIB names; else in target/library of the repository that this package stands in; else where
-    the system's loader looks."""
+    """The shared library: in the folder that MORELTURRET_LIB names; else in target/library of the repository that this package stands in, or, where it
+    was installed, in lib of the same PREFIX; else where the system's loader looks."""
     named = os.environ.get("MORELTURRET_LIB")
-    top = pathlib.Path(__file__).resolve().parents[3]
-    for folder in [pathlib.Path(named)] if named else [top / "target" / "library"]:
+    above = pathlib.Path(__file__).resolve().parents
+    installed = above[3].name == "share"
+    for folder in [pathlib.Path(named)] if named else [above[4] / "lib" if installed else above[3] / "target" / "library"]:
         if (folder / SONAME).exists():
             return str(folder / SONAME)
     return SONAME

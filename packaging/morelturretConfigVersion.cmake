@@ -1,0 +1,11 @@
+# Before 1.0.0 the second number rises where callers have to follow: a version serves those of its first two numbers up to itself.
+string(REGEX MATCH "^[0-9]+\\.[0-9]+\\.[0-9]+" PACKAGE_VERSION "@VERSION@")
+string(REGEX MATCH "^[0-9]+\\.[0-9]+" _morelturret_series "${PACKAGE_VERSION}")
+set(PACKAGE_VERSION_COMPATIBLE FALSE)
+set(PACKAGE_VERSION_EXACT FALSE)
+if(PACKAGE_FIND_VERSION VERSION_EQUAL PACKAGE_VERSION)
+    set(PACKAGE_VERSION_EXACT TRUE)
+    set(PACKAGE_VERSION_COMPATIBLE TRUE)
+elseif(NOT PACKAGE_FIND_VERSION VERSION_GREATER PACKAGE_VERSION AND "${PACKAGE_FIND_VERSION_MAJOR}.${PACKAGE_FIND_VERSION_MINOR}" STREQUAL _morelturret_series)
+    set(PACKAGE_VERSION_COMPATIBLE TRUE)
+endif()

@@ -227,6 +227,23 @@ uint32_t mt_test_at(const uint64_t *grid, size_t grid_len, const double *start_x
                     const uint32_t *offsets, size_t offsets_len, const uint32_t *items, size_t items_len,
                     const uint32_t *globals, size_t globals_len, uint64_t global_count, uint64_t bookmark, uint64_t *out, size_t out_len);
 
+/* What a full visit of the tables will cost, before it is begun. A total far above the number of items, or a longest list far above the others,
+ * tells of a grid that does not suit the lines: one stray sample far away makes the cells so large that most lines share one.
+ * out (2 words): the tests of a full visit, and the number of lines of the longest list of a cell.
+ * Refuses by 2, 8, 10. */
+uint32_t mt_visit_cost(const uint64_t *grid, size_t grid_len, size_t lines, const uint32_t *offsets, size_t offsets_len,
+                       const uint32_t *items, size_t items_len, const uint32_t *globals, size_t globals_len, uint64_t global_count,
+                       uint64_t *out, size_t out_len);
+
+/* Lists by line: for each line the cells that list it, increasing. The list of line i is listing[starts[i]] to before listing[starts[i + 1]], and a
+ * cell has the number row * cols + column; beyond them both slices are zeroed. A global line has an empty list where a build made the tables.
+ * starts has at least lines + 1 entries, and listing at least as many as items, used or not.
+ * out (1 word): how many cells the lists have in all.
+ * Refuses by 3, 2, 8, 10. */
+uint32_t mt_lists_by_line(const uint64_t *grid, size_t grid_len, size_t lines, const uint32_t *offsets, size_t offsets_len,
+                          const uint32_t *items, size_t items_len, const uint32_t *globals, size_t globals_len, uint64_t global_count,
+                          uint32_t *starts, size_t starts_len, uint32_t *listing, size_t listing_len, uint64_t *out, size_t out_len);
+
 /* The tests from a bookmark on, until the outputs first and second, of one length, are full of pairs or the end comes. Pair k is (first[k],
  * second[k]); beyond the pairs both are zeroed. Outputs of length 0 make no test. Start with the bookmark 0 and go on with the one that comes
  * back; the visit is over when a batch with outputs of some length makes no test.

@@ -13,6 +13,7 @@ pub mod lists;
 pub mod numbers;
 pub mod own;
 pub mod owners;
+pub mod pairs;
 pub mod seams;
 pub mod covering;
 pub mod sided;

@@ -700,6 +700,48 @@ pub fn global_list(l: &Lists, position: u64, out: &mut [u64]) -> u32 {
     listed(out, refusal.map_or_else(|| Ok([position, l.global_count - position]), Err))
 }
 
+/// out: the tests of a full visit, counted one by one over places, and the length of the longest list of a cell.
+pub fn visit_cost(l: &Lists, out: &mut [u64]) -> u32 {
+    listed(out, l.refusal().map_or_else(
+        || {
+            let lengths: Vec<u64> = l.offsets[..l.cells() + 1].windows(2).map(|w| (w[1] - w[0]) as u64).collect();
+            let in_cells: u64 = lengths.iter().map(|&k| (0..k).sum::<u64>()).sum();
+            let of_globals: u64 = (0..l.global_count).map(|position| l.lines as u64 - position - 1).sum();
+            Ok([in_cells + of_globals, lengths.into_iter().max().unwrap_or(0)])
+        },
+        Err,
+    ))
+}
+
+/// For each line the cells that list it, by asking every cell. out: how many there are in all.
+pub fn lists_by_line(l: &Lists, starts: &mut [u32], listing: &mut [u32], out: &mut [u64]) -> u32 {
+    if out.is_empty() {
+        return SHORT;
+    }
+    let short = starts.len() <= l.lines || listing.len() < l.items.len();
+    if let Some((number, value)) = short.then_some((3, 0)).or(l.refusal()) {
+        out[0] = value;
+        return number;
+    }
+    starts.fill(0);
+    listing.fill(0);
+    let mut cells_of = vec![Vec::new(); l.lines];
+    for cell in 0..l.cells() {
+        for &line in &l.items[l.offsets[cell] as usize..l.offsets[cell + 1] as usize] {
+            cells_of[line as usize].push(cell as u32);
+        }
+    }
+    let mut at = 0;
+    for (line, cells) in cells_of.into_iter().enumerate() {
+        starts[line] = at as u32;
+        listing[at..at + cells.len()].copy_from_slice(&cells);
+        at += cells.len();
+    }
+    starts[l.lines] = at as u32;
+    out[0] = at as u64;
+    0
+}
+
 impl Standing<'_> {
     pub fn lists(&self) -> Lists<'_> {
         let Standing { grid, lines, offsets, items, globals, global_count } = *self;

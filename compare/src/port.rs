@@ -68,6 +68,18 @@ pub fn global_list(t: &Lists, position: u64, out: &mut [u64]) -> u32 {
     sys::global_list(&t.grid.words(), t.lines, t.offsets, t.items, t.globals, t.global_count, position, out)
 }
 
+/// out: the tests of a full visit, and the length of the longest list.
+#[inline]
+pub fn visit_cost(t: &Lists, out: &mut [u64]) -> u32 {
+    sys::visit_cost(&t.grid.words(), t.lines, t.offsets, t.items, t.globals, t.global_count, out)
+}
+
+/// out: how many cells the lists by line have.
+#[inline]
+pub fn lists_by_line(t: &Lists, starts: &mut [u32], listing: &mut [u32], out: &mut [u64]) -> u32 {
+    sys::lists_by_line(&t.grid.words(), t.lines, t.offsets, t.items, t.globals, t.global_count, starts, listing, out)
+}
+
 /// out: tests, overlaps, the new bookmark.
 #[inline]
 pub fn batch(s: &Standing, bookmark: u64, first: &mut [u32], second: &mut [u32], out: &mut [u64]) -> u32 {

@@ -24,6 +24,8 @@ FUNCTIONS = {
     "mt_cell_list": "grid: [u64], lines: usize, offsets: [u32], items: [u32], globals: [u32], global_count: u64, row: u32, col: u32, out: [mut u64] -> u32",
     "mt_global_list": "grid: [u64], lines: usize, offsets: [u32], items: [u32], globals: [u32], global_count: u64, position: u64, out: [mut u64] -> u32",
     "mt_test_at": "grid: [u64], start_x: [f64], start_y: [f64], end_x: [f64], end_y: [f64], offsets: [u32], items: [u32], globals: [u32], global_count: u64, bookmark: u64, out: [mut u64] -> u32",
+    "mt_visit_cost": "grid: [u64], lines: usize, offsets: [u32], items: [u32], globals: [u32], global_count: u64, out: [mut u64] -> u32",
+    "mt_lists_by_line": "grid: [u64], lines: usize, offsets: [u32], items: [u32], globals: [u32], global_count: u64, starts: [mut u32], listing: [mut u32], out: [mut u64] -> u32",
     "mt_batch": "grid: [u64], start_x: [f64], start_y: [f64], end_x: [f64], end_y: [f64], offsets: [u32], items: [u32], globals: [u32], global_count: u64, bookmark: u64, first: [mut u32], second: [mut u32], out: [mut u64] -> u32",
     "mt_read_line_string": "bytes: [u8], x: [mut f64], y: [mut f64], out: [mut u64] -> u32",
 }
@@ -64,7 +66,7 @@ CONSTANTS = {
 REFUSALS = {
     1: ('a coordinate is not finite, or above 1e9 in magnitude', 'the first such line (0 for a point or one segment)', 'mend or leave out that line; in a chain, that point. (One point alone makes no line, so it may be anything)'),
     2: ('more than 65,536 lines', 'the number of lines', 'take the lines in parts, two at a time'),
-    3: ("slices that belong together differ in length, or scratch has fewer than 16,384 entries, or the reader's point slices fewer than 1,024", '0', 'lend slices of the right lengths'),
+    3: ("slices that belong together differ in length, or scratch has fewer than 16,384 entries, or the reader's point slices fewer than 1,024, or the lists by line have less room than a start for each line and one more, and an entry for each item", '0', 'lend slices of the right lengths'),
     4: ('a grid tried has more cells + 1 than the lent offsets', 'that cells + 1', 'lend at least so many offsets; a finer grid may ask for more, never for more than 1,002,002. In the program: drop repeated points, since most often over 500 lines fall into one cell, as a stuck sensor makes them'),
     5: ('the items lent are too few', 'the number of items', 'lend at least so many. In the program: try the other sizing where the axes have different units; use the library, or take the chain in parts, two at a time'),
     6: ('the globals lent are too few', 'the number of global lines', 'lend at least so many. In the program: use the library'),

@@ -46,6 +46,12 @@ extern "C" {
         end_x: *const f64, end_x_len: usize, end_y: *const f64, end_y_len: usize, offsets: *const u32, offsets_len: usize,
         items: *const u32, items_len: usize, globals: *const u32, globals_len: usize, global_count: u64, bookmark: u64,
         out: *mut u64, out_len: usize) -> u32;
+    fn mt_visit_cost(grid: *const u64, grid_len: usize, lines: usize, offsets: *const u32, offsets_len: usize,
+        items: *const u32, items_len: usize, globals: *const u32, globals_len: usize, global_count: u64,
+        out: *mut u64, out_len: usize) -> u32;
+    fn mt_lists_by_line(grid: *const u64, grid_len: usize, lines: usize, offsets: *const u32, offsets_len: usize,
+        items: *const u32, items_len: usize, globals: *const u32, globals_len: usize, global_count: u64,
+        starts: *mut u32, starts_len: usize, listing: *mut u32, listing_len: usize, out: *mut u64, out_len: usize) -> u32;
     fn mt_batch(grid: *const u64, grid_len: usize, start_x: *const f64, start_x_len: usize, start_y: *const f64, start_y_len: usize,
         end_x: *const f64, end_x_len: usize, end_y: *const f64, end_y_len: usize, offsets: *const u32, offsets_len: usize,
         items: *const u32, items_len: usize, globals: *const u32, globals_len: usize, global_count: u64, bookmark: u64,
@@ -207,6 +213,24 @@ pub fn test_at(grid: &[u64], start_x: &[f64], start_y: &[f64], end_x: &[f64], en
     unsafe { mt_test_at(grid.as_ptr(), grid.len(), start_x.as_ptr(), start_x.len(), start_y.as_ptr(), start_y.len(),
         end_x.as_ptr(), end_x.len(), end_y.as_ptr(), end_y.len(), offsets.as_ptr(), offsets.len(), items.as_ptr(), items.len(),
         globals.as_ptr(), globals.len(), global_count, bookmark, out.as_mut_ptr(), out.len()) }
+}
+
+/// `mt_visit_cost` of the header.
+#[inline]
+pub fn visit_cost(grid: &[u64], lines: usize, offsets: &[u32], items: &[u32], globals: &[u32], global_count: u64, out: &mut [u64]) -> u32 {
+    // SAFETY: numbers by value, and Rust slices that are lent for this call.
+    unsafe { mt_visit_cost(grid.as_ptr(), grid.len(), lines, offsets.as_ptr(), offsets.len(), items.as_ptr(), items.len(),
+        globals.as_ptr(), globals.len(), global_count, out.as_mut_ptr(), out.len()) }
+}
+
+/// `mt_lists_by_line` of the header.
+#[inline]
+pub fn lists_by_line(grid: &[u64], lines: usize, offsets: &[u32], items: &[u32], globals: &[u32], global_count: u64, starts: &mut [u32],
+    listing: &mut [u32], out: &mut [u64]) -> u32 {
+    // SAFETY: numbers by value, and Rust slices that are lent for this call.
+    unsafe { mt_lists_by_line(grid.as_ptr(), grid.len(), lines, offsets.as_ptr(), offsets.len(), items.as_ptr(), items.len(),
+        globals.as_ptr(), globals.len(), global_count, starts.as_mut_ptr(), starts.len(), listing.as_mut_ptr(), listing.len(),
+        out.as_mut_ptr(), out.len()) }
 }
 
 /// `mt_batch` of the header.

@@ -309,6 +309,46 @@ impl<'a> Standing<'a> {
         Ok(&globals[from as usize..][..length as usize])
     }
 
+    /// What a full visit will cost, before it is begun: its tests, and the lines of the longest list. A total far above the number of items, or one
+    /// list far longer than the others, tells of a grid that does not suit the lines, as one stray sample far away makes it.
+    ///
+    /// Refuses by 2 (too many lines), 8 (the grid), 10 (the tables).
+    ///
+    /// ```
+    /// use morelturret::{Cost, Lines, Tables};
+    ///
+    /// let lines = Lines::chain(&[0.0, 2.0, 2.0, 0.0, 0.0], &[0.0, 0.0, 2.0, 2.0, 0.0]);
+    /// assert_eq!(Tables::of(lines)?.standing().cost()?, Cost { tests: 9, longest: 2 });
+    /// # Ok::<(), morelturret::Refusal>(())
+    /// ```
+    pub fn cost(&self) -> Result<Cost, Refusal> {
+        let Standing { grid, line_count, offsets, items, globals, global_count } = *self;
+        let [tests, longest] = answer(|out| sys::visit_cost(&grid.words(), line_count, offsets, items, globals, global_count, out))?;
+        Ok(Cost { tests, longest: longest as usize })
+    }
+
+    /// Lists by line, into lent slices: the cells that list line i, increasing, are `listing[starts[i]..starts[i + 1]]`, and a cell has the number
+    /// row x cols + column. Beyond them both slices are zeroed. `starts` has at least one entry more than there are lines, and `listing` at
+    /// least as many as `items`, used or not. Answers how many cells the lists have in all.
+    ///
+    /// Refuses by 3 (the room), 2 (too many lines), 8 (the grid), 10 (the tables).
+    ///
+    /// ```
+    /// use morelturret::{Lines, Tables};
+    ///
+    /// let tables = Tables::of(Lines { start_x: &[0.0], start_y: &[0.0], end_x: &[2.0], end_y: &[2.0] })?;
+    /// let standing = tables.standing();
+    /// let (mut starts, mut listing) = (vec![0; 2], vec![0; standing.items.len()]);
+    /// assert_eq!(standing.lists_by_line(&mut starts, &mut listing)?, 4);
+    /// assert_eq!(listing[starts[0] as usize..starts[1] as usize], [0, 1, 2, 3]);
+    /// # Ok::<(), morelturret::Refusal>(())
+    /// ```
+    pub fn lists_by_line(&self, starts: &mut [u32], listing: &mut [u32]) -> Result<usize, Refusal> {
+        let Standing { grid, line_count, offsets, items, globals, global_count } = *self;
+        let [all] = answer(|out| sys::lists_by_line(&grid.words(), line_count, offsets, items, globals, global_count, starts, listing, out))?;
+        Ok(all as usize)
+    }
+
     /// One test by its bookmark, the number of tests before it; none at the total, where the visit ends.
     ///
     /// Refuses by 3 (lengths), 2 (too many lines), 1 (a coordinate), 8 (the grid), 10 (the tables), 9 (the bookmark).
@@ -383,6 +423,15 @@ impl<'a> Standing<'a> {
         let batch = self.batch(lines, 0, &mut first, &mut second)?;
         Ok(Pairs { standing: *self, lines, first, second, batch, handed: 0 })
     }
+}
+
+/// What a full visit costs: see [`Standing::cost`].
+#[derive(Clone, Copy, PartialEq, Eq, Hash, Debug)]
+pub struct Cost {
+    /// The tests that it makes.
+    pub tests: u64,
+    /// How many lines the longest list of a cell has.
+    pub longest: usize,
 }
 
 /// Where a test is made.

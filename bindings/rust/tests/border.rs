@@ -10,7 +10,7 @@ const FOUR: Grid = Grid { min_x: 0.0, min_y: 0.0, cell_width: 1.0, cell_height: 
 type Asked = (&'static str, fn(&[u64], &mut [u64]) -> u32, usize);
 
 /// Every function that takes a grid, each with arguments that it answers, on a grid of no lines but for the points.
-const TAKEN: [Asked; 10] = [
+const TAKEN: [Asked; 12] = [
     ("point_owned", |grid, out| sys::point_owned(grid, 0, 0, 0.5, 0.5, out), 1),
     ("overlap_owned", |grid, out| sys::overlap_owned(grid, 0, 0, 0.5, 0.5, 0.0, Strategy::Grid as u32, out), 1),
     ("owner", |grid, out| sys::owner(grid, 0.5, 0.5, out), 3),
@@ -19,6 +19,8 @@ const TAKEN: [Asked; 10] = [
     ("check_tables", |grid, out| sys::check_tables(grid, 0, &[0; 17], &[], &[], 0, out), 1),
     ("cell_list", |grid, out| sys::cell_list(grid, 0, &[0; 17], &[], &[], 0, 0, 0, out), 2),
     ("global_list", |grid, out| sys::global_list(grid, 1, &[0; 17], &[], &[0], 1, 0, out), 2),
+    ("visit_cost", |grid, out| sys::visit_cost(grid, 0, &[0; 17], &[], &[], 0, out), 2),
+    ("lists_by_line", |grid, out| sys::lists_by_line(grid, 0, &[0; 17], &[], &[], 0, &mut [7], &mut [7], out), 1),
     ("test_at", |grid, out| sys::test_at(grid, &[], &[], &[], &[], &[0; 17], &[], &[], 0, 0, out), 6),
     ("batch", |grid, out| sys::batch(grid, &[], &[], &[], &[], &[0; 17], &[], &[], 0, 0, &mut [7], &mut [7], out), 3),
 ];

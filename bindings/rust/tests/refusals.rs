@@ -84,6 +84,11 @@ fn two_too_many_lines() {
     assert_eq!(of(too_many.check_tables()), (2, 65_537));
     assert_eq!(of(Standing { grid: UNFIT, ..too_many }.check_tables()), (2, 65_537), "2 before 8");
     assert_eq!(of(too_many.cell_list(0, 0)), (2, 65_537));
+    assert_eq!(of(too_many.cost()), (2, 65_537));
+    let mut starts = vec![7; 65_538];
+    assert_eq!(of(too_many.lists_by_line(&mut starts[..65_537], &mut [])), (3, 0), "3 before 2");
+    assert_eq!(of(too_many.lists_by_line(&mut starts, &mut vec![7; too_many.items.len()])), (2, 65_537));
+    assert_eq!(starts, [7; 65_538]);
     assert_eq!(of(too_many.global_list(0)), (2, 65_537));
     assert_eq!(of(tables.batch(lines(MAX_LINES + 1), 0, &mut [0], &mut [0])), (2, 65_537));
 }
@@ -214,6 +219,8 @@ fn eight_an_unfit_grid() {
         assert_eq!(of(standing.check_tables()), (8, 0));
         assert_eq!(of(Standing { offsets: &[], ..standing }.check_tables()), (8, 0), "8 before 10");
         assert_eq!(of(standing.cell_list(0, 0)), (8, 0));
+        assert_eq!(of(standing.cost()), (8, 0));
+        assert_eq!(of(standing.lists_by_line(&mut vec![7; standing.line_count + 1], &mut vec![7; standing.items.len()])), (8, 0));
         assert_eq!(of(standing.global_list(0)), (8, 0));
         assert_eq!(of(standing.test_at(owned.lines(), 0)), (8, 0));
         assert_eq!(of(standing.pairs(owned.lines(), 4)), (8, 0));
@@ -275,6 +282,10 @@ fn ten_tables_that_do_not_fit() {
     for (i, standing) in damaged.iter().enumerate() {
         assert_eq!(of(standing.check_tables()), (10, 0), "damage {i}");
         assert_eq!(of(standing.cell_list(0, 0)), (10, 0), "damage {i}");
+        assert_eq!(of(standing.cost()), (10, 0), "damage {i}");
+        let (mut starts, mut listing) = (vec![7; standing.line_count + 1], vec![7; standing.items.len()]);
+        assert_eq!(of(standing.lists_by_line(&mut starts, &mut listing)), (10, 0), "damage {i}");
+        assert!(starts.iter().chain(&listing).all(|&v| v == 7), "damage {i}: a refusal changes nothing");
         assert_eq!(of(standing.global_list(0)), (10, 0), "damage {i}");
         assert_eq!(of(standing.test_at(lines, 0)), (10, 0), "damage {i}");
         assert_eq!(of(standing.pairs(lines, 4)), (10, 0), "damage {i}");

@@ -4,10 +4,10 @@
 //! The port takes part in every kind: --port may be said, and changes nothing.
 //! Ends with status 1 at the first difference.
 
-use compare::kinds::{self, build, cover, covering, lists, numbers, own, owners, seams, sided, snap, straight, strategies, visit, walk, wkb};
+use compare::kinds::{self, build, cover, covering, lists, numbers, own, owners, pairs, seams, sided, snap, straight, strategies, visit, walk, wkb};
 
 /// The kinds, with the cases of a full run.
-const KINDS: [(&str, u64); 24] = [
+const KINDS: [(&str, u64); 25] = [
     ("sample", 1),
     ("numbers", 10_000_000),
     ("walk", 1_000_000),
@@ -32,6 +32,7 @@ const KINDS: [(&str, u64); 24] = [
     ("cover", 3_000_000),
     ("covering-walk", 1_000_000),
     ("covering-build", 2_000),
+    ("pairs", 20_000),
 ];
 
 fn main() {
@@ -76,7 +77,8 @@ fn main() {
             "axes-owners" => kinds::run::<owners::Owners<true>>(seed, n, vec![]),
             "covering-walk" => kinds::run::<covering::CoveringWalk>(seed, n, covering::fixed_walks()),
             "covering-build" => kinds::run::<covering::CoveringBuild>(seed, n, vec![]),
-            _ => kinds::run::<cover::Cover>(seed, n, cover::fixed()),
+            "cover" => kinds::run::<cover::Cover>(seed, n, cover::fixed()),
+            _ => kinds::run::<pairs::Pairs>(seed, n, vec![]),
         };
         println!("  (seed {seed}, {:.1} s)", begun.elapsed().as_secs_f64());
         if !right {

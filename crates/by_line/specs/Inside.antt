@@ -1,0 +1,43 @@
+-- What the private functions ask and promise. Definitions only.
+use Prim.Native.Nat.{ℕ, suc, _+_, _≤_, _<_, _^_}
+use mathlib.Core.Path.{_≡_}
+use mathlib.Core.List.{List}
+use lib.ListN.{length, getD}
+use Rattle.tables.specs.Tables.{listIn}
+use Rattle.tables.specs.Lists.{Walks, linesAt, start, itemsOf, offsetsOf}
+use Rattle.tables.specs.States.{Counted, Placed}
+
+-- a cell, and its list within the items
+pub record ListAsks (offsets items : List ℕ) (c : ℕ) : Type 0 where
+  pub inside : suc c < length offsets
+  pub rises : getD offsets c 0 ≤ getD offsets (suc c) 0
+  pub within : getD offsets (suc c) 0 ≤ length items
+
+-- the lists of m cells increase below n
+pub record TableAsks (m n : ℕ) (offsets items : List ℕ) : Type 0 where
+  pub lists : (c : ℕ) → c < m → ListAsks offsets items c
+  pub walks : Walks (listIn offsets items) m n
+  pub few-lines : n < 2 ^ 32
+  pub few-cells : m < 2 ^ 32
+
+pub record CountAsks (m n : ℕ) (offsets items counts : List ℕ) : Type 0 where
+  pub table : TableAsks m n offsets items
+  pub room : n ≤ length counts
+  pub counted : Counted (linesAt (listIn offsets items) 0) counts
+
+pub record PlaceAsks (m n : ℕ) (offsets items starts listing : List ℕ) : Type 0 where
+  pub table : TableAsks m n offsets items
+  pub room : n < length starts
+  pub space : start (linesAt (listIn offsets items) m) n ≤ length listing
+  pub small : start (linesAt (listIn offsets items) m) n < 2 ^ 32
+  pub placed : Placed (linesAt (listIn offsets items) m) n (linesAt (listIn offsets items) 0) starts listing
+
+pub record MakeAsks (m n : ℕ) (offsets items starts listing : List ℕ) : Type 0 where
+  pub table : TableAsks m n offsets items
+  pub room : n < length starts
+  pub space : start (linesAt (listIn offsets items) m) n ≤ length listing
+  pub small : start (linesAt (listIn offsets items) m) n < 2 ^ 32
+
+pub record Made (m n : ℕ) (offsets items starts listing starts′ listing′ : List ℕ) : Type 0 where
+  pub starts-are : starts′ ≡ offsetsOf (linesAt (listIn offsets items) m) n (length starts)
+  pub listing-is : listing′ ≡ itemsOf (linesAt (listIn offsets items) m) n (length listing)

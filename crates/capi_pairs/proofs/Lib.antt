@@ -1,0 +1,2 @@
+-- The promises of `capi_pairs` settle what is left.
+pub mod Outcomes

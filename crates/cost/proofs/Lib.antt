@@ -1,0 +1,2 @@
+-- Laws of the cost of a visit.
+pub mod Costs

@@ -1,0 +1,30 @@
+-- What the private functions ask and promise. Definitions only.
+use Prim.Native.Nat.{ℕ, suc, _-_, _≤_, _<_, _^_}
+use mathlib.Core.Path.{_≡_}
+use mathlib.Core.List.{List}
+use lib.ListN.{length, getD}
+use Rattle.visit.specs.Inside.{tri}
+use Rattle.visit_laws.specs.Words.{sumBelow}
+use Rattle.cost.specs.declared.Cost.{Cost}
+use Rattle.cost.specs.Cost.{greatest}
+
+-- how far an offset is from the next
+abbrev pub gap : List ℕ → ℕ → ℕ
+gap offsets c = getD offsets (suc c) 0 - getD offsets c 0
+
+-- m cells, cells + 1 offsets that never fall, and lists of at most 65,536 lines
+pub record OffsetsAsk (m : ℕ) (offsets : List ℕ) : Type 0 where
+  pub few : m ≤ 1002001
+  pub long : m < length offsets
+  pub rises : (c : ℕ) → c < m → getD offsets c 0 ≤ getD offsets (suc c) 0
+  pub short : (c : ℕ) → c < m → gap offsets c ≤ 65536
+
+-- the tests of the cells' lists, and the longest of them
+pub record CellsCost (m : ℕ) (offsets : List ℕ) (r : Cost) : Type 0 where
+  pub tests : r .tests ≡ sumBelow m (λ c. tri (gap offsets c))
+  pub longest : r .longest ≡ greatest (gap offsets) m
+  pub small : r .tests ≤ 2 ^ 62
+
+pub record GlobalsAsk (lines globals : ℕ) : Type 0 where
+  pub few : lines ≤ 65536
+  pub within : globals ≤ lines

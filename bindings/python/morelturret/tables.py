@@ -59,11 +59,30 @@ class Tables:
         return f"Tables({len(self.lines)} lines, {self.grid.cols} by {self.grid.rows} cells, {len(self.items)} items, {len(self.globals)} globals)"
 
     @property
+    def standing(self):
+        """The tables as calls take them that are not lent the lines."""
+        return self.grid.words, len(self.lines), self.offsets, self.items, self.globals, len(self.globals)
+
+    @property
     def tests(self):
-        """How many tests a full visit makes: k(k - 1)/2 for each list of k lines, and for each global line one with every other line."""
-        k = np.diff(self.offsets.astype(np.int64))
-        globals_, lines = len(self.globals), len(self.lines)
-        return int((k * (k - 1) // 2).sum()) + globals_ * (lines - 1) - globals_ * (globals_ - 1) // 2
+        """How many tests a full visit makes."""
+        return answer("mt_visit_cost", *self.standing)[0]
+
+    @property
+    def longest(self):
+        """How many lines the longest list has. Where it is far above the others, the grid does not suit the lines, as after a stray sample far away."""
+        return answer("mt_visit_cost", *self.standing)[1]
+
+    def by_line(self):
+        """For each line the cells that list it: (starts, listing), where listing[starts[i]:starts[i + 1]] has the numbers of line i's cells, increasing.
+
+        >>> starts, listing = build(Lines.chain([0, 2, 2], [0, 0, 2]), walk="rust").by_line()
+        >>> listing[starts[0] : starts[1]]
+        array([0, 1], dtype=uint32)
+        """
+        starts, listing = np.empty(len(self.lines) + 1, np.uint32), np.empty(len(self.items), np.uint32)
+        count, *_ = answer("mt_lists_by_line", *self.standing, starts, listing)
+        return starts, listing[:count]
 
     def batches(self, size=BATCH):
         """A full visit: pairs of lines whose boxes overlap, as two arrays of at most `size` entries at a time, with the tests made up to there. A pair
@@ -116,7 +135,7 @@ class Tables:
 
     def check(self):
         """Refuses by 2, 8 or 10 where the tables are not such as a build leaves."""
-        answer("mt_check_tables", self.grid.words, len(self.lines), self.offsets, self.items, self.globals, len(self.globals))
+        answer("mt_check_tables", *self.standing)
 
 
 class Cells:

@@ -127,6 +127,19 @@ class Visits(unittest.TestCase):
         self.assertIsInstance(overlap, bool)
         self.assertIsNone(tables.test(tables.tests))
 
+    def test_cost_and_lists_by_line(self):
+        swings = build(Lines.chain([1000 * (k % 2) for k in range(503)], [0] * 503), walk="rust")
+        for tables in (self.tables, swings, build(Lines.chain([], []))):
+            k, globals_, lines = tables.cells.lengths, len(tables.globals), len(tables.lines)
+            self.assertEqual(tables.tests, (k * (k - 1) // 2).sum() + globals_ * (lines - 1) - globals_ * (globals_ - 1) // 2)
+            self.assertEqual(tables.longest, k.max(initial=0))
+            starts, listing = tables.by_line()
+            cells = [[] for _ in range(lines)]
+            for row, column, listed in tables.cells:
+                for line in listed:
+                    cells[line].append(row * tables.grid.cols + column)
+            self.assertEqual([listing[a:b].tolist() for a, b in zip(starts, starts[1:])], cells)
+
     def test_each_pair_once(self):
         plain, handed = pair_set(self.tables.pairs(once=False))
         once, listed = pair_set(self.tables.pairs())

@@ -9,6 +9,7 @@ use std::collections::BTreeMap;
 
 pub mod build;
 pub mod cover;
+pub mod drop_in;
 pub mod lists;
 pub mod numbers;
 pub mod own;

@@ -110,6 +110,29 @@ pub mod grid {
             }
         }
 
+        /// The callbacks of the visit of one list, in order.
+        pub fn cell_callbacks(grid: &UniformGrid, cell: usize, soa: &SoALines) -> Vec<(usize, usize)> {
+            let mut pairs = Vec::new();
+            let list = &grid.cell_items[grid.cell_offsets[cell]..grid.cell_offsets[cell + 1]];
+            grid.visit_cell_candidates(list, soa, None, |pair| {
+                pairs.push((pair.first, pair.second));
+                Ok(())
+            })
+            .unwrap();
+            pairs
+        }
+
+        /// The callbacks of the visit of one line as a global one, in order.
+        pub fn global_callbacks(grid: &UniformGrid, line: usize, lines: &[Line3D], soa: &SoALines) -> Vec<(usize, usize)> {
+            let mut pairs = Vec::new();
+            grid.visit_global_candidates_for_line(line, lines, soa, None, |pair| {
+                pairs.push((pair.first, pair.second));
+                Ok(())
+            })
+            .unwrap();
+            pairs
+        }
+
         /// Whether the cell owns the intersection. `events` is a buffer that is left empty.
         #[inline]
         pub fn owned(

@@ -121,6 +121,18 @@ impl Built {
         (tracker.tests, pairs)
     }
 
+    /// The callbacks of the visit of each of these cells, in order.
+    pub fn cell_callbacks(&self, lines: &Lines, cells: &[usize]) -> Vec<Vec<(usize, usize)>> {
+        let soa = SoALines::new(&lines.0);
+        cells.iter().map(|&cell| reach::cell_callbacks(&self.0, cell, &soa)).collect()
+    }
+
+    /// The callbacks of the visit of each of these lines as a global one, in order.
+    pub fn global_callbacks(&self, lines: &Lines, globals: &[usize]) -> Vec<Vec<(usize, usize)>> {
+        let soa = SoALines::new(&lines.0);
+        globals.iter().map(|&line| reach::global_callbacks(&self.0, line, &lines.0, &soa)).collect()
+    }
+
     /// A whole visit as `find_splits` makes it, boxes included: each pair is handed to `visit`, and nothing is counted.
     #[inline]
     pub fn visit_each(&self, lines: &Lines, visit: impl FnMut(usize, usize)) {

@@ -40,6 +40,7 @@
 
 #![deny(unsafe_code, missing_docs)]
 
+pub mod drop_in;
 mod lines;
 mod mode;
 pub mod numbers;
@@ -57,7 +58,7 @@ pub use lines::{LineVec, Lines};
 pub use mode::{Mode, Plan};
 pub use place::{overlap_owned, owner, owners, point_owned, snap, strategies_agree, Grid, Owner, Strategy};
 pub use read::{read_line_string, read_points};
-pub use refusal::Refusal;
+pub use refusal::{Reason, Refusal};
 pub use sizing::Sizing;
 pub use tables::{build, Batch, Built, Cost, Pairs, Place, Room, Standing, Tables, Test};
 pub use walk::segment_cells;

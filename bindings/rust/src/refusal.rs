@@ -14,7 +14,7 @@ use std::fmt;
 /// assert_eq!(refusal, Refusal { number: Refusal::BAD_COORDINATE, value: 0 });
 /// assert_eq!(refusal.to_string(), "refused 1: a coordinate is not finite or above 1e9 in magnitude (line 0)");
 /// ```
-#[derive(Clone, Copy, PartialEq, Eq, Hash, Debug)]
+#[derive(Clone, Copy, PartialEq, Eq, Hash)]
 pub struct Refusal {
     /// Which refusal: 1 to 12, or 16.
     pub number: u32,
@@ -51,6 +51,71 @@ impl Refusal {
     pub const OFF_GRID: u32 = 16;
 }
 
+/// Which refusal it is, by name, for a `match`. There may be more of them one day.
+#[non_exhaustive]
+#[derive(Clone, Copy, PartialEq, Eq, Hash, Debug)]
+pub enum Reason {
+    /// [`Refusal::BAD_COORDINATE`].
+    BadCoordinate,
+    /// [`Refusal::TOO_MANY_LINES`].
+    TooManyLines,
+    /// [`Refusal::BAD_LENGTHS`].
+    BadLengths,
+    /// [`Refusal::SHORT_OFFSETS`].
+    ShortOffsets,
+    /// [`Refusal::SHORT_ITEMS`].
+    ShortItems,
+    /// [`Refusal::SHORT_GLOBALS`].
+    ShortGlobals,
+    /// [`Refusal::WALK_TOO_LONG`].
+    WalkTooLong,
+    /// [`Refusal::UNFIT_GRID`].
+    UnfitGrid,
+    /// [`Refusal::BEYOND_END`].
+    BeyondEnd,
+    /// [`Refusal::MISFIT_TABLES`].
+    MisfitTables,
+    /// [`Refusal::BAD_WKB`].
+    BadWkb,
+    /// [`Refusal::UNFIT_SNAP`].
+    UnfitSnap,
+    /// [`Refusal::OFF_GRID`].
+    OffGrid,
+    /// A number that this crate does not know.
+    Other,
+}
+
+impl Refusal {
+    /// Which refusal it is.
+    ///
+    /// ```
+    /// use morelturret::{snap, Reason, Strategy};
+    ///
+    /// let refusal = snap(0.5, 0.5, 1e7, Strategy::Grid).unwrap_err();
+    /// assert_eq!(refusal.reason(), Reason::UnfitSnap);
+    /// // what `fn main() -> Result<(), Refusal>` shows
+    /// assert_eq!(format!("{refusal:?}"), "refused 12: snap size or strategy unfit");
+    /// ```
+    pub fn reason(&self) -> Reason {
+        match self.number {
+            Refusal::BAD_COORDINATE => Reason::BadCoordinate,
+            Refusal::TOO_MANY_LINES => Reason::TooManyLines,
+            Refusal::BAD_LENGTHS => Reason::BadLengths,
+            Refusal::SHORT_OFFSETS => Reason::ShortOffsets,
+            Refusal::SHORT_ITEMS => Reason::ShortItems,
+            Refusal::SHORT_GLOBALS => Reason::ShortGlobals,
+            Refusal::WALK_TOO_LONG => Reason::WalkTooLong,
+            Refusal::UNFIT_GRID => Reason::UnfitGrid,
+            Refusal::BEYOND_END => Reason::BeyondEnd,
+            Refusal::MISFIT_TABLES => Reason::MisfitTables,
+            Refusal::BAD_WKB => Reason::BadWkb,
+            Refusal::UNFIT_SNAP => Reason::UnfitSnap,
+            Refusal::OFF_GRID => Reason::OffGrid,
+            _ => Reason::Other,
+        }
+    }
+}
+
 impl fmt::Display for Refusal {
     fn fmt(&self, f: &mut fmt::Formatter) -> fmt::Result {
         let Refusal { number, value } = *self;
@@ -71,6 +136,13 @@ impl fmt::Display for Refusal {
             Refusal::OFF_GRID => write!(f, "an end of the segment is off the grid"),
             _ => write!(f, "value {value}"),
         }
+    }
+}
+
+/// The sentence, so that a `main` that returns a refusal shows it.
+impl fmt::Debug for Refusal {
+    fn fmt(&self, f: &mut fmt::Formatter) -> fmt::Result {
+        fmt::Display::fmt(self, f)
     }
 }
 

@@ -4,10 +4,10 @@
 //! The port takes part in every kind: --port may be said, and changes nothing.
 //! Ends with status 1 at the first difference.
 
-use compare::kinds::{self, build, cover, covering, lists, numbers, own, owners, pairs, seams, sided, snap, straight, strategies, visit, walk, wkb};
+use compare::kinds::{self, build, cover, covering, drop_in, lists, numbers, own, owners, pairs, seams, sided, snap, straight, strategies, visit, walk, wkb};
 
 /// The kinds, with the cases of a full run.
-const KINDS: [(&str, u64); 25] = [
+const KINDS: [(&str, u64); 26] = [
     ("sample", 1),
     ("numbers", 10_000_000),
     ("walk", 1_000_000),
@@ -33,6 +33,7 @@ const KINDS: [(&str, u64); 25] = [
     ("covering-walk", 1_000_000),
     ("covering-build", 2_000),
     ("pairs", 20_000),
+    ("drop-in", 1_000),
 ];
 
 fn main() {
@@ -76,6 +77,7 @@ fn main() {
             "owners" => kinds::run::<owners::Owners<false>>(seed, n, vec![]),
             "axes-owners" => kinds::run::<owners::Owners<true>>(seed, n, vec![]),
             "covering-walk" => kinds::run::<covering::CoveringWalk>(seed, n, covering::fixed_walks()),
+            "drop-in" => kinds::run::<drop_in::DropIn>(seed, n, drop_in::fixed()),
             "covering-build" => kinds::run::<covering::CoveringBuild>(seed, n, vec![]),
             "cover" => kinds::run::<cover::Cover>(seed, n, cover::fixed()),
             _ => kinds::run::<pairs::Pairs>(seed, n, vec![]),

@@ -47,13 +47,13 @@ enum {
     MT_TOO_MANY_LINES = 2,  /* more than 65,536 lines: the number of lines */
     MT_BAD_LENGTHS = 3,     /* slices that belong together differ in length, or one is too short: 0 */
     MT_SHORT_OFFSETS = 4,   /* a grid tried has more cells + 1 than the lent offsets: that cells + 1 */
-    MT_SHORT_ITEMS = 5,     /* items lent are fewer than the total: the total */
+    MT_SHORT_ITEMS = 5,     /* items, points, members, bytes or lines lent are fewer than needed: the number needed */
     MT_SHORT_GLOBALS = 6,   /* globals lent are fewer than found: the number found */
     MT_WALK_TOO_LONG = 7,   /* a walk made 5,000 turns and would make another: the line (0 for one segment) */
     MT_UNFIT_GRID = 8,      /* the grid is not fit: 0 */
     MT_BEYOND_END = 9,      /* a cell, global position or bookmark beyond its end: the cell's row, the position or the bookmark */
     MT_MISFIT_TABLES = 10,  /* the tables do not fit: 0 */
-    MT_BAD_WKB = 11,        /* not a LineString that the reader takes: the byte position */
+    MT_BAD_WKB = 11,        /* not a LineString, or not a MultiLineString, that the reader takes: the byte position */
     MT_UNFIT_SNAP = 12,     /* snap size or strategy unfit: 0 */
     MT_OFF_GRID = 16,       /* an end of one segment is off the grid of the covering walk: 0 */
     MT_OUT_SHORT = 100,     /* `out` has too few words; nothing is written */
@@ -255,7 +255,7 @@ uint32_t mt_batch(const uint64_t *grid, size_t grid_len, const double *start_x, 
                   const uint32_t *globals, size_t globals_len, uint64_t global_count, uint64_t bookmark, uint32_t *first, size_t first_len,
                   uint32_t *second, size_t second_len, uint64_t *out, size_t out_len);
 
-/* ---- the reader ---- */
+/* ---- well-known binary ---- */
 
 /* Reads one LineString in well-known binary (type 2, either byte order, 1 to 1,024 points, no bytes after it) into x and y, which both have
  * the same length, at least 1,024. Beyond the points x and y are zeroed. Every NaN becomes the one NaN.
@@ -263,6 +263,36 @@ uint32_t mt_batch(const uint64_t *grid, size_t grid_len, const double *start_x, 
  * Refuses by 3, 11, and then writes nothing to x and y. */
 uint32_t mt_read_line_string(const uint8_t *bytes, size_t bytes_len, double *x, size_t x_len, double *y, size_t y_len,
                              uint64_t *out, size_t out_len);
+
+/* Reads one MultiLineString in well-known binary (type 5): its members are LineStrings of 1 to 1,024 points, each in a byte order of its own; none
+ * at all is fine, and no bytes follow the last. The points go to x and y, of one length, member after member, as bit patterns, so that a NaN keeps all
+ * its bits; the number of points of each member goes to `lengths`. Beyond them all three are zeroed. Nothing is written before all of the bytes were
+ * looked at. Entries of x and y for a 16th of the bytes, and of lengths for a 25th, are always enough.
+ * out (2 words): the number of points, the number of members.
+ * Refuses by 3, 11, 2 (more than 65,536 lines, which are the points without the members), then by 5 with the number of points where x and y are short,
+ * or with that of members where lengths is. 11 names the first byte of the field that fails, in the whole or in a member, the end of the bytes where
+ * they are cut, or the first byte after the last member. */
+uint32_t mt_read_multi_line_string(const uint8_t *bytes, size_t bytes_len, uint64_t *x, size_t x_len, uint64_t *y, size_t y_len,
+                                   uint32_t *lengths, size_t lengths_len, uint64_t *out, size_t out_len);
+
+/* Writes members as one MultiLineString, little-endian throughout, and zeros the bytes beyond it. The members are held as mt_read_multi_line_string
+ * leaves them: the points of all in x and y, the number of points of each in `lengths`, and nothing beyond. What is written is read back as it was,
+ * and what was read from a MultiLineString that is little-endian throughout is written as it was.
+ * out (1 word): the number of bytes: 9, 9 for each member, 16 for each point.
+ * Refuses by 3 (x and y differ in length, a length is 0 or above 1,024, the lengths do not add up to the points, or there are more than 2^32 - 1), 2,
+ * then by 5 with the number of bytes needed. */
+uint32_t mt_write_multi_line_string(const uint64_t *x, size_t x_len, const uint64_t *y, size_t y_len,
+                                    const uint32_t *lengths, size_t lengths_len, uint8_t *bytes, size_t bytes_len,
+                                    uint64_t *out, size_t out_len);
+
+/* The lines of members, for a build: line i goes from (start_x[i], start_y[i]) to (end_x[i], end_y[i]). Consecutive points of a member make a line, and
+ * no line joins two members; a member of one point makes none. The four slices have one length, and beyond the lines they are zeroed. Every NaN becomes
+ * the one NaN, which a build refuses by 1.
+ * out (1 word): the number of lines: the points without the members.
+ * Refuses by 3 (the four slices differ in length; or as mt_write_multi_line_string does), 2, then by 5 with the number of lines. */
+uint32_t mt_lines_of_members(const uint64_t *x, size_t x_len, const uint64_t *y, size_t y_len, const uint32_t *lengths, size_t lengths_len,
+                             double *start_x, size_t start_x_len, double *start_y, size_t start_y_len, double *end_x, size_t end_x_len,
+                             double *end_y, size_t end_y_len, uint64_t *out, size_t out_len);
 
 #ifdef __cplusplus
 }

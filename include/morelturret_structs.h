@@ -97,13 +97,13 @@ static inline const char *mt_message(uint32_t number) {
     case MT_TOO_MANY_LINES: return "more than 65,536 lines";
     case MT_BAD_LENGTHS: return "slices that belong together differ in length, or one is too short";
     case MT_SHORT_OFFSETS: return "a grid tried has more cells + 1 than the lent offsets";
-    case MT_SHORT_ITEMS: return "items lent are fewer than the total";
+    case MT_SHORT_ITEMS: return "items, points, members, bytes or lines lent are fewer than needed";
     case MT_SHORT_GLOBALS: return "globals lent are fewer than found";
     case MT_WALK_TOO_LONG: return "a walk made 5,000 turns and would make another";
     case MT_UNFIT_GRID: return "the grid is not fit";
     case MT_BEYOND_END: return "a cell, global position or bookmark beyond its end";
     case MT_MISFIT_TABLES: return "the tables do not fit";
-    case MT_BAD_WKB: return "not a LineString that the reader takes";
+    case MT_BAD_WKB: return "not a LineString, or not a MultiLineString, that the reader takes";
     case MT_UNFIT_SNAP: return "snap size or strategy unfit";
     case MT_OFF_GRID: return "an end of one segment is off the grid of the covering walk";
     case MT_OUT_SHORT: return "out has too few words";

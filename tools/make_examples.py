@@ -1,5 +1,6 @@
 #!/usr/bin/env python3
-"""make_examples.py [FOLDER]: writes the LineStrings of examples/ (well-known binary) to FOLDER, or to examples/ beside this script's folder.
+"""make_examples.py [FOLDER]: writes the files of examples/ (well-known binary) to FOLDER, or to examples/ beside this script's folder: LineStrings, and
+the MultiLineString `year`, which the program refuses and the examples named visit_year read; what they print stands in year.txt.
 What the program prints for NAME.wkb stands in NAME.out, by `--sizing axes` in NAME.axes.out, by `--walk sided` in NAME.sided.out and
 NAME.axes.sided.out, by `--walk covering` in NAME.covering.out and NAME.axes.covering.out. Nothing here is random: each run writes the
 same bytes.
@@ -15,6 +16,11 @@ def line_string(points, big=False):
     """The bytes of a LineString: the byte order, the type 2, the number of points, the points."""
     order = ">" if big else "<"
     return struct.pack(order + "BII", 0 if big else 1, 2, len(points)) + b"".join(struct.pack(order + "dd", x, y) for x, y in points)
+
+
+def multi_line_string(members):
+    """The bytes of a MultiLineString, little-endian, whose members are LineStrings already: the byte order, the type 5, their number, the members."""
+    return struct.pack("<BII", 1, 5, len(members)) + b"".join(members)
 
 
 def write(path, points):
@@ -55,6 +61,9 @@ def examples():
     yield "square_big_endian", line_string(square, big=True)
     yield "one_point", line_string([(281.5, 36.25)])  # no lines: a grid of 0 by 0
     yield "orbits", line_string(orbits())
+    # each orbit a member of its own, so that no line joins two; the third is big-endian
+    members = [orbits()[k : k + 32] for k in range(0, 7 * 32, 32)]
+    yield "year", multi_line_string([line_string(points, big=k == 2) for k, points in enumerate(members)])
     # the same with temperatures in thousandths of a kelvin: by axis the lists are those of `orbits`, on square cells they are not
     yield "orbits_millikelvin", line_string([(round(1000 * kelvin), ppb) for kelvin, ppb in orbits()])
     # 510 samples at one temperature, then two swings over 1,000: on the grid that 510 lines in one cell lead to, a swing visits 4,001 cells

@@ -11,6 +11,7 @@ pub mod build;
 pub mod cover;
 pub mod drop_in;
 pub mod lists;
+pub mod multi;
 pub mod numbers;
 pub mod own;
 pub mod owners;

@@ -1011,31 +1011,182 @@ pub fn read_line_string(bytes: &[u8], x: &mut [f64], y: &mut [f64], out: &mut [u
 }
 
 fn points(bytes: &[u8]) -> Result<Vec<(f64, f64)>, usize> {
-    let field = |at: usize, size: usize| bytes.get(at..at + size).ok_or(bytes.len());
-    let little = match field(0, 1)?[0] {
+    let (points, end) = chain(bytes, 0)?;
+    if end < bytes.len() {
+        return Err(end);
+    }
+    Ok(points.into_iter().map(|[x, y]| (f64::from_bits(x), f64::from_bits(y))).collect())
+}
+
+/// A field of so many bytes; where it is cut, the end of the bytes.
+fn field(bytes: &[u8], at: usize, size: usize) -> Result<&[u8], usize> {
+    bytes.get(at..).and_then(|rest| rest.get(..size)).ok_or(bytes.len())
+}
+
+fn number(bytes: &[u8], at: usize, size: usize, little: bool) -> Result<u64, usize> {
+    let byte = |v: u64, &b: &u8| v << 8 | b as u64;
+    let f = field(bytes, at, size)?;
+    Ok(if little { f.iter().rev().fold(0, byte) } else { f.iter().fold(0, byte) })
+}
+
+/// Whether the order at a position is the little one, and the number after the type, which has to be `kind`.
+fn head(bytes: &[u8], at: usize, kind: u64) -> Result<(bool, u64), usize> {
+    let little = match field(bytes, at, 1)?[0] {
         0 => false,
         1 => true,
-        _ => return Err(0),
+        _ => return Err(at),
     };
-    let number = |at: usize, size: usize| -> Result<u64, usize> {
-        let byte = |v: u64, &b: &u8| v << 8 | b as u64;
-        let f = field(at, size)?;
-        Ok(if little { f.iter().rev().fold(0, byte) } else { f.iter().fold(0, byte) })
-    };
-    if number(1, 4)? != 2 {
-        return Err(1);
+    if number(bytes, at + 1, 4, little)? != kind {
+        return Err(at + 1);
     }
-    let count = number(5, 4)? as usize;
+    Ok((little, number(bytes, at + 5, 4, little)?))
+}
+
+/// The points of the LineString at a position, as bit patterns, and where it ends; or where it is wrong.
+fn chain(bytes: &[u8], at: usize) -> Result<(Vec<[u64; 2]>, usize), usize> {
+    let (little, count) = head(bytes, at, 2)?;
     if !(1..=1024).contains(&count) {
-        return Err(5);
+        return Err(at + 5);
     }
     let mut points = Vec::new();
-    for i in 0..count {
-        let at = 9 + 16 * i;
-        points.push((f64::from_bits(number(at, 8)?), f64::from_bits(number(at + 8, 8)?)));
+    let mut at = at + 9;
+    for _ in 0..count {
+        points.push([number(bytes, at, 8, little)?, number(bytes, at + 8, 8, little)?]);
+        at += 16;
     }
-    if bytes.len() > 9 + 16 * count {
-        return Err(9 + 16 * count);
+    Ok((points, at))
+}
+
+// ---- many chains at once ----
+
+/// The members of a MultiLineString, or where it is wrong.
+fn chains(bytes: &[u8]) -> Result<Vec<Vec<[u64; 2]>>, usize> {
+    let (_, count) = head(bytes, 0, 5)?;
+    let mut members = Vec::new();
+    let mut at = 9;
+    for _ in 0..count {
+        let (points, end) = chain(bytes, at)?;
+        members.push(points);
+        at = end;
     }
-    Ok(points)
+    if at < bytes.len() {
+        return Err(at);
+    }
+    Ok(members)
+}
+
+/// The value goes to `out`, and the number is answered.
+fn refused(number: u32, value: usize, out: &mut [u64]) -> u32 {
+    out[0] = value as u64;
+    number
+}
+
+/// out: the number of points, the number of members.
+pub fn read_multi_line_string(bytes: &[u8], x: &mut [u64], y: &mut [u64], lengths: &mut [u32], out: &mut [u64]) -> u32 {
+    if x.len() != y.len() {
+        return refused(3, 0, out);
+    }
+    let members = match chains(bytes) {
+        Ok(members) => members,
+        Err(position) => return refused(11, position, out),
+    };
+    let lines: usize = members.iter().map(|m| m.len() - 1).sum();
+    if lines > MOST_LINES {
+        return refused(2, lines, out);
+    }
+    x.fill(0);
+    y.fill(0);
+    lengths.fill(0);
+    let points = members.concat();
+    if points.len() > x.len() {
+        return refused(5, points.len(), out);
+    }
+    if members.len() > lengths.len() {
+        return refused(5, members.len(), out);
+    }
+    for (i, p) in points.iter().enumerate() {
+        [x[i], y[i]] = *p;
+    }
+    for (length, m) in lengths.iter_mut().zip(&members) {
+        *length = m.len() as u32;
+    }
+    out[0] = points.len() as u64;
+    out[1] = members.len() as u64;
+    0
+}
+
+/// The members that points and lengths make: none where they do not go together.
+fn held(x: &[u64], y: &[u64], lengths: &[u32]) -> Option<Vec<Vec<[u64; 2]>>> {
+    let sum: u64 = lengths.iter().map(|&n| n as u64).sum();
+    let alike = x.len() == y.len() && sum == x.len() as u64 && lengths.len() < 1 << 32;
+    if !alike || lengths.iter().any(|n| !(1..=1024).contains(n)) {
+        return None;
+    }
+    let mut points = x.iter().zip(y).map(|(&x, &y)| [x, y]);
+    Some(lengths.iter().map(|&n| points.by_ref().take(n as usize).collect()).collect())
+}
+
+/// A MultiLineString of members, each with whether it is written in the little order; and whether the whole is.
+pub fn multi_line_string(little: bool, members: &[(bool, Vec<[u64; 2]>)]) -> Vec<u8> {
+    let mut bytes = Vec::new();
+    let put = |bytes: &mut Vec<u8>, little: bool, number: &[u8]| match little {
+        true => bytes.extend(number),
+        false => bytes.extend(number.iter().rev()),
+    };
+    let head = |bytes: &mut Vec<u8>, little: bool, kind: u32, count: usize| {
+        bytes.push(little as u8);
+        put(bytes, little, &kind.to_le_bytes());
+        put(bytes, little, &(count as u32).to_le_bytes());
+    };
+    head(&mut bytes, little, 5, members.len());
+    for (little, points) in members {
+        head(&mut bytes, *little, 2, points.len());
+        points.iter().flatten().for_each(|v| put(&mut bytes, *little, &v.to_le_bytes()));
+    }
+    bytes
+}
+
+/// out: the number of bytes.
+pub fn write_multi_line_string(x: &[u64], y: &[u64], lengths: &[u32], bytes: &mut [u8], out: &mut [u64]) -> u32 {
+    let Some(members) = held(x, y, lengths) else {
+        return refused(3, 0, out);
+    };
+    let lines = x.len() - members.len();
+    if lines > MOST_LINES {
+        return refused(2, lines, out);
+    }
+    let written = multi_line_string(true, &members.into_iter().map(|m| (true, m)).collect::<Vec<_>>());
+    bytes.fill(0);
+    if written.len() > bytes.len() {
+        return refused(5, written.len(), out);
+    }
+    bytes[..written.len()].copy_from_slice(&written);
+    out[0] = written.len() as u64;
+    0
+}
+
+/// The four slices are start x, start y, end x, end y. out: the number of lines.
+pub fn lines_of_members(x: &[u64], y: &[u64], lengths: &[u32], slices: [&mut [f64]; 4], out: &mut [u64]) -> u32 {
+    if slices.iter().any(|s| s.len() != slices[0].len()) {
+        return refused(3, 0, out);
+    }
+    let Some(members) = held(x, y, lengths) else {
+        return refused(3, 0, out);
+    };
+    let pairs: Vec<_> = members.iter().flat_map(|m| m.windows(2).map(|w| [w[0][0], w[0][1], w[1][0], w[1][1]])).collect();
+    if pairs.len() > MOST_LINES {
+        return refused(2, pairs.len(), out);
+    }
+    let room = slices[0].len() >= pairs.len();
+    for (k, slice) in slices.into_iter().enumerate() {
+        slice.fill(0.0);
+        if room {
+            slice.iter_mut().zip(&pairs).for_each(|(s, pair)| *s = f64::from_bits(pair[k]));
+        }
+    }
+    if !room {
+        return refused(5, pairs.len(), out);
+    }
+    out[0] = pairs.len() as u64;
+    0
 }

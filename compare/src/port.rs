@@ -9,10 +9,17 @@ use crate::model::{Coordinates, Lists, Standing};
 use crate::{Grid, Line};
 use morelturret::sys;
 
-pub use morelturret::sys::{read_line_string, snap, strategies_agree};
+pub use morelturret::sys::{read_line_string, read_multi_line_string, snap, strategies_agree, write_multi_line_string};
 
 pub mod numbers {
     pub use morelturret::sys::{ceiling, clamped_floor, floor, greatest, least, magnitude, round_half_away, square_root};
+}
+
+/// The four slices are start x, start y, end x, end y. out: the number of lines.
+#[inline]
+pub fn lines_of_members(x: &[u64], y: &[u64], lengths: &[u32], slices: [&mut [f64]; 4], out: &mut [u64]) -> u32 {
+    let [start_x, start_y, end_x, end_y] = slices;
+    sys::lines_of_members(x, y, lengths, start_x, start_y, end_x, end_y, out)
 }
 
 /// The entry for one segment, in the mode of a number: 0 the Rust's, 1 the sided one. out: the number of cells.

@@ -28,6 +28,9 @@ FUNCTIONS = {
     "mt_lists_by_line": "grid: [u64], lines: usize, offsets: [u32], items: [u32], globals: [u32], global_count: u64, starts: [mut u32], listing: [mut u32], out: [mut u64] -> u32",
     "mt_batch": "grid: [u64], start_x: [f64], start_y: [f64], end_x: [f64], end_y: [f64], offsets: [u32], items: [u32], globals: [u32], global_count: u64, bookmark: u64, first: [mut u32], second: [mut u32], out: [mut u64] -> u32",
     "mt_read_line_string": "bytes: [u8], x: [mut f64], y: [mut f64], out: [mut u64] -> u32",
+    "mt_read_multi_line_string": "bytes: [u8], x: [mut u64], y: [mut u64], lengths: [mut u32], out: [mut u64] -> u32",
+    "mt_write_multi_line_string": "x: [u64], y: [u64], lengths: [u32], bytes: [mut u8], out: [mut u64] -> u32",
+    "mt_lines_of_members": "x: [u64], y: [u64], lengths: [u32], start_x: [mut f64], start_y: [mut f64], end_x: [mut f64], end_y: [mut f64], out: [mut u64] -> u32",
 }
 
 CONSTANTS = {
@@ -66,15 +69,15 @@ CONSTANTS = {
 REFUSALS = {
     1: ('a coordinate is not finite, or above 1e9 in magnitude', 'the first such line (0 for a point or one segment)', 'mend or leave out that line; in a chain, that point. (One point alone makes no line, so it may be anything)'),
     2: ('more than 65,536 lines', 'the number of lines', 'take the lines in parts, two at a time'),
-    3: ("slices that belong together differ in length, or scratch has fewer than 16,384 entries, or the reader's point slices fewer than 1,024, or the lists by line have less room than a start for each line and one more, and an entry for each item", '0', 'lend slices of the right lengths'),
+    3: ("slices that belong together differ in length, or scratch has fewer than 16,384 entries, or the LineString reader's point slices fewer than 1,024, or the lists by line have less room than a start for each line and one more, and an entry for each item; or member lengths are not 1 to 1,024 each, or don't add up to the points", '0', 'lend slices of the right lengths'),
     4: ('a grid tried has more cells + 1 than the lent offsets', 'that cells + 1', 'lend at least so many offsets; a finer grid may ask for more, never for more than 1,002,002. In the program: drop repeated points, since most often over 500 lines fall into one cell, as a stuck sensor makes them'),
-    5: ('the items lent are too few', 'the number of items', 'lend at least so many. In the program: try the other sizing where the axes have different units; use the library, or take the chain in parts, two at a time'),
+    5: ('the items lent are too few; or the room for points, members, bytes or lines', 'the number needed', 'lend at least so many. In the program: try the other sizing where the axes have different units; use the library, or take the chain in parts, two at a time'),
     6: ('the globals lent are too few', 'the number of global lines', 'lend at least so many. In the program: use the library'),
     7: ('a walk made 5,000 turns and would make another. A line with equal x, or equal y, at both ends never does, on any fit grid: that is proved, and so is that a build of such lines alone is never refused by 7; nor is any in the covering mode', 'the line (0 for one segment)', 'in a build, that line is parallel to an axis but for a tiny difference: make the two coordinates equal. One segment: the same, or cut it to the grid'),
     8: ('the grid record is unfit', '0', 'use the record that a build returned'),
     9: ('a cell, global position or bookmark is beyond its end', "the cell's row, the position or the bookmark", "ask within the grid's rows and columns, the globals found, the total of tests"),
     10: ('the tables do not fit', '0', 'use the tables that a build left, and its line count'),
-    11: ('the bytes are no LineString of 1 to 1,024 points, or bytes follow it', 'the byte position of the fault', 'look at the field that begins there: the byte order at 0, the type at 1, the count at 5, the points at 9; a fault at the end of input is a cut'),
+    11: ('the bytes are no LineString of 1 to 1,024 points, or no MultiLineString of such, or bytes follow it', 'the byte position of the fault', 'look at the field that begins there: the byte order at 0, the type at 1, the count at 5, the points at 9, and in a member so far from where it begins; a fault at the end of input is a cut'),
     12: ('the snap size is not 0 or 1e-6 to 1e6, or the strategy not 0', '0', 'choose such a size, and strategy 0'),
     16: ("one segment is asked for in the covering mode, and an end of it is below the grid's lower side on an axis, or 4,095 cells and more above it", '0', 'it counts as being in every cell, where it is counted or built on that grid: nothing is dropped by it. Cut it to the grid to have its cells; no line of a build is such a one'),
 }

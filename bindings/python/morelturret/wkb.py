@@ -1,7 +1,7 @@
 """Well-known binary: LineStrings and MultiLineStrings, read and written.
 
-What the library's reader takes it reads: one LineString of at most 1,024 points. Longer ones, and MultiLineStrings, are read here, by the same rules but
-for the number of points; that part is plain Python. What neither takes is refused by 11, and `found` says what it is."""
+What the library's readers take they read: one LineString of at most 1,024 points, or a MultiLineString of such with at most 65,536 lines. Longer ones are
+read here, by the same rules but for the number of points; that part is plain Python. What neither takes is refused by 11, and `found` says what it is."""
 import struct
 
 import numpy as np
@@ -11,7 +11,7 @@ from .refusal import Refusal
 
 LINE_STRING, MULTI_LINE_STRING = 2, 5
 MOST_POINTS = 1024
-BAD_WKB = 11
+TOO_MANY, BAD_WKB = 2, 11
 TYPES = {1: "a Point", 3: "a Polygon", 4: "a MultiPoint", 6: "a MultiPolygon", 7: "a GeometryCollection"}
 
 
@@ -39,6 +39,14 @@ def read_wkb(data):
         members, at = [line_string(data, 0)], None
         at = 9 + 16 * len(members[0])
     else:
+        try:
+            x, y = (np.empty(len(data) // 16, np.uint64) for _ in range(2))
+            lengths = np.empty(len(data) // 25, np.uint32)
+            points, count, *_ = answer("mt_read_multi_line_string", np.frombuffer(data, np.uint8), x, y, lengths)
+            return x[:points].view(float).copy(), y[:points].view(float).copy(), lengths[:count].copy()
+        except Refusal as refusal:
+            if refusal.number not in (TOO_MANY, BAD_WKB):
+                raise
         count = number(data, 5, order)
         members, at = [], 9
         for k in range(count):

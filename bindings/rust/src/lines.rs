@@ -66,16 +66,21 @@ impl<'a> Lines<'a> {
 /// ```
 #[derive(Clone, PartialEq, Debug, Default)]
 pub struct LineVec {
-    start_x: Vec<f64>,
-    start_y: Vec<f64>,
-    end_x: Vec<f64>,
-    end_y: Vec<f64>,
+    pub(crate) start_x: Vec<f64>,
+    pub(crate) start_y: Vec<f64>,
+    pub(crate) end_x: Vec<f64>,
+    pub(crate) end_y: Vec<f64>,
 }
 
 impl LineVec {
     /// No lines.
     pub fn new() -> LineVec {
         LineVec::default()
+    }
+
+    /// So many lines from (0, 0) to (0, 0).
+    pub(crate) fn zeros(n: usize) -> LineVec {
+        LineVec { start_x: vec![0.0; n], start_y: vec![0.0; n], end_x: vec![0.0; n], end_y: vec![0.0; n] }
     }
 
     /// One line more, as start x, start y, end x, end y.

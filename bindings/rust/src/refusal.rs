@@ -31,7 +31,7 @@ impl Refusal {
     pub const BAD_LENGTHS: u32 = 3;
     /// A grid tried has more cells + 1 than the lent offsets. The value is that cells + 1.
     pub const SHORT_OFFSETS: u32 = 4;
-    /// Items lent are fewer than the total. The value is the total.
+    /// Items lent, or room for points, members, bytes or lines, are fewer than needed. The value is the number needed.
     pub const SHORT_ITEMS: u32 = 5;
     /// Globals lent are fewer than found. The value is the number found.
     pub const SHORT_GLOBALS: u32 = 6;
@@ -43,7 +43,7 @@ impl Refusal {
     pub const BEYOND_END: u32 = 9;
     /// The tables do not fit. The value is 0.
     pub const MISFIT_TABLES: u32 = 10;
-    /// The bytes are no LineString that the reader takes. The value is the byte position.
+    /// The bytes are no LineString, or no MultiLineString, that the reader takes. The value is the byte position.
     pub const BAD_WKB: u32 = 11;
     /// Snap size or strategy unfit. The value is 0.
     pub const UNFIT_SNAP: u32 = 12;
@@ -125,7 +125,7 @@ impl fmt::Display for Refusal {
             Refusal::TOO_MANY_LINES => write!(f, "more than 65,536 lines ({value})"),
             Refusal::BAD_LENGTHS => write!(f, "slices that belong together differ in length, or one is too short"),
             Refusal::SHORT_OFFSETS => write!(f, "a grid tried has more cells + 1 than the lent offsets ({value} needed)"),
-            Refusal::SHORT_ITEMS => write!(f, "items lent are fewer than the total ({value} needed)"),
+            Refusal::SHORT_ITEMS => write!(f, "items, points, members, bytes or lines lent are fewer than needed ({value})"),
             Refusal::SHORT_GLOBALS => write!(f, "globals lent are fewer than found ({value} needed)"),
             Refusal::WALK_TOO_LONG => write!(f, "a walk made 5,000 turns and would make another (line {value})"),
             Refusal::UNFIT_GRID => write!(f, "grid record unfit"),

@@ -58,6 +58,13 @@ extern "C" {
         first: *mut u32, first_len: usize, second: *mut u32, second_len: usize, out: *mut u64, out_len: usize) -> u32;
     fn mt_read_line_string(bytes: *const u8, bytes_len: usize, x: *mut f64, x_len: usize, y: *mut f64, y_len: usize,
         out: *mut u64, out_len: usize) -> u32;
+    fn mt_read_multi_line_string(bytes: *const u8, bytes_len: usize, x: *mut u64, x_len: usize, y: *mut u64, y_len: usize,
+        lengths: *mut u32, lengths_len: usize, out: *mut u64, out_len: usize) -> u32;
+    fn mt_write_multi_line_string(x: *const u64, x_len: usize, y: *const u64, y_len: usize, lengths: *const u32, lengths_len: usize,
+        bytes: *mut u8, bytes_len: usize, out: *mut u64, out_len: usize) -> u32;
+    fn mt_lines_of_members(x: *const u64, x_len: usize, y: *const u64, y_len: usize, lengths: *const u32, lengths_len: usize,
+        start_x: *mut f64, start_x_len: usize, start_y: *mut f64, start_y_len: usize, end_x: *mut f64, end_x_len: usize,
+        end_y: *mut f64, end_y_len: usize, out: *mut u64, out_len: usize) -> u32;
 }
 
 /// `mt_least` of the header.
@@ -250,5 +257,31 @@ pub fn read_line_string(bytes: &[u8], x: &mut [f64], y: &mut [f64], out: &mut [u
     // SAFETY: numbers by value, and Rust slices that are lent for this call.
     unsafe { mt_read_line_string(bytes.as_ptr(), bytes.len(), x.as_mut_ptr(), x.len(), y.as_mut_ptr(), y.len(),
         out.as_mut_ptr(), out.len()) }
+}
+
+/// `mt_read_multi_line_string` of the header.
+#[inline]
+pub fn read_multi_line_string(bytes: &[u8], x: &mut [u64], y: &mut [u64], lengths: &mut [u32], out: &mut [u64]) -> u32 {
+    // SAFETY: numbers by value, and Rust slices that are lent for this call.
+    unsafe { mt_read_multi_line_string(bytes.as_ptr(), bytes.len(), x.as_mut_ptr(), x.len(), y.as_mut_ptr(), y.len(),
+        lengths.as_mut_ptr(), lengths.len(), out.as_mut_ptr(), out.len()) }
+}
+
+/// `mt_write_multi_line_string` of the header.
+#[inline]
+pub fn write_multi_line_string(x: &[u64], y: &[u64], lengths: &[u32], bytes: &mut [u8], out: &mut [u64]) -> u32 {
+    // SAFETY: numbers by value, and Rust slices that are lent for this call.
+    unsafe { mt_write_multi_line_string(x.as_ptr(), x.len(), y.as_ptr(), y.len(), lengths.as_ptr(), lengths.len(),
+        bytes.as_mut_ptr(), bytes.len(), out.as_mut_ptr(), out.len()) }
+}
+
+/// `mt_lines_of_members` of the header.
+#[inline]
+pub fn lines_of_members(x: &[u64], y: &[u64], lengths: &[u32], start_x: &mut [f64], start_y: &mut [f64], end_x: &mut [f64],
+    end_y: &mut [f64], out: &mut [u64]) -> u32 {
+    // SAFETY: numbers by value, and Rust slices that are lent for this call.
+    unsafe { mt_lines_of_members(x.as_ptr(), x.len(), y.as_ptr(), y.len(), lengths.as_ptr(), lengths.len(),
+        start_x.as_mut_ptr(), start_x.len(), start_y.as_mut_ptr(), start_y.len(), end_x.as_mut_ptr(), end_x.len(),
+        end_y.as_mut_ptr(), end_y.len(), out.as_mut_ptr(), out.len()) }
 }
 // ---- written by tools/declarations: to here

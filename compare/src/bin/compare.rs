@@ -4,10 +4,10 @@
 //! The port takes part in every kind: --port may be said, and changes nothing.
 //! Ends with status 1 at the first difference.
 
-use compare::kinds::{self, build, cover, covering, drop_in, lists, numbers, own, owners, pairs, seams, sided, snap, straight, strategies, visit, walk, wkb};
+use compare::kinds::{self, build, cover, covering, drop_in, lists, multi, numbers, own, owners, pairs, seams, sided, snap, straight, strategies, visit, walk, wkb};
 
 /// The kinds, with the cases of a full run.
-const KINDS: [(&str, u64); 26] = [
+const KINDS: [(&str, u64); 28] = [
     ("sample", 1),
     ("numbers", 10_000_000),
     ("walk", 1_000_000),
@@ -19,6 +19,8 @@ const KINDS: [(&str, u64); 26] = [
     ("snap", 2_200_000),
     ("strategies", 12_000_000),
     ("wkb", 100_000),
+    ("multi", 100_000),
+    ("members", 100_000),
     ("axes-walk", 500_000),
     ("axes-build", 3_000),
     ("axes-visit", 2_000),
@@ -66,6 +68,8 @@ fn main() {
             "snap" => kinds::run::<snap::Snap>(seed, n, vec![]),
             "strategies" => kinds::run::<strategies::Strategies>(seed, n, strategies::fixed()),
             "wkb" => kinds::run::<wkb::Wkb>(seed, n, vec![]),
+            "multi" => kinds::run::<multi::Multi>(seed, n, multi::fixed(seed)),
+            "members" => kinds::run::<multi::Members>(seed, n, multi::fixed_members(seed)),
             "axes-walk" => kinds::run::<walk::Walk<true>>(seed, n, walk::fixed_by_axis()),
             "axes-build" => kinds::run::<build::Build<true>>(seed, n, build::fixed_by_axis(seed)),
             "axes-visit" => kinds::run::<visit::Visit<true>>(seed, n, vec![]),

@@ -5,7 +5,7 @@ use Prim.Native.Nat.{ℕ, zero, suc, _+_, _-_, _≤_, _<_}
 use native.Mathlib.Omega.{arith}
 use lib.Ieee.{Float, binary64, ofBits}
 use lib.ListN.{length, take, drop, replicate, length-append, length-map, length-replicate}
-use lib.Seq.{take-take, length-take-le, take-at}
+use lib.Seq.{take-at}
 use Rattle.refusals.specs.declared.Refusal.{Refusal}
 use Rattle.refusals.specs.Refusals.{unless, Answer, refused, gives, _then_, answerBy, leftIn, zeroBeyond}
 use Rattle.grid.specs.Domain.{Lines, lines}
@@ -13,27 +13,16 @@ use Rattle.wkb.specs.Bytes.{Point, LineString}
 use Rattle.wkb.specs.Reading.{outcome, found, slicesCheck, readOf, pointsLeft, nought, ReadAs}
 use Rattle.wkb.specs.declared.Read.{Read}
 use Rattle.wkb.specs.declared.Read.the-variants.{Points, Refused}
+use Rattle.wkb.proofs.Chains.{start-parts, end-parts}
 use Rattle.build.specs.declared.Plan.{Plan}
 use Rattle.report.specs.Lines.{refusedLine}
 use Rattle.chain.specs.Printed.{chainOf, printedLines, refusedText, printedPoints, printed}
 
 -- ---- lines as parts of the points
 
-starts : (n : ℕ) (xs : List Float) → n ≤ length xs → take (length (take n xs) - 1) (take n xs) ≡ take (n - 1) xs
-starts n xs h = rw (length-take-le n xs h) (take-take (n - 1) n xs (omega arith))
-
-ends : (n : ℕ) (xs : List Float) → 1 ≤ n → drop 1 (take n xs) ≡ take (n - 1) (drop 1 xs)
-ends zero xs h = absurd (omega arith)
-ends (suc n) [] h = let e : suc n - 1 ≡ n = omega arith in rw e (empty n)
-  where
-    empty : (n : ℕ) → _≡_ {A = List Float} [] (take n [])
-    empty zero = refl
-    empty (suc n) = refl
-ends (suc n) (x ∷ xs) h = let e : suc n - 1 ≡ n = omega arith in rw e
-
 pub chain-parts : (n : ℕ) (xs ys : List Float) → 1 ≤ n → n ≤ length xs → n ≤ length ys → lines (take (n - 1) xs) (take (n - 1) ys) (take (n - 1) (drop 1 xs)) (take (n - 1) (drop 1 ys)) ≡ chainOf (take n xs) (take n ys)
 unfolding chainOf
-chain-parts n xs ys h k l = rw (starts n xs k, starts n ys l, ends n xs h, ends n ys h)
+chain-parts n xs ys h k l = rw (start-parts n xs k, start-parts n ys l, end-parts n xs h, end-parts n ys h)
 
 -- ---- what the reader found
 

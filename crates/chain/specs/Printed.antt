@@ -6,6 +6,7 @@ use lib.Ieee.{Float, binary64, ofBits, toBits}
 use lib.ListN.{length, take, drop, replicate}
 use Rattle.wkb.specs.Bytes.{Point}
 use Rattle.wkb.specs.Reading.{found}
+use Rattle.wkb.specs.Multi.{starts, ends}
 use Rattle.refusals.specs.declared.Refusal.{Refusal}
 use Rattle.refusals.specs.Refusals.{Answer, gives, _then_, answerBy, zeroBeyond}
 use Rattle.grid.specs.declared.Grid.{Grid}
@@ -61,9 +62,9 @@ printedLines plan ls = answerBy refusedText (printedOn plan ls) (endOf plan ls 4
 
 -- ---- the input
 
--- consecutive points make lines: all points but the last are starts, and all but the first are ends
+-- consecutive points make lines
 unfoldable pub chainOf : List Float → List Float → Lines
-chainOf xs ys = lines (take (length xs - 1) xs) (take (length ys - 1) ys) (drop 1 xs) (drop 1 ys)
+chainOf xs ys = lines (starts xs) (starts ys) (ends xs) (ends ys)
 
 unfoldable pub printedPoints : Plan → List Point → List ℕ
 printedPoints plan ps = printedLines plan (chainOf (map (λ (p : Point). ofBits binary64 (p .x)) ps) (map (λ (p : Point). ofBits binary64 (p .y)) ps))

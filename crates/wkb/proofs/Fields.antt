@@ -1,4 +1,5 @@
--- What each field of the bytes decides: the refusal where it is cut or wrong, and what is found where all are right. Assumes nothing.
+-- What each field of the bytes decides: the refusal where it is cut or wrong; and that a look at a LineString finds nothing exactly where its
+-- fields are right. Assumes nothing.
 use mathlib.Core.Path.{_≡_, refl, sym, ap, _∙_, subst}
 use mathlib.Core.Bool.{Bool, true, false, _&&_}
 use mathlib.Core.List.{List}
@@ -7,67 +8,105 @@ use native.Mathlib.Omega.{arith}
 use lib.ListN.{length, getD}
 use lib.Dec.{T, leb, eqb}
 use borrow.Author.Tests.{le-leb, lt-leb, eq-eqb, ne-eqb, leb-true, eqb-true}
-use Rattle.refusals.specs.Refusals.{refusal, unless, andThen, Answer, refused, gives, _then_}
-use Rattle.refusals.proofs.Checks.{unless-fine, andThen-left, andThen-right}
-use Rattle.refusals.proofs.Answers.{then-passed}
-use Rattle.wkb.specs.Bytes.{Point, numberAt, pointsAt}
-use Rattle.wkb.specs.Reading.{fieldCheck, orderOf, pointsField, countField, typeField, found}
+use Rattle.refusals.specs.declared.Check.the-variants.{Fine, Refused}
+use Rattle.refusals.specs.Refusals.{refusal, unless, andThen}
+use Rattle.refusals.proofs.Checks.{unless-fine, andThen-refused, andThen-fine, andThen-left, andThen-right}
 use Rattle.wkb.specs.declared.Order.{Order}
+use Rattle.wkb.specs.Bytes.{numberAt}
+use Rattle.wkb.specs.Reading.{fieldCheck, orderAt, typeAt, countAt, endAt, headCheck, lineCheck, endCheck}
 
 -- ---- one field
 
-module _ (bs : List ℕ) (start end : ℕ) (right : Bool) (next : Answer (List Point)) where
-  field-cut : length bs < end → (fieldCheck bs start end right then next) ≡ refused (refusal 11 (length bs))
-  unfolding fieldCheck unless andThen _then_
+module _ (bs : List ℕ) (start end : ℕ) (right : Bool) where
+  pub field-cut : length bs < end → fieldCheck bs start end right ≡ Refused (refusal 11 (length bs))
+  unfolding fieldCheck unless andThen
   field-cut h = rw (lt-leb end (length bs) h)
 
-  field-wrong : end ≤ length bs → right ≡ false → (fieldCheck bs start end right then next) ≡ refused (refusal 11 start)
-  unfolding fieldCheck unless andThen _then_
+  pub field-wrong : end ≤ length bs → right ≡ false → fieldCheck bs start end right ≡ Refused (refusal 11 start)
+  unfolding fieldCheck unless andThen
   field-wrong h e = rw (le-leb end (length bs) h, e)
 
-  field-right : end ≤ length bs → right ≡ true → (fieldCheck bs start end right then next) ≡ next
-  unfolding fieldCheck unless andThen _then_
+  pub field-right : end ≤ length bs → right ≡ true → fieldCheck bs start end right ≡ Fine
+  unfolding fieldCheck unless andThen
   field-right h e = rw (le-leb end (length bs) h, e)
 
--- ---- the order, named by the first byte
+  pub field-passed : fieldCheck bs start end right ≡ Fine → (end ≤ length bs) × (right ≡ true)
+  unfolding fieldCheck
+  field-passed h = (
+    leb-true end (length bs) (unless-fine _ _ _ (andThen-left _ _ h)),
+    unless-fine _ _ _ (andThen-right (unless (leb end (length bs)) 11 (length bs)) _ h),
+  )
 
-module _ (bs : List ℕ) where
-  pub order-cut : length bs < 1 → found bs ≡ refused (refusal 11 (length bs))
-  unfolding found
-  order-cut h = field-cut bs 0 1 _ _ h
+-- what follows the last field
 
-  pub order-wrong : 1 ≤ length bs → 1 < getD bs 0 0 → found bs ≡ refused (refusal 11 0)
-  unfolding found
-  order-wrong h k = field-wrong bs 0 1 _ _ h (lt-leb (getD bs 0 0) 1 k)
+pub end-right : (at : ℕ) (bs : List ℕ) → length bs ≤ at → endCheck at bs ≡ Fine
+unfolding endCheck unless
+end-right at bs h = rw (le-leb (length bs) at h)
 
--- the first byte is there and names the order o
-pub record Ordered (bs : List ℕ) (o : Order) : Type 0 where
-  pub long : 1 ≤ length bs
-  pub names : getD bs 0 0 ≤ 1
-  pub is : o ≡ orderOf (getD bs 0 0)
+pub end-more : (at : ℕ) (bs : List ℕ) → at < length bs → endCheck at bs ≡ Refused (refusal 11 at)
+unfolding endCheck unless
+end-more at bs h = rw (lt-leb (length bs) at h)
 
--- ---- the type
+pub end-passed : (at : ℕ) (bs : List ℕ) → endCheck at bs ≡ Fine → length bs ≤ at
+unfolding endCheck
+end-passed at bs h = leb-true (length bs) at (unless-fine _ _ _ h)
 
-module _ {bs : List ℕ} {o : Order} (h : Ordered bs o) where
-  to-type : found bs ≡ typeField o bs
-  unfolding found
-  to-type = field-right bs 0 1 _ _ (h .long) (le-leb (getD bs 0 0) 1 (h .names)) ∙ ap (λ (p : Order). typeField p bs) (sym (h .is))
+-- ---- what was read at a position
 
-  pub type-cut : length bs < 5 → found bs ≡ refused (refusal 11 (length bs))
-  unfolding typeField
-  type-cut k = to-type ∙ field-cut bs 1 5 _ _ k
+pub typed-at : (o : Order) (at : ℕ) (bs : List ℕ) {r : ℕ} → o ≡ orderAt at bs → r ≡ numberAt o 4 (at + 1) bs → r ≡ typeAt at bs
+unfolding typeAt
+typed-at o at bs e f = f ∙ ap (λ (p : Order). numberAt p 4 (at + 1) bs) e
 
-  pub type-wrong : 5 ≤ length bs → (numberAt o 4 1 bs ≡ 2 → ⊥) → found bs ≡ refused (refusal 11 1)
-  unfolding typeField
-  type-wrong k w = to-type ∙ field-wrong bs 1 5 _ _ k (ne-eqb (numberAt o 4 1 bs) 2 w)
+pub counted-at : (o : Order) (at : ℕ) (bs : List ℕ) {r : ℕ} → o ≡ orderAt at bs → r ≡ numberAt o 4 (at + 5) bs → r ≡ countAt at bs
+unfolding countAt
+counted-at o at bs e f = f ∙ ap (λ (p : Order). numberAt p 4 (at + 5) bs) e
 
--- the type is there, and is 2
-pub record Typed (bs : List ℕ) (o : Order) : Type 0 where
-  pub order : Ordered bs o
-  pub long : 5 ≤ length bs
-  pub is : numberAt o 4 1 bs ≡ 2
+-- ---- the order and the type
 
--- ---- the number of points
+module _ (type at : ℕ) (bs : List ℕ) where
+  pub order-cut : length bs < at + 1 → headCheck type at bs ≡ Refused (refusal 11 (length bs))
+  unfolding headCheck
+  order-cut h = andThen-refused _ _ _ (field-cut bs at (at + 1) _ h)
+
+  pub order-wrong : at + 1 ≤ length bs → 1 < getD bs at 0 → headCheck type at bs ≡ Refused (refusal 11 at)
+  unfolding headCheck
+  order-wrong h k = andThen-refused _ _ _ (field-wrong bs at (at + 1) _ h (lt-leb (getD bs at 0) 1 k))
+
+  module _ (long : at + 1 ≤ length bs) (names : getD bs at 0 ≤ 1) where
+    to-type : headCheck type at bs ≡ fieldCheck bs (at + 1) (at + 5) (eqb (typeAt at bs) type)
+    unfolding headCheck
+    to-type = andThen-fine _ _ (field-right bs at (at + 1) _ long (le-leb (getD bs at 0) 1 names))
+
+    pub type-cut : length bs < at + 5 → headCheck type at bs ≡ Refused (refusal 11 (length bs))
+    type-cut h = to-type ∙ field-cut bs (at + 1) (at + 5) _ h
+
+    pub type-wrong : at + 5 ≤ length bs → (typeAt at bs ≡ type → ⊥) → headCheck type at bs ≡ Refused (refusal 11 (at + 1))
+    type-wrong h w = to-type ∙ field-wrong bs (at + 1) (at + 5) _ h (ne-eqb (typeAt at bs) type w)
+
+    pub type-right : at + 5 ≤ length bs → typeAt at bs ≡ type → headCheck type at bs ≡ Fine
+    type-right h e = to-type ∙ field-right bs (at + 1) (at + 5) _ h (eq-eqb (typeAt at bs) type e)
+
+-- a head that is right: it is there, it names an order, and it has the type
+pub record HeadFits (type at : ℕ) (bs : List ℕ) : Type 0 where
+  pub names : getD bs at 0 ≤ 1
+  pub is : typeAt at bs ≡ type
+  pub long : at + 5 ≤ length bs
+
+pub head-right : {type at : ℕ} {bs : List ℕ} → HeadFits type at bs → headCheck type at bs ≡ Fine
+head-right {type} {at} {bs} h = type-right type at bs (omega arith) (h .names) (h .long) (h .is)
+
+pub head-passed : (type at : ℕ) (bs : List ℕ) → headCheck type at bs ≡ Fine → HeadFits type at bs
+unfolding headCheck
+head-passed type at bs h =
+    let a = field-passed bs at (at + 1) (leb (getD bs at 0) 1) (andThen-left _ _ h) in
+    let b = field-passed bs (at + 1) (at + 5) (eqb (typeAt at bs) type) (andThen-right (fieldCheck bs at (at + 1) (leb (getD bs at 0) 1)) _ h) in
+    record { names = leb-true (getD bs at 0) 1 (a .1); is = eqb-true (typeAt at bs) type (b .1); long = b .0 }
+
+-- ---- a LineString
+
+pub both : (s t : Bool) → (s && t) ≡ true → (s ≡ true) × (t ≡ true)
+both true t h = (refl, h)
+both false t h = let z : _≡_ {A = Bool} false true = h in absurd (subst T (sym z) tt)
 
 range-true : (n : ℕ) → 1 ≤ n → n ≤ 1024 → (leb 1 n && leb n 1024) ≡ true
 range-true n h k = rw (le-leb 1 n h, le-leb n 1024 k)
@@ -78,103 +117,58 @@ few-false n h = rw (lt-leb 1 n h)
 many-false : (n : ℕ) → 1024 < n → (leb 1 n && leb n 1024) ≡ false
 many-false n h = rw (le-leb 1 n (omega arith), lt-leb n 1024 h)
 
-module _ {bs : List ℕ} {o : Order} (h : Typed bs o) where
-  to-count : found bs ≡ countField o (numberAt o 4 5 bs) bs
-  unfolding typeField
-  to-count = to-type (h .order) ∙ field-right bs 1 5 _ _ (h .long) (eq-eqb (numberAt o 4 1 bs) 2 (h .is))
+module _ (at : ℕ) (bs : List ℕ) where
+  pub head-refused : (f : ℕ) → headCheck 2 at bs ≡ Refused (refusal 11 f) → lineCheck at bs ≡ Refused (refusal 11 f)
+  unfolding lineCheck
+  head-refused f h = andThen-refused _ _ _ h
 
-  pub count-cut : length bs < 9 → found bs ≡ refused (refusal 11 (length bs))
-  unfolding countField
-  count-cut k = to-count ∙ field-cut bs 5 9 _ _ k
+  module _ (head : headCheck 2 at bs ≡ Fine) where
+    pub count-cut : length bs < at + 9 → lineCheck at bs ≡ Refused (refusal 11 (length bs))
+    unfolding lineCheck
+    count-cut h = andThen-fine _ _ head ∙ andThen-refused _ _ _ (field-cut bs (at + 5) (at + 9) _ h)
 
-  pub count-none : 9 ≤ length bs → numberAt o 4 5 bs < 1 → found bs ≡ refused (refusal 11 5)
-  unfolding countField
-  count-none k w = to-count ∙ field-wrong bs 5 9 _ _ k (few-false (numberAt o 4 5 bs) w)
+    pub count-none : at + 9 ≤ length bs → countAt at bs < 1 → lineCheck at bs ≡ Refused (refusal 11 (at + 5))
+    unfolding lineCheck
+    count-none h k = andThen-fine _ _ head ∙ andThen-refused _ _ _ (field-wrong bs (at + 5) (at + 9) _ h (few-false (countAt at bs) k))
 
-  pub count-many : 9 ≤ length bs → 1024 < numberAt o 4 5 bs → found bs ≡ refused (refusal 11 5)
-  unfolding countField
-  count-many k w =
-      to-count ∙ field-wrong bs 5 9 _ _ k (many-false (numberAt o 4 5 bs) w)
+    pub count-many : at + 9 ≤ length bs → 1024 < countAt at bs → lineCheck at bs ≡ Refused (refusal 11 (at + 5))
+    unfolding lineCheck
+    count-many h k = andThen-fine _ _ head ∙ andThen-refused _ _ _ (field-wrong bs (at + 5) (at + 9) _ h (many-false (countAt at bs) k))
 
--- the number n is there, and is 1 to 1,024
-pub record Counted (bs : List ℕ) (o : Order) (n : ℕ) : Type 0 where
-  pub type : Typed bs o
-  pub long : 9 ≤ length bs
-  pub is : n ≡ numberAt o 4 5 bs
-  pub some : 1 ≤ n
-  pub most : n ≤ 1024
+    module _ (some : 1 ≤ countAt at bs) (most : countAt at bs ≤ 1024) where
+      to-points : at + 9 ≤ length bs → lineCheck at bs ≡ fieldCheck bs (at + 9) (endAt at bs) true
+      unfolding lineCheck
+      to-points h =
+          andThen-fine _ _ head ∙ andThen-fine _ _ (field-right bs (at + 5) (at + 9) _ h (range-true (countAt at bs) some most))
 
--- ---- the points
+      pub points-cut : at + 9 ≤ length bs → length bs < at + 9 + 16 * countAt at bs → lineCheck at bs ≡ Refused (refusal 11 (length bs))
+      unfolding endAt
+      points-cut h k = to-points h ∙ field-cut bs (at + 9) (at + 9 + 16 * countAt at bs) true k
 
-module _ {bs : List ℕ} {o : Order} {n : ℕ} (h : Counted bs o n) where
-  to-points : found bs ≡ pointsField o n bs
-  unfolding countField
-  to-points =
-      to-count (h .type) ∙ ap (λ (k : ℕ). countField o k bs) (sym (h .is))
-      ∙ field-right bs 5 9 _ _ (h .long) (range-true n (h .some) (h .most))
+      pub points-right : at + 9 + 16 * countAt at bs ≤ length bs → lineCheck at bs ≡ Fine
+      unfolding endAt
+      points-right h = to-points (omega arith) ∙ field-right bs (at + 9) (at + 9 + 16 * countAt at bs) true h refl
 
-  pub points-cut : length bs < 9 + 16 * n → found bs ≡ refused (refusal 11 (length bs))
-  unfolding pointsField
-  points-cut k = to-points ∙ field-cut bs 9 (9 + 16 * n) _ _ k
+-- a LineString whose fields are right
+pub record LineFits (at : ℕ) (bs : List ℕ) : Type 0 where
+  pub head : HeadFits 2 at bs
+  pub some : 1 ≤ countAt at bs
+  pub most : countAt at bs ≤ 1024
+  pub long : at + 9 + 16 * countAt at bs ≤ length bs
 
-  pub points-more : 9 + 16 * n < length bs → found bs ≡ refused (refusal 11 (9 + 16 * n))
-  unfolding pointsField unless _then_
-  points-more k = to-points ∙ field-right bs 9 (9 + 16 * n) _ _ (omega arith) refl ∙ rw (lt-leb (length bs) (9 + 16 * n) k)
+pub line-right : {at : ℕ} {bs : List ℕ} → LineFits at bs → lineCheck at bs ≡ Fine
+line-right {at} {bs} l = points-right at bs (head-right (l .head)) (l .some) (l .most) (l .long)
 
-  pub points-right : length bs ≡ 9 + 16 * n → found bs ≡ gives (pointsAt o n 9 bs)
-  unfolding pointsField unless _then_
-  points-right k =
-      to-points ∙ field-right bs 9 (9 + 16 * n) _ _ (omega arith) refl ∙ rw (le-leb (length bs) (9 + 16 * n) (omega arith))
-
--- ---- back: where points are found, every field is right
-
-pub both : (s t : Bool) → (s && t) ≡ true → (s ≡ true) × (t ≡ true)
-both true t h = (refl, h)
-both false t h = let z : _≡_ {A = Bool} false true = h in absurd (subst T (sym z) tt)
-
-module _ (bs : List ℕ) (start end : ℕ) (right : Bool) (next : Answer (List Point)) where
-  field-passed : {ps : List Point} → (fieldCheck bs start end right then next) ≡ gives ps → (end ≤ length bs) × (right ≡ true) × (next ≡ gives ps)
-  unfolding fieldCheck
-  field-passed h =
-      let a = then-passed (andThen (unless (leb end (length bs)) 11 (length bs)) (unless right 11 start)) next h in (
-        leb-true end (length bs) (unless-fine _ _ _ (andThen-left _ _ (a .0))),
-        unless-fine _ _ _ (andThen-right (unless (leb end (length bs)) 11 (length bs)) _ (a .0)),
-        a .1,
-      )
-
--- every field is right, and the points, n of them in the order o, are ps
-pub record AllRight (bs : List ℕ) (o : Order) (n : ℕ) (ps : List Point) : Type 0 where
-  pub counted : Counted bs o n
-  pub whole : length bs ≡ 9 + 16 * n
-  pub are : pointsAt o n 9 bs ≡ ps
-
-pub found-points : (bs : List ℕ) (ps : List Point) → found bs ≡ gives ps → AllRight bs (orderOf (getD bs 0 0)) (numberAt (orderOf (getD bs 0 0)) 4 5 bs) ps
-unfolding found typeField countField pointsField
-found-points bs ps h =
-    let b = getD bs 0 0 in
-    let o = orderOf b in
-    let n = numberAt o 4 5 bs in
-    let f1 = field-passed bs 0 1 (leb b 1) (typeField o bs) h in
-    let f2 = field-passed bs 1 5 (eqb (numberAt o 4 1 bs) 2) (countField o n bs) (f1 .2) in
-    let f3 = field-passed bs 5 9 (leb 1 n && leb n 1024) (pointsField o n bs) (f2 .2) in
-    let f4 = field-passed bs 9 (9 + 16 * n) true (unless (leb (length bs) (9 + 16 * n)) 11 (9 + 16 * n) then gives (pointsAt o n 9 bs)) (f3 .2) in
-    let f5 = then-passed (unless (leb (length bs) (9 + 16 * n)) 11 (9 + 16 * n)) (gives (pointsAt o n 9 bs)) (f4 .2) in
-    let range = both (leb 1 n) (leb n 1024) (f3 .1) in
+pub line-passed : (at : ℕ) (bs : List ℕ) → lineCheck at bs ≡ Fine → LineFits at bs
+unfolding lineCheck endAt
+line-passed at bs h =
+    let n = countAt at bs in
+    let rest = andThen-right (headCheck 2 at bs) _ h in
+    let count = fieldCheck bs (at + 5) (at + 9) (leb 1 n && leb n 1024) in
+    let range = both (leb 1 n) (leb n 1024) (field-passed bs (at + 5) (at + 9) _ (andThen-left _ _ rest) .1) in
     record {
-      counted = record {
-        type = record {
-          order = record { long = f1 .0; names = leb-true b 1 (f1 .1); is = refl };
-          long = f2 .0;
-          is = eqb-true (numberAt o 4 1 bs) 2 (f2 .1);
-        };
-        long = f3 .0;
-        is = refl;
-        some = leb-true 1 n (range .0);
-        most = leb-true n 1024 (range .1);
-      };
-      whole = omega (arith, f4 .0, leb-true (length bs) (9 + 16 * n) (unless-fine _ _ _ (f5 .0)));
-      are = same-points (f5 .1);
+      head = head-passed 2 at bs (andThen-left _ _ h);
+      some = leb-true 1 n (range .0);
+      most = leb-true n 1024 (range .1);
+      long = field-passed bs (at + 9) (at + 9 + 16 * n) true (andThen-right count _ rest) .0;
     }
-  where
-    same-points : {ps qs : List Point} → gives ps ≡ gives qs → ps ≡ qs
-    same-points e = cc

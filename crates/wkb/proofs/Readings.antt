@@ -2,7 +2,7 @@
 use mathlib.Core.Path.{_≡_, refl, sym, ap, _∙_}
 use mathlib.Core.Bool.{Bool, true, false, _&&_}
 use mathlib.Core.List.{List, _++_, map}
-use Prim.Native.Nat.{ℕ, _-_, _≤_}
+use Prim.Native.Nat.{ℕ, _+_, _-_, _*_, _≤_, _<_}
 use lib.Dec.{leb, eqb}
 use lib.Ieee.{Float, binary64, ofBits}
 use lib.ListN.{length, replicate, length-map}
@@ -14,13 +14,13 @@ use Rattle.refusals.proofs.Checks.{unless-fine}
 use Rattle.refusals.proofs.Answers.{then-refused, then-fine}
 use Rattle.refusals.proofs.Leaving.{left-same, clearing-unless}
 use Rattle.wkb.specs.Bytes.{Point, pointsAt}
-use Rattle.wkb.specs.Reading.{found, slicesCheck, outcome, readOf, pointsLeft, nought, ReadAs}
+use Rattle.wkb.specs.Reading.{orderAt, countAt, lineAt, endAt, lineCheck, found, slicesCheck, outcome, readOf, pointsLeft, nought, ReadAs}
 use Rattle.wkb.specs.Steps.{numbersAt, LineAt}
 use Rattle.wkb.specs.declared.Order.{Order}
 use Rattle.wkb.specs.declared.Read.the-variants.{Points, Refused}
 use Rattle.wkb.proofs.Words.{Small}
 use Rattle.wkb.proofs.Axes.{length-points, axis-x, axis-y}
-use Rattle.wkb.proofs.Fields.{both}
+use Rattle.wkb.proofs.Fields.{both, end-right, end-more}
 use Rattle.wkb.proofs.LineStrings.{sound, complete}
 
 -- ---- refusal 3 comes first
@@ -31,6 +31,23 @@ unfolding slicesCheck
 slices-fine m n h =
     let a = both (eqb m n) (leb 1024 m) (unless-fine _ _ _ h) in
     (eqb-true m n (a .0), leb-true 1024 m (a .1))
+
+-- ---- what the look at the fields found
+
+module _ (bs : List ℕ) where
+  pub found-fault : (at : ℕ) → lineCheck 0 bs ≡ check.Refused (refusal 11 at) → found bs ≡ refused (refusal 11 at)
+  unfolding found
+  found-fault at e = then-refused _ _ _ e
+
+  module _ (o : Order) (n : ℕ) (l : LineAt bs 0 o n) where
+    pub found-more : 9 + 16 * n < length bs → found bs ≡ refused (refusal 11 (9 + 16 * n))
+    unfolding found endAt
+    found-more h = then-fine _ _ (l .fine) ∙ rw (← l .count) (then-refused _ _ _ (end-more (9 + 16 * n) bs h))
+
+    pub found-line : length bs ≤ 9 + 16 * n → found bs ≡ gives (pointsAt o n 9 bs)
+    unfolding found endAt lineAt
+    found-line h =
+        then-fine _ _ (l .fine) ∙ rw (← l .count, ← l .order) (then-fine _ _ (end-right (9 + 16 * n) bs h))
 
 -- ---- the promise
 
@@ -59,22 +76,14 @@ module _ (bs : List ℕ) (x₀ y₀ : List Float) (small : Small bs) where
     unfolding clears
     read-none at e = none (refusal 11 at) (finds ∙ e) refl
 
-    -- what stands in a slice, as the loop leaves it
-    filled : (xs : List Float) (n : ℕ) (was : List Float) → length xs ≡ n → xs ++ replicate (length was - n) nought ≡ zeroBeyond nought (length was) xs
-    unfolding zeroBeyond
-    filled xs n was e = rw e
-
-    pub read-all : {x₁ y₁ : List Float} (o : Order) (n : ℕ) → LineAt bs o n → x₁ ≡ map (ofBits binary64) (numbersAt o n 9 bs) ++ replicate (length x₀ - n) nought → y₁ ≡ map (ofBits binary64) (numbersAt o n 17 bs) ++ replicate (length y₀ - n) nought → ReadAs bs x₀ y₀ (Points n) x₁ y₁
+    pub read-all : {x₁ y₁ : List Float} (o : Order) (n : ℕ) → found bs ≡ gives (pointsAt o n 9 bs) → x₁ ≡ zeroBeyond nought (length x₀) (map (ofBits binary64) (numbersAt o n 9 bs)) → y₁ ≡ zeroBeyond nought (length y₀) (map (ofBits binary64) (numbersAt o n 17 bs)) → ReadAs bs x₀ y₀ (Points n) x₁ y₁
     unfolding readOf pointsLeft answerBy leftIn
     read-all o n l p q =
-        let e : outcome (length x₀) (length y₀) bs ≡ gives (pointsAt o n 9 bs) = finds ∙ l .finds in
-        let m = length-points o bs n 9 in
-        let ax = axis-x o bs (ofBits binary64) n 9 in
-        let ay = axis-y o bs (ofBits binary64) n 9 in
+        let e : outcome (length x₀) (length y₀) bs ≡ gives (pointsAt o n 9 bs) = finds ∙ l in
         record {
-          answer = rw (e, m);
-          in-x = rw (e, ax) (p ∙ filled _ n x₀ (sym (ap length ax) ∙ length-map (pointsAt o n 9 bs) (λ (p : Point). ofBits binary64 (p .x)) ∙ m));
-          in-y = rw (e, ay) (q ∙ filled _ n y₀ (sym (ap length ay) ∙ length-map (pointsAt o n 9 bs) (λ (p : Point). ofBits binary64 (p .y)) ∙ m));
+          answer = rw (e, length-points o bs n 9);
+          in-x = rw (e, axis-x o bs (ofBits binary64) n 9) p;
+          in-y = rw (e, axis-y o bs (ofBits binary64) n 9) q;
           only = λ ps. sound bs ps small;
           every = complete bs;
         }

@@ -1,8 +1,9 @@
--- Well-known binary (OGC 06-103r4, clause 8): the bytes of a number, of a point, of a list of points and of a LineString, in either
--- byte order; and the numbers and points that stand at a position in bytes. A coordinate is its bit pattern here. Definitions only.
+-- Well-known binary (OGC 06-103r4, clause 8): the bytes of a number, of a point, of a list of points, of a LineString and of a
+-- MultiLineString, in either byte order; and the numbers and points that stand at a position in bytes. A coordinate is its bit pattern
+-- here. Definitions only.
 use Prim.Native.Nat.{ℕ, zero, suc, _+_, _*_, _/_, _%_, _^_, _≤_, _<_}
 use mathlib.Core.Path.{_≡_}
-use mathlib.Core.List.{List, [], _∷_, _++_, reverse}
+use mathlib.Core.List.{List, [], _∷_, _++_, reverse, flatMap}
 use lib.ListN.{length, take, drop}
 use Rattle.wkb.specs.declared.Order.{Order}
 use Rattle.wkb.specs.declared.Order.the-variants.{Big, Little}
@@ -54,6 +55,27 @@ pub record LineString (bs : List ℕ) (ps : List Point) : Type 0 where
   pub some : 1 ≤ length ps
   pub most : length ps ≤ 1024
   pub patterns : Patterns ps
+
+-- LineStrings one after another, each in a byte order of its own
+pub data Members : List ℕ → List (List Point) → Type 0 where
+  none : Members [] []
+  more : {bs rest : List ℕ} {ps : List Point} {pss : List (List Point)} → LineString bs ps → Members rest pss → Members (bs ++ rest) (ps ∷ pss)
+
+-- what stands before the members: the order, the type 5, and their number
+unfoldable pub multiHead : Order → ℕ → List ℕ
+multiHead o m = orderByte o ∷ (wordBytes o 4 5 ++ wordBytes o 4 m)
+
+-- bs is a MultiLineString whose members have the points pss, with nothing after it
+pub record MultiLineString (bs : List ℕ) (pss : List (List Point)) : Type 0 where
+  pub order : Order
+  pub rest : List ℕ
+  pub bytes : bs ≡ multiHead order (length pss) ++ rest
+  pub most : length pss < 2 ^ 32
+  pub members : Members rest pss
+
+-- one that is little-endian throughout
+unfoldable pub multiBytes : List (List Point) → List ℕ
+multiBytes pss = multiHead Little (length pss) ++ flatMap (lineBytes Little) pss
 
 -- ---- from bytes to values
 

@@ -24,25 +24,45 @@ unfoldable pub orderOf : ℕ → Order
 orderOf zero = Big
 orderOf (suc b) = Little
 
--- ---- the fields, from the last to the first
+-- ---- what stands at a position
 
--- the points, of 16 bytes each; nothing follows them
-unfoldable pub pointsField : Order → ℕ → List ℕ → Answer (List Point)
-pointsField o n bs =
-    let end = 9 + 16 * n in
-    fieldCheck bs 9 end true then unless (leb (length bs) end) 11 end then gives (pointsAt o n 9 bs)
+-- the order that the byte there names
+unfoldable pub orderAt : ℕ → List ℕ → Order
+orderAt at bs = orderOf (getD bs at 0)
 
--- the number of points: 1 to 1,024
-unfoldable pub countField : Order → ℕ → List ℕ → Answer (List Point)
-countField o n bs = fieldCheck bs 5 9 (leb 1 n && leb n 1024) then pointsField o n bs
+-- the type, and the number that follows it: of points, or of members
+unfoldable pub typeAt : ℕ → List ℕ → ℕ
+typeAt at bs = numberAt (orderAt at bs) 4 (at + 1) bs
 
--- the type: 2
-unfoldable pub typeField : Order → List ℕ → Answer (List Point)
-typeField o bs = fieldCheck bs 1 5 (eqb (numberAt o 4 1 bs) 2) then countField o (numberAt o 4 5 bs) bs
+unfoldable pub countAt : ℕ → List ℕ → ℕ
+countAt at bs = numberAt (orderAt at bs) 4 (at + 5) bs
 
--- the byte order: 0 or 1; and so the whole input
+-- the points of a LineString, of 16 bytes each, and where it ends
+unfoldable pub lineAt : ℕ → List ℕ → List Point
+lineAt at bs = pointsAt (orderAt at bs) (countAt at bs) (at + 9) bs
+
+unfoldable pub endAt : ℕ → List ℕ → ℕ
+endAt at bs = at + 9 + 16 * countAt at bs
+
+-- ---- the fields, in their order
+
+-- the byte order: 0 or 1; the type
+unfoldable pub headCheck : ℕ → ℕ → List ℕ → Check
+headCheck type at bs = andThen (fieldCheck bs at (at + 1) (leb (getD bs at 0) 1)) (fieldCheck bs (at + 1) (at + 5) (eqb (typeAt at bs) type))
+
+-- a LineString: the type 2, 1 to 1,024 points, the points
+unfoldable pub lineCheck : ℕ → List ℕ → Check
+lineCheck at bs =
+    andThen (headCheck 2 at bs)
+    (andThen (fieldCheck bs (at + 5) (at + 9) (leb 1 (countAt at bs) && leb (countAt at bs) 1024)) (fieldCheck bs (at + 9) (endAt at bs) true))
+
+-- nothing follows
+unfoldable pub endCheck : ℕ → List ℕ → Check
+endCheck at bs = unless (leb (length bs) at) 11 at
+
+-- the whole input is one LineString
 unfoldable pub found : List ℕ → Answer (List Point)
-found bs = fieldCheck bs 0 1 (leb (getD bs 0 0) 1) then typeField (orderOf (getD bs 0 0)) bs
+found bs = lineCheck 0 bs then endCheck (endAt 0 bs) bs then gives (lineAt 0 bs)
 
 -- ---- the call
 

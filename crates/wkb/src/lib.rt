@@ -1,5 +1,7 @@
-// The reader of one LineString in well-known binary (OGC 06-103r4): a byte that names the byte
-// order, the type 2, the number of points, the points.
+// The readers of well-known binary (OGC 06-103r4). A LineString is a byte that names the byte order, the type 2, the number of points, the
+// points; a MultiLineString, read in `members`, has the type 5, the number of its members, and LineStrings.
+pub mod members;
+
 use refusals::Check;
 use refusals::Refusal;
 ghost use mathlib.Core.Path.{_≡_};
@@ -7,9 +9,10 @@ ghost use Prim.Native.Nat.{_+_, _*_, _-_, _^_, _≤_, _<_};
 ghost use mathlib.Core.List.{[], _∷_, _++_, map};
 ghost use lib.ListN.{length, take, replicate};
 ghost use lib.Ieee.{binary64, ofBits};
+ghost use Rattle.refusals.specs.Refusals.{refusal, zeroBeyond};
 ghost use Rattle.wkb.specs.Bytes.{littleNumber, numberAt};
 ghost use Rattle.wkb.specs.Reading.{orderOf, slicesCheck, nought, ReadAs};
-ghost use Rattle.wkb.specs.Steps.{numbersAt, CheckedAs};
+ghost use Rattle.wkb.specs.Steps.{numbersAt, HeadAs, CheckedAs};
 
 // Which byte of a number comes first: the most significant one, or the least significant one.
 pub enum Order {
@@ -17,15 +20,33 @@ pub enum Order {
     Little,
 }
 
-// What the reader answers: how many points it read, or why it read none.
+// What the reader of a LineString answers: how many points it read, or why it read none.
 pub enum Read {
     Points(usize),
     Refused(Refusal),
 }
 
-// What a look at all fields finds: a LineString, or the byte position of the first fault.
+// What the reader of a MultiLineString answers: how many points and members it read, or why it read none.
+pub enum MultiRead {
+    Members { points: usize, members: usize },
+    Refused(Refusal),
+}
+
+// What a look at a byte order and a type finds: the order, or the byte position of the first fault.
+enum Head {
+    Named(Order),
+    Fault(usize),
+}
+
+// What a look at all fields of a LineString finds: its order and its points, or the byte position of the first fault.
 enum Checked {
     Line { order: Order, count: usize },
+    Fault(usize),
+}
+
+// What a look at all fields of a MultiLineString finds: how many members and points it has, or the byte position of the first fault.
+enum Looked {
+    Whole { members: usize, points: usize },
     Fault(usize),
 }
 
@@ -73,50 +94,60 @@ fn order_of(b: u8) -> Order
     if b == 0 { Order::Big } else { Order::Little }
 }
 
-// Looks at the fields in order, and writes nothing. A field that the input does not hold whole is a
-// fault at the end of input, and one that is wrong at its first byte.
-fn check(bytes: &[u8]) -> Checked
-    ensures { λ r. ⌜ CheckedAs (now (bytes .entry)) r ⌝ }
+// Looks at the byte order and the type at a position. A field that the input does not hold whole is a fault at the end of input, and one
+// that is wrong at its first byte.
+fn check_head(bytes: &[u8], kind: u64, at: usize) -> Head
+    requires { ⌜ at ≤ length (now bytes) ⌝ }
+    ensures { λ r. ⌜ HeadAs (now (bytes .entry)) kind at r ⌝ }
 {
     let len = bytes.len();
-    if len < 1 {
-        return Checked::Fault(len);
+    if len - at < 1 {
+        return Head::Fault(len);
     }
-    let b = bytes[0];
+    let b = bytes[at];
     if b > 1 {
-        return Checked::Fault(0);
+        return Head::Fault(at);
     }
     let order = order_of(b);
-    if len < 5 {
-        return Checked::Fault(len);
+    if len - at < 5 {
+        return Head::Fault(len);
     }
-    let kind = number_at_4(bytes, 1, order);
-    if kind != 2 {
-        return Checked::Fault(1);
+    let found = number_at_4(bytes, at + 1, order);
+    if found != kind {
+        return Head::Fault(at + 1);
     }
-    if len < 9 {
-        return Checked::Fault(len);
-    }
-    let count = number_at_4(bytes, 5, order) as usize;
-    if count < 1 {
-        return Checked::Fault(5);
-    }
-    if count > 1024 {
-        return Checked::Fault(5);
-    }
-    let end = 9 + 16 * count;
-    if len < end {
-        Checked::Fault(len)
-    } else if end < len {
-        Checked::Fault(end)
-    } else {
-        Checked::Line { order, count }
+    Head::Named(order)
+}
+
+// Looks at the fields of a LineString at a position, in order, and writes nothing.
+fn check_line(bytes: &[u8], at: usize) -> Checked
+    requires { ⌜ at ≤ length (now bytes) ⌝ }
+    ensures { λ r. ⌜ CheckedAs (now (bytes .entry)) at r ⌝ }
+{
+    let len = bytes.len();
+    match check_head(bytes, 2, at) {
+        Head::Fault(f) => Checked::Fault(f),
+        Head::Named(order) => {
+            if len - at < 9 {
+                return Checked::Fault(len);
+            }
+            let count = number_at_4(bytes, at + 5, order) as usize;
+            if count < 1 {
+                return Checked::Fault(at + 5);
+            }
+            if count > 1024 {
+                return Checked::Fault(at + 5);
+            }
+            if len - at < 9 + 16 * count {
+                return Checked::Fault(len);
+            }
+            Checked::Line { order, count }
+        }
     }
 }
 
-// Writes zero from `from` on.
-fn zero_from(s: &mut [f64], from: usize)
-    requires { ⌜ from ≤ length (now s) ⌝ }
+// Writes zero from `from` on. Where that is beyond the end, nothing changes.
+pub fn zero_from(s: &mut [f64], from: usize)
     ensures { λ _. ⌜ now (s .exit) ≡ take from (now (s .entry)) ++ replicate (length (now (s .entry)) - from) nought ⌝ }
 {
     let mut i = from;
@@ -129,7 +160,7 @@ fn zero_from(s: &mut [f64], from: usize)
 // Writes one coordinate of each of n points, whose first one stands at `at`; zero beyond.
 fn read_axis(bytes: &[u8], at: usize, order: Order, n: usize, s: &mut [f64])
     requires { ⌜ (at + 16 * n ≤ length (now bytes) + 8) × (n ≤ length (now s)) ⌝ }
-    ensures { λ _. ⌜ now (s .exit) ≡ map (ofBits binary64) (numbersAt order n at (now (bytes .entry))) ++ replicate (length (now (s .entry)) - n) nought ⌝ }
+    ensures { λ _. ⌜ now (s .exit) ≡ zeroBeyond nought (length (now (s .entry))) (map (ofBits binary64) (numbersAt order n at (now (bytes .entry)))) ⌝ }
 {
     let mut i = 0;
     while i < n {
@@ -146,6 +177,16 @@ fn check_slices(m: usize, n: usize) -> Check
     refusals::refuse_unless((m == n) & (1024 <= m), 3, 0)
 }
 
+// 11, at a byte position.
+fn fault(at: usize) -> Refusal
+    ensures { λ r. ⌜ r ≡ refusal 11 at ⌝ }
+{
+    Refusal {
+        number: 11,
+        value: at as u64,
+    }
+}
+
 // Reads one LineString of 1 to 1,024 points, with no bytes after it, into x and y; zero beyond. A
 // refusal changes nothing.
 pub fn read_line_string(bytes: &[u8], x: &mut [f64], y: &mut [f64]) -> Read
@@ -155,15 +196,16 @@ pub fn read_line_string(bytes: &[u8], x: &mut [f64], y: &mut [f64]) -> Read
     if let Check::Refused(r) = lent {
         return Read::Refused(r);
     }
-    match check(bytes) {
+    match check_line(bytes, 0) {
         Checked::Line { order, count } => {
+            let end = 9 + 16 * count;
+            if end < bytes.len() {
+                return Read::Refused(fault(end));
+            }
             read_axis(bytes, 9, order, count, x);
             read_axis(bytes, 17, order, count, y);
             Read::Points(count)
         }
-        Checked::Fault(at) => Read::Refused(Refusal {
-            number: 11,
-            value: at as u64,
-        }),
+        Checked::Fault(at) => Read::Refused(fault(at)),
     }
 }

@@ -4,6 +4,7 @@
 mod clock;
 mod covers;
 mod heap;
+mod members;
 mod numbers;
 mod orderings;
 mod points;
@@ -61,10 +62,13 @@ fn main() {
     if wanted("sizings") {
         sizings::times(clock, seed);
     }
+    if wanted("members") {
+        members::times(clock, &mut Random::new(seed));
+    }
     clock.end();
 }
 
-const STAGES: [&str; 9] = ["numbers", "walks", "covers", "orderings", "builds", "visits", "memory", "points", "sizings"];
+const STAGES: [&str; 10] = ["numbers", "walks", "covers", "orderings", "builds", "visits", "memory", "points", "sizings", "members"];
 
 fn stop() -> ! {
     eprintln!("bench [--seed S] [--rounds R] [STAGE..], with STAGE one of {}", STAGES.join(" "));

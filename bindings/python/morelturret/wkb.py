@@ -1,17 +1,18 @@
 """Well-known binary: LineStrings and MultiLineStrings, read and written.
 
-What the library's readers take they read: one LineString of at most 1,024 points, or a MultiLineString of such with at most 65,536 lines. Longer ones are
-read here, by the same rules but for the number of points; that part is plain Python. What neither takes is refused by 11, and `found` says what it is."""
+What the library's readers take they read: LineStrings of at most 1,024 points, and MultiLineStrings of such, of at most 65,536 lines; and so for its
+writer. Longer ones are read and written here, by the same rules but for these limits; that part is plain Python. What neither takes is refused by 11, and
+`found` says what it is."""
 import struct
 
 import numpy as np
 
-from ._library import answer, whole
+from ._library import answer, floats, whole
 from .refusal import Refusal
 
 LINE_STRING, MULTI_LINE_STRING = 2, 5
 MOST_POINTS = 1024
-TOO_MANY, BAD_WKB = 2, 11
+TOO_MANY_LINES, BAD_LENGTHS, BAD_WKB = 2, 3, 11
 TYPES = {1: "a Point", 3: "a Polygon", 4: "a MultiPoint", 6: "a MultiPolygon", 7: "a GeometryCollection"}
 
 
@@ -28,25 +29,15 @@ def read_wkb(data):
     """
     data = bytes(getattr(data, "wkb", data))
     order, kind = head(data, 0)
+    try:
+        return by_library(np.frombuffer(data, np.uint8), kind)
+    except Refusal as refusal:
+        if refusal.number not in (TOO_MANY_LINES, BAD_WKB):
+            raise
     if kind == LINE_STRING:
-        try:
-            x, y = (np.empty(MOST_POINTS) for _ in range(2))
-            count, *_ = answer("mt_read_line_string", np.frombuffer(data, np.uint8), x, y)
-            return x[:count].copy(), y[:count].copy(), whole([count])
-        except Refusal as refusal:
-            if refusal.number != BAD_WKB:
-                raise
-        members, at = [line_string(data, 0)], None
+        members = [line_string(data, 0)]
         at = 9 + 16 * len(members[0])
     else:
-        try:
-            x, y = (np.empty(len(data) // 16, np.uint64) for _ in range(2))
-            lengths = np.empty(len(data) // 25, np.uint32)
-            points, count, *_ = answer("mt_read_multi_line_string", np.frombuffer(data, np.uint8), x, y, lengths)
-            return x[:points].view(float).copy(), y[:points].view(float).copy(), lengths[:count].copy()
-        except Refusal as refusal:
-            if refusal.number not in (TOO_MANY, BAD_WKB):
-                raise
         count = number(data, 5, order)
         members, at = [], 9
         for k in range(count):
@@ -62,14 +53,31 @@ def read_wkb(data):
     return points[:, 0].copy(), points[:, 1].copy(), whole([len(member) for member in members])
 
 
+def by_library(data, kind):
+    """What the library's reader of this type reads; coordinates of a MultiLineString are bit patterns, so that a NaN keeps its bits."""
+    if kind == LINE_STRING:
+        x, y = np.empty(MOST_POINTS), np.empty(MOST_POINTS)
+        points, *_ = answer("mt_read_line_string", data, x, y)
+        return x[:points].copy(), y[:points].copy(), whole([points])
+    x, y, lengths = np.empty(len(data) // 16, np.uint64), np.empty(len(data) // 16, np.uint64), np.empty(len(data) // 25, np.uint32)
+    points, members, *_ = answer("mt_read_multi_line_string", data, x, y, lengths)
+    return x[:points].view(np.float64), y[:points].view(np.float64), lengths[:members]
+
+
 def write_wkb(x, y, lengths=None):
     """A little-endian MultiLineString of chains, whose points stand one chain after the other; of one chain where there are no lengths."""
-    points = np.stack([np.asarray(x, "<f8"), np.asarray(y, "<f8")], axis=1)
-    lengths = [len(points)] if lengths is None else [int(length) for length in lengths]
-    if sum(lengths) != len(points) or min(lengths, default=1) < 1:
-        raise Refusal(3, 0)
-    ends = np.cumsum(lengths, dtype=np.int64)
-    members = (struct.pack("<BII", 1, LINE_STRING, length) + points[end - length : end].tobytes() for length, end in zip(lengths, ends))
+    x, y = floats(x), floats(y)
+    lengths = whole([len(x)] if lengths is None else lengths)
+    written = np.empty(9 + 9 * len(lengths) + 16 * len(x), np.uint8)
+    try:
+        answer("mt_write_multi_line_string", x.view(np.uint64), y.view(np.uint64), lengths, written)
+        return written.tobytes()
+    except Refusal as refusal:
+        long = refusal.number == TOO_MANY_LINES or (refusal.number == BAD_LENGTHS and (lengths > MOST_POINTS).any())
+        if not long or len(x) != len(y) or lengths.sum() != len(x) or (lengths == 0).any():
+            raise
+    points, ends = np.stack([x, y], axis=1).astype("<f8"), np.cumsum(lengths, dtype=np.int64)
+    members = (struct.pack("<BII", 1, LINE_STRING, length) + points[end - length : end].tobytes() for length, end in zip(lengths.tolist(), ends.tolist()))
     return struct.pack("<BII", 1, MULTI_LINE_STRING, len(lengths)) + b"".join(members)
 
 

@@ -62,6 +62,12 @@ class WellKnownBinary(unittest.TestCase):
         with self.assertRaises(Refusal):
             write_wkb([1, 2], [1, 2], [3])
 
+    def test_nans_keep_their_bits(self):
+        x = np.array([0x7FF0000000000001, 0xFFF8000000000123], np.uint64).view(np.float64)
+        data = write_wkb(x, x)
+        self.assertEqual(data[18:], np.stack([x, x], axis=1).tobytes())
+        self.assertEqual(read_wkb(data)[0].tobytes(), x.tobytes())
+
     def test_members_of_either_order(self):
         data = struct.pack(">BII", 0, 5, 2) + line_string(2, "<") + line_string(3, ">")
         self.assertEqual(list(read_wkb(data)[2]), [2, 3])

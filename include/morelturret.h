@@ -255,6 +255,20 @@ uint32_t mt_batch(const uint64_t *grid, size_t grid_len, const double *start_x, 
                   const uint32_t *globals, size_t globals_len, uint64_t global_count, uint64_t bookmark, uint32_t *first, size_t first_len,
                   uint32_t *second, size_t second_len, uint64_t *out, size_t out_len);
 
+/* ---- the lines in a window ---- */
+
+/* The lines that may enter the window from (low_x, low_y) to (high_x, high_y): those whose own boxes overlap it, where equality counts, and which
+ * are global, or listed in a cell of the block from the cell of the lower corner to that of the upper. Each comes once, increasing, at the start of
+ * found, which is zeroed beyond them. The cell of a corner is that of any point, clamped to the grid; a 0 by 0 grid has no block. A window with a
+ * corner out of order matches nothing, the global lines neither.
+ * out (1 word): how many there are.
+ * Refuses by 3, 2, 1 (the first such line; 0 for the window, after the lines), 8, 10, 5 (how many there are; found is zeroed). */
+uint32_t mt_window(const uint64_t *grid, size_t grid_len, const double *start_x, size_t start_x_len,
+                   const double *start_y, size_t start_y_len, const double *end_x, size_t end_x_len, const double *end_y, size_t end_y_len,
+                   const uint32_t *offsets, size_t offsets_len, const uint32_t *items, size_t items_len,
+                   const uint32_t *globals, size_t globals_len, uint64_t global_count, double low_x, double low_y, double high_x,
+                   double high_y, uint32_t *found, size_t found_len, uint64_t *out, size_t out_len);
+
 /* ---- well-known binary ---- */
 
 /* Reads one LineString in well-known binary (type 2, either byte order, 1 to 1,024 points, no bytes after it) into x and y, which both have

@@ -24,6 +24,7 @@ pub mod straight;
 pub mod strategies;
 pub mod visit;
 pub mod walk;
+pub mod window;
 pub mod wkb;
 
 /// A kind of case: how one is drawn, checked, made smaller and shown.

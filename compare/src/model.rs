@@ -813,6 +813,42 @@ impl Standing<'_> {
     }
 }
 
+/// Document 02, 3: the lines in a window, which is [low x, low y, high x, high y]. Asked of each line by itself. out: how many there are.
+pub fn window(s: &Standing, w: [f64; 4], found: &mut [u32], out: &mut [u64]) -> u32 {
+    let refusal = if s.lines.uneven() { Some((3, 0)) } else { s.lines.refusal() }
+        .or((!w.iter().all(|&v| coordinate_fits(v))).then_some((1, 0)))
+        .or((!grid_fits(&s.grid)).then_some((8, 0)))
+        .or_else(|| (!s.fits()).then_some((10, 0)));
+    if let Some((number, value)) = refusal {
+        out[0] = value;
+        return number;
+    }
+    let g = &s.grid;
+    let column = |x: f64| clamped_floor((x - g.min_x) / g.cell_width, g.cols);
+    let row = |y: f64| clamped_floor((y - g.min_y) / g.cell_height, g.rows);
+    let in_block = |cell: usize| {
+        let (r, c) = ((cell / g.cols as usize) as u32, (cell % g.cols as usize) as u32);
+        column(w[0]) <= c && c <= column(w[2]) && row(w[1]) <= r && r <= row(w[3])
+    };
+    let blocks: Vec<usize> = (0..s.cells()).filter(|&cell| in_block(cell)).collect();
+    let listed = |i: u32| blocks.iter().any(|&cell| s.items[s.offsets[cell] as usize..s.offsets[cell + 1] as usize].contains(&i));
+    let overlaps = |i: usize| {
+        let line = s.lines.line(i);
+        (0..2).all(|k| least(line[k], line[k + 2]) <= w[k + 2] && w[k] <= greatest(line[k], line[k + 2]))
+    };
+    let in_order = w[0] <= w[2] && w[1] <= w[3];
+    let lines: Vec<u32> = (0..s.lines.len() as u32)
+        .filter(|&i| in_order && overlaps(i as usize) && (s.globals[..s.global_count as usize].contains(&i) || listed(i)))
+        .collect();
+    found.fill(0);
+    out[0] = lines.len() as u64;
+    if lines.len() > found.len() {
+        return 5;
+    }
+    found[..lines.len()].copy_from_slice(&lines);
+    0
+}
+
 /// `tests` are those of the tables where they fit; they are handed in, so that many batches of one visit share them.
 pub fn batch(s: &Standing, tests: &[Test], bookmark: u64, first: &mut [u32], second: &mut [u32], out: &mut [u64]) -> u32 {
     if let Some((number, value)) = s.refusal(first.len() != second.len(), bookmark) {

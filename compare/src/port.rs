@@ -96,6 +96,15 @@ pub fn batch(s: &Standing, bookmark: u64, first: &mut [u32], second: &mut [u32],
     )
 }
 
+/// The lines in the window [low x, low y, high x, high y]. out: how many there are.
+#[inline]
+pub fn window(s: &Standing, w: [f64; 4], found: &mut [u32], out: &mut [u64]) -> u32 {
+    let l = &s.lines;
+    sys::window(
+        &s.grid.words(), l.start_x, l.start_y, l.end_x, l.end_y, s.offsets, s.items, s.globals, s.global_count, w[0], w[1], w[2], w[3], found, out,
+    )
+}
+
 /// out: 0 for a cell, 1 for a global line, 2 for the end mark; row or position; column; first; second; overlap.
 #[inline]
 pub fn test_at(s: &Standing, bookmark: u64, out: &mut [u64]) -> u32 {

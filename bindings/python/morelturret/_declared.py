@@ -27,6 +27,7 @@ FUNCTIONS = {
     "mt_visit_cost": "grid: [u64], lines: usize, offsets: [u32], items: [u32], globals: [u32], global_count: u64, out: [mut u64] -> u32",
     "mt_lists_by_line": "grid: [u64], lines: usize, offsets: [u32], items: [u32], globals: [u32], global_count: u64, starts: [mut u32], listing: [mut u32], out: [mut u64] -> u32",
     "mt_batch": "grid: [u64], start_x: [f64], start_y: [f64], end_x: [f64], end_y: [f64], offsets: [u32], items: [u32], globals: [u32], global_count: u64, bookmark: u64, first: [mut u32], second: [mut u32], out: [mut u64] -> u32",
+    "mt_window": "grid: [u64], start_x: [f64], start_y: [f64], end_x: [f64], end_y: [f64], offsets: [u32], items: [u32], globals: [u32], global_count: u64, low_x: f64, low_y: f64, high_x: f64, high_y: f64, found: [mut u32], out: [mut u64] -> u32",
     "mt_read_line_string": "bytes: [u8], x: [mut f64], y: [mut f64], out: [mut u64] -> u32",
     "mt_read_multi_line_string": "bytes: [u8], x: [mut u64], y: [mut u64], lengths: [mut u32], out: [mut u64] -> u32",
     "mt_write_multi_line_string": "x: [u64], y: [u64], lengths: [u32], bytes: [mut u8], out: [mut u64] -> u32",

@@ -62,7 +62,7 @@ pub use place::{overlap_owned, owner, owners, point_owned, snap, strategies_agre
 pub use read::{read_line_string, read_points};
 pub use refusal::{Reason, Refusal};
 pub use sizing::Sizing;
-pub use tables::{build, Batch, Built, Cost, Pairs, Place, Room, Standing, Tables, Test};
+pub use tables::{build, Batch, Built, Cost, Pairs, Place, Room, Standing, Tables, Test, Window};
 pub use walk::segment_cells;
 
 /// The most lines that a build or a visit takes: above it refusal 2.

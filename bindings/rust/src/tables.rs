@@ -253,6 +253,13 @@ impl Tables {
         self.standing().batch(lines, bookmark, first, second)
     }
 
+    /// The lines that may enter a window: [`Standing::window`]. The lines are those that were built.
+    ///
+    /// Refuses by 3 (lengths), 2 (too many lines), 1 (a coordinate; 0 for the window), 10 (fewer lines than were built).
+    pub fn window(&self, lines: Lines, window: Window) -> Result<Vec<u32>, Refusal> {
+        self.standing().window(lines, window)
+    }
+
     /// All pairs whose boxes overlap: [`Standing::pairs`]. The lines are those that were built.
     ///
     /// Refuses by 3 (lengths), 2 (too many lines), 1 (a coordinate), 10 (fewer lines than were built).
@@ -409,6 +416,42 @@ impl<'a> Standing<'a> {
         Ok(Batch { tests, overlaps: overlaps as usize, bookmark })
     }
 
+    /// The lines that may enter a window, each once, increasing: those whose own boxes overlap it, where equality counts, and which are global, or
+    /// listed in a cell of the block from the cell of its lower corner to that of its upper corner. A window with a corner out of order matches nothing.
+    ///
+    /// Refuses by 3 (lengths), 2 (too many lines), 1 (a coordinate; 0 for the window, after the lines), 8 (the grid), 10 (the tables).
+    ///
+    /// ```
+    /// use morelturret::{Lines, Tables, Window};
+    ///
+    /// let lines = Lines::chain(&[0.0, 2.0, 2.0, 0.0, 0.0], &[0.0, 0.0, 2.0, 2.0, 0.0]);
+    /// let tables = Tables::of(lines)?;
+    /// let season = Window { low_x: 1.5, low_y: -1.0, high_x: 3.0, high_y: 1.0 };
+    /// assert_eq!(tables.window(lines, season)?, [0, 1]);
+    /// # Ok::<(), morelturret::Refusal>(())
+    /// ```
+    pub fn window(&self, lines: Lines, window: Window) -> Result<Vec<u32>, Refusal> {
+        let mut found = vec![0; lines.start_x.len().min(MAX_LINES)];
+        let count = self.window_into(lines, window, &mut found)?;
+        found.truncate(count);
+        Ok(found)
+    }
+
+    /// [`Standing::window`] into a lent slice, which is zeroed beyond the lines. Answers how many there are.
+    ///
+    /// Refuses as that does, then by 5 where the slice is short, with how many there are; the slice is zeroed.
+    pub fn window_into(&self, lines: Lines, window: Window, found: &mut [u32]) -> Result<usize, Refusal> {
+        let Standing { grid, offsets, items, globals, global_count, .. } = *self;
+        let Lines { start_x, start_y, end_x, end_y } = lines;
+        let Window { low_x, low_y, high_x, high_y } = window;
+        let [count] = answer(|out| {
+            sys::window(
+                &grid.words(), start_x, start_y, end_x, end_y, offsets, items, globals, global_count, low_x, low_y, high_x, high_y, found, out,
+            )
+        })?;
+        Ok(count as usize)
+    }
+
     /// All pairs whose boxes overlap, in the order of the visit, found in batches of `room` pairs (0 is taken as 1). A pair comes once for each
     /// test of it: in each cell that both lines visit, and once for a global line.
     ///
@@ -432,6 +475,19 @@ pub struct Cost {
     pub tests: u64,
     /// How many lines the longest list of a cell has.
     pub longest: usize,
+}
+
+/// A window, from its lower to its upper corner.
+#[derive(Clone, Copy, PartialEq, Debug)]
+pub struct Window {
+    /// x of the lower corner.
+    pub low_x: f64,
+    /// y of the lower corner.
+    pub low_y: f64,
+    /// x of the upper corner.
+    pub high_x: f64,
+    /// y of the upper corner.
+    pub high_y: f64,
 }
 
 /// Where a test is made.

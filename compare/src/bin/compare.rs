@@ -4,10 +4,10 @@
 //! The port takes part in every kind: --port may be said, and changes nothing.
 //! Ends with status 1 at the first difference.
 
-use compare::kinds::{self, build, cover, covering, drop_in, lists, multi, numbers, own, owners, pairs, seams, sided, snap, straight, strategies, visit, walk, wkb};
+use compare::kinds::{self, build, cover, covering, drop_in, lists, multi, numbers, own, owners, pairs, seams, sided, snap, straight, strategies, visit, walk, window, wkb};
 
 /// The kinds, with the cases of a full run.
-const KINDS: [(&str, u64); 28] = [
+const KINDS: [(&str, u64); 29] = [
     ("sample", 1),
     ("numbers", 10_000_000),
     ("walk", 1_000_000),
@@ -18,6 +18,7 @@ const KINDS: [(&str, u64); 28] = [
     ("own", 1_000_000),
     ("snap", 2_200_000),
     ("strategies", 12_000_000),
+    ("window", 2_000),
     ("wkb", 100_000),
     ("multi", 100_000),
     ("members", 100_000),
@@ -67,6 +68,7 @@ fn main() {
             "own" => kinds::run::<own::Own<false>>(seed, n, vec![]),
             "snap" => kinds::run::<snap::Snap>(seed, n, vec![]),
             "strategies" => kinds::run::<strategies::Strategies>(seed, n, strategies::fixed()),
+            "window" => kinds::run::<window::Window>(seed, n, vec![]),
             "wkb" => kinds::run::<wkb::Wkb>(seed, n, vec![]),
             "multi" => kinds::run::<multi::Multi>(seed, n, multi::fixed(seed)),
             "members" => kinds::run::<multi::Members>(seed, n, multi::fixed_members(seed)),

@@ -214,6 +214,28 @@ impl Owned {
         Owned { grid: s.grid, offsets: s.offsets.to_vec(), items: s.items.to_vec(), globals: s.globals.to_vec(), global_count: s.global_count }
     }
 
+    /// Other lists of n lines in the place of those that are there: fit, and such as no walk makes. A line may be in a list and global.
+    pub fn make_up(&mut self, n: u32, r: &mut Random) {
+        let cells = self.grid.cols as usize * self.grid.rows as usize;
+        let (often, most) = (1 + cells as u64 / 200, 1 + r.below(6));
+        let mut list = |some: bool| -> Vec<u32> {
+            if !some {
+                return Vec::new();
+            }
+            let mut all: Vec<u32> = (0..r.below(most + 1)).map(|_| r.below(n as u64) as u32).collect();
+            all.sort_unstable();
+            all.dedup();
+            all
+        };
+        self.globals = list(true);
+        self.global_count = self.globals.len() as u64;
+        (self.offsets, self.items) = (vec![0], Vec::new());
+        for cell in 0..cells {
+            self.items.extend(list((cell as u64).wrapping_mul(0x9e3779b97f4a7c15) >> 32 & 0xffff < 0x10000 / often));
+            self.offsets.push(self.items.len() as u32);
+        }
+    }
+
     /// One thing wrong with tables of n lines that were right. Most are refused with 10; the model says which are not.
     pub fn damage(&mut self, n: u32, r: &mut Random) {
         let Owned { grid, offsets, items, globals, global_count } = self;

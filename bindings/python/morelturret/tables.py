@@ -113,6 +113,17 @@ class Tables:
             for first, second, _ in self.batches():
                 yield first, second
 
+    def window(self, low_x, low_y, high_x, high_y):
+        """The lines that may enter a window, increasing: those whose boxes overlap it, and which are global or listed in a cell of its block.
+
+        >>> build(Lines.chain([0, 2, 2, 0, 0], [0, 0, 2, 2, 0])).window(1.5, -1, 3, 0.5)
+        array([0, 1], dtype=uint32)
+        """
+        standing = self.grid.words, *self.lines.slices, self.offsets, self.items, self.globals, len(self.globals)
+        found = np.empty(len(self.lines), np.uint32)
+        count, *_ = answer("mt_window", *standing, low_x, low_y, high_x, high_y, found)
+        return found[:count].copy()
+
     def owner(self, x, y):
         """Whose each point is: see `Grid.owner`."""
         return self.grid.owner(x, y)

@@ -127,6 +127,18 @@ class Visits(unittest.TestCase):
         self.assertIsInstance(overlap, bool)
         self.assertIsNone(tables.test(tables.tests))
 
+    def test_windows(self):
+        lines = self.tables.lines
+        low_x, high_x = np.minimum(lines.start_x, lines.end_x), np.maximum(lines.start_x, lines.end_x)
+        low_y, high_y = np.minimum(lines.start_y, lines.end_y), np.maximum(lines.start_y, lines.end_y)
+        for x, y, wide, high in ((280, 34, 3, 2), (289, 36, 0, 0), (270, 30, 50, 50), (295, 35, 1, 0.5), (0, 0, 1, 1), (290, 36, -1, 1)):
+            found = self.tables.window(x, y, x + wide, y + high)
+            overlap = (low_x <= x + wide) & (high_x >= x) & (low_y <= y + high) & (high_y >= y) & (wide >= 0) & (high >= 0)
+            self.assertLessEqual(set(found.tolist()), set(np.flatnonzero(overlap).tolist()))
+            # whatever begins inside the window enters it
+            inside = (lines.start_x >= x) & (lines.start_x <= x + wide) & (lines.start_y >= y) & (lines.start_y <= y + high)
+            self.assertLessEqual(set(np.flatnonzero(inside).tolist()), set(found.tolist()))
+
     def test_cost_and_lists_by_line(self):
         swings = build(Lines.chain([1000 * (k % 2) for k in range(503)], [0] * 503), walk="rust")
         for tables in (self.tables, swings, build(Lines.chain([], []))):

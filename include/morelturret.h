@@ -55,6 +55,7 @@ enum {
     MT_MISFIT_TABLES = 10,  /* the tables do not fit: 0 */
     MT_BAD_WKB = 11,        /* not a LineString, or not a MultiLineString, that the reader takes: the byte position */
     MT_UNFIT_SNAP = 12,     /* snap size or strategy unfit: 0 */
+    MT_SUM_TOO_LARGE = 13,  /* the sum of two counts is above 65,536: the first such entry */
     MT_OFF_GRID = 16,       /* an end of one segment is off the grid of the covering walk: 0 */
     MT_OUT_SHORT = 100,     /* `out` has too few words; nothing is written */
     MT_FEW_WORDS = 101,     /* a grid has too few words; nothing is written */
@@ -185,6 +186,43 @@ uint32_t mt_build(const double *start_x, size_t start_x_len, const double *start
                   const double *end_x, size_t end_x_len, const double *end_y, size_t end_y_len, uint32_t sizing, uint32_t mode,
                   uint32_t *offsets, size_t offsets_len, uint32_t *items, size_t items_len, uint32_t *globals, size_t globals_len,
                   uint32_t *scratch, size_t scratch_len, uint64_t *out, size_t out_len);
+
+/* ---- several benches ----
+ *
+ * Benches that share lines among them agree on a grid and a mode of walk, count their own lines, and add the count tables. Where each of at most 65,536
+ * lines is counted on exactly one bench, the sum is the table of a single count and no adding is refused, however the lines are shared and in whichever
+ * order the tables are added. */
+
+/* The grid that benches agree on: the first that a build of so many lines within these bounds would try, its cells sized by `sizing` (MT_SQUARE or MT_AXES).
+ * The bounds go in by two opposite corners, in either order. Any number of lines may be named: from about 1,000,000 on the cells get no smaller, for there are
+ * at most 1,001 columns and 1,001 rows. No lines have the grid of no cells.
+ * out (6 words): the six words of the grid, which is fit.
+ * Refuses by 1 (0). */
+uint32_t mt_agreed_grid(double start_x, double start_y, double end_x, double end_y, size_t lines, uint32_t sizing,
+                        uint64_t *out, size_t out_len);
+
+/* Counts the lines of each cell of a grid in a mode of walk (MT_RUST, MT_SIDED or MT_COVERING): counts[c] is how many lines visit cell c, and zero
+ * from the number of cells on. A line that visits more than 2,048 cells is global, and counted in no cell. All of the scratch, which has at least
+ * 16,384 entries, is zeroed.
+ * out (2 words): the sum of all counts, and the number of global lines. Those of all benches add up to those of a single count.
+ * Refuses by 3, 2, 1, 8, 4 (counts have fewer than cells + 1 entries), 7. */
+uint32_t mt_count(const double *start_x, size_t start_x_len, const double *start_y, size_t start_y_len,
+                  const double *end_x, size_t end_x_len, const double *end_y, size_t end_y_len, const uint64_t *grid, size_t grid_len,
+                  uint32_t mode, uint32_t *counts, size_t counts_len, uint32_t *scratch, size_t scratch_len, uint64_t *out, size_t out_len);
+
+/* Adds the count table `from` into `into`, which has the same length.
+ * out (1 word): written only on a refusal.
+ * Refuses by 3 (unequal lengths), 13; both change nothing. */
+uint32_t mt_add(uint32_t *into, size_t into_len, const uint32_t *from, size_t from_len, uint64_t *out, size_t out_len);
+
+/* The tables of the lines on a grid that was agreed on, in a mode of walk (MT_RUST, MT_SIDED or MT_COVERING): as mt_build leaves them on a grid that it
+ * picks, and laid out as there. The grid stays, however many lines a cell lists. Its offsets are the running sums of mt_count's counts.
+ * out (2 words): the number of items, the number of globals.
+ * Refuses by 3, 2, 1, 8, 4, 7, 5, 6. */
+uint32_t mt_tables_on(const double *start_x, size_t start_x_len, const double *start_y, size_t start_y_len,
+                      const double *end_x, size_t end_x_len, const double *end_y, size_t end_y_len, const uint64_t *grid, size_t grid_len,
+                      uint32_t mode, uint32_t *offsets, size_t offsets_len, uint32_t *items, size_t items_len,
+                      uint32_t *globals, size_t globals_len, uint32_t *scratch, size_t scratch_len, uint64_t *out, size_t out_len);
 
 /* ---- standing tables ---- */
 

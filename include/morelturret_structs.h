@@ -105,6 +105,7 @@ static inline const char *mt_message(uint32_t number) {
     case MT_MISFIT_TABLES: return "the tables do not fit";
     case MT_BAD_WKB: return "not a LineString, or not a MultiLineString, that the reader takes";
     case MT_UNFIT_SNAP: return "snap size or strategy unfit";
+    case MT_SUM_TOO_LARGE: return "the sum of two counts is above 65,536";
     case MT_OFF_GRID: return "an end of one segment is off the grid of the covering walk";
     case MT_OUT_SHORT: return "out has too few words";
     case MT_FEW_WORDS: return "a grid has too few words";

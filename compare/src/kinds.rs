@@ -1,6 +1,6 @@
 //! One comparison for each kind of question. Each asks the Rust, the model and the port.
 //! What the Rust cannot be asked (refusals, walks past the budget, the reader, cells sized by axis, the sided
-//! mode of walk) is asked of the model and the port. Kinds that
+//! mode of walk, several benches) is asked of the model and the port. Kinds that
 //! turn on the sizes of cells are asked twice: `AXES` says that width and height are kept apart.
 
 use crate::random::Random;
@@ -8,6 +8,7 @@ use crate::Grid;
 use std::collections::BTreeMap;
 
 pub mod build;
+pub mod counts;
 pub mod cover;
 pub mod drop_in;
 pub mod lists;
@@ -144,7 +145,7 @@ pub fn word(number: u32) -> &'static str {
         103 => "no such mode",
         _ => [
             "answered", "refused 1", "refused 2", "refused 3", "refused 4", "refused 5", "refused 6", "refused 7", "refused 8", "refused 9",
-            "refused 10", "refused 11", "refused 12",
+            "refused 10", "refused 11", "refused 12", "refused 13",
         ][number as usize],
     }
 }

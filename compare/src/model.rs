@@ -587,6 +587,141 @@ pub fn build(
     refusal.0
 }
 
+// ---- several benches ----
+
+/// What counting and tables on a given grid refuse before they write: 3, 2, 1, 8.
+fn lent_on(lines: Coordinates, g: &Grid, scratch: usize) -> Option<(u32, u64)> {
+    if lines.uneven() || scratch < SCRATCH {
+        return Some((3, 0));
+    }
+    lines.refusal().or(if grid_fits(g) { None } else { Some((8, 0)) })
+}
+
+/// out: the sum of all counts, the number of global lines.
+pub fn count(lines: Coordinates, g: &Grid, mode: u32, counts: &mut [u32], scratch: &mut [u32], out: &mut [u64]) -> u32 {
+    if out.len() < 2 {
+        return SHORT;
+    }
+    let Some(mode) = mode_of(mode) else {
+        return NO_MODE;
+    };
+    if let Some((number, value)) = lent_on(lines, g, scratch.len()) {
+        out[0] = value;
+        return number;
+    }
+    counts.fill(0);
+    scratch.fill(0);
+    let cells = g.cols as usize * g.rows as usize;
+    if counts.len() < cells + 1 {
+        out[0] = cells as u64 + 1;
+        return 4;
+    }
+    let (mut listed, mut globals, mut of_line) = (0, 0, Vec::new());
+    for i in 0..lines.len() {
+        if walk(mode, g, &lines.line(i), &mut of_line).is_none() {
+            counts.fill(0);
+            out[0] = i as u64;
+            return 7;
+        }
+        if of_line.len() > MOST_CELLS {
+            globals += 1;
+        } else {
+            listed += of_line.len() as u64;
+            of_line.iter().for_each(|&c| counts[c as usize] += 1);
+        }
+    }
+    out[..2].copy_from_slice(&[listed, globals]);
+    0
+}
+
+/// One count table into another. out: written only on a refusal.
+pub fn add(into: &mut [u32], from: &[u32], out: &mut [u64]) -> u32 {
+    if out.is_empty() {
+        return SHORT;
+    }
+    if into.len() != from.len() {
+        out[0] = 0;
+        return 3;
+    }
+    let sums: Vec<u64> = into.iter().zip(from).map(|(&a, &b)| a as u64 + b as u64).collect();
+    if let Some(entry) = sums.iter().position(|&sum| sum > 65536) {
+        out[0] = entry as u64;
+        return 13;
+    }
+    into.iter_mut().zip(sums).for_each(|(a, sum)| *a = sum as u32);
+    0
+}
+
+/// The tables of lines on a given grid. out: the number of items, the number of globals.
+#[allow(clippy::too_many_arguments)]
+pub fn tables_on(
+    lines: Coordinates, g: &Grid, mode: u32, offsets: &mut [u32], items: &mut [u32], globals: &mut [u32], scratch: &mut [u32], out: &mut [u64],
+) -> u32 {
+    if out.len() < 2 {
+        return SHORT;
+    }
+    let Some(mode) = mode_of(mode) else {
+        return NO_MODE;
+    };
+    if let Some((number, value)) = lent_on(lines, g, scratch.len()) {
+        out[0] = value;
+        return number;
+    }
+    for s in [&mut *offsets, &mut *items, &mut *globals, &mut *scratch] {
+        s.fill(0);
+    }
+    let cells = g.cols as usize * g.rows as usize;
+    let refusal = if offsets.len() < cells + 1 {
+        (4, cells as u64 + 1)
+    } else {
+        match listed_on(mode, g, lines) {
+            Err(line) => (7, line as u64),
+            Ok(t) => {
+                let all = t.lists.concat();
+                if all.len() > items.len() {
+                    (5, all.len() as u64)
+                } else if t.globals.len() > globals.len() {
+                    (6, t.globals.len() as u64)
+                } else {
+                    left(offsets, &t.offsets());
+                    left(items, &all);
+                    left(globals, &t.globals);
+                    out[..2].copy_from_slice(&[all.len() as u64, t.globals.len() as u64]);
+                    return 0;
+                }
+            }
+        }
+    };
+    out[0] = refusal.1;
+    refusal.0
+}
+
+/// The first grid of a sizing, from two opposite corners of the bounds, start and end of a line, and a number of lines. out: the words of the grid.
+pub fn agreed_grid(corners: &Line, lines: usize, sizing: u32, out: &mut [u64]) -> u32 {
+    if out.len() < 6 {
+        return SHORT;
+    }
+    let Some(sizing) = sizing_of(sizing) else {
+        return NO_SIZING;
+    };
+    if !corners.iter().all(|&v| coordinate_fits(v)) {
+        out[0] = 0;
+        return 1;
+    }
+    let mut grid = Grid { min_x: 0.0, min_y: 0.0, cell_width: 1.0, cell_height: 1.0, cols: 0, rows: 0 };
+    if lines > 0 {
+        let [x0, y0, x1, y1] = *corners;
+        // of zeros the first corner's is the lower one, and the second's the upper
+        let (min_x, min_y, max_x, max_y) = (least(x0, x1), least(y0, y1), greatest(x1, x0), greatest(y1, y0));
+        let (width, height) = (max_x - min_x, max_y - min_y);
+        let (cell_width, cell_height) = first_sizes(sizing, lines as f64, width, height);
+        let (cols, rows) = (ceiling((width + 1e-9) / cell_width) as u32, ceiling((height + 1e-9) / cell_height) as u32);
+        grid = Grid { min_x, min_y, cell_width, cell_height, cols, rows };
+    }
+    out[..6].copy_from_slice(&grid.words());
+    0
+}
+
 // ---- the visit ----
 
 /// Standing tables as a visit is lent them.

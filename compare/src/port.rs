@@ -9,7 +9,7 @@ use crate::model::{Coordinates, Lists, Standing};
 use crate::{Grid, Line};
 use morelturret::sys;
 
-pub use morelturret::sys::{read_line_string, read_multi_line_string, snap, strategies_agree, write_multi_line_string};
+pub use morelturret::sys::{add, read_line_string, read_multi_line_string, snap, strategies_agree, write_multi_line_string};
 
 pub mod numbers {
     pub use morelturret::sys::{ceiling, clamped_floor, floor, greatest, least, magnitude, round_half_away, square_root};
@@ -55,6 +55,27 @@ pub fn build(
     l: Coordinates, sizing: u32, mode: u32, offsets: &mut [u32], items: &mut [u32], globals: &mut [u32], scratch: &mut [u32], out: &mut [u64],
 ) -> u32 {
     sys::build(l.start_x, l.start_y, l.end_x, l.end_y, sizing, mode, offsets, items, globals, scratch, out)
+}
+
+/// out: the sum of all counts, the number of global lines.
+#[inline]
+pub fn count(l: Coordinates, g: &Grid, mode: u32, counts: &mut [u32], scratch: &mut [u32], out: &mut [u64]) -> u32 {
+    sys::count(l.start_x, l.start_y, l.end_x, l.end_y, &g.words(), mode, counts, scratch, out)
+}
+
+/// out: the number of items, the number of globals.
+#[inline]
+pub fn tables_on(
+    l: Coordinates, g: &Grid, mode: u32, offsets: &mut [u32], items: &mut [u32], globals: &mut [u32], scratch: &mut [u32], out: &mut [u64],
+) -> u32 {
+    sys::tables_on(l.start_x, l.start_y, l.end_x, l.end_y, &g.words(), mode, offsets, items, globals, scratch, out)
+}
+
+/// The corners of the bounds are the start and the end of a line. out: the words of the grid.
+#[inline]
+pub fn agreed_grid(corners: &Line, lines: usize, sizing: u32, out: &mut [u64]) -> u32 {
+    let [x0, y0, x1, y1] = *corners;
+    sys::agreed_grid(x0, y0, x1, y1, lines, sizing, out)
 }
 
 /// out: written only on a refusal.

@@ -35,11 +35,12 @@
 //! # Refusals
 //!
 //! [`Refusal`] has the numbers. Where several apply, the first in the order 3, 2, 1, 8, 12, 10, 9 is given; a build then goes by 4 and 7 at each
-//! grid that it tries, and at last by 5 and 6; a reader goes by 3 and 11, and one of many chains then by 2 and 5. Refusals 4 to 7 leave zeros in the slices that the call was lent to
+//! grid that it tries, and at last by 5 and 6; adding goes by 3 and 13; a reader goes by 3 and 11, and one of many chains then by 2 and 5. Refusals 4 to 7 leave zeros in the slices that the call was lent to
 //! write. All others change nothing.
 
 #![deny(unsafe_code, missing_docs)]
 
+mod counts;
 pub mod drop_in;
 mod lines;
 mod members;
@@ -55,6 +56,7 @@ pub mod sys;
 mod tables;
 mod walk;
 
+pub use counts::{add, agreed_grid, count, tables_on, Counted, Counts};
 pub use lines::{LineVec, Lines};
 pub use members::{lines_of_members, read_multi_line_string, write_multi_line_string, Members};
 pub use mode::{Mode, Plan};

@@ -16,7 +16,7 @@ use std::fmt;
 /// ```
 #[derive(Clone, Copy, PartialEq, Eq, Hash)]
 pub struct Refusal {
-    /// Which refusal: 1 to 12, or 16.
+    /// Which refusal: 1 to 13, or 16.
     pub number: u32,
     /// What goes with it.
     pub value: u64,
@@ -47,6 +47,8 @@ impl Refusal {
     pub const BAD_WKB: u32 = 11;
     /// Snap size or strategy unfit. The value is 0.
     pub const UNFIT_SNAP: u32 = 12;
+    /// The sum of two counts is above 65,536. The value is the first such entry.
+    pub const SUM_TOO_LARGE: u32 = 13;
     /// An end of one segment is off the grid of the covering walk. The value is 0.
     pub const OFF_GRID: u32 = 16;
 }
@@ -133,6 +135,7 @@ impl fmt::Display for Refusal {
             Refusal::MISFIT_TABLES => write!(f, "tables misfit"),
             Refusal::BAD_WKB => write!(f, "WKB refused (byte {value})"),
             Refusal::UNFIT_SNAP => write!(f, "snap size or strategy unfit"),
+            Refusal::SUM_TOO_LARGE => write!(f, "the sum of two counts is above 65,536 (entry {value})"),
             Refusal::OFF_GRID => write!(f, "an end of the segment is off the grid"),
             _ => write!(f, "value {value}"),
         }

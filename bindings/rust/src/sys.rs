@@ -33,6 +33,15 @@ extern "C" {
         end_y: *const f64, end_y_len: usize, sizing: u32, mode: u32, offsets: *mut u32, offsets_len: usize,
         items: *mut u32, items_len: usize, globals: *mut u32, globals_len: usize, scratch: *mut u32, scratch_len: usize,
         out: *mut u64, out_len: usize) -> u32;
+    fn mt_agreed_grid(start_x: f64, start_y: f64, end_x: f64, end_y: f64, lines: usize, sizing: u32, out: *mut u64, out_len: usize) -> u32;
+    fn mt_count(start_x: *const f64, start_x_len: usize, start_y: *const f64, start_y_len: usize, end_x: *const f64, end_x_len: usize,
+        end_y: *const f64, end_y_len: usize, grid: *const u64, grid_len: usize, mode: u32, counts: *mut u32, counts_len: usize,
+        scratch: *mut u32, scratch_len: usize, out: *mut u64, out_len: usize) -> u32;
+    fn mt_add(into: *mut u32, into_len: usize, from: *const u32, from_len: usize, out: *mut u64, out_len: usize) -> u32;
+    fn mt_tables_on(start_x: *const f64, start_x_len: usize, start_y: *const f64, start_y_len: usize, end_x: *const f64, end_x_len: usize,
+        end_y: *const f64, end_y_len: usize, grid: *const u64, grid_len: usize, mode: u32, offsets: *mut u32, offsets_len: usize,
+        items: *mut u32, items_len: usize, globals: *mut u32, globals_len: usize, scratch: *mut u32, scratch_len: usize,
+        out: *mut u64, out_len: usize) -> u32;
     fn mt_check_tables(grid: *const u64, grid_len: usize, lines: usize, offsets: *const u32, offsets_len: usize,
         items: *const u32, items_len: usize, globals: *const u32, globals_len: usize, global_count: u64,
         out: *mut u64, out_len: usize) -> u32;
@@ -186,6 +195,40 @@ pub fn build(start_x: &[f64], start_y: &[f64], end_x: &[f64], end_y: &[f64], siz
     // SAFETY: numbers by value, and Rust slices that are lent for this call.
     unsafe { mt_build(start_x.as_ptr(), start_x.len(), start_y.as_ptr(), start_y.len(), end_x.as_ptr(), end_x.len(),
         end_y.as_ptr(), end_y.len(), sizing, mode, offsets.as_mut_ptr(), offsets.len(), items.as_mut_ptr(), items.len(),
+        globals.as_mut_ptr(), globals.len(), scratch.as_mut_ptr(), scratch.len(), out.as_mut_ptr(), out.len()) }
+}
+
+/// `mt_agreed_grid` of the header.
+#[inline]
+pub fn agreed_grid(start_x: f64, start_y: f64, end_x: f64, end_y: f64, lines: usize, sizing: u32, out: &mut [u64]) -> u32 {
+    // SAFETY: numbers by value, and Rust slices that are lent for this call.
+    unsafe { mt_agreed_grid(start_x, start_y, end_x, end_y, lines, sizing, out.as_mut_ptr(), out.len()) }
+}
+
+/// `mt_count` of the header.
+#[inline]
+pub fn count(start_x: &[f64], start_y: &[f64], end_x: &[f64], end_y: &[f64], grid: &[u64], mode: u32, counts: &mut [u32],
+    scratch: &mut [u32], out: &mut [u64]) -> u32 {
+    // SAFETY: numbers by value, and Rust slices that are lent for this call.
+    unsafe { mt_count(start_x.as_ptr(), start_x.len(), start_y.as_ptr(), start_y.len(), end_x.as_ptr(), end_x.len(),
+        end_y.as_ptr(), end_y.len(), grid.as_ptr(), grid.len(), mode, counts.as_mut_ptr(), counts.len(),
+        scratch.as_mut_ptr(), scratch.len(), out.as_mut_ptr(), out.len()) }
+}
+
+/// `mt_add` of the header.
+#[inline]
+pub fn add(into: &mut [u32], from: &[u32], out: &mut [u64]) -> u32 {
+    // SAFETY: numbers by value, and Rust slices that are lent for this call.
+    unsafe { mt_add(into.as_mut_ptr(), into.len(), from.as_ptr(), from.len(), out.as_mut_ptr(), out.len()) }
+}
+
+/// `mt_tables_on` of the header.
+#[inline]
+pub fn tables_on(start_x: &[f64], start_y: &[f64], end_x: &[f64], end_y: &[f64], grid: &[u64], mode: u32, offsets: &mut [u32],
+    items: &mut [u32], globals: &mut [u32], scratch: &mut [u32], out: &mut [u64]) -> u32 {
+    // SAFETY: numbers by value, and Rust slices that are lent for this call.
+    unsafe { mt_tables_on(start_x.as_ptr(), start_x.len(), start_y.as_ptr(), start_y.len(), end_x.as_ptr(), end_x.len(),
+        end_y.as_ptr(), end_y.len(), grid.as_ptr(), grid.len(), mode, offsets.as_mut_ptr(), offsets.len(), items.as_mut_ptr(), items.len(),
         globals.as_mut_ptr(), globals.len(), scratch.as_mut_ptr(), scratch.len(), out.as_mut_ptr(), out.len()) }
 }
 

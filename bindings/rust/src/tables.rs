@@ -1,7 +1,7 @@
 //! The build, its tables, and the visit of their tests.
 
 use crate::refusal::{answer, Refusal};
-use crate::{sys, Grid, Lines, Plan, Sizing, MAX_CELLS_OF_LINE, MAX_LINES, MAX_OFFSETS, SCRATCH};
+use crate::{sys, tables_on, Grid, Lines, Mode, Plan, Sizing, MAX_CELLS_OF_LINE, MAX_LINES, MAX_OFFSETS, SCRATCH};
 use std::iter::FusedIterator;
 
 /// What a build answers beside the tables that it wrote.
@@ -165,14 +165,50 @@ impl Tables {
         let mut tables = Tables::with_room(Room { offsets: 4 * n + 16, items: 8 * n, globals: 0 });
         loop {
             let Err(refusal) = tables.build(lines, plan) else { return Ok(tables) };
-            let short = match refusal.number {
-                Refusal::SHORT_OFFSETS => &mut tables.offsets,
-                Refusal::SHORT_ITEMS => &mut tables.items,
-                Refusal::SHORT_GLOBALS => &mut tables.globals,
-                _ => return Err(refusal),
-            };
-            short.resize(refusal.value as usize, 0);
+            tables.make_room(refusal)?;
         }
+    }
+
+    /// The tables of these lines on a grid that was agreed on, in a mode of walk, with as much room as they need.
+    ///
+    /// Refuses by 3 (lengths), 2 (too many lines), 1 (a coordinate), 8 (the grid), 7 (a walk too long).
+    ///
+    /// ```
+    /// use morelturret::{agreed_grid, Counts, Lines, Mode, Sizing, Tables};
+    ///
+    /// let lines = Lines::chain(&[0.0, 2.0, 2.0, 0.0, 0.0], &[0.0, 0.0, 2.0, 2.0, 0.0]);
+    /// let grid = agreed_grid((0.0, 0.0), (2.0, 2.0), 4, Sizing::Square)?;
+    /// let (tables, counts) = (Tables::on(lines, grid, Mode::Rust)?, Counts::of(lines, grid, Mode::Rust)?);
+    /// assert_eq!(tables.cell(0, 0).len() as u32, counts.cell(0, 0));
+    /// assert_eq!(tables.items().len() as u64, counts.counted().listed);
+    /// # Ok::<(), morelturret::Refusal>(())
+    /// ```
+    pub fn on(lines: Lines, grid: Grid, mode: Mode) -> Result<Tables, Refusal> {
+        let n = lines.len().min(MAX_LINES);
+        let mut tables = Tables::with_room(Room { offsets: 4 * n + 16, items: 8 * n, globals: 0 });
+        loop {
+            let made = tables_on(lines, grid, mode, &mut tables.offsets, &mut tables.items, &mut tables.globals, &mut tables.scratch);
+            let refusal = match made {
+                Ok(made) => {
+                    (tables.grid, tables.item_count, tables.global_count, tables.line_count) = (grid, made.items, made.globals, lines.len());
+                    return Ok(tables);
+                }
+                Err(refusal) => refusal,
+            };
+            tables.make_room(refusal)?;
+        }
+    }
+
+    /// What refusals 4, 5 and 6 ask for; any other stays.
+    fn make_room(&mut self, refusal: Refusal) -> Result<(), Refusal> {
+        let short = match refusal.number {
+            Refusal::SHORT_OFFSETS => &mut self.offsets,
+            Refusal::SHORT_ITEMS => &mut self.items,
+            Refusal::SHORT_GLOBALS => &mut self.globals,
+            _ => return Err(refusal),
+        };
+        short.resize(refusal.value as usize, 0);
+        Ok(())
     }
 
     /// Builds the tables of these lines, by a plan, in place of those that stood. After refusals 1 to 3 the tables stand as they

@@ -363,6 +363,41 @@ fn twelve_a_strategy() {
 }
 
 #[test]
+fn thirteen_a_sum() {
+    let mut table = [0, 65535, 65536];
+    assert_eq!(of(add(&mut table, &[0, 2, 1])), (13, 1), "the first such entry");
+    assert_eq!(of(add(&mut table, &[0, 0, u32::MAX])), (13, 2), "in 64 bits");
+    assert_eq!(of(add(&mut table, &[0, 0])), (3, 0));
+    assert_eq!(table, [0, 65535, 65536], "nothing is changed");
+    assert_eq!(add(&mut table, &[65536, 1, 0]), Ok(()));
+    assert_eq!(table, [65536; 3]);
+}
+
+#[test]
+fn counting_on_a_grid() {
+    let lines = square();
+    let counted = |lines: Lines, grid, room: usize, length: usize| {
+        let (mut counts, mut scratch) = (vec![JUNK; room], vec![JUNK; length]);
+        let refusal = of(count(lines, grid, Mode::Rust, &mut counts, &mut scratch));
+        (refusal, counts.iter().chain(&scratch).all(|&v| v == JUNK), counts.iter().chain(&scratch).all(|&v| v == 0))
+    };
+    assert_eq!(counted(lines.lines(), FOUR, 17, SCRATCH - 1), ((3, 0), true, false));
+    assert_eq!(counted(Lines { end_x: &[], ..lines.lines() }, UNFIT, 1, SCRATCH), ((3, 0), true, false), "before 8 and 4");
+    assert_eq!(counted(lines.lines(), UNFIT, 1, SCRATCH), ((8, 0), true, false), "before 4");
+    assert_eq!(counted(lines.lines(), FOUR, 16, SCRATCH), ((4, 17), false, true));
+    let bad: LineVec = [[0.0; 4], [0.0, 0.0, f64::NAN, 0.0]].into_iter().collect();
+    assert_eq!(counted(bad.lines(), UNFIT, 1, SCRATCH), ((1, 1), true, false), "before 8");
+    assert_eq!(of(Counts::of(lines.lines(), UNFIT, Mode::Rust)), (8, 0));
+    assert_eq!(of(Tables::on(lines.lines(), UNFIT, Mode::Rust)), (8, 0));
+    assert_eq!(of(Counts::none(Grid { cols: u32::MAX, rows: u32::MAX, ..FOUR }, Mode::Rust)), (8, 0));
+    let mut sum = Counts::none(FOUR, Mode::Rust).unwrap();
+    assert_eq!(of(sum.add(&Counts::none(FOUR, Mode::Sided).unwrap())), (3, 0), "another mode");
+    assert_eq!(of(sum.add(&Counts::none(Grid { min_x: 1.0, ..FOUR }, Mode::Rust).unwrap())), (3, 0), "another grid");
+    assert_eq!(of(agreed_grid((0.0, 0.0), (0.0, 1.0000000001e9), 1, Sizing::Axes)), (1, 0));
+    assert_eq!(agreed_grid((0.0, 0.0), (2.0, 2.0), 0, Sizing::Axes), Ok(Grid::EMPTY));
+}
+
+#[test]
 fn sixteen_an_end_off_the_grid() {
     let mut scratch = vec![JUNK; SCRATCH];
     let large = Grid { cols: 683, rows: 3, ..FOUR };
@@ -387,11 +422,11 @@ fn sixteen_an_end_off_the_grid() {
 
 #[test]
 fn words() {
-    for number in (1..=12).chain([16]) {
+    for number in (1..=13).chain([16]) {
         let text = Refusal { number, value: 77 }.to_string();
         assert!(text.starts_with(&format!("refused {number}: ")), "{text}");
         // those whose value says something say it
-        assert_eq!(text.contains("77"), [1, 2, 4, 5, 6, 7, 9, 11].contains(&number), "{text}");
+        assert_eq!(text.contains("77"), [1, 2, 4, 5, 6, 7, 9, 11, 13].contains(&number), "{text}");
         assert!(!text.contains("value"), "{text} has words of its own");
     }
     let error: Box<dyn std::error::Error> = Box::new(Refusal { number: Refusal::MISFIT_TABLES, value: 0 });

@@ -4,10 +4,10 @@
 //! The port takes part in every kind: --port may be said, and changes nothing.
 //! Ends with status 1 at the first difference.
 
-use compare::kinds::{self, build, cover, covering, drop_in, lists, multi, numbers, own, owners, pairs, seams, sided, snap, straight, strategies, visit, walk, window, wkb};
+use compare::kinds::{self, build, counts, cover, covering, drop_in, lists, multi, numbers, own, owners, pairs, seams, sided, snap, straight, strategies, visit, walk, window, wkb};
 
 /// The kinds, with the cases of a full run.
-const KINDS: [(&str, u64); 29] = [
+const KINDS: [(&str, u64); 30] = [
     ("sample", 1),
     ("numbers", 10_000_000),
     ("walk", 1_000_000),
@@ -37,6 +37,7 @@ const KINDS: [(&str, u64); 29] = [
     ("covering-build", 2_000),
     ("pairs", 20_000),
     ("drop-in", 1_000),
+    ("counts", 2_700),
 ];
 
 fn main() {
@@ -86,7 +87,8 @@ fn main() {
             "drop-in" => kinds::run::<drop_in::DropIn>(seed, n, drop_in::fixed()),
             "covering-build" => kinds::run::<covering::CoveringBuild>(seed, n, vec![]),
             "cover" => kinds::run::<cover::Cover>(seed, n, cover::fixed()),
-            _ => kinds::run::<pairs::Pairs>(seed, n, vec![]),
+            "pairs" => kinds::run::<pairs::Pairs>(seed, n, vec![]),
+            _ => kinds::run::<counts::Counts>(seed, n, counts::fixed()),
         };
         println!("  (seed {seed}, {:.1} s)", begun.elapsed().as_secs_f64());
         if !right {

@@ -4,7 +4,7 @@
 // none, the function answers 100 before all else; next, where a grid has fewer than six words, 101, where a number names no sizing, 102, and where one
 // names no mode of walk, 103. All four change nothing.
 pub mod building;
-mod naming;
+pub mod naming;
 pub mod number;
 pub mod ownership;
 pub mod reading;
@@ -14,4 +14,4 @@ pub mod visiting;
 pub mod walking;
 
 // The number of a function that is handed too few words to say a grid.
-pub(crate) const FEW: u32 = 101;
+pub const FEW: u32 = 101;

@@ -6,16 +6,16 @@ ghost use mathlib.Core.Path.{_≡_};
 ghost use Rattle.capi.specs.Unknown.{sizingBy, modeBy, planBy};
 
 // The last sizing, and the number of a function that is asked for one beyond it.
-pub(crate) const LAST_SIZING: u32 = 1;
+pub const LAST_SIZING: u32 = 1;
 
-pub(crate) const NO_SIZING: u32 = 102;
+pub const NO_SIZING: u32 = 102;
 
 // The last mode of walk, and the number of a function that is asked for one beyond it.
-pub(crate) const LAST_MODE: u32 = 2;
+pub const LAST_MODE: u32 = 2;
 
-pub(crate) const NO_MODE: u32 = 103;
+pub const NO_MODE: u32 = 103;
 
-fn sizing_by(sizing: u32) -> Sizing
+pub fn sizing_by(sizing: u32) -> Sizing
     ensures { λ r. ⌜ r ≡ sizingBy sizing ⌝ }
 {
     if sizing == 0 {
@@ -24,7 +24,7 @@ fn sizing_by(sizing: u32) -> Sizing
     Sizing::Axes
 }
 
-pub(crate) fn mode_by(mode: u32) -> Mode
+pub fn mode_by(mode: u32) -> Mode
     ensures { λ r. ⌜ r ≡ modeBy mode ⌝ }
 {
     if mode == 0 {

@@ -132,4 +132,4 @@ pub all-pass : (z : Sizing) (ls : Lines) → LinesFit ls → 1 ≤ count ls → 
 all-pass z ls f N =
     let e = extentOf ls in
     let w : Within e = lines-within ls f N in
-    from-tried 2 ls f N 0 (firstSize z e (count ls)) w refl (first-tried z e (count ls) w N (f .few))
+    from-tried 2 ls f N 0 (firstSize z e (count ls)) w refl (first-tried z e (count ls) w N (omega (arith, f .few)))

@@ -161,8 +161,8 @@ power-below zero h = omega arith
 power-below (suc zero) h = omega arith
 power-below (suc (suc k)) h = absurd (omega arith)
 
--- the first one: 1,001 by 1,001 at most
-pub first-tried : (z : Sizing) (e : Extent) (n : ℕ) → Within e → 1 ≤ n → n ≤ 65536 → Tried e 0 (firstSize z e n)
+-- the first one, for as many lines as 64 bits can say: 1,001 by 1,001 at most
+pub first-tried : (z : Sizing) (e : Extent) (n : ℕ) → Within e → 1 ≤ n → n ≤ 2 ^ 64 → Tried e 0 (firstSize z e n)
 unfolding gridOf
 first-tried z e n w N most =
     let s = firstSize z e n in
@@ -222,7 +222,7 @@ pub all-fit : (z : Sizing) (ls : Lines) → LinesFit ls → 1 ≤ count ls → A
 all-fit z ls f N =
     let e = extentOf ls in
     let w : Within e = lines-within ls f N in
-    tried-all 2 e 0 (firstSize z e (count ls)) w refl (first-tried z e (count ls) w N (f .few))
+    tried-all 2 e 0 (firstSize z e (count ls)) w refl (first-tried z e (count ls) w N (omega (arith, f .few)))
 
 -- the same of grids that have a column
 abbrev pub AllSome : ℕ → Extent → Size → Type 0
@@ -242,7 +242,7 @@ pub all-some : (z : Sizing) (ls : Lines) → LinesFit ls → 1 ≤ count ls → 
 all-some z ls f N =
     let e = extentOf ls in
     let w : Within e = lines-within ls f N in
-    some-all 2 e 0 (firstSize z e (count ls)) w refl (first-tried z e (count ls) w N (f .few))
+    some-all 2 e 0 (firstSize z e (count ls)) w refl (first-tried z e (count ls) w N (omega (arith, f .few)))
 
 -- ---- what the counts and the size of a tried grid are
 

@@ -215,7 +215,7 @@ neg-finite nan t = absurd t
 neg-finite (inf s) t = absurd t
 neg-finite (fin s m e) t = tt
 
-difference : (lo hi : Float) → Coordinate lo → Coordinate hi → T (le lo hi) → Spans (sub binary64 hi lo)
+pub difference : (lo hi : Float) → Coordinate lo → Coordinate hi → T (le lo hi) → Spans (sub binary64 hi lo)
 unfolding sub
 difference lo hi p q h =
     let f = neg-finite lo (p .fine) in

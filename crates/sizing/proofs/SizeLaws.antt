@@ -9,9 +9,7 @@ use lib.Dec.{T, lit≤, lit<}
 use lib.IntN.{pos, negsuc}
 use lib.Pow.{pow-pos}
 use lib.Ieee.{Float, nan, inf, fin, binary64, up, down, unlike, fits, round, ofInt, mul, div, lt, le}
-use lib.Ieee.Exact.{HasValue}
-use lib.Ieee.Back.{round-whole}
-use lib.Ieee.Order.{round-mono, le-of-values}
+use lib.Ieee.Order.{round-mono}
 use lib.Ieee.Fits.{div-fits, ofInt-fits}
 use lib.Ieee.Scale.{finite}
 use lib.Ieee.Positive.{num, den, den-pos, positive, positive-of-value, between}
@@ -31,7 +29,7 @@ use Rattle.sizing.specs.Size.{largest, areaOf, squareSide, sideOn, first
 use Rattle.sizing.proofs.Constants.{nought, 1e-9, 1e-9-is, 1e-6, 1e-6-is, thousand, thousand-is, 2e9, 2e9-is}
 use Rattle.numbers.proofs.Extremes.{greatest-one, greatest-over}
 use Rattle.sizing.proofs.Reach.{Spans}
-use Rattle.numbers.proofs.FloatFractions.{own-value, nonneg-of-positive, le→cross, div-at, neg-zero-of}
+use Rattle.numbers.proofs.FloatFractions.{nonneg, own-value, nonneg-of-positive, le→cross, div-at, neg-zero-of}
 use Rattle.sizing.proofs.Width.{width-times}
 use Rattle.sizing.proofs.Halving.{Sized}
 use Rattle.sizing.proofs.CountLaws.{Across}
@@ -44,22 +42,30 @@ abbrev 4e18 : Float
 root-of-4e18 : root 4e18 ≡ 2e9
 root-of-4e18 = root-square 4e18 2e9 (unfold fits in tt) tt (unfold fits in tt) tt refl
 
--- and that of a number of lines, from 1 to 65,536, is from 1 to 256
+-- and that of a number of lines, from 1 to 2^64, is from 1 to 2^32
 
 abbrev one : Float
 one = fin false 1 (pos 0)
 
-abbrev 65536f : Float
-65536f = fin false 1 (pos 16)
+one-is : round binary64 false 1 1 ≡ one
+unfolding round
+one-is = refl
 
-abbrev 256f : Float
-256f = fin false 1 (pos 8)
+abbrev 2^64f : Float
+2^64f = fin false 1 (pos 64)
+
+2^64-is : round binary64 false (2 ^ 64) 1 ≡ 2^64f
+unfolding round
+2^64-is = refl
+
+abbrev 2^32f : Float
+2^32f = fin false 1 (pos 32)
 
 root-of-1 : root one ≡ one
 root-of-1 = root-square one one (unfold fits in tt) tt (unfold fits in tt) tt refl
 
-root-of-65536 : root 65536f ≡ 256f
-root-of-65536 = root-square 65536f 256f (unfold fits in tt) tt (unfold fits in tt) tt refl
+root-of-2^64 : root 2^64f ≡ 2^32f
+root-of-2^64 = root-square 2^64f 2^32f (unfold fits in tt) tt (unfold fits in tt) tt refl
 
 record Rooted (v : Float) : Type 0 where
   above-zero : T (positive v)
@@ -88,7 +94,7 @@ root-target v t h =
     let r = root-above v t a in
     record { held = r .0; real = plain-number (root v) (r .1); most = subst (λ (z : Float). T (le (root v) z)) root-of-4e18 (root-order v 4e18 t a (unfold fits in tt) tt (h .most)) }
 
--- ---- the area, or the number of lines in its stead: from 1e-9 to 4e18
+-- ---- an area that is not below 1e-9: at most 4e18
 
 record Area (a : Float) : Type 0 where
   least : T (le 1e-9 a)
@@ -140,63 +146,91 @@ product-area w h p q l = let f = mul-is w h (p .fine) (q .fine) in go (f .0) (f 
               (round-mono binary64 (num w * num h) (den w * den h) 4000000000000000000 1 C+ (lit< tt) (product-small (num w) (num h) (den w) (den h) (span-size w p) (span-size h q))));
         }
 
--- n lines
-module _ (n : ℕ) (N : 1 ≤ n) (few : n ≤ 65536) where
-  lines-is : HasValue (ofInt binary64 (pos n)) false n 1
+-- n lines, as many as 64 bits can say: rounded to a float they are from 1 to 2^64
+module _ (n : ℕ) (N : 1 ≤ n) (few : n ≤ 2 ^ 64) where
+  abbrev lines : Float
+  lines = ofInt binary64 (pos n)
+
+  lines-least : T (le one lines)
   unfolding ofInt
-  lines-is = round-whole binary64 false n (le-trans few (lit≤ tt))
+  lines-least = subst (λ (z : Float). T (le z (round binary64 false n 1))) one-is (round-mono binary64 1 1 n 1 (lit< tt) (lit< tt) (omega arith))
 
-  lines-area : Area (ofInt binary64 (pos n))
-  lines-area =
-      record {
-        least = le-of-values 1e-9 (ofInt binary64 (pos n)) 4835703278458517 (2 ^ 82) n 1 (pow-pos 82) (lit< tt) (refl, refl) lines-is (omega arith);
-        most = le-of-values (ofInt binary64 (pos n)) 4e18 n 1 4000000000000000000 1 (lit< tt) (lit< tt) lines-is (refl, refl) (omega arith);
-      }
+  lines-most : T (le lines 2^64f)
+  unfolding ofInt
+  lines-most = subst (λ (z : Float). T (le (round binary64 false n 1) z)) 2^64-is (round-mono binary64 n 1 (2 ^ 64) 1 (lit< tt) (lit< tt) (omega arith))
 
-  area-is : (e : Extent) → Spans (e .width) → Spans (e .height) → Area (areaOf e n)
-  unfolding areaOf
-  area-is e p q = rw 1e-9-is (go (lt (mul binary64 (e .width) (e .height)) 1e-9) refl)
-    where
-      go : (b : Bool) → lt (mul binary64 (e .width) (e .height)) 1e-9 ≡ b → Area (cond b (ofInt binary64 (pos n)) (mul binary64 (e .width) (e .height)))
-      go true l = lines-area
-      go false l = product-area (e .width) (e .height) p q l
+  lines+ : T (positive lines)
+  lines+ = between one lines 2^64f tt tt lines-least lines-most
 
-  -- ---- a line's share of it: above 0, and at most 4e18
+  lines≥ : T (nonneg lines)
+  lines≥ = nonneg-of-positive lines lines+
 
-  share-most : (A D : ℕ) → A * 1 ≤ 4000000000000000000 * D → A * 1 * 1 ≤ 4000000000000000000 * (n * D)
-  share-most A D h = let u : 1 * D ≤ n * D = mul-le-mul-right D N in omega arith
+  -- ---- a line's share of an area, or of the number of lines in its stead: above 0, and at most 4e18
 
-  share-least : (A D : ℕ) → 4835703278458517 * D ≤ A * 2 ^ 82 → 1 * (n * D) ≤ A * 1 * 2 ^ 60
-  share-least A D h = let u : n * D ≤ 65536 * D = mul-le-mul-right D few in omega arith
-
-  tiny-is : round binary64 false 1 (2 ^ 60) ≡ fin false 1 (negsuc 59)
+  tiny-is : round binary64 false 1 (2 ^ 94) ≡ fin false 1 (negsuc 93)
   unfolding round
   tiny-is = refl
 
-  share-rooted : (a : Float) → Area a → Rooted (div binary64 a (ofInt binary64 (pos n)))
-  share-rooted a h =
-      let lines = ofInt binary64 (pos n) in
+  shared : (a : Float) → T (positive a) → num a * den lines * 1 ≤ 4000000000000000000 * (num lines * den a) → 1 * (num lines * den a) ≤ num a * den lines * 2 ^ 94
+      → Rooted (div binary64 a lines)
+  shared a a+ below over =
+      let a≥ = nonneg-of-positive a a+ in
+      let is : div binary64 a lines ≡ round binary64 false (num a * den lines) (num lines * den a) = div-at binary64 a lines (num a) (den a) (num lines) (den lines) lines+ (den-pos a) (num-pos lines lines+) (own-value a a≥) (own-value lines lines≥) in
+      let C+ : 0 < num lines * den a = mul-pos (num-pos lines lines+) (den-pos a) in
+      let m : T (le (div binary64 a lines) 4e18) = rw is (subst (λ (z : Float). T (le (round binary64 false (num a * den lines) (num lines * den a)) z)) 4e18-is (round-mono binary64 (num a * den lines) (num lines * den a) 4000000000000000000 1 C+ (lit< tt) below)) in
+      let l : T (le (fin false 1 (negsuc 93)) (div binary64 a lines)) = rw is (subst (λ (z : Float). T (le z (round binary64 false (num a * den lines) (num lines * den a)))) tiny-is (round-mono binary64 1 (2 ^ 94) (num a * den lines) (num lines * den a) (pow-pos 94) C+ over)) in
+      record { above-zero = between (fin false 1 (negsuc 93)) (div binary64 a lines) 4e18 tt tt l m; most = m }
+
+  share-most : (A D L E : ℕ) → A * 1 ≤ 4000000000000000000 * D → 1 * E ≤ L * 1 → A * E * 1 ≤ 4000000000000000000 * (L * D)
+  share-most A D L E h k = let a : A ≤ 4000000000000000000 * D = omega arith in let e : E ≤ L = omega arith in omega (arith, mul-le-mul a e)
+
+  share-least : (A D L E : ℕ) → 4835703278458517 * D ≤ A * 2 ^ 82 → L * 1 ≤ 2 ^ 64 * E → 1 * (L * D) ≤ A * E * 2 ^ 94
+  share-least A D L E h k =
+      let d : D ≤ A * 2 ^ 30 = less D (A * 2 ^ 30) (le-trans (mul-le-mul-right D (lit≤ tt)) (le-trans h (same A))) in
+      let l : L ≤ 2 ^ 64 * E = omega arith in
+      omega (arith, mul-le-mul l d)
+    where
+      same : (x : ℕ) → x * 2 ^ 82 ≤ 2 ^ 52 * (x * 2 ^ 30)
+      same x = omega arith
+
+      less : (x y : ℕ) → 2 ^ 52 * x ≤ 2 ^ 52 * y → x ≤ y
+      less x y e = omega arith
+
+  area-shared : (a : Float) → Area a → Rooted (div binary64 a lines)
+  area-shared a h =
       let a+ : T (positive a) = between 1e-9 a 4e18 tt tt (h .least) (h .most) in
       let a≥ = nonneg-of-positive a a+ in
-      let is : div binary64 a lines ≡ round binary64 false (num a * 1) (n * den a) = div-at binary64 a lines (num a) (den a) n 1 (positive-of-value lines n 1 lines-is N) (den-pos a) N (own-value a a≥) lines-is in
-      let C+ : 0 < n * den a = mul-pos N (den-pos a) in
-      let m : T (le (div binary64 a lines) 4e18) = rw is (subst (λ (z : Float). T (le (round binary64 false (num a * 1) (n * den a)) z)) 4e18-is (round-mono binary64 (num a * 1) (n * den a) 4000000000000000000 1 C+ (lit< tt) (share-most (num a) (den a) (le→cross a 4e18 a≥ tt (h .most))))) in
-      let l : T (le (fin false 1 (negsuc 59)) (div binary64 a lines)) = rw is (subst (λ (z : Float). T (le z (round binary64 false (num a * 1) (n * den a)))) tiny-is (round-mono binary64 1 (2 ^ 60) (num a * 1) (n * den a) (pow-pos 60) C+ (share-least (num a) (den a) (le→cross 1e-9 a tt a≥ (h .least))))) in
-      record { above-zero = between (fin false 1 (negsuc 59)) (div binary64 a lines) 4e18 tt tt l m; most = m }
+      shared a a+
+      (share-most (num a) (den a) (num lines) (den lines) (le→cross a 4e18 a≥ tt (h .most)) (le→cross one lines tt lines≥ lines-least))
+      (share-least (num a) (den a) (num lines) (den lines) (le→cross 1e-9 a tt a≥ (h .least)) (le→cross lines 2^64f lines≥ tt lines-most))
+
+  lines-shared : Rooted (div binary64 lines lines)
+  lines-shared = shared lines lines+ (below (num lines * den lines)) (over (num lines * den lines))
+    where
+      below : (p : ℕ) → p * 1 ≤ 4000000000000000000 * p
+      below p = omega arith
+
+      over : (p : ℕ) → 1 * p ≤ p * 2 ^ 94
+      over p = omega arith
+
+  share-rooted : (e : Extent) → Spans (e .width) → Spans (e .height) → Rooted (div binary64 (areaOf e n) lines)
+  unfolding areaOf
+  share-rooted e p q = rw 1e-9-is (go (lt (mul binary64 (e .width) (e .height)) 1e-9) refl)
+    where
+      go : (b : Bool) → lt (mul binary64 (e .width) (e .height)) 1e-9 ≡ b → Rooted (div binary64 (cond b lines (mul binary64 (e .width) (e .height))) lines)
+      go true l = lines-shared
+      go false l = area-shared (mul binary64 (e .width) (e .height)) (product-area (e .width) (e .height) p q l)
 
   -- ---- their root: at least 1
 
-  lines-rooted : T (positive (root (ofInt binary64 (pos n)))) × T (le one (root (ofInt binary64 (pos n))))
+  lines-rooted : T (positive (root lines)) × T (le one (root lines))
   lines-rooted =
-      let lines = ofInt binary64 (pos n) in
       let held : T (fits binary64 lines) = ofInt-fits binary64 (pos n) in
-      let a : T (above lines) = above-is lines (positive-of-value lines n 1 lines-is N) in
-      let l : T (le one lines) = le-of-values one lines 1 1 n 1 (lit< tt) (lit< tt) (refl, refl) lines-is (omega arith) in
-      let m : T (le lines 65536f) = le-of-values lines 65536f n 1 65536 1 (lit< tt) (lit< tt) lines-is (refl, refl) (omega arith) in
-      let least : T (le one (root lines)) = subst (λ (z : Float). T (le z (root lines))) root-of-1 (root-order one lines (unfold fits in tt) tt held a l) in
-      let most : T (le (root lines) 256f) =
-      subst (λ (z : Float). T (le (root lines) z)) root-of-65536 (root-order lines 65536f held a (unfold fits in tt) tt m) in
-      (between one (root lines) 256f tt tt least most, least)
+      let a : T (above lines) = above-is lines lines+ in
+      let least : T (le one (root lines)) = subst (λ (z : Float). T (le z (root lines))) root-of-1 (root-order one lines (unfold fits in tt) tt held a lines-least) in
+      let most : T (le (root lines) 2^32f) =
+      subst (λ (z : Float). T (le (root lines) z)) root-of-2^64 (root-order lines 2^64f held a (unfold fits in tt) tt lines-most) in
+      (between one (root lines) 2^32f tt tt least most, least)
 
 -- ---- the largest of three: from 1e-6 to 2e9, and at least a thousandth of a width
 
@@ -289,11 +323,11 @@ side-across : (w s : Float) → Spans w → T (positive s) → T (le one s) → 
 unfolding sideOn
 side-across w s p s+ l = largest-across (div binary64 w s) w (quotient-target w s p s+ l) p w p (le-self w (span-number w p))
 
-pub first-sized : (z : Sizing) (e : Extent) (n : ℕ) → Spans (e .width) → Spans (e .height) → 1 ≤ n → n ≤ 65536 → SizedOn e 1 (firstSize z e n)
+pub first-sized : (z : Sizing) (e : Extent) (n : ℕ) → Spans (e .width) → Spans (e .height) → 1 ≤ n → n ≤ 2 ^ 64 → SizedOn e 1 (firstSize z e n)
 unfolding firstSize squareSide
 first-sized Square e n p q N few =
     let v = div binary64 (areaOf e n) (ofInt binary64 (pos n)) in
-    let t : Target (root v) = root-target v (div-fits binary64 (areaOf e n) (ofInt binary64 (pos n))) (share-rooted n N few (areaOf e n) (area-is n N few e p q)) in
+    let t : Target (root v) = root-target v (div-fits binary64 (areaOf e n) (ofInt binary64 (pos n))) (share-rooted n N few e p q) in
     let larger : Float = greatestOf (e .width) (e .height) in
     let o = greatest-over (e .width) (e .height) (span-number (e .width) p) (span-number (e .height) q) in
     let m : Spans larger = greatest-one Spans (e .width) (e .height) p q in

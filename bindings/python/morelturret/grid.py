@@ -40,6 +40,11 @@ class Grid(NamedTuple):
         """The grid of the words that a build answers."""
         return cls(*(from_bits(word) for word in words[:4]), *words[4:GRID_WORDS])
 
+    @classmethod
+    def agreed(cls, start, end, lines, sizing="square"):
+        """The grid that benches agree on: the first that a build of so many lines, any number, within these two corners would try."""
+        return cls.from_words(answer("mt_agreed_grid", *start, *end, lines, chosen("sizing", sizing, SIZINGS)))
+
     @property
     def words(self):
         """The words that a grid is passed by."""

@@ -13,8 +13,9 @@ SHORT_ITEMS, SHORT_GLOBALS = 5, 6
 BATCH = 1 << 22  # pairs; every batch checks the tables once more, so few large ones are quicker than many small ones
 
 
-def build(lines, sizing="square", walk=DEFAULT_WALK):
-    """Picks a grid for the lines and lists, for each cell, the lines that visit it: `Tables`. The room that it takes is what refusals 5 and 6 ask for.
+def build(lines, sizing="square", walk=DEFAULT_WALK, grid=None):
+    """Picks a grid for the lines, or takes the one that is named, and lists, for each cell, the lines that visit it: `Tables`. The room that it takes is
+    what refusals 5 and 6 ask for.
 
     `sizing` is "square" or "axes"; `walk` is "rust", "sided" or "covering", by which a full visit hands out every two lines that share a point. README
     says which to choose.
@@ -26,20 +27,22 @@ def build(lines, sizing="square", walk=DEFAULT_WALK):
     >>> tables.cells[0, 0]
     array([0, 3], dtype=uint32)
     """
-    plan = chosen("sizing", sizing, SIZINGS), chosen("walk", walk, WALKS)
+    walk_number = chosen("walk", walk, WALKS)
+    name, plan = ("mt_tables_on", (grid.words, walk_number)) if grid else ("mt_build", (chosen("sizing", sizing, SIZINGS), walk_number))
     offsets, scratch = np.empty(OFFSETS, np.uint32), np.empty(SCRATCH, np.uint32)
     room = {SHORT_ITEMS: 8 * len(lines) + 64, SHORT_GLOBALS: 64}
     while True:
         items, globals_ = (np.empty(entries, np.uint32) for entries in room.values())
         try:
-            words = answer("mt_build", *lines.slices, *plan, offsets, items, globals_, scratch)
+            words = answer(name, *lines.slices, *plan, offsets, items, globals_, scratch)
         except Refusal as refusal:
             if refusal.number not in room:
                 raise
             room[refusal.number] = refusal.value
             continue
-        grid = Grid.from_words(words)
-        item_count, global_count = words[GRID_WORDS : GRID_WORDS + 2]
+        if not grid:
+            grid, words = Grid.from_words(words), words[GRID_WORDS:]
+        item_count, global_count = words[:2]
         return Tables(lines, grid, offsets[: grid.cols * grid.rows + 1].copy(), items[:item_count], globals_[:global_count], sizing, walk)
 
 

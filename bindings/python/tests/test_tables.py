@@ -4,7 +4,7 @@ import unittest
 
 import numpy as np
 
-from morelturret import OUTSIDE, SEAM, WALKS, Grid, Lines, Refusal, build, snap, strategies_agree
+from morelturret import OUTSIDE, SEAM, WALKS, Grid, Lines, Refusal, add, build, count, snap, strategies_agree
 from morelturret.wkb import read_wkb
 
 from .shared import EXAMPLES, loops, pair_set
@@ -151,6 +151,19 @@ class Visits(unittest.TestCase):
                 for line in listed:
                     cells[line].append(row * tables.grid.cols + column)
             self.assertEqual([listing[a:b].tolist() for a, b in zip(starts, starts[1:])], cells)
+
+    def test_several_benches(self):
+        """Counts of shares of the lines add up to the lengths of the lists of all, and tables on the grid of a build are the build's."""
+        tables, lines = self.tables, self.tables.lines
+        counts, _ = count(lines[:200], tables.grid)
+        add(counts, count(lines[200:], tables.grid)[0])
+        self.assertTrue((counts == tables.cells.lengths.reshape(-1)).all())
+        again = build(lines, walk=tables.walk, grid=tables.grid)
+        self.assertEqual((again.items.tobytes(), again.offsets.tobytes()), (tables.items.tobytes(), tables.offsets.tobytes()))
+        full = np.full(3, 65_536, np.uint32)
+        with self.assertRaises(Refusal) as raised:
+            add(full, np.array([0, 0, 1], np.uint32))
+        self.assertEqual((raised.exception.number, raised.exception.value, full.tolist()), (13, 2, [65_536] * 3))
 
     def test_each_pair_once(self):
         plain, handed = pair_set(self.tables.pairs(once=False))

@@ -88,6 +88,44 @@ typedef struct {
     uint32_t kind, row, col;
 } mt_place;
 
+/* What a full visit will cost: its tests, and the number of lines of the longest list of a cell. */
+typedef struct {
+    uint64_t tests;
+    uint32_t longest;
+} mt_cost;
+
+/* Lists by line, with room for lines + 1 starts and for as many cells as the items have room for. The cells that list line i are
+ * cells[starts[i]] up to cells[starts[i + 1]]. */
+typedef struct {
+    uint32_t *starts, *cells;
+    size_t start_room, cell_room;
+    size_t cell_count;
+} mt_lists_room;
+
+/* Chains held as points with member lengths: coordinates as bit patterns, member after member, and the number of points of each member. The caller sets
+ * the addresses and the room of each; the counts tell how much of it is used. */
+typedef struct {
+    uint64_t *x, *y;
+    uint32_t *lengths;
+    size_t point_room, member_room;
+    size_t point_count, member_count;
+} mt_members;
+
+/* Room for lines, and how many are there. */
+typedef struct {
+    double *start_x, *start_y, *end_x, *end_y;
+    size_t room;
+    size_t count;
+} mt_lines_room;
+
+/* A count table of a grid, which has room for one entry more than there are cells: counts[c] is how many lines visit cell c. Beside it the sum of the
+ * counts, and how many lines are global. The scratch is needed by mt_counts_take alone. */
+typedef struct {
+    uint32_t *counts, *scratch;
+    size_t count_room, scratch_room;
+    uint64_t sum, global_count;
+} mt_counts;
+
 /* The sentence of a number that a function returned, without its value. */
 /* ---- written by tools/declarations: from here */
 static inline const char *mt_message(uint32_t number) {
@@ -142,6 +180,18 @@ static inline void mt_grid_words(const mt_grid *grid, uint64_t words[6]) {
     words[5] = grid->rows;
 }
 
+/* The grid of the first six words of an answer. */
+static inline mt_grid mt_grid_of(const uint64_t words[6]) {
+    mt_grid grid;
+    grid.min_x = mt_of_bits(words[0]);
+    grid.min_y = mt_of_bits(words[1]);
+    grid.cell_width = mt_of_bits(words[2]);
+    grid.cell_height = mt_of_bits(words[3]);
+    grid.cols = (uint32_t)words[4];
+    grid.rows = (uint32_t)words[5];
+    return grid;
+}
+
 /* What a flat function returned, with the value that it then wrote. */
 static inline mt_refusal mt_refused(uint32_t number, uint64_t value) {
     mt_refusal refusal;
@@ -172,6 +222,49 @@ static inline mt_lines mt_lines_chain(const double *x, const double *y, size_t p
     return lines;
 }
 
+/* Reads one MultiLineString in well-known binary. Room for a 16th of the bytes in points, and for a 25th in members, is always enough.
+ * Refuses by 11, 2, 5. */
+static inline mt_refusal mt_members_read(mt_members *members, const uint8_t *bytes, size_t length) {
+    uint64_t out[2] = {0, 0};
+    uint32_t number = mt_read_multi_line_string(bytes, length, members->x, members->point_room, members->y, members->point_room, members->lengths,
+                                                members->member_room, out, 2);
+    if (number == MT_OK) {
+        members->point_count = (size_t)out[0];
+        members->member_count = (size_t)out[1];
+    }
+    return mt_refused(number, out[0]);
+}
+
+/* Writes the members as one MultiLineString, little-endian throughout; *length is then the number of its bytes. Refuses by 3, 2, 5. */
+static inline mt_refusal mt_members_write(const mt_members *members, uint8_t *bytes, size_t room, size_t *length) {
+    uint64_t out[1] = {0};
+    uint32_t number = mt_write_multi_line_string(members->x, members->point_count, members->y, members->point_count, members->lengths,
+                                                 members->member_count, bytes, room, out, 1);
+    if (number == MT_OK) *length = (size_t)out[0];
+    return mt_refused(number, out[0]);
+}
+
+/* Consecutive points of each member as lines; none joins two members. Refuses by 3, 2, 5. */
+static inline mt_refusal mt_members_lines(const mt_members *members, mt_lines_room *lines) {
+    uint64_t out[1] = {0};
+    size_t n = members->point_count, room = lines->room;
+    uint32_t number = mt_lines_of_members(members->x, n, members->y, n, members->lengths, members->member_count, lines->start_x, room,
+                                          lines->start_y, room, lines->end_x, room, lines->end_y, room, out, 1);
+    if (number == MT_OK) lines->count = (size_t)out[0];
+    return mt_refused(number, out[0]);
+}
+
+/* The lines that are there. Nothing is copied. */
+static inline mt_lines mt_lines_in(const mt_lines_room *room) {
+    mt_lines lines;
+    lines.start_x = room->start_x;
+    lines.start_y = room->start_y;
+    lines.end_x = room->end_x;
+    lines.end_y = room->end_y;
+    lines.count = room->count;
+    return lines;
+}
+
 /* ---- the build ---- */
 
 /* Picks a grid for the lines and writes its tables, as mt_build does: sizing is MT_SQUARE or MT_AXES, and mode one of the modes of walk.
@@ -183,15 +276,28 @@ static inline mt_refusal mt_tables_build(mt_tables *tables, const mt_lines *line
                                tables->offset_room, tables->items, tables->item_room, tables->globals, tables->global_room, tables->scratch,
                                tables->scratch_room, out, 8);
     if (number == MT_OK) {
-        tables->grid.min_x = mt_of_bits(out[0]);
-        tables->grid.min_y = mt_of_bits(out[1]);
-        tables->grid.cell_width = mt_of_bits(out[2]);
-        tables->grid.cell_height = mt_of_bits(out[3]);
-        tables->grid.cols = (uint32_t)out[4];
-        tables->grid.rows = (uint32_t)out[5];
+        tables->grid = mt_grid_of(out);
         tables->line_count = n;
         tables->item_count = (size_t)out[6];
         tables->global_count = (size_t)out[7];
+    }
+    return mt_refused(number, out[0]);
+}
+
+/* Writes the tables of the lines on a grid that was agreed on, as mt_tables_on does. Refuses by 3, 2, 1, 8, 4, 7, 5, 6. */
+static inline mt_refusal mt_tables_fill(mt_tables *tables, const mt_lines *lines, const mt_grid *grid, uint32_t mode) {
+    uint64_t words[6], out[2] = {0, 0};
+    size_t n = lines->count;
+    uint32_t number;
+    mt_grid_words(grid, words);
+    number = mt_tables_on(lines->start_x, n, lines->start_y, n, lines->end_x, n, lines->end_y, n, words, 6, mode, tables->offsets,
+                          tables->offset_room, tables->items, tables->item_room, tables->globals, tables->global_room, tables->scratch,
+                          tables->scratch_room, out, 2);
+    if (number == MT_OK) {
+        tables->grid = *grid;
+        tables->line_count = n;
+        tables->item_count = (size_t)out[0];
+        tables->global_count = (size_t)out[1];
     }
     return mt_refused(number, out[0]);
 }
@@ -234,7 +340,48 @@ static inline mt_refusal mt_tables_global(const mt_tables *tables, uint64_t posi
     return mt_refused(number, out[0]);
 }
 
+/* Lists by line: for each line the cells that list it, increasing. Refuses by 3, 2, 8, 10. */
+static inline mt_refusal mt_tables_by_line(const mt_tables *tables, mt_lists_room *lists) {
+    uint64_t grid[6], out[1] = {0};
+    uint32_t number;
+    mt_grid_words(&tables->grid, grid);
+    number = mt_lists_by_line(grid, 6, tables->line_count, tables->offsets, tables->offset_room, tables->items, tables->item_room,
+                              tables->globals, tables->global_room, tables->global_count, lists->starts, lists->start_room, lists->cells,
+                              lists->cell_room, out, 1);
+    if (number == MT_OK) lists->cell_count = (size_t)out[0];
+    return mt_refused(number, out[0]);
+}
+
+/* The lines that may enter the window {low x, low y, high x, high y}, increasing, at the start of found; *count is then their number.
+ * Refuses by 3, 2, 1, 8, 10, 5. */
+static inline mt_refusal mt_tables_window(const mt_tables *tables, const mt_lines *lines, const double window[4], uint32_t *found, size_t room,
+                                          size_t *count) {
+    uint64_t grid[6], out[1] = {0};
+    size_t n = lines->count;
+    uint32_t number;
+    mt_grid_words(&tables->grid, grid);
+    number = mt_window(grid, 6, lines->start_x, n, lines->start_y, n, lines->end_x, n, lines->end_y, n, tables->offsets, tables->offset_room,
+                       tables->items, tables->item_room, tables->globals, tables->global_room, tables->global_count, window[0], window[1],
+                       window[2], window[3], found, room, out, 1);
+    if (number == MT_OK) *count = (size_t)out[0];
+    return mt_refused(number, out[0]);
+}
+
 /* ---- the visit ---- */
+
+/* What a full visit will cost, before it is begun. Refuses by 2, 8, 10. */
+static inline mt_refusal mt_tables_cost(const mt_tables *tables, mt_cost *cost) {
+    uint64_t grid[6], out[2] = {0, 0};
+    uint32_t number;
+    mt_grid_words(&tables->grid, grid);
+    number = mt_visit_cost(grid, 6, tables->line_count, tables->offsets, tables->offset_room, tables->items, tables->item_room,
+                           tables->globals, tables->global_room, tables->global_count, out, 2);
+    if (number == MT_OK) {
+        cost->tests = out[0];
+        cost->longest = (uint32_t)out[1];
+    }
+    return mt_refused(number, out[0]);
+}
 
 /* One test by its bookmark. Refuses by 3, 2, 1, 8, 10, 9. */
 static inline mt_refusal mt_tables_test(const mt_tables *tables, const mt_lines *lines, uint64_t bookmark, mt_test *test) {
@@ -319,6 +466,44 @@ static inline mt_refusal mt_grid_owns(const mt_grid *grid, uint32_t row, uint32_
     if (number == MT_OK) *owned = out[0] != 0;
     return mt_refused(number, out[0]);
 }
+
+/* ---- several benches ---- */
+
+/* The grid that benches agree on, for so many lines between two opposite corners {x, y, x, y}. Refuses by 1. */
+static inline mt_refusal mt_grid_agreed(mt_grid *grid, const double corners[4], size_t lines, uint32_t sizing) {
+    uint64_t out[6] = {0, 0, 0, 0, 0, 0};
+    uint32_t number = mt_agreed_grid(corners[0], corners[1], corners[2], corners[3], lines, sizing, out, 6);
+    if (number == MT_OK) *grid = mt_grid_of(out);
+    return mt_refused(number, out[0]);
+}
+
+/* Counts the lines of each cell of a grid. Refuses by 3, 2, 1, 8, 4, 7. */
+static inline mt_refusal mt_counts_take(mt_counts *counts, const mt_lines *lines, const mt_grid *grid, uint32_t mode) {
+    uint64_t words[6], out[2] = {0, 0};
+    size_t n = lines->count;
+    uint32_t number;
+    mt_grid_words(grid, words);
+    number = mt_count(lines->start_x, n, lines->start_y, n, lines->end_x, n, lines->end_y, n, words, 6, mode, counts->counts, counts->count_room,
+                      counts->scratch, counts->scratch_room, out, 2);
+    if (number == MT_OK) {
+        counts->sum = out[0];
+        counts->global_count = out[1];
+    }
+    return mt_refused(number, out[0]);
+}
+
+/* Adds the counts of another bench, which has as many entries, with their sum and the number of its global lines. Refuses by 3, 13. */
+static inline mt_refusal mt_counts_add(mt_counts *into, const mt_counts *from) {
+    uint64_t out[1] = {0};
+    uint32_t number = mt_add(into->counts, into->count_room, from->counts, from->count_room, out, 1);
+    if (number == MT_OK) {
+        into->sum += from->sum;
+        into->global_count += from->global_count;
+    }
+    return mt_refused(number, out[0]);
+}
+
+/* ---- snapping ---- */
 
 /* Snaps the point (*x, *y) to multiples of size. Refuses by 1, 12. */
 static inline mt_refusal mt_snap_point(double *x, double *y, double size) {

@@ -11,6 +11,12 @@ static double x[MT_MAX_POINTS], y[MT_MAX_POINTS], flat_x[MT_MAX_POINTS], flat_y[
 static uint32_t offsets[MT_MAX_OFFSETS], items[ITEMS], globals[LINES], scratch[MT_SCRATCH];
 static uint32_t flat_offsets[MT_MAX_OFFSETS], flat_items[ITEMS], flat_globals[LINES], flat_scratch[MT_SCRATCH];
 static uint32_t first[ROOM], second[ROOM], flat_first[ROOM], flat_second[ROOM], owners[MT_MAX_POINTS], flat_owners[MT_MAX_POINTS];
+static uint32_t starts[LINES + 1], flat_starts[LINES + 1], cells[ITEMS], flat_cells[ITEMS];
+static uint32_t counts[MT_MAX_OFFSETS], flat_counts[MT_MAX_OFFSETS], more_counts[MT_MAX_OFFSETS], flat_more_counts[MT_MAX_OFFSETS];
+static uint64_t member_x[MT_MAX_POINTS], member_y[MT_MAX_POINTS], flat_member_x[MT_MAX_POINTS], flat_member_y[MT_MAX_POINTS];
+static uint32_t lengths[MT_MAX_POINTS], flat_lengths[MT_MAX_POINTS];
+static double line_ends[4][LINES], flat_line_ends[4][LINES];
+static uint8_t written[BYTES + 9 * MT_MAX_POINTS], flat_written[BYTES + 9 * MT_MAX_POINTS];
 static unsigned long held;
 
 static void same(int is_so, const char *what, const char *path) {
@@ -84,6 +90,99 @@ static void on_grid(const mt_tables *tables, const mt_points *points, const uint
     }
 }
 
+/* What standing tables are asked besides: the cost of a visit, lists by line, windows. */
+static void ask(const mt_tables *tables, const mt_lines *lines, const uint64_t *grid, const char *path) {
+    const size_t n = lines->count;
+    uint64_t out[2];
+    mt_cost cost = {0, 0};
+    uint32_t number = mt_visit_cost(grid, 8, n, flat_offsets, MT_MAX_OFFSETS, flat_items, ITEMS, flat_globals, LINES, grid[7], out, 2);
+    if (alike(mt_tables_cost(tables, &cost), number, out[0], "a cost", path)) same(cost.tests == out[0] && cost.longest == out[1], "the cost", path);
+    mt_lists_room lists = {starts, cells, LINES + 1, ITEMS, 0};
+    number = mt_lists_by_line(grid, 8, n, flat_offsets, MT_MAX_OFFSETS, flat_items, ITEMS, flat_globals, LINES, grid[7], flat_starts, LINES + 1, flat_cells, ITEMS, out, 1);
+    if (alike(mt_tables_by_line(tables, &lists), number, out[0], "lists by line", path)) {
+        same(lists.cell_count == out[0] && !memcmp(starts, flat_starts, sizeof starts) && !memcmp(cells, flat_cells, sizeof cells), "the lists by line", path);
+    }
+    lists.start_room = n;
+    same(mt_tables_by_line(tables, &lists).number == MT_BAD_LENGTHS, "lists by line in short starts", path);
+    for (size_t i = 0; i < n && i < 20; i++) {
+        double window[4] = {lines->start_x[i], lines->start_y[i], lines->end_x[i], lines->end_y[i]};
+        for (size_t room = 0; room <= ROOM; room += ROOM) {
+            size_t count = 0;
+            number = mt_window(grid, 8, lines->start_x, n, lines->start_y, n, lines->end_x, n, lines->end_y, n, flat_offsets, MT_MAX_OFFSETS, flat_items, ITEMS,
+                               flat_globals, LINES, grid[7], window[0], window[1], window[2], window[3], flat_first, room, out, 1);
+            if (alike(mt_tables_window(tables, lines, window, first, room, &count), number, out[0], "a window", path)) {
+                same(count == out[0] && !memcmp(first, flat_first, room * sizeof *first), "the lines in a window", path);
+            }
+        }
+    }
+}
+
+/* The lines on an agreed grid, counted in two shares and added, and their tables. */
+static void share(const mt_lines *lines, uint32_t sizing, uint32_t mode, const char *path) {
+    const size_t n = lines->count, half = n / 2;
+    const double corners[4] = {-50.0, 40.0, 60.0, -30.0};
+    uint64_t words[6], out[2], flat_sum = 0, flat_globals_counted = 0;
+    mt_grid grid;
+    uint32_t number = mt_agreed_grid(corners[0], corners[1], corners[2], corners[3], n, sizing, words, 6);
+    if (!alike(mt_grid_agreed(&grid, corners, n, sizing), number, number < MT_OUT_SHORT ? words[0] : 0, "an agreed grid", path)) return;
+    mt_counts all = {counts, scratch, MT_MAX_OFFSETS, MT_SCRATCH, 0, 0}, more = {more_counts, scratch, MT_MAX_OFFSETS, MT_SCRATCH, 0, 0};
+    for (int part = 0; part < 2; part++) {
+        const size_t from = part == 0 ? 0 : half, m = part == 0 ? half : n - half;
+        const mt_lines some = {lines->start_x + from, lines->start_y + from, lines->end_x + from, lines->end_y + from, m};
+        number = mt_count(some.start_x, m, some.start_y, m, some.end_x, m, some.end_y, m, words, 6, mode, part == 0 ? flat_counts : flat_more_counts,
+                          MT_MAX_OFFSETS, flat_scratch, MT_SCRATCH, out, 2);
+        if (!alike(mt_counts_take(part == 0 ? &all : &more, &some, &grid, mode), number, out[0], "a count", path)) return;
+        flat_sum += out[0], flat_globals_counted += out[1];
+    }
+    same(!memcmp(counts, flat_counts, sizeof counts) && !memcmp(more_counts, flat_more_counts, sizeof more_counts), "the counts", path);
+    number = mt_add(flat_counts, MT_MAX_OFFSETS, flat_more_counts, MT_MAX_OFFSETS, out, 1);
+    if (alike(mt_counts_add(&all, &more), number, out[0], "adding counts", path)) {
+        same(!memcmp(counts, flat_counts, sizeof counts) && all.sum == flat_sum && all.global_count == flat_globals_counted, "the added counts", path);
+    }
+    more.count_room--;
+    same(mt_counts_add(&all, &more).number == MT_BAD_LENGTHS && all.sum == flat_sum, "adding counts of another length", path);
+    mt_tables tables;
+    memset(&tables, 0, sizeof tables);
+    tables.offsets = offsets, tables.offset_room = MT_MAX_OFFSETS;
+    tables.items = items, tables.item_room = ITEMS;
+    tables.globals = globals, tables.global_room = LINES;
+    tables.scratch = scratch, tables.scratch_room = MT_SCRATCH;
+    number = mt_tables_on(lines->start_x, n, lines->start_y, n, lines->end_x, n, lines->end_y, n, words, 6, mode, flat_offsets, MT_MAX_OFFSETS, flat_items, ITEMS,
+                          flat_globals, LINES, flat_scratch, MT_SCRATCH, out, 2);
+    if (!alike(mt_tables_fill(&tables, lines, &grid, mode), number, out[0], "tables on a grid", path)) return;
+    same(tables.line_count == n && tables.item_count == out[0] && tables.global_count == out[1] && tables.item_count == all.sum, "what tables on a grid answer", path);
+    same(!memcmp(offsets, flat_offsets, sizeof offsets) && !memcmp(items, flat_items, sizeof items) && !memcmp(globals, flat_globals, sizeof globals), "the tables on a grid", path);
+    same(mt_tables_check(&tables).number == MT_OK, "the fit of tables on a grid", path);
+}
+
+/* The points as members of one file, the first of them alone in one, written, read again and made lines of. */
+static void members(const mt_points *points, const char *path) {
+    const size_t n = points->count;
+    uint64_t out[2];
+    size_t length = 0;
+    for (size_t i = 0; i < n; i++) flat_member_x[i] = mt_bits_of(x[i]), flat_member_y[i] = mt_bits_of(y[i]);
+    flat_lengths[0] = 1, flat_lengths[1] = (uint32_t)(n - 1);
+    const size_t count = n > 1 ? 2 : 1;
+    const mt_members made = {flat_member_x, flat_member_y, flat_lengths, n, count, n, count};
+    for (size_t room = 8; room <= sizeof written; room += sizeof written - 8) {
+        uint32_t number = mt_write_multi_line_string(flat_member_x, n, flat_member_y, n, flat_lengths, count, flat_written, room, out, 1);
+        if (alike(mt_members_write(&made, written, room, &length), number, out[0], "writing members", path)) same(length == out[0] && !memcmp(written, flat_written, room), "the bytes of members", path);
+    }
+    for (size_t room = 0; room <= MT_MAX_POINTS; room += MT_MAX_POINTS) {
+        mt_members read = {member_x, member_y, lengths, MT_MAX_POINTS, room, 0, 0};
+        uint32_t number = mt_read_multi_line_string(written, length, flat_member_x, MT_MAX_POINTS, flat_member_y, MT_MAX_POINTS, flat_lengths, room, out, 2);
+        if (!alike(mt_members_read(&read, written, length), number, out[0], "reading members", path)) continue;
+        same(read.point_count == out[0] && read.member_count == out[1] && read.point_count == n && read.member_count == count, "how many members were read", path);
+        same(!memcmp(member_x, flat_member_x, sizeof member_x) && !memcmp(member_y, flat_member_y, sizeof member_y) && !memcmp(lengths, flat_lengths, sizeof lengths), "the members", path);
+        mt_lines_room lines = {line_ends[0], line_ends[1], line_ends[2], line_ends[3], LINES, 0};
+        number = mt_lines_of_members(flat_member_x, n, flat_member_y, n, flat_lengths, count, flat_line_ends[0], LINES, flat_line_ends[1], LINES, flat_line_ends[2], LINES,
+                                     flat_line_ends[3], LINES, out, 1);
+        if (!alike(mt_members_lines(&read, &lines), number, out[0], "lines of members", path)) continue;
+        same(lines.count == out[0] && lines.count == n - count && mt_lines_in(&lines).count == lines.count && mt_lines_in(&lines).end_y == line_ends[3], "how many lines members have", path);
+        same(!memcmp(line_ends, flat_line_ends, sizeof line_ends), "the lines of members", path);
+    }
+}
+
 static void build(const mt_lines *lines, const mt_points *points, uint32_t sizing, uint32_t mode, const char *path) {
     const size_t n = lines->count;
     uint64_t built[8];
@@ -102,6 +201,7 @@ static void build(const mt_lines *lines, const mt_points *points, uint32_t sizin
     same(!memcmp(offsets, flat_offsets, sizeof offsets) && !memcmp(items, flat_items, sizeof items) && !memcmp(globals, flat_globals, sizeof globals), "the tables", path);
     same(mt_tables_check(&tables).number == MT_OK, "the tables' fit", path);
     visit(&tables, lines, built, path);
+    ask(&tables, lines, built, path);
     on_grid(&tables, points, built, path);
     tables.grid.cols = 4005;
     same(mt_tables_check(&tables).number == MT_UNFIT_GRID, "the fit of a grid of 4,005 columns", path);
@@ -124,9 +224,14 @@ int main(int argc, char **argv) {
         mt_lines lines = mt_lines_chain(x, y, points.count);
         same(lines.count == points.count - 1, "the lines", argv[i]);
         for (uint32_t sizing = MT_SQUARE; sizing <= MT_AXES; sizing++) {
-            for (uint32_t mode = MT_RUST; mode <= MT_COVERING; mode++) build(&lines, &points, sizing, mode, argv[i]);
+            for (uint32_t mode = MT_RUST; mode <= MT_COVERING; mode++) {
+                build(&lines, &points, sizing, mode, argv[i]);
+                share(&lines, sizing, mode, argv[i]);
+            }
         }
         build(&lines, &points, 99, MT_RUST, argv[i]);
+        share(&lines, 99, MT_RUST, argv[i]);
+        members(&points, argv[i]);
     }
     same(mt_lines_chain(x, y, 0).count == 0, "a chain of no points", "no file");
     for (uint32_t number = 1; number <= MT_UNFIT_SNAP; number++) same(strcmp(mt_message(number), mt_message(MT_OK)) != 0, "a message", "no file");

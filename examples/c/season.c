@@ -27,8 +27,8 @@ static int ended(int status) {
     return 2;
 }
 
-static int refused(uint32_t number, const uint64_t *out) {
-    printf("refused %" PRIu32 ", value %" PRIu64 "\n", number, out[0]);
+static int refused(mt_refusal refusal) {
+    printf("refused %" PRIu32 ", value %" PRIu64 "\n", refusal.number, refusal.value);
     return ended(1);
 }
 
@@ -50,21 +50,21 @@ int main(int argc, char **argv) {
     }
     fclose(file);
 
-    uint64_t out[8];
-    uint32_t number = mt_read_line_string(bytes, length, x, MT_MAX_POINTS, y, MT_MAX_POINTS, out, 8);
-    if (number != MT_OK) return refused(number, out);
-    size_t n = out[0] - 1; /* line i goes from point i to point i + 1 */
+    mt_points points = {x, y, MT_MAX_POINTS, 0};
+    mt_refusal refusal = mt_points_read(&points, bytes, length);
+    if (refusal.number != MT_OK) return refused(refusal);
+    mt_lines lines = mt_lines_chain(x, y, points.count);
 
-    /* The first six words that a build answers say its grid; the last is the number of global lines. */
-    number = mt_build(x, n, y, n, x + 1, n, y + 1, n, MT_SQUARE, MT_COVERING, offsets, MT_MAX_OFFSETS, items, ITEMS, globals, LINES, scratch, MT_SCRATCH, out, 8);
-    if (number != MT_OK) return refused(number, out);
-    printf("lines %zu\n", n);
+    mt_tables tables = {.offsets = offsets, .items = items, .globals = globals, .scratch = scratch, .offset_room = MT_MAX_OFFSETS,
+                        .item_room = ITEMS, .global_room = LINES, .scratch_room = MT_SCRATCH};
+    refusal = mt_tables_build(&tables, &lines, MT_SQUARE, MT_COVERING);
+    if (refusal.number != MT_OK) return refused(refusal);
+    printf("lines %zu\n", lines.count);
 
-    uint64_t count[1];
-    number = mt_window(out, 6, x, n, y, n, x + 1, n, y + 1, n, offsets, MT_MAX_OFFSETS, items, ITEMS, globals, LINES, out[7], corner[0], corner[1], corner[2],
-                       corner[3], found, LINES, count, 1);
-    if (number != MT_OK) return refused(number, count);
-    printf("season %" PRIu64 "\n", count[0]);
-    for (uint64_t k = 0; k < count[0]; k++) printf("line %" PRIu32 "\n", found[k]);
+    size_t count = 0;
+    refusal = mt_tables_window(&tables, &lines, corner, found, LINES, &count);
+    if (refusal.number != MT_OK) return refused(refusal);
+    printf("season %zu\n", count);
+    for (size_t k = 0; k < count; k++) printf("line %" PRIu32 "\n", found[k]);
     return ended(0);
 }

@@ -11,15 +11,15 @@
  *   tools/build_library
  *   cc -O2 -Itarget/library examples/c/visit_year.c target/library/libmorelturret.a -o visit_year
  * `tools/run_examples` does that, and runs it beside bindings/rust/examples/visit_year.rs, which prints the same. */
-#include "morelturret.h"
+#include "morelturret_structs.h"
 #include <inttypes.h>
 #include <stdio.h>
 #include <stdlib.h>
 #include <string.h>
 
-enum { OFFSETS = 1002002, SCRATCH = 16384, BATCH = 4096 };
+enum { BATCH = 4096 };
 
-static uint32_t offsets[OFFSETS], scratch[SCRATCH], first[BATCH], second[BATCH];
+static uint32_t offsets[MT_MAX_OFFSETS], scratch[MT_SCRATCH], first[BATCH], second[BATCH];
 
 /* The status to end with: one look tells whether all was written, on a full disk too. */
 static int ended(int status) {
@@ -28,8 +28,8 @@ static int ended(int status) {
     return 2;
 }
 
-static int refused(uint32_t number, uint64_t value) {
-    printf("refused %" PRIu32 ", value %" PRIu64 "\n", number, value);
+static int refused(mt_refusal refusal) {
+    printf("refused %" PRIu32 ", value %" PRIu64 "\n", refusal.number, refusal.value);
     return ended(1);
 }
 
@@ -73,55 +73,57 @@ int main(int argc, char **argv) {
     }
 
     /* 1. Bytes to points, as bit patterns, and to member lengths. A point takes 16 bytes and a member at least 25, so this is room enough. */
-    size_t room = length / 16, member_room = length / 25;
-    uint64_t *x = lent(room, sizeof *x), *y = lent(room, sizeof *y), out[8];
-    uint32_t *lengths = lent(member_room, sizeof *lengths);
-    uint32_t number = mt_read_multi_line_string(bytes, length, x, room, y, room, lengths, member_room, out, 2);
-    if (number != MT_OK) return refused(number, out[0]);
-    size_t points = (size_t)out[0], members = (size_t)out[1];
+    mt_members members = {.point_room = length / 16, .member_room = length / 25};
+    members.x = lent(members.point_room, sizeof *members.x);
+    members.y = lent(members.point_room, sizeof *members.y);
+    members.lengths = lent(members.member_room, sizeof *members.lengths);
+    mt_refusal refusal = mt_members_read(&members, bytes, length);
+    if (refusal.number != MT_OK) return refused(refusal);
 
     /* 2. Points to lines: none joins two members. */
-    size_t lines = points - members;
-    double *start_x = lent(lines, sizeof *start_x), *start_y = lent(lines, sizeof *start_y);
-    double *end_x = lent(lines, sizeof *end_x), *end_y = lent(lines, sizeof *end_y);
-    number = mt_lines_of_members(x, points, y, points, lengths, members, start_x, lines, start_y, lines, end_x, lines, end_y, lines, out, 1);
-    if (number != MT_OK) return refused(number, out[0]);
-    printf("members %zu\npoints %zu\nlines %zu\n", members, points, lines);
+    mt_lines_room room = {.room = members.point_count - members.member_count};
+    room.start_x = lent(room.room, sizeof(double));
+    room.start_y = lent(room.room, sizeof(double));
+    room.end_x = lent(room.room, sizeof(double));
+    room.end_y = lent(room.room, sizeof(double));
+    refusal = mt_members_lines(&members, &room);
+    if (refusal.number != MT_OK) return refused(refusal);
+    mt_lines lines = mt_lines_in(&room);
+    printf("members %zu\npoints %zu\nlines %zu\n", members.member_count, members.point_count, lines.count);
 
     /* 3. Lines to tables. Items for 2,048 cells of each line are always enough; where there are fewer, refusal 5 says how many are needed. */
-    size_t item_room = 16 * lines;
-    uint32_t *items = lent(item_room, sizeof *items), *globals = lent(lines, sizeof *globals);
-    number = mt_build(start_x, lines, start_y, lines, end_x, lines, end_y, lines, MT_SQUARE, MT_RUST, offsets, OFFSETS, items, item_room,
-                      globals, lines, scratch, SCRATCH, out, 8);
-    if (number == MT_SHORT_ITEMS) {
-        free(items);
-        item_room = (size_t)out[0];
-        items = lent(item_room, sizeof *items);
-        number = mt_build(start_x, lines, start_y, lines, end_x, lines, end_y, lines, MT_SQUARE, MT_RUST, offsets, OFFSETS, items, item_room,
-                          globals, lines, scratch, SCRATCH, out, 8);
+    mt_tables tables = {.offsets = offsets, .scratch = scratch, .offset_room = MT_MAX_OFFSETS, .scratch_room = MT_SCRATCH};
+    tables.item_room = 16 * lines.count;
+    tables.items = lent(tables.item_room, sizeof *tables.items);
+    tables.global_room = lines.count;
+    tables.globals = lent(tables.global_room, sizeof *tables.globals);
+    refusal = mt_tables_build(&tables, &lines, MT_SQUARE, MT_RUST);
+    if (refusal.number == MT_SHORT_ITEMS) {
+        free(tables.items);
+        tables.item_room = (size_t)refusal.value;
+        tables.items = lent(tables.item_room, sizeof *tables.items);
+        refusal = mt_tables_build(&tables, &lines, MT_SQUARE, MT_RUST);
     }
-    if (number != MT_OK) return refused(number, out[0]);
-    uint64_t global_count = out[7];
-    printf("grid %" PRIu64 " columns, %" PRIu64 " rows\n", out[4], out[5]);
-    printf("items %" PRIu64 "\nglobals %" PRIu64 "\n", out[6], global_count);
+    if (refusal.number != MT_OK) return refused(refusal);
+    printf("grid %" PRIu32 " columns, %" PRIu32 " rows\n", tables.grid.cols, tables.grid.rows);
+    printf("items %zu\nglobals %zu\n", tables.item_count, tables.global_count);
 
     /* 4. The visit, batch by batch. A batch that leaves room in its outputs came to the end. */
-    uint64_t bookmark = 0, overlaps = 0, answer[3];
+    mt_pairs_room pairs = {first, second, BATCH, 0};
+    uint64_t bookmark = 0, overlaps = 0;
     do {
-        number = mt_batch(out, 8, start_x, lines, start_y, lines, end_x, lines, end_y, lines, offsets, OFFSETS, items, item_room, globals, lines,
-                          global_count, bookmark, first, BATCH, second, BATCH, answer, 3);
-        if (number != MT_OK) return refused(number, answer[0]);
-        overlaps += answer[1];
-        bookmark = answer[2];
-    } while (answer[1] == BATCH);
+        refusal = mt_tables_pairs(&tables, &lines, &bookmark, &pairs);
+        if (refusal.number != MT_OK) return refused(refusal);
+        overlaps += pairs.count;
+    } while (pairs.count == pairs.room);
     printf("tests %" PRIu64 "\noverlaps %" PRIu64 "\n", bookmark, overlaps);
 
     /* 5. The members written again, in the little order throughout. */
-    size_t need = 9 + 9 * members + 16 * points;
+    size_t need = 9 + 9 * members.member_count + 16 * members.point_count, written = 0;
     uint8_t *again = lent(need, 1);
-    number = mt_write_multi_line_string(x, points, y, points, lengths, members, again, need, out, 1);
-    if (number != MT_OK) return refused(number, out[0]);
-    int same = out[0] == length && memcmp(again, bytes, length) == 0;
-    printf("written %" PRIu64 " bytes, %s\n", out[0], same ? "as they came" : "not as they came");
+    refusal = mt_members_write(&members, again, need, &written);
+    if (refusal.number != MT_OK) return refused(refusal);
+    int same = written == length && memcmp(again, bytes, length) == 0;
+    printf("written %zu bytes, %s\n", written, same ? "as they came" : "not as they came");
     return ended(0);
 }

@@ -30,11 +30,11 @@ found-is : (bs : List ℕ) → outcome 1024 1024 bs ≡ found bs
 unfolding outcome slicesCheck unless _then_
 found-is bs = refl
 
-coordinates : (Point → ℕ) → List Point → List Float
+abbrev pub coordinates : (Point → ℕ) → List Point → List Float
 coordinates f ps = map (λ (p : Point). ofBits binary64 (f p)) ps
 
 left-points : (f : Point → ℕ) (ps : List Point) (s : List Float) → take (length ps) (pointsLeft f (gives ps) s) ≡ coordinates f ps
-unfolding pointsLeft leftIn zeroBeyond coordinates
+unfolding pointsLeft leftIn zeroBeyond
 left-points f ps s = take-at (coordinates f ps) (replicate (length s - length (coordinates f ps)) nought) (length ps) (length-map ps (λ (p : Point). ofBits binary64 (f p)))
 
 left-long : (f : Point → ℕ) (ps : List Point) (s : List Float) → length ps ≤ length (pointsLeft f (gives ps) s)
@@ -43,21 +43,30 @@ left-long f ps s =
     let e = length-map ps (λ (p : Point). ofBits binary64 (f p)) in
     simp length-append (omega arith)
 
--- points were read: so many stand at the starts of the slices, and what is printed of them is what is printed of the bytes
-pub record PointsRead (bs : List ℕ) (n : ℕ) (x y : List Float) : Type 0 where
+-- the lines of points
+abbrev pub linesOf : List Point → Lines
+linesOf ps = chainOf (coordinates (λ p. p .x) ps) (coordinates (λ p. p .y) ps)
+
+-- points were read: so many stand at the starts of the slices, and what is said of their lines is what is said of the bytes
+pub record PointsRead (bs : List ℕ) (n : ℕ) (x y : List Float) : Type 1 where
   pub some : 1 ≤ n
   pub in-x : n ≤ length x
   pub in-y : n ≤ length y
-  pub text : (plan : Plan) → printedLines plan (chainOf (take n x) (take n y)) ≡ printed plan bs
+  pub said : {A : Type 0} (ofRefusal : Refusal → A) (ofLines : Lines → A) → ofLines (chainOf (take n x) (take n y)) ≡ answerBy ofRefusal (λ ps. ofLines (linesOf ps)) (found bs)
 
-module _ (bs : List ℕ) where
-  printed-points : (ps : List Point) → found bs ≡ gives ps → (plan : Plan) → printedLines plan (chainOf (coordinates (λ p. p .x) ps) (coordinates (λ p. p .y) ps)) ≡ printed plan bs
-  unfolding printed printedPoints answerBy coordinates
-  printed-points ps e plan = rw e
+module _ (bs : List ℕ) {A : Type 0} (ofRefusal : Refusal → A) (ofPoints : List Point → A) where
+  said-points : (ps : List Point) → found bs ≡ gives ps → ofPoints ps ≡ answerBy ofRefusal ofPoints (found bs)
+  unfolding answerBy
+  said-points ps e = rw e
 
-  printed-refused : (r : Refusal) → found bs ≡ refused r → (plan : Plan) → refusedLine (r .number) ≡ printed plan bs
-  unfolding printed answerBy
-  printed-refused r e plan = rw e
+  said-refused : (r : Refusal) → found bs ≡ refused r → ofRefusal r ≡ answerBy ofRefusal ofPoints (found bs)
+  unfolding answerBy
+  said-refused r e = rw e
+
+-- what is printed of the bytes, by the lines of points
+pub printed-by : (plan : Plan) (bs : List ℕ) → answerBy refusedText (λ ps. printedLines plan (linesOf ps)) (found bs) ≡ printed plan bs
+unfolding printed printedPoints
+printed-by plan bs = refl
 
 module _ (bs : List ℕ) (x₀ y₀ x y : List Float) (lx : length x₀ ≡ 1024) (ly : length y₀ ≡ 1024) where
   read-is : {r : Read} → ReadAs bs x₀ y₀ r x y → outcome (length x₀) (length y₀) bs ≡ found bs
@@ -76,14 +85,14 @@ module _ (bs : List ℕ) (x₀ y₀ x y : List Float) (lx : length x₀ ≡ 1024
             some = let k = s .some in omega arith;
             in-x = rw (ex, n-is) (left-long (λ p. p .x) ps x₀);
             in-y = rw (ey, n-is) (left-long (λ p. p .y) ps y₀);
-            text =
-                λ plan. rw (ex, ey, n-is, left-points (λ p. p .x) ps x₀, left-points (λ p. p .y) ps y₀) (printed-points bs ps e plan);
+            said =
+                λ ofRefusal ofLines. rw (ex, ey, n-is, left-points (λ p. p .x) ps x₀, left-points (λ p. p .y) ps y₀) (said-points bs ofRefusal (λ qs. ofLines (linesOf qs)) ps e);
           }
 
-  pub refused-read : (q : Refusal) → ReadAs bs x₀ y₀ (Refused q) x y → (plan : Plan) → refusedLine (q .number) ≡ printed plan bs
+  pub refused-read : (q : Refusal) → ReadAs bs x₀ y₀ (Refused q) x y → {A : Type 0} (ofRefusal : Refusal → A) (ofPoints : List Point → A) → ofRefusal q ≡ answerBy ofRefusal ofPoints (found bs)
   unfolding readOf answerBy
-  refused-read q a plan = go (found bs) refl (a .answer ∙ ap readOf (read-is a))
+  refused-read q a ofRefusal ofPoints = go (found bs) refl (a .answer ∙ ap readOf (read-is a))
     where
-      go : (f : Answer (List Point)) → found bs ≡ f → Refused q ≡ readOf f → refusedLine (q .number) ≡ printed plan bs
+      go : (f : Answer (List Point)) → found bs ≡ f → Refused q ≡ readOf f → ofRefusal q ≡ answerBy ofRefusal ofPoints (found bs)
       go (gives ps) e r = absurd (let z : _≡_ {A = ℕ} 0 1 = cc in omega arith)
-      go (refused p) e r = let w : q ≡ p = cc in rw w (printed-refused bs p e plan)
+      go (refused p) e r = let w : q ≡ p = cc in rw w (said-refused bs ofRefusal ofPoints p e)

@@ -1,8 +1,10 @@
 -- `chain::put_chain` meets its contract. Assumes nothing.
+use mathlib.Core.Path.{_∙_}
 use lib.ListN.{length-replicate}
 use Rattle.wkb.specs.Reading.{nought}
 use Rattle.report.proofs.Putting.{puts-text}
-use Rattle.chain.proofs.Chains.{points-read, refused-read}
+use Rattle.chain.specs.Printed.{refusedText, printedLines}
+use Rattle.chain.proofs.Chains.{points-read, refused-read, printed-by}
 use borrow.Author.Needs.{needs}
 use Rattle.chain.proofs.put_chain.Statement.{statement}
 use Rattle.chain.proofs.put_chain.Tie as tie
@@ -57,7 +59,10 @@ same-length c = search needs
 -- src/lib.rt:121:1
 returns : tie.Need-returns
 returns c =
-    puts-text (refused-read _ _ _ _ _ (length-replicate 1024 nought) (length-replicate 1024 nought) _ (rw (c .before .before .before .before .before .read .given .1) at (c .before .before .before .before .before .before .before .before .before .read-line-string .ensures)) _) (c .before .before .refused-line .ensures)
+    let b = c .before .before .before .before .before .before .before .before .before in
+    puts-text
+    (refused-read _ _ _ _ _ (length-replicate 1024 nought) (length-replicate 1024 nought) _ (rw (c .before .before .before .before .before .read .given .1) at (b .read-line-string .ensures)) refusedText _ ∙ printed-by _ _)
+    (c .before .before .refused-line .ensures)
 
 -- src/lib.rt:121:1
 same-length-2 : tie.Need-same-length-2
@@ -66,7 +71,10 @@ same-length-2 c = search needs
 -- src/lib.rt:121:1
 returns-2 : tie.Need-returns-2
 returns-2 c =
-    puts-text (points-read _ _ _ _ _ (length-replicate 1024 nought) (length-replicate 1024 nought) _ (rw (c .before .before .before .before .before .before .before .read2 .given .1) at (c .before .before .before .before .before .before .before .before .before .before .before .read-line-string .ensures)) .text _) (c .before .before .put-points .ensures)
+    let b = c .before .before .before .before .before .before .before .before .before .before .before in
+    puts-text
+    (points-read _ _ _ _ _ (length-replicate 1024 nought) (length-replicate 1024 nought) _ (rw (c .before .before .before .before .before .before .before .read2 .given .1) at (b .read-line-string .ensures)) .said refusedText (printedLines _) ∙ printed-by _ _)
+    (c .before .before .put-points .ensures)
 
 pub put-chain-spec : {M : Type 1} → statement M
 put-chain-spec =

@@ -4,7 +4,7 @@ use Rattle.program.proofs.run.Statement.{statement}
 use Rattle.program.proofs.run.Tie as tie
 use Rattle.program.proofs.run.Reads as reads
 use Rattle.program.proofs.run.Lts as lts
-use Rattle.program.proofs.print.Reads as print-reads
+use Rattle.program.proofs.respond.Reads as respond-reads
 use Rattle.program.proofs.read_input.Reads as read-input-reads
 use Rattle.io.proofs.write_all.Reads as write-all-reads
 
@@ -25,12 +25,12 @@ array-share-prefix-bytes : tie.Need-array-share-prefix-bytes
 array-share-prefix-bytes c = (rw (c .before .input .given .1) at (c .before .before .before .before .read-input .ensures)) .0
 
 -- src/main.rt:48:34
-slice-aggregate-print : tie.Need-slice-aggregate-print
-slice-aggregate-print c = (rw (c .before .before .input .given .1) at (c .before .before .before .before .before .read-input .ensures)) .1
+slice-aggregate-respond : tie.Need-slice-aggregate-respond
+slice-aggregate-respond c = (rw (c .before .before .input .given .1) at (c .before .before .before .before .before .read-input .ensures)) .1
 
 -- src/main.rt:48:28
-print-requires : tie.Need-print-requires
-print-requires c κs = search needs
+respond-requires : tie.Need-respond-requires
+respond-requires c κs = search needs
 
 -- src/main.rt:50:42
 enum-told : tie.Need-enum-told
@@ -60,8 +60,8 @@ run-spec =
     read-input-requires
     enum-known-input
     array-share-prefix-bytes
-    slice-aggregate-print
-    print-requires
+    slice-aggregate-respond
+    respond-requires
     enum-told
     slice-aggregate-write-all
     write-all-requires

@@ -350,6 +350,21 @@ fn a_build_into_lent_slices() {
     }
 }
 
+/// A window that is one point of a line, which passes through it: the Rust's walk and the sided one step past the cell of that point, and the query misses the
+/// line; by the covering walk it is listed. docs/FINDINGS.md, section 5.
+#[test]
+fn a_line_through_a_window() {
+    let grid = Grid { min_x: 536870542.0, min_y: 536870466.0, cell_width: 370.0 / 6.0, cell_height: 446.0 / 6.0, cols: 7, rows: 7 };
+    let line = [536870787.0, 536870613.0, 536870712.0, 536870708.0];
+    let lines = Lines { start_x: &line[..1], start_y: &line[1..2], end_x: &line[2..3], end_y: &line[3..] };
+    let window = Window { low_x: 536870727.0, low_y: 536870689.0, high_x: 536870727.0, high_y: 536870689.0 };
+    let asked = |mode| (cells_in(mode, grid, line), Tables::on(lines, grid, mode).unwrap().window(lines, window).unwrap());
+    for mode in [Mode::Rust, Mode::Sided] {
+        assert_eq!(asked(mode), (vec![10, 16, 17, 23], vec![]), "{mode:?}");
+    }
+    assert_eq!(asked(Mode::Covering), (vec![10, 16, 17, 23, 24], vec![0]));
+}
+
 #[test]
 fn what_the_reader_leaves() {
     let mut bytes = vec![1, 2, 0, 0, 0, 2, 0, 0, 0];

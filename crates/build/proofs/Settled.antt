@@ -46,7 +46,7 @@ pub record SettledOn (mode : Mode) (g : Grid) (ls : Lines) (room : ℕ) : Type 0
 settled-here : (mode : Mode) (f g : Grid) (ls : Lines) (room : ℕ) → fit f ≡ true → triedCheck mode f ls room ≡ Fine → _≡_ {A = Answer Grid} (gives f) (gives g) → SettledOn mode g ls room
 settled-here mode f g ls room a b h = let e : f ≡ g = cc in record { fits = rw e at a; tried = rw e at b }
 
-crowded-few : (mode : Mode) (g : Grid) (ls : Lines) → crowded mode g ls ≡ true → cells g * 4 < 1000000
+pub crowded-few : (mode : Mode) (g : Grid) (ls : Lines) → crowded mode g ls ≡ true → cells g * 4 < 1000000
 unfolding crowded
 crowded-few mode g ls h =
     ltb-true (cells g * 4) 1000000 (and-right (above 500 (λ c. length (listOn mode g ls c)) (cells g)) (ltb (cells g * 4) 1000000) h)

@@ -59,7 +59,7 @@ record Success (mode : Mode) (ls : Lines) (st : Standing) (o t gs : List ℕ) : 
   items-are : st .items ≡ total mode (st .grid) ls
   laid : Laid (cellsOn mode (st .grid) ls) (count ls) (st .grid) o t gs (st .globals)
 
-answer-made : (mode : Mode) (e : Answer Grid) (ls : Lines) (st : Standing) → answerOf mode e ls ≡ built.Tables st
+pub answer-made : (mode : Mode) (e : Answer Grid) (ls : Lines) (st : Standing) → answerOf mode e ls ≡ built.Tables st
     → (e ≡ gives (st .grid)) × (st .items ≡ total mode (st .grid) ls) × (st .globals ≡ length (globalsOn mode (st .grid) ls))
 unfolding answerOf answerBy builtOn
 answer-made mode (refused r) ls st h = let z : _≡_ {A = ℕ} 0 1 = cc in absurd (omega arith)

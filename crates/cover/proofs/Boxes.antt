@@ -24,12 +24,12 @@ use Rattle.cover.proofs.WholePoints.{meet-of}
 
 -- ---- one axis
 
-exact-finite : (x : Float) (z : ℤ) (n : ℕ) → Exactly x z n → T (finite x)
+pub exact-finite : (x : Float) (z : ℤ) (n : ℕ) → Exactly x z n → T (finite x)
 exact-finite nan z n h = absurd h
 exact-finite (inf s) z n h = absurd h
 exact-finite (fin s m e) z n h = tt
 
-finite-number : (x : Float) → T (finite x) → T (number x)
+pub finite-number : (x : Float) → T (finite x) → T (number x)
 finite-number nan p = absurd p
 finite-number (inf s) p = absurd p
 finite-number (fin s m e) p = tt
@@ -78,13 +78,13 @@ module _ (v w px lx dx py ly dy pm lm dm : ℕ) where
   abbrev D : ℕ
   D = (v + w) * (dx * dy)
 
-  mean-most : px * dm + lm * dx ≤ pm * dx + lx * dm → py * dm + lm * dy ≤ pm * dy + ly * dm → P * dm + lm * D ≤ pm * D + N * dm
+  pub mean-most : px * dm + lm * dx ≤ pm * dx + lx * dm → py * dm + lm * dy ≤ pm * dy + ly * dm → P * dm + lm * D ≤ pm * D + N * dm
   mean-most a b =
       both-le (px * dm * (v * dy)) (lm * dx * (v * dy)) (pm * dx * (v * dy)) (lx * dm * (v * dy)) (py * dm * (w * dx)) (lm * dy * (w * dx)) (pm * dy * (w * dx)) (ly * dm * (w * dx)) (P * dm) (lm * D) (pm * D) (N * dm)
       (spread-le (px * dm) (lm * dx) (pm * dx) (lx * dm) (v * dy) a) (spread-le (py * dm) (lm * dy) (pm * dy) (ly * dm) (w * dx) b)
       (ends-two v w dx dy px py dm) (value-two v w dx dy lm) (value-two v w dx dy pm) (ends-two v w dx dy lx ly dm)
 
-  mean-least : pm * dx + lx * dm ≤ px * dm + lm * dx → pm * dy + ly * dm ≤ py * dm + lm * dy → pm * D + N * dm ≤ P * dm + lm * D
+  pub mean-least : pm * dx + lx * dm ≤ px * dm + lm * dx → pm * dy + ly * dm ≤ py * dm + lm * dy → pm * D + N * dm ≤ P * dm + lm * D
   mean-least a b =
       both-le (pm * dx * (v * dy)) (lx * dm * (v * dy)) (px * dm * (v * dy)) (lm * dx * (v * dy)) (pm * dy * (w * dx)) (ly * dm * (w * dx)) (py * dm * (w * dx)) (lm * dy * (w * dx)) (pm * D) (N * dm) (P * dm) (lm * D)
       (spread-le (pm * dx) (lx * dm) (px * dm) (lm * dx) (v * dy) a) (spread-le (pm * dy) (ly * dm) (py * dm) (lm * dy) (w * dx) b)

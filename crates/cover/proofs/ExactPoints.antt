@@ -157,6 +157,14 @@ module _ (f : Format) (d : Float) (z : Sized f d) (c : ℕ) (C : 0 < c) (v w : �
               to = most (fineAt f d a c) (fineAt f d b c) g (to-end a (past' a b k') (wa .fine) ba);
             }
 
+    -- the point is within what its ends are within
+    pub point-within : T (finite (round f false (v * a + w * b) ((v + w) * c))) × ((v * a + w * b) * den d ≤ 4294967296 * (num d * ((v + w) * c)))
+    point-within = go (leb a b) (leb→le a b) (nleb→lt a b)
+      where
+        go : (t : Bool) → (T t → a ≤ b) → (T (not t) → b < a) → T (finite (round f false (v * a + w * b) ((v + w) * c))) × ((v * a + w * b) * den d ≤ 4294967296 * (num d * ((v + w) * c)))
+        go true h k = (fine-p b (past a b (h tt)) (wb .fine) bb, bound-p b (past a b (h tt)) (wb .fine) bb)
+        go false h k = let k' = le-of-lt (k tt) in (fine-p a (past' a b k') (wa .fine) ba, bound-p a (past' a b k') (wa .fine) ba)
+
 -- ---- a segment: the exact offsets of its ends from the grid's low corner, over one denominator on each axis
 pub record Offsets : Type 0 where
   pub x0 : ℕ

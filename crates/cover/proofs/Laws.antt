@@ -96,7 +96,7 @@ module _ (a : Axis) (low-fits : coordinate (a .low) ≡ true) (size-fits : sizeF
   unit+ : T (positive (unitOn a))
   unit+ = between least (unitOn a) (fin false 1953125 (pos 10)) tt tt unit-least unit-most
 
-  unit-sized : Sized binary64 (unitOn a)
+  pub unit-sized : Sized binary64 (unitOn a)
   unit-sized =
       let d = unitOn a in
       record {
@@ -107,7 +107,7 @@ module _ (a : Axis) (low-fits : coordinate (a .low) ≡ true) (size-fits : sizeF
         holds = lit≤ tt;
       }
 
-  abbrev measured : Measure binary64
+  abbrev pub measured : Measure binary64
   measured = record { unit = unitOn a; low = a .low; sized = unit-sized; known = coordinate-finite (a .low) low-fits }
 
   inside : (v : Float) → nearOn a v ≡ true → Inside binary64 measured v
@@ -153,20 +153,20 @@ module _ (g : Grid) (line : Segment) (e : everywhere g line ≡ true) where
 -- ---- a line on a fit grid
 
 module _ (g : Grid) (h : fit g ≡ true) where
-  f : Fit g
+  abbrev f : Fit g
   f = fit-says g h
 
-  abbrev onX : Measure binary64
+  abbrev pub onX : Measure binary64
   onX = measured (xAxis g) (f .«min-x») (f .«cell-width»)
 
-  abbrev onY : Measure binary64
+  abbrev pub onY : Measure binary64
   onY = measured (yAxis g) (f .«min-y») (f .«cell-height»)
 
-  ends-same : (line : Segment) → lineEnds binary64 onX onY line ≡ endsOf g line
+  pub ends-same : (line : Segment) → lineEnds binary64 onX onY line ≡ endsOf g line
   unfolding lineEnds endsOf fineOf fineOn unitsOn
   ends-same line = refl
 
-  ready : (line : Segment) → passes g line ≡ true → Ready binary64 onX onY line
+  pub ready : (line : Segment) → passes g line ≡ true → Ready binary64 onX onY line
   ready line p =
       let q = passes-says g line p in
       record {

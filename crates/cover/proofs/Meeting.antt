@@ -36,33 +36,33 @@ pub record Inside (f : Format) (a : Measure f) (x : Float) : Type 0 where
 
 -- the distances of two ends, over one denominator
 module _ (f : Format) (a : Measure f) (x y : Float) (p : Inside f a x) (q : Inside f a y) where
-  abbrev firstOff : ℕ
+  abbrev pub firstOff : ℕ
   firstOff = gap x (a .low) * den y
 
-  abbrev secondOff : ℕ
+  abbrev pub secondOff : ℕ
   secondOff = gap y (a .low) * den x
 
-  abbrev over : ℕ
+  abbrev pub over : ℕ
   over = den x * den (a .low) * den y
 
-  over-pos : 0 < over
+  pub over-pos : 0 < over
   over-pos = mul-pos (mul-pos (den-pos x) (den-pos (a .low))) (den-pos y)
 
-  first-apart : Apart x (a .low) firstOff over
+  pub first-apart : Apart x (a .low) firstOff over
   first-apart = apart-of x (a .low) (den y) (p .known) (a .known) (le→cross (a .low) x (a .known) (p .known) (p .above))
 
   turn : (u v w : ℕ) → u * v * w ≡ w * v * u
   turn u v w = simp (mul-assoc, mul-comm, mul-left-comm)
 
-  second-apart : Apart y (a .low) secondOff over
+  pub second-apart : Apart y (a .low) secondOff over
   second-apart =
       subst (λ (c : ℕ). Apart y (a .low) secondOff c) (turn (den y) (den (a .low)) (den x))
       (apart-of y (a .low) (den x) (q .known) (a .known) (le→cross (a .low) y (a .known) (q .known) (q .above)))
 
-  first-within : Within f (a .unit) firstOff over
+  pub first-within : Within f (a .unit) firstOff over
   first-within = within-of f (a .unit) (a .sized) (a .low) x firstOff over over-pos first-apart (p .near)
 
-  second-within : Within f (a .unit) secondOff over
+  pub second-within : Within f (a .unit) secondOff over
   second-within = within-of f (a .unit) (a .sized) (a .low) y secondOff over over-pos second-apart (q .near)
 
   first-fine : fineOf f (a .unit) (a .low) x ≡ fineAt f (a .unit) firstOff over
@@ -86,7 +86,7 @@ lineEnds f X Y l =
 
 module _ (f : Format) (X Y : Measure f) (cols rows : ℕ) where
   module _ (l : Segment) (k : Ready f X Y l) where
-    abbrev offsets : Offsets
+    abbrev pub offsets : Offsets
     offsets =
         record {
           x0 = firstOff f X (l .«start_x») (l .«end_x») (k .start-x) (k .end-x);
@@ -120,13 +120,13 @@ module _ (f : Format) (X Y : Measure f) (cols rows : ℕ) where
 
     -- the cell of the point with the weights v and w
     module _ (v w : ℕ) (Q : 0 < v + w) where
-      abbrev rowAt : ℕ
+      abbrev pub rowAt : ℕ
       rowAt = cellAt f (Y .unit) rows (v * offsets .y0 + w * offsets .y1) ((v + w) * offsets .overY)
 
-      abbrev colAt : ℕ
+      abbrev pub colAt : ℕ
       colAt = cellAt f (X .unit) cols (v * offsets .x0 + w * offsets .x1) ((v + w) * offsets .overX)
 
-      line-covered : Listed cols rows (lineEnds f X Y l) rowAt colAt
+      pub line-covered : Listed cols rows (lineEnds f X Y l) rowAt colAt
       line-covered =
           subst (λ (e : Ends). Listed cols rows e rowAt colAt) same-ends
           (covered f (X .unit) (Y .unit) (X .sized) (Y .sized) cols rows offsets placed v w Q)

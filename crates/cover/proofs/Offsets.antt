@@ -4,7 +4,7 @@ use mathlib.Core.Path.{_≡_, refl, sym, ap, ap₂, _∙_}
 use mathlib.Core.Logic.{_⊎_, inl, inr}
 use mathlib.Core.Bool.{true, false}
 use Prim.Native.Nat.{ℕ, _+_, _-_, _*_, _≤_, _<_}
-use native.Mathlib.Nat.{mul-comm, mul-assoc, mul-left-comm, mul-pos, add-mul, zero-mul, eq-of-mul-eq-mul-right, mul-le-mul-right}
+use native.Mathlib.Nat.{le-trans, le-of-eq, le-antisymm, mul-comm, mul-assoc, mul-left-comm, mul-pos, add-mul, zero-mul, eq-of-mul-eq-mul-right, mul-le-mul-right, le-of-mul-le-mul-right}
 use native.Mathlib.Omega.{arith}
 use lib.IntN.{pos}
 use lib.Dec.{T, lit<}
@@ -153,29 +153,29 @@ gap-is p l p' l' dx dm k h = go (p * dm + l' * dx - (l * dm + p' * dx)) (omega a
 pub apart-of : (x m : Float) (k : ℕ) → T (finite x) → T (finite m) → Cross m x → Apart x m (gap x m * k) (den x * den m * k)
 apart-of x m k p q h = record { known = p; origin = q; is = gap-is (plus x) (minus x) (plus m) (minus m) (den x) (den m) k h }
 
--- ---- two equal exact numbers, as signed fractions (P - N) / D and (P' - N') / D', have equal offsets from m
+-- ---- exact numbers, as signed fractions (P - N) / D and (P' - N') / D': of two the lesser has the lesser offset from m, and equal ones have one
 pub record Off (m : Float) (P N D U c : ℕ) : Type 0 where
   pub is : P * den m * c + minus m * D * c ≡ N * den m * c + plus m * D * c + U * (D * den m)
 
 spread : (p q n r u k : ℕ) → p + q ≡ n + r + u → p * k + q * k ≡ n * k + r * k + u * k
 spread p q n r u k h = let t : (p + q) * k ≡ (n + r + u) * k = ap (λ (z : ℕ). z * k) h in omega arith
 
-spread2 : (p q n r k : ℕ) → p + q ≡ n + r → p * k + q * k ≡ n * k + r * k
-spread2 p q n r k h = let t : (p + q) * k ≡ (n + r) * k = ap (λ (z : ℕ). z * k) h in omega arith
+spread2 : (p q n r k : ℕ) → p + q ≤ n + r → p * k + q * k ≤ n * k + r * k
+spread2 p q n r k h = let t : (p + q) * k ≤ (n + r) * k = mul-le-mul-right k h in omega arith
 
-line-up : (p q n r u p' q' n' r' u' x y x' y' : ℕ) → p + q ≡ n + r + u → p' + q' ≡ n' + r' + u' → q ≡ q' → r ≡ r' → x + y' ≡ x' + y → p ≡ x → n ≡ y → p' ≡ x' → n' ≡ y' → u ≡ u'
+line-up : (p q n r u p' q' n' r' u' x y x' y' : ℕ) → p + q ≡ n + r + u → p' + q' ≡ n' + r' + u' → q ≡ q' → r ≡ r' → x + y' ≤ x' + y → p ≡ x → n ≡ y → p' ≡ x' → n' ≡ y' → u ≤ u'
 line-up p q n r u p' q' n' r' u' x y x' y' a b c d e f g h k = omega arith
 
-same-off : (dm lm pm P N D U c P' N' D' U' c' : ℕ) → 0 < dm → 0 < D → 0 < D'
+le-off : (dm lm pm P N D U c P' N' D' U' c' : ℕ) → 0 < dm → 0 < D → 0 < D'
     → P * dm * c + lm * D * c ≡ N * dm * c + pm * D * c + U * (D * dm)
     → P' * dm * c' + lm * D' * c' ≡ N' * dm * c' + pm * D' * c' + U' * (D' * dm)
-    → P * D' + N' * D ≡ P' * D + N * D'
-    → U * c' ≡ U' * c
-same-off dm lm pm P N D U c P' N' D' U' c' M X X' a b e =
+    → P * D' + N' * D ≤ P' * D + N * D'
+    → U * c' ≤ U' * c
+le-off dm lm pm P N D U c P' N' D' U' c' M X X' a b e =
     let k = D' * c' in
     let k' = D * c in
     let j = dm * c * c' in
-    let t : U * (D * dm) * k ≡ U' * (D' * dm) * k' =
+    let t : U * (D * dm) * k ≤ U' * (D' * dm) * k' =
     line-up (P * dm * c * k) (lm * D * c * k) (N * dm * c * k) (pm * D * c * k) (U * (D * dm) * k) (P' * dm * c' * k') (lm * D' * c' * k') (N' * dm * c' * k') (pm * D' * c' * k') (U' * (D' * dm) * k')
     (P * D' * j) (N * D' * j) (P' * D * j) (N' * D * j)
     (spread (P * dm * c) (lm * D * c) (N * dm * c) (pm * D * c) (U * (D * dm)) k a)
@@ -185,10 +185,17 @@ same-off dm lm pm P N D U c P' N' D' U' c' M X X' a b e =
     (simp (mul-assoc, mul-comm, mul-left-comm)) (simp (mul-assoc, mul-comm, mul-left-comm)) (simp (mul-assoc, mul-comm, mul-left-comm)) (simp (mul-assoc, mul-comm, mul-left-comm)) in
     let l : U * c' * (D * D' * dm) ≡ U * (D * dm) * k = simp (mul-assoc, mul-comm, mul-left-comm) in
     let r : U' * (D' * dm) * k' ≡ U' * c * (D * D' * dm) = simp (mul-assoc, mul-comm, mul-left-comm) in
-    eq-of-mul-eq-mul-right (D * D' * dm) (mul-pos (mul-pos X X') M) (U * c') (U' * c) (l ∙ t ∙ r)
+    le-of-mul-le-mul-right (le-trans (le-of-eq l) (le-trans t (le-of-eq r))) (mul-pos (mul-pos X X') M)
 
-pub off-same : (m : Float) (P N D U c P' N' D' U' c' : ℕ) → 0 < D → 0 < D' → Off m P N D U c → Off m P' N' D' U' c' → P * D' + N' * D ≡ P' * D + N * D' → U * c' ≡ U' * c
-off-same m P N D U c P' N' D' U' c' X X' a b e = same-off (den m) (minus m) (plus m) P N D U c P' N' D' U' c' (den-pos m) X X' (a .is) (b .is) e
+module _ (m : Float) (P N D U c P' N' D' U' c' : ℕ) (X : 0 < D) (X' : 0 < D') (a : Off m P N D U c) (b : Off m P' N' D' U' c') where
+  pub off-le : P * D' + N' * D ≤ P' * D + N * D' → U * c' ≤ U' * c
+  off-le e = le-off (den m) (minus m) (plus m) P N D U c P' N' D' U' c' (den-pos m) X X' (a .is) (b .is) e
+
+  off-ge : P' * D + N * D' ≤ P * D' + N' * D → U' * c ≤ U * c'
+  off-ge e = le-off (den m) (minus m) (plus m) P' N' D' U' c' P N D U c (den-pos m) X' X (b .is) (a .is) e
+
+  pub off-same : P * D' + N' * D ≡ P' * D + N * D' → U * c' ≡ U' * c
+  off-same e = le-antisymm (off-le (le-of-eq e)) (off-ge (le-of-eq (sym e)))
 
 -- ---- the point with the weights v and w of two ends x and y: the signed fraction (meanP - meanN) / meanD, and its offset
 abbrev pub meanP : ℕ → ℕ → Float → Float → ℕ

@@ -326,7 +326,7 @@ part-value f (fin false m e) w p t h =
     (sym (div-at f (fin false m e) (fin false 1 (pos 20)) (m * up e) (down e) 1048576 1 tt (down-pos e) (lit< tt) (refl, refl) (refl, refl) ∙ ap (λ (z : ℕ). round f false z (1048576 * down e)) (mul-one (m * up e))))
     (part-round f m e w (ltb→lt 0 m p) t h)
 
-unit-scaled : (s : Float) → T (positive s) → T (fits binary64 s) → 1 * den s ≤ num s * 1099511627776 → Scaled s (div binary64 s (fin false 1 (pos 20)))
+pub unit-scaled : (s : Float) → T (positive s) → T (fits binary64 s) → 1 * den s ≤ num s * 1099511627776 → Scaled s (div binary64 s (fin false 1 (pos 20)))
 unit-scaled s p t h =
     let d = div binary64 s (fin false 1 (pos 20)) in
     let v : HasValue d false (num s) (1048576 * den s) = part-value binary64 s (lit≤ tt) p t (low-enough binary64 s p t h (lit≤ tt) (lit≤ tt)) in

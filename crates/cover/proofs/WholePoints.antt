@@ -16,18 +16,18 @@ use Rattle.cover.proofs.Meeting.{Same, Meet}
 
 -- ---- a whole number is p - n
 
-abbrev over : ℤ → ℕ
+abbrev pub over : ℤ → ℕ
 over (pos k) = k
 over (negsuc k) = 0
 
-abbrev under : ℤ → ℕ
+abbrev pub under : ℤ → ℕ
 under (pos k) = 0
 under (negsuc k) = suc k
 
-record Is (z : ℤ) (p n : ℕ) : Type 0 where
-  says : over z + n ≡ under z + p
+pub record Is (z : ℤ) (p n : ℕ) : Type 0 where
+  pub says : over z + n ≡ under z + p
 
-own : (z : ℤ) → Is z (over z) (under z)
+pub own : (z : ℤ) → Is z (over z) (under z)
 own z = record { says = omega arith }
 
 is-pos : (k : ℕ) → Is (pos k) k 0
@@ -65,7 +65,7 @@ times-own : (k : ℕ) (z : ℤ) → Is (pos k *ℤ z) (k * over z) (k * under z)
 times-own k (pos a) = record { says = omega arith }
 times-own k (negsuc a) = let h = neg-over (pos (k * suc a)) in record { says = omega arith }
 
-is-times : (k : ℕ) (z : ℤ) (p n : ℕ) → Is z p n → Is (pos k *ℤ z) (k * p) (k * n)
+pub is-times : (k : ℕ) (z : ℤ) (p n : ℕ) → Is z p n → Is (pos k *ℤ z) (k * p) (k * n)
 is-times k z p n a =
     let u : (over z + n) * k ≡ (under z + p) * k = ap (λ (x : ℕ). x * k) (a .says) in
     let v = times-own k z .says in
@@ -76,7 +76,7 @@ is-times k z p n a =
 
 -- ---- q times a point of a segment
 
-is-point : (q a : ℕ) (s e : ℤ) → Is (qTimes q a s e) (q * over s + a * (over e + under s)) (q * under s + a * (under e + over s))
+pub is-point : (q a : ℕ) (s e : ℤ) → Is (qTimes q a s e) (q * over s + a * (over e + under s)) (q * under s + a * (under e + over s))
 unfolding qTimes
 is-point q a s e =
     is-sum (pos q *ℤ s) (pos a *ℤ (e -ℤ s)) (q * over s) (q * under s) (a * (over e + under s)) (a * (under e + over s)) (is-times q s (over s) (under s) (own s))
@@ -95,7 +95,7 @@ by-weights os us oe ue os' us' oe' ue' q a b v v' e e' h =
 
 -- ---- the exact value of a float
 
-exact-is : (x : Float) (z : ℤ) (n : ℕ) → Exactly x z n → plus x * n + den x * under z ≡ den x * over z + minus x * n
+pub exact-is : (x : Float) (z : ℤ) (n : ℕ) → Exactly x z n → plus x * n + den x * under z ≡ den x * over z + minus x * n
 exact-is nan z n h = absurd h
 exact-is (inf s) z n h = absurd h
 exact-is (fin false m e) z n h =

@@ -22,11 +22,11 @@ use Rattle.window.proofs.Marking.{anyFrom}
 
 -- ---- Bools
 
-or-says : (a b : Bool) → (a || b) ≡ true → (a ≡ true) ⊎ (b ≡ true)
+pub or-says : (a b : Bool) → (a || b) ≡ true → (a ≡ true) ⊎ (b ≡ true)
 or-says true b h = inl refl
 or-says false b h = inr h
 
-or-right : (a b : Bool) → b ≡ true → (a || b) ≡ true
+pub or-right : (a b : Bool) → b ≡ true → (a || b) ≡ true
 or-right true b h = refl
 or-right false b h = h
 
@@ -127,10 +127,10 @@ module _ (offsets items : List ℕ) where
 
 -- ---- cells by row and column
 
-col-of : (cols r c : ℕ) → c < cols → (r * cols + c) % cols ≡ c
+pub col-of : (cols r c : ℕ) → c < cols → (r * cols + c) % cols ≡ c
 col-of cols r c h = mul-add-mod-self-right r cols c ∙ mod-eq-of-lt h
 
-row-of : (cols r c : ℕ) → c < cols → (r * cols + c) / cols ≡ r
+pub row-of : (cols r c : ℕ) → c < cols → (r * cols + c) / cols ≡ r
 row-of cols r c h = let some : 0 < cols = omega arith in let e = div-eq-of-lt h in let u = mul-add-div-right some r c in omega arith
 
 pub row-fits : (rows cols r : ℕ) → r < rows → r * cols + cols ≤ rows * cols

@@ -75,7 +75,7 @@ row-below {cols} {offsets} {items} {first} {last} {row} {was} r low high marks e
 
 -- ---- the block
 
-index-below : (a : Axis) (v : _) → 0 < a .count → indexOn a v < a .count
+pub index-below : (a : Axis) (v : _) → 0 < a .count → indexOn a v < a .count
 unfolding indexOn
 index-below a v h = clamped-below (scaledOn a v) (a .count) h
 

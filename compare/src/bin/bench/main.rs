@@ -10,6 +10,7 @@ mod orderings;
 mod points;
 mod sizings;
 mod walks;
+mod windows;
 mod year;
 
 use compare::random::Random;
@@ -65,10 +66,13 @@ fn main() {
     if wanted("members") {
         members::times(clock, &mut Random::new(seed));
     }
+    if wanted("window") {
+        windows::times(clock, seed);
+    }
     clock.end();
 }
 
-const STAGES: [&str; 10] = ["numbers", "walks", "covers", "orderings", "builds", "visits", "memory", "points", "sizings", "members"];
+const STAGES: [&str; 11] = ["numbers", "walks", "covers", "orderings", "builds", "visits", "memory", "points", "sizings", "members", "window"];
 
 fn stop() -> ! {
     eprintln!("bench [--seed S] [--rounds R] [STAGE..], with STAGE one of {}", STAGES.join(" "));

@@ -47,7 +47,7 @@ enum {
     MT_TOO_MANY_LINES = 2,  /* more than 65,536 lines: the number of lines */
     MT_BAD_LENGTHS = 3,     /* slices that belong together differ in length, or one is too short: 0 */
     MT_SHORT_OFFSETS = 4,   /* a grid tried has more cells + 1 than the lent offsets: that cells + 1 */
-    MT_SHORT_ITEMS = 5,     /* items, points, members, bytes or lines lent are fewer than needed: the number needed */
+    MT_SHORT_ITEMS = 5,     /* items, points, members, bytes, lines or pairs lent are fewer than needed: the number needed */
     MT_SHORT_GLOBALS = 6,   /* globals lent are fewer than found: the number found */
     MT_WALK_TOO_LONG = 7,   /* a walk made 5,000 turns and would make another: the line (0 for one segment) */
     MT_UNFIT_GRID = 8,      /* the grid is not fit: 0 */
@@ -292,6 +292,19 @@ uint32_t mt_batch(const uint64_t *grid, size_t grid_len, const double *start_x, 
                   const uint32_t *offsets, size_t offsets_len, const uint32_t *items, size_t items_len,
                   const uint32_t *globals, size_t globals_len, uint64_t global_count, uint64_t bookmark, uint32_t *first, size_t first_len,
                   uint32_t *second, size_t second_len, uint64_t *out, size_t out_len);
+
+/* Each pair once: a full visit that hands out two lines whose boxes overlap at their first test alone, in the order of the visit and with the lines
+ * in that test's order. Pair k is (first[k], second[k]); first and second are of one length, and zeroed beyond the pairs. starts, listing and counts
+ * are scratch, and zeroed: starts has at least one entry more than there are lines, listing at least as many as items, used or not, and counts at
+ * least one for each line. Where there is no telling how many pairs there are, ask with first and second of length 0: 5 says it.
+ * out (1 word): how many pairs there are.
+ * Refuses by 3, 2, 1, 8, 10, 5 (how many pairs there are; all five slices are zeroed). */
+uint32_t mt_pairs_once(const uint64_t *grid, size_t grid_len, const double *start_x, size_t start_x_len,
+                       const double *start_y, size_t start_y_len, const double *end_x, size_t end_x_len,
+                       const double *end_y, size_t end_y_len, const uint32_t *offsets, size_t offsets_len,
+                       const uint32_t *items, size_t items_len, const uint32_t *globals, size_t globals_len, uint64_t global_count,
+                       uint32_t *first, size_t first_len, uint32_t *second, size_t second_len, uint32_t *starts, size_t starts_len,
+                       uint32_t *listing, size_t listing_len, uint32_t *counts, size_t counts_len, uint64_t *out, size_t out_len);
 
 /* ---- the lines in a window ---- */
 

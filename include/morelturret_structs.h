@@ -135,7 +135,7 @@ static inline const char *mt_message(uint32_t number) {
     case MT_TOO_MANY_LINES: return "more than 65,536 lines";
     case MT_BAD_LENGTHS: return "slices that belong together differ in length, or one is too short";
     case MT_SHORT_OFFSETS: return "a grid tried has more cells + 1 than the lent offsets";
-    case MT_SHORT_ITEMS: return "items, points, members, bytes or lines lent are fewer than needed";
+    case MT_SHORT_ITEMS: return "items, points, members, bytes, lines or pairs lent are fewer than needed";
     case MT_SHORT_GLOBALS: return "globals lent are fewer than found";
     case MT_WALK_TOO_LONG: return "a walk made 5,000 turns and would make another";
     case MT_UNFIT_GRID: return "the grid is not fit";
@@ -417,6 +417,25 @@ static inline mt_refusal mt_tables_pairs(const mt_tables *tables, const mt_lines
         pairs->count = (size_t)out[1];
         *bookmark = out[2];
     }
+    return mt_refused(number, out[0]);
+}
+
+/* The pairs of a full visit, each once, as mt_pairs_once hands them out: at its first test, in the order of the visit. The scratch is zeroed; it has
+ * at least tables->item_room + 2 * lines->count + 1 entries.
+ * Refuses by 3, 2, 1, 8, 10, 5 (how many pairs there are). */
+static inline mt_refusal mt_tables_pairs_once(const mt_tables *tables, const mt_lines *lines, mt_pairs_room *pairs, uint32_t *scratch,
+                                              size_t scratch_room) {
+    uint64_t grid[6], out[1] = {0};
+    size_t n = lines->count, left = scratch_room;
+    size_t starts = left < n + 1 ? left : n + 1;
+    size_t counts = left - starts < n ? left - starts : n;
+    uint32_t number;
+    left -= starts + counts;
+    mt_grid_words(&tables->grid, grid);
+    number = mt_pairs_once(grid, 6, lines->start_x, n, lines->start_y, n, lines->end_x, n, lines->end_y, n, tables->offsets, tables->offset_room,
+                           tables->items, tables->item_room, tables->globals, tables->global_room, tables->global_count, pairs->first, pairs->room,
+                           pairs->second, pairs->room, scratch, starts, scratch + starts + counts, left, scratch + starts, counts, out, 1);
+    if (number == MT_OK) pairs->count = (size_t)out[0];
     return mt_refused(number, out[0]);
 }
 

@@ -4,7 +4,7 @@
 #include <stdio.h>
 #include <stdlib.h>
 
-enum { LINES = MT_MAX_POINTS - 1, ITEMS = MT_MAX_ITEMS_OF_LINE * LINES, BYTES = 9 + 16 * MT_MAX_POINTS + 1, ROOM = 4096 };
+enum { LINES = MT_MAX_POINTS - 1, ITEMS = MT_MAX_ITEMS_OF_LINE * LINES, BYTES = 9 + 16 * MT_MAX_POINTS + 1, ROOM = 4096, ONCE = ITEMS + 2 * LINES + 1 };
 
 static uint8_t bytes[BYTES];
 static double x[MT_MAX_POINTS], y[MT_MAX_POINTS], flat_x[MT_MAX_POINTS], flat_y[MT_MAX_POINTS];
@@ -17,6 +17,7 @@ static uint64_t member_x[MT_MAX_POINTS], member_y[MT_MAX_POINTS], flat_member_x[
 static uint32_t lengths[MT_MAX_POINTS], flat_lengths[MT_MAX_POINTS];
 static double line_ends[4][LINES], flat_line_ends[4][LINES];
 static uint8_t written[BYTES + 9 * MT_MAX_POINTS], flat_written[BYTES + 9 * MT_MAX_POINTS];
+static uint32_t once[ONCE];
 static unsigned long held;
 
 static void same(int is_so, const char *what, const char *path) {
@@ -56,6 +57,26 @@ static void visit(const mt_tables *tables, const mt_lines *lines, const uint64_t
     size_t count = pairs.count;
     alike(mt_tables_pairs(tables, lines, &beyond, &pairs), number, out[0], "a batch beyond the end", path);
     same(number == MT_BEYOND_END && beyond == bookmark + 1 && pairs.count == count, "what a batch beyond the end leaves", path);
+}
+
+/* each pair once; with room, with too little for one pair, and with a scratch that is short by one */
+static void visit_once(const mt_tables *tables, const mt_lines *lines, const uint64_t *grid, const char *path) {
+    const size_t n = lines->count, needed = ITEMS + 2 * n + 1;
+    const double *sx = lines->start_x, *sy = lines->start_y, *ex = lines->end_x, *ey = lines->end_y;
+    const size_t rooms[2] = {ROOM, 0};
+    for (int k = 0; k < 2; k++) {
+        uint64_t out[1] = {0};
+        mt_pairs_room pairs = {first, second, rooms[k], 0};
+        uint32_t number = mt_pairs_once(grid, 8, sx, n, sy, n, ex, n, ey, n, flat_offsets, MT_MAX_OFFSETS, flat_items, ITEMS, flat_globals, LINES, grid[7], flat_first, rooms[k], flat_second, rooms[k], flat_starts, n + 1, flat_cells, ITEMS, flat_counts, n, out, 1);
+        memset(once, 7, sizeof once);
+        if (alike(mt_tables_pairs_once(tables, lines, &pairs, once, needed), number, out[0], "each pair once", path)) {
+            same(pairs.count == out[0] && !memcmp(first, flat_first, sizeof first) && !memcmp(second, flat_second, sizeof second), "the pairs, each once", path);
+        }
+        size_t zeros = 0;
+        while (zeros < needed && once[zeros] == 0) zeros++;
+        same(zeros == needed, "what is left in the scratch", path);
+        alike(mt_tables_pairs_once(tables, lines, &pairs, once, needed - 1), MT_BAD_LENGTHS, 0, "a scratch that is short", path);
+    }
 }
 
 static void on_grid(const mt_tables *tables, const mt_points *points, const uint64_t *grid, const char *path) {
@@ -202,6 +223,7 @@ static void build(const mt_lines *lines, const mt_points *points, uint32_t sizin
     same(mt_tables_check(&tables).number == MT_OK, "the tables' fit", path);
     visit(&tables, lines, built, path);
     ask(&tables, lines, built, path);
+    visit_once(&tables, lines, built, path);
     on_grid(&tables, points, built, path);
     tables.grid.cols = 4005;
     same(mt_tables_check(&tables).number == MT_UNFIT_GRID, "the fit of a grid of 4,005 columns", path);

@@ -14,6 +14,7 @@ pub mod drop_in;
 pub mod lists;
 pub mod multi;
 pub mod numbers;
+pub mod once;
 pub mod own;
 pub mod owners;
 pub mod pairs;

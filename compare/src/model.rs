@@ -1006,6 +1006,50 @@ pub fn batch(s: &Standing, tests: &[Test], bookmark: u64, first: &mut [u32], sec
     0
 }
 
+/// The five slices that a visit is lent that hands out each pair once.
+#[derive(Clone)]
+pub struct OnceLent {
+    pub first: Vec<u32>,
+    pub second: Vec<u32>,
+    pub starts: Vec<u32>,
+    pub listing: Vec<u32>,
+    pub counts: Vec<u32>,
+}
+
+impl OnceLent {
+    pub fn all(&mut self) -> [(&'static str, &mut Vec<u32>); 5] {
+        let OnceLent { first, second, starts, listing, counts } = self;
+        [("first", first), ("second", second), ("starts", starts), ("listing", listing), ("counts", counts)]
+    }
+}
+
+/// Each overlapping pair where it comes first among all tests, taken without order: a set of those that came before, and no lists by line.
+/// out: how many there are.
+pub fn pairs_once(s: &Standing, lent: &mut OnceLent, out: &mut [u64]) -> u32 {
+    if out.is_empty() {
+        return SHORT;
+    }
+    let n = s.lines.start_x.len();
+    let short = lent.first.len() != lent.second.len() || lent.starts.len() <= n || lent.listing.len() < s.items.len() || lent.counts.len() < n;
+    if let Some((number, value)) = s.refusal(short, 0) {
+        out[0] = value;
+        return number;
+    }
+    let mut met = std::collections::HashSet::new();
+    let pairs: Vec<Test> = s.tests().into_iter().filter(|t| t.overlap && met.insert((t.first.min(t.second), t.first.max(t.second)))).collect();
+    for (_, slice) in lent.all() {
+        slice.fill(0);
+    }
+    out[0] = pairs.len() as u64;
+    if pairs.len() > lent.first.len() {
+        return 5;
+    }
+    for (k, t) in pairs.iter().enumerate() {
+        (lent.first[k], lent.second[k]) = (t.first, t.second);
+    }
+    0
+}
+
 /// out: 0 for a cell, 1 for a global line, 2 for the end mark; row or position; column; first; second; overlap.
 pub fn test_at(s: &Standing, tests: &[Test], bookmark: u64, out: &mut [u64]) -> u32 {
     if let Some((number, value)) = s.refusal(false, bookmark) {

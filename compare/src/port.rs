@@ -5,7 +5,7 @@
 #![allow(clippy::too_many_arguments)]
 
 use crate::inner;
-use crate::model::{Coordinates, Lists, Standing};
+use crate::model::{Coordinates, Lists, OnceLent, Standing};
 use crate::{Grid, Line};
 use morelturret::sys;
 
@@ -114,6 +114,16 @@ pub fn batch(s: &Standing, bookmark: u64, first: &mut [u32], second: &mut [u32],
     let l = &s.lines;
     sys::batch(
         &s.grid.words(), l.start_x, l.start_y, l.end_x, l.end_y, s.offsets, s.items, s.globals, s.global_count, bookmark, first, second, out,
+    )
+}
+
+/// out: how many pairs there are.
+#[inline]
+pub fn pairs_once(s: &Standing, lent: &mut OnceLent, out: &mut [u64]) -> u32 {
+    let l = &s.lines;
+    let OnceLent { first, second, starts, listing, counts } = lent;
+    sys::pairs_once(
+        &s.grid.words(), l.start_x, l.start_y, l.end_x, l.end_y, s.offsets, s.items, s.globals, s.global_count, first, second, starts, listing, counts, out,
     )
 }
 

@@ -1,38 +1,39 @@
-"""The pairs of a full visit, each once."""
+"""The pairs of a full visit, each once, in increasing order."""
 import numpy as np
 
 from .progress import silent
 
-STRETCH = 1 << 26  # marks that are looked at together
+STRETCH = 1 << 22  # pairs that are handed on together
 
 
 class Once:
     """The pairs that a full visit of tables hands out, each once; iterated, two arrays at a time, the lower line first, in increasing order.
 
-    There is a mark for every two lines: n(n - 1)/2 bytes, of which the system lays out those that are written. `handed` is how often the visit handed
-    out a pair. This is NumPy over the library's visit, and no part of what is proved."""
+    That each comes once is the library's, and proved: `Tables.pairs_once`. Here they are only put in order. `handed` is how often a plain visit hands
+    out a pair; it makes that visit."""
 
     def __init__(self, tables, progress=silent):
-        line = np.arange(len(tables.lines), dtype=np.int64)
-        self.starts = line * (2 * len(line) - line - 1) // 2  # the marks of line i and the lines above it begin at starts[i]
-        self.marks, self.handed = np.zeros(len(line) * (len(line) - 1) // 2, bool), 0
-        before, total = self.starts - line - 1, tables.tests
-        for first, second, tests in tables.batches():
-            if len(tables.globals):  # a global line may come before a lower one
-                first, second = np.minimum(first, second), np.maximum(first, second)
-            self.marks[before[first] + second] = True
-            self.handed += len(first)
-            progress(tests / total, "pairs")
+        self.tables, self.count = tables, np.uint64(max(len(tables.lines), 1))
+        progress(0, "pairs")
+        first, second = (side.astype(np.uint64) for side in tables.pairs_once())
+        self.numbers = np.minimum(first, second) * self.count + np.maximum(first, second)
+        self.numbers.sort()
+        progress(1, "pairs")
+
+    @property
+    def handed(self):
+        return sum(len(first) for first, _, _ in self.tables.batches())
 
     def has(self, first, second):
         """Which of these pairs, lower line first, the visit hands out."""
-        return self.marks[self.starts[first] + second - first - 1]
+        asked = np.asarray(first, np.uint64) * self.count + np.asarray(second, np.uint64)
+        at = np.searchsorted(self.numbers, asked)
+        return np.append(self.numbers, ~np.uint64(0))[at] == asked
 
     def __len__(self):
-        return int(np.count_nonzero(self.marks))
+        return len(self.numbers)
 
     def __iter__(self):
-        for low in range(0, len(self.marks), STRETCH):
-            at = np.flatnonzero(self.marks[low : low + STRETCH]) + low
-            first = np.searchsorted(self.starts, at, side="right") - 1
-            yield first.astype(np.uint32), (at - self.starts[first] + first + 1).astype(np.uint32)
+        for low in range(0, len(self.numbers), STRETCH):
+            first, second = np.divmod(self.numbers[low : low + STRETCH], self.count)
+            yield first.astype(np.uint32), second.astype(np.uint32)

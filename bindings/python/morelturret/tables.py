@@ -67,6 +67,11 @@ class Tables:
         return self.grid.words, len(self.lines), self.offsets, self.items, self.globals, len(self.globals)
 
     @property
+    def beside_lines(self):
+        """The tables as calls take them that are lent the lines, with those."""
+        return self.grid.words, *self.lines.slices, self.offsets, self.items, self.globals, len(self.globals)
+
+    @property
     def tests(self):
         """How many tests a full visit makes."""
         return answer("mt_visit_cost", *self.standing)[0]
@@ -95,16 +100,34 @@ class Tables:
         >>> [(len(first), tests) for first, second, tests in tables.batches(size=5)]
         [(5, 5), (4, 9)]
         """
-        standing = self.grid.words, *self.lines.slices, self.offsets, self.items, self.globals, len(self.globals)
         bookmark, total = 0, self.tests
         while bookmark < total:
             first, second = np.empty(size, np.uint32), np.empty(size, np.uint32)
-            _, pairs, bookmark, *_ = answer("mt_batch", *standing, bookmark, first, second)
+            _, pairs, bookmark, *_ = answer("mt_batch", *self.beside_lines, bookmark, first, second)
             yield first[:pairs], second[:pairs], bookmark
+
+    def pairs_once(self):
+        """The pairs of lines whose boxes overlap, each once: at its first test, in the order of the visit. Two arrays.
+
+        >>> tables = build(Lines.chain([0, 2, 2, 0, 0], [0, 0, 2, 2, 0]), walk="rust")
+        >>> [(int(a), int(b)) for a, b in zip(*tables.pairs_once())]
+        [(0, 3), (0, 1), (2, 3), (1, 2)]
+        """
+        scratch = [np.empty(size, np.uint32) for size in (len(self.lines) + 1, len(self.items), len(self.lines))]
+        room = len(self.items)  # most visits hand out fewer pairs; else the refusal says how many
+        while True:
+            first, second = np.empty(room, np.uint32), np.empty(room, np.uint32)
+            try:
+                count, *_ = answer("mt_pairs_once", *self.beside_lines, first, second, *scratch)
+                return first[:count].copy(), second[:count].copy()
+            except Refusal as refusal:
+                if refusal.number != SHORT_ITEMS:
+                    raise
+                room = refusal.value
 
     def pairs(self, once=True):
         """The pairs of lines whose boxes overlap, as two arrays at a time. With `once` each pair comes once, the lower line first, in increasing order;
-        without, as `batches` has them. That a pair comes once is seen to here, by NumPy over the library's visit; it is no part of what is proved.
+        without, as `batches` has them. That a pair comes once is the library's `pairs_once`; the order is made here.
 
         >>> tables = build(Lines.chain([0, 2, 2, 0, 0], [0, 0, 2, 2, 0]), walk="rust")
         >>> [list(zip(*pairs)) for pairs in tables.pairs()]
@@ -122,9 +145,8 @@ class Tables:
         >>> build(Lines.chain([0, 2, 2, 0, 0], [0, 0, 2, 2, 0])).window(1.5, -1, 3, 0.5)
         array([0, 1], dtype=uint32)
         """
-        standing = self.grid.words, *self.lines.slices, self.offsets, self.items, self.globals, len(self.globals)
         found = np.empty(len(self.lines), np.uint32)
-        count, *_ = answer("mt_window", *standing, low_x, low_y, high_x, high_y, found)
+        count, *_ = answer("mt_window", *self.beside_lines, low_x, low_y, high_x, high_y, found)
         return found[:count].copy()
 
     def owner(self, x, y):
@@ -138,8 +160,7 @@ class Tables:
         >>> build(Lines.chain([0, 2, 2, 0, 0], [0, 0, 2, 2, 0]), walk="rust").test(0)
         (('cell', 0, 0), 0, 3, True)
         """
-        standing = self.grid.words, *self.lines.slices, self.offsets, self.items, self.globals, len(self.globals)
-        kind, row, column, first, second, overlap, *_ = answer("mt_test_at", *standing, bookmark)
+        kind, row, column, first, second, overlap, *_ = answer("mt_test_at", *self.beside_lines, bookmark)
         place = [("cell", row, column), ("global", row), None][kind]
         return place and (place, first, second, bool(overlap))
 

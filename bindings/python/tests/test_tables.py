@@ -5,6 +5,7 @@ import unittest
 import numpy as np
 
 from morelturret import OUTSIDE, SEAM, WALKS, Grid, Lines, Refusal, add, build, count, snap, strategies_agree
+from morelturret.once import Once
 from morelturret.wkb import read_wkb
 
 from .shared import EXAMPLES, loops, pair_set
@@ -171,6 +172,25 @@ class Visits(unittest.TestCase):
         self.assertEqual(once, plain)
         self.assertEqual(listed, len(once))
         self.assertLess(listed, handed)
+
+    def test_first_tests(self):
+        """The pairs once are the plain visit's, each where it comes first."""
+        swings = build(Lines.chain([1000 * (k % 2) for k in range(503)], [0] * 503), walk="rust")
+        for tables in (self.tables, swings, build(Lines.chain([], []))):
+            met, firsts = set(), []
+            for pairs in tables.pairs(once=False):
+                for pair in zip(*(side.tolist() for side in pairs)):
+                    if frozenset(pair) not in met:
+                        met.add(frozenset(pair))
+                        firsts.append(pair)
+            self.assertEqual(list(zip(*(side.tolist() for side in tables.pairs_once()))), firsts)
+
+    def test_once_has(self):
+        once = Once(self.tables)
+        first, second = np.triu_indices(len(self.tables.lines), 1)
+        pairs, _ = pair_set(self.tables.pairs(once=False))
+        self.assertEqual(set(zip(first[once.has(first, second)].tolist(), second[once.has(first, second)].tolist())), pairs)
+        self.assertEqual((len(once), once.handed), (len(pairs), pair_set(self.tables.pairs(once=False))[1]))
 
     def test_global_lines_once(self):
         swings = build(Lines.chain([1000 * (k % 2) for k in range(503)], [0] * 503), walk="rust")

@@ -127,7 +127,7 @@ impl fmt::Display for Refusal {
             Refusal::TOO_MANY_LINES => write!(f, "more than 65,536 lines ({value})"),
             Refusal::BAD_LENGTHS => write!(f, "slices that belong together differ in length, or one is too short"),
             Refusal::SHORT_OFFSETS => write!(f, "a grid tried has more cells + 1 than the lent offsets ({value} needed)"),
-            Refusal::SHORT_ITEMS => write!(f, "items, points, members, bytes or lines lent are fewer than needed ({value})"),
+            Refusal::SHORT_ITEMS => write!(f, "items, points, members, bytes, lines or pairs lent are fewer than needed ({value})"),
             Refusal::SHORT_GLOBALS => write!(f, "globals lent are fewer than found ({value} needed)"),
             Refusal::WALK_TOO_LONG => write!(f, "a walk made 5,000 turns and would make another (line {value})"),
             Refusal::UNFIT_GRID => write!(f, "grid record unfit"),

@@ -100,7 +100,8 @@ pub struct Tables {
 }
 
 impl Tables {
-    /// Tables of no lines, with room for a build. This allocates; no later call on these tables does, save [`Tables::pairs`].
+    /// Tables of no lines, with room for a build. This allocates; no later call on these tables does, save [`Tables::pairs`],
+    /// [`Tables::pairs_once`] and [`Tables::window`].
     pub fn with_room(room: Room) -> Tables {
         Tables {
             grid: Grid::EMPTY,
@@ -296,6 +297,13 @@ impl Tables {
         self.standing().window(lines, window)
     }
 
+    /// All pairs whose boxes overlap, each once: [`Standing::pairs_once`]. The lines are those that were built.
+    ///
+    /// Refuses by 3 (lengths), 2 (too many lines), 1 (a coordinate), 10 (fewer lines than were built).
+    pub fn pairs_once(&self, lines: Lines) -> Result<Vec<(u32, u32)>, Refusal> {
+        self.standing().pairs_once(lines)
+    }
+
     /// All pairs whose boxes overlap: [`Standing::pairs`]. The lines are those that were built.
     ///
     /// Refuses by 3 (lengths), 2 (too many lines), 1 (a coordinate), 10 (fewer lines than were built).
@@ -483,6 +491,54 @@ impl<'a> Standing<'a> {
         let [count] = answer(|out| {
             sys::window(
                 &grid.words(), start_x, start_y, end_x, end_y, offsets, items, globals, global_count, low_x, low_y, high_x, high_y, found, out,
+            )
+        })?;
+        Ok(count as usize)
+    }
+
+    /// All pairs whose boxes overlap, each once: at its first test, in the order of the visit, and with the lines in that test's order. In the covering
+    /// mode every two lines that share a point are among them.
+    ///
+    /// Refuses by 3 (lengths), 2 (too many lines), 1 (a coordinate), 8 (the grid), 10 (the tables).
+    ///
+    /// ```
+    /// use morelturret::{Lines, Tables};
+    ///
+    /// let lines = Lines::chain(&[0.0, 2.0, 2.0, 0.0, 0.0], &[0.0, 0.0, 2.0, 2.0, 0.0]);
+    /// let tables = Tables::of(lines)?;
+    /// assert_eq!(tables.pairs(lines, 256)?.count(), 9);
+    /// assert_eq!(tables.pairs_once(lines)?, [(0, 3), (0, 1), (2, 3), (1, 2)]);
+    /// # Ok::<(), morelturret::Refusal>(())
+    /// ```
+    pub fn pairs_once(&self, lines: Lines) -> Result<Vec<(u32, u32)>, Refusal> {
+        let n = lines.start_x.len();
+        let (mut starts, mut listing, mut counts) = (vec![0; n + 1], vec![0; self.items.len()], vec![0; n]);
+        // most visits hand out fewer pairs than there are items; else 5 says how many
+        let mut room = self.items.len();
+        loop {
+            let (mut first, mut second) = (vec![0; room], vec![0; room]);
+            match self.pairs_once_into(lines, &mut first, &mut second, &mut starts, &mut listing, &mut counts) {
+                Ok(count) => return Ok(first.into_iter().zip(second).take(count).collect()),
+                Err(Refusal { number: Refusal::SHORT_ITEMS, value }) => room = value as usize,
+                Err(refusal) => return Err(refusal),
+            }
+        }
+    }
+
+    /// [`Standing::pairs_once`] into lent slices: pair k is `(first[k], second[k])`, and beyond the pairs both are zeroed. The other three are scratch,
+    /// and zeroed: `starts` has at least one entry more than there are lines, `listing` at least as many as `items`, used or not, and `counts` at
+    /// least one for each line. Answers how many pairs there are.
+    ///
+    /// Refuses by 3 where `first` and `second` differ or the scratch is short, then as that does, then by 5 where there is no room for the pairs, with
+    /// how many there are; all five slices are zeroed.
+    pub fn pairs_once_into(
+        &self, lines: Lines, first: &mut [u32], second: &mut [u32], starts: &mut [u32], listing: &mut [u32], counts: &mut [u32],
+    ) -> Result<usize, Refusal> {
+        let Standing { grid, offsets, items, globals, global_count, .. } = *self;
+        let Lines { start_x, start_y, end_x, end_y } = lines;
+        let [count] = answer(|out| {
+            sys::pairs_once(
+                &grid.words(), start_x, start_y, end_x, end_y, offsets, items, globals, global_count, first, second, starts, listing, counts, out,
             )
         })?;
         Ok(count as usize)

@@ -10,7 +10,7 @@ const FOUR: Grid = Grid { min_x: 0.0, min_y: 0.0, cell_width: 1.0, cell_height: 
 type Asked = (&'static str, fn(&[u64], &mut [u64]) -> u32, usize);
 
 /// Every function that takes a grid, each with arguments that it answers, on a grid of no lines but for the points.
-const TAKEN: [Asked; 14] = [
+const TAKEN: [Asked; 15] = [
     ("point_owned", |grid, out| sys::point_owned(grid, 0, 0, 0.5, 0.5, out), 1),
     ("overlap_owned", |grid, out| sys::overlap_owned(grid, 0, 0, 0.5, 0.5, 0.0, Strategy::Grid as u32, out), 1),
     ("owner", |grid, out| sys::owner(grid, 0.5, 0.5, out), 3),
@@ -21,6 +21,11 @@ const TAKEN: [Asked; 14] = [
     ("global_list", |grid, out| sys::global_list(grid, 1, &[0; 17], &[], &[0], 1, 0, out), 2),
     ("visit_cost", |grid, out| sys::visit_cost(grid, 0, &[0; 17], &[], &[], 0, out), 2),
     ("lists_by_line", |grid, out| sys::lists_by_line(grid, 0, &[0; 17], &[], &[], 0, &mut [7], &mut [7], out), 1),
+    (
+        "pairs_once",
+        |grid, out| sys::pairs_once(grid, &[], &[], &[], &[], &[0; 17], &[], &[], 0, &mut [7], &mut [7], &mut [7], &mut [7], &mut [7], out),
+        1,
+    ),
     ("test_at", |grid, out| sys::test_at(grid, &[], &[], &[], &[], &[0; 17], &[], &[], 0, 0, out), 6),
     ("count", |grid, out| sys::count(&[], &[], &[], &[], grid, 0, &mut [7; 17], &mut vec![7; SCRATCH], out), 2),
     ("tables_on", |grid, out| sys::tables_on(&[], &[], &[], &[], grid, 0, &mut [7; 17], &mut [], &mut [], &mut vec![7; SCRATCH], out), 2),

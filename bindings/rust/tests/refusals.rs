@@ -91,6 +91,7 @@ fn two_too_many_lines() {
     assert_eq!(starts, [7; 65_538]);
     assert_eq!(of(too_many.global_list(0)), (2, 65_537));
     assert_eq!(of(tables.batch(lines(MAX_LINES + 1), 0, &mut [0], &mut [0])), (2, 65_537));
+    assert_eq!(of(tables.pairs_once(lines(MAX_LINES + 1))), (2, 65_537));
 }
 
 #[test]
@@ -224,6 +225,7 @@ fn eight_an_unfit_grid() {
         assert_eq!(of(standing.global_list(0)), (8, 0));
         assert_eq!(of(standing.test_at(owned.lines(), 0)), (8, 0));
         assert_eq!(of(standing.pairs(owned.lines(), 4)), (8, 0));
+        assert_eq!(of(standing.pairs_once(owned.lines())), (8, 0));
     }
     let widest = Grid { cell_width: 2e9, cell_height: 2.5e-7, ..FOUR };
     assert_eq!(owner(widest, 0.5, 6e-7), Ok(Owner::Cell { row: 2, col: 0 }), "the ends of the range are fit, each for itself");
@@ -289,6 +291,7 @@ fn ten_tables_that_do_not_fit() {
         assert_eq!(of(standing.global_list(0)), (10, 0), "damage {i}");
         assert_eq!(of(standing.test_at(lines, 0)), (10, 0), "damage {i}");
         assert_eq!(of(standing.pairs(lines, 4)), (10, 0), "damage {i}");
+        assert_eq!(of(standing.pairs_once(lines)), (10, 0), "damage {i}");
         let (mut first, mut second) = ([JUNK; 4], [JUNK; 4]);
         assert_eq!(of(standing.batch(lines, 0, &mut first, &mut second)), (10, 0), "damage {i}");
         assert_eq!((first, second), ([JUNK; 4], [JUNK; 4]));

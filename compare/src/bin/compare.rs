@@ -4,10 +4,10 @@
 //! The port takes part in every kind: --port may be said, and changes nothing.
 //! Ends with status 1 at the first difference.
 
-use compare::kinds::{self, build, counts, cover, covering, drop_in, lists, multi, numbers, own, owners, pairs, seams, sided, snap, straight, strategies, visit, walk, window, wkb};
+use compare::kinds::{self, build, counts, cover, covering, drop_in, lists, multi, numbers, once, own, owners, pairs, seams, sided, snap, straight, strategies, visit, walk, window, wkb};
 
 /// The kinds, with the cases of a full run.
-const KINDS: [(&str, u64); 30] = [
+const KINDS: [(&str, u64); 31] = [
     ("sample", 1),
     ("numbers", 10_000_000),
     ("walk", 1_000_000),
@@ -36,6 +36,7 @@ const KINDS: [(&str, u64); 30] = [
     ("covering-walk", 1_000_000),
     ("covering-build", 2_000),
     ("pairs", 20_000),
+    ("once", 4_000),
     ("drop-in", 1_000),
     ("counts", 2_700),
 ];
@@ -88,6 +89,7 @@ fn main() {
             "covering-build" => kinds::run::<covering::CoveringBuild>(seed, n, vec![]),
             "cover" => kinds::run::<cover::Cover>(seed, n, cover::fixed()),
             "pairs" => kinds::run::<pairs::Pairs>(seed, n, vec![]),
+            "once" => kinds::run::<once::Once>(seed, n, vec![]),
             _ => kinds::run::<counts::Counts>(seed, n, counts::fixed()),
         };
         println!("  (seed {seed}, {:.1} s)", begun.elapsed().as_secs_f64());

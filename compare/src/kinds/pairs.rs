@@ -4,7 +4,7 @@
 use super::build::Columns;
 use super::visit::{self, Owned, Visit};
 use super::{answers, slices, word, Kind, JUNK};
-use crate::model::{self, Standing};
+use crate::model::{self, Coordinates, Standing};
 use crate::port;
 use crate::random::Random;
 use crate::{Grid, Mode, Sizing};
@@ -45,6 +45,16 @@ fn asked(s: &Standing, r: &mut Random) -> Result<u32, String> {
     Ok(number)
 }
 
+/// Tables for a case: of a build in any sizing and mode of walk, or such as no build makes. None where a walk goes beyond the budget.
+pub fn tables(lines: Coordinates, r: &mut Random) -> Option<Owned> {
+    if r.once_in(3) {
+        return Some(unbuilt(lines.len() as u32, r));
+    }
+    let (sizing, mode) = (r.pick(&[Sizing::Square, Sizing::Axes]), r.pick(&[Mode::Rust, Mode::Sided, Mode::Covering]));
+    let t = model::tables(lines, sizing, mode, usize::MAX).ok()?;
+    Some(Owned { grid: t.grid, offsets: t.offsets, items: t.items, global_count: t.globals.len() as u64, globals: t.globals })
+}
+
 impl Kind for Pairs {
     type Case = visit::Case;
     const NAME: &'static str = "pairs";
@@ -59,13 +69,7 @@ impl Kind for Pairs {
         let columns = Columns::new(&case.lines);
         let lines = columns.coordinates();
         let r = &mut Random::new(case.seed);
-        let mut t = if r.once_in(3) {
-            unbuilt(lines.len() as u32, r)
-        } else {
-            let (sizing, mode) = (r.pick(&[Sizing::Square, Sizing::Axes]), r.pick(&[Mode::Rust, Mode::Sided, Mode::Covering]));
-            let Ok(t) = model::tables(lines, sizing, mode, usize::MAX) else { return Ok("not built") };
-            Owned { grid: t.grid, offsets: t.offsets, items: t.items, global_count: t.globals.len() as u64, globals: t.globals }
-        };
+        let Some(mut t) = tables(lines, r) else { return Ok("not built") };
         if case.damage && !case.lines.is_empty() {
             t.damage(lines.len() as u32, r);
         }

@@ -4,6 +4,8 @@ use Rattle.cost.specs.declared.CostAnswer.{CostAnswer}
 use Rattle.cost.specs.declared.CostAnswer.the-variants as cost
 use Rattle.by_line.specs.declared.ByLine.{ByLine}
 use Rattle.by_line.specs.declared.ByLine.the-variants as listed
+use Rattle.once.specs.declared.OnceAnswer.{OnceAnswer}
+use Rattle.once.specs.declared.OnceAnswer.the-variants as once
 use Rattle.replies.specs.Replies.{Reply, success, refusing}
 
 -- the cost: the tests, and the lines of the longest list
@@ -15,3 +17,8 @@ ofCost (cost.Refused r) = refusing r
 unfoldable pub ofByLine : ByLine → Reply
 ofByLine (listed.Listed n) = success (n ∷ [])
 ofByLine (listed.Refused r) = refusing r
+
+-- each pair once: how many pairs there are; the pairs are in their slices
+unfoldable pub ofOnce : OnceAnswer → Reply
+ofOnce (once.Pairs n) = success (n ∷ [])
+ofOnce (once.Refused r) = refusing r

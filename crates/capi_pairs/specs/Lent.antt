@@ -4,16 +4,20 @@ use Prim.Native.Nat.{ℕ, _≤_, _<_}
 use mathlib.Core.Path.{_≡_}
 use mathlib.Core.List.{List}
 use lib.ListN.{length}
-use Rattle.refusals.specs.Refusals.{answerBy}
+use Rattle.refusals.specs.Refusals.{Answer, answerBy}
 use Rattle.grid.specs.declared.Grid.{Grid}
 use Rattle.grid.specs.Words.{gridWords}
 use Rattle.tables.specs.Tables.{Tables}
 use Rattle.by_line.specs.declared.ByLine.{ByLine}
 use Rattle.by_line.specs.declared.ByLine.the-variants as listed
 use Rattle.by_line.specs.ByLine.{byLine, ByLineIs}
+use Rattle.visit.specs.Tests.{Pair}
+use Rattle.once.specs.declared.OnceAnswer.{OnceAnswer}
+use Rattle.once.specs.declared.OnceAnswer.the-variants as once
+use Rattle.once.specs.Once.{PairsAre}
 use Rattle.replies.specs.Replies.{Replies}
 use Rattle.capi.specs.Few.{unlessFew}
-use Rattle.capi_pairs.specs.Answers.{ofByLine}
+use Rattle.capi_pairs.specs.Answers.{ofByLine, ofOnce}
 
 -- what the entry answers
 abbrev pub byLineAnswer : Grid → Tables → List ℕ → List ℕ → ByLine
@@ -25,3 +29,22 @@ pub record ByLineReplies (words : List ℕ) (g : Grid) (t : Tables) (starts list
   pub called : 1 ≤ length out → gridWords ≤ length words → ByLineIs g t starts listing (byLineAnswer g t starts listing) starts′ listing′
   pub short : length out < 1 → (starts′ ≡ starts) × (listing′ ≡ listing)
   pub few : length words < gridWords → (starts′ ≡ starts) × (listing′ ≡ listing)
+
+-- what the entry answers to what a visit comes to that hands out each pair once
+abbrev pub onceAnswer : Answer (List Pair) → OnceAnswer
+onceAnswer end = answerBy once.Refused (λ ps. once.Pairs (length ps)) end
+
+-- the five slices after a call are as they were before it
+pub record SameFive (first second starts listing counts first′ second′ starts′ listing′ counts′ : List ℕ) : Type 0 where
+  pub first-same : first′ ≡ first
+  pub second-same : second′ ≡ second
+  pub starts-same : starts′ ≡ starts
+  pub listing-same : listing′ ≡ listing
+  pub counts-same : counts′ ≡ counts
+
+-- each pair once, on a grid that words say
+pub record OnceReplies (words : List ℕ) (end : Answer (List Pair)) (first second starts listing counts out : List ℕ) (r : ℕ) (first′ second′ starts′ listing′ counts′ out′ : List ℕ) : Type 0 where
+  pub replies : Replies 1 (unlessFew words (ofOnce (onceAnswer end))) out r out′
+  pub called : 1 ≤ length out → gridWords ≤ length words → PairsAre end first second starts listing counts (onceAnswer end) first′ second′ starts′ listing′ counts′
+  pub short : length out < 1 → SameFive first second starts listing counts first′ second′ starts′ listing′ counts′
+  pub few : length words < gridWords → SameFive first second starts listing counts first′ second′ starts′ listing′ counts′

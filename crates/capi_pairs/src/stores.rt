@@ -1,13 +1,14 @@
 // Values stored at the start of an `out` that has room for them, and the number that is returned.
 use by_line::ByLine;
 use cost::CostAnswer;
+use once::OnceAnswer;
 use refusals::Refusal;
 ghost use mathlib.Core.List.{[], _∷_};
 ghost use Prim.Native.Nat.{_≤_};
 ghost use lib.ListN.{length};
 ghost use Rattle.replies.specs.Replies.{success, refusing};
 ghost use Rattle.replies.specs.Inside.{Handed};
-ghost use Rattle.capi_pairs.specs.Answers.{ofCost, ofByLine};
+ghost use Rattle.capi_pairs.specs.Answers.{ofCost, ofByLine, ofOnce};
 
 fn refused(why: Refusal, out: &mut [u64]) -> u32
     requires { ⌜ 1 ≤ length (now out) ⌝ }
@@ -51,5 +52,15 @@ pub(crate) fn by_line(answer: ByLine, out: &mut [u64]) -> u32
     match answer {
         ByLine::Listed(n) => one(n, out),
         ByLine::Refused(r) => refused(r, out),
+    }
+}
+
+pub(crate) fn pairs_once(answer: OnceAnswer, out: &mut [u64]) -> u32
+    requires { ⌜ 1 ≤ length (now out) ⌝ }
+    ensures { λ r. ⌜ Handed (ofOnce answer) (now (out .entry)) r (now (out .exit)) ⌝ }
+{
+    match answer {
+        OnceAnswer::Pairs(n) => one(n, out),
+        OnceAnswer::Refused(r) => refused(r, out),
     }
 }

@@ -27,7 +27,7 @@ use Rattle.demands.proofs.Count as count-laws
 use Rattle.demands.proofs.Calls.{visit-firsts, visit-seconds, visit-tests, made-all}
 
 -- how often two lines stand beside each other in the two outputs is how often they are among the pairs
-pairs-times : (a b : ℕ) (ps : List Pair) → handedOut a b (firsts ps) (seconds ps) ≡ times a b ps
+pub pairs-times : (a b : ℕ) (ps : List Pair) → handedOut a b (firsts ps) (seconds ps) ≡ times a b ps
 unfolding handedOut times testOfBoth
 pairs-times a b [] = refl
 pairs-times a b (p ∷ ps) = ap (λ (n : ℕ). one (testOfBoth a b p) + n) (pairs-times a b ps)

@@ -1,7 +1,7 @@
 -- DEMAND 3 of standing tables of any walk. `Listed` has what stands, `Refusals` that no visit of it is refused, `Often` how often two lines are
 -- tested, `Count` how many tests there are, `Calls` what the calls of a full visit hand out, `Handed` how often that is two lines, `Whole` the
 -- demand itself. `Build` has the demand after a build, `Points` that a build in the covering mode drops nothing, and `Seven` that it is never refused by 7; these
--- alone speak of one.
+-- alone speak of one, with the last law of `Once`, which has what `once::pairs_once` hands out.
 pub mod Listed
 pub mod Refusals
 pub mod Often
@@ -12,3 +12,4 @@ pub mod Whole
 pub mod Build
 pub mod Points
 pub mod Seven
+pub mod Once

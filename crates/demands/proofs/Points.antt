@@ -67,9 +67,10 @@ module _ (g : Grid) (ls : Lines) (ok : fit g ≡ true) (a b : ℕ) (x : Cross ls
       due-some g (cellsOn Covering g ls) a b (k .cell) (below-elem (g .rows * g .cols) (k .cell) (coveringOf g (segmentAt ls a)) (covering-rises g ok (segmentAt ls a) .1) (k .in-first))
       (ap (elem (k .cell)) (covers g ls a) ∙ k .in-first) (ap (elem (k .cell)) (covers g ls b) ∙ k .in-second)
 
-  crossing-overlaps : overlap ls a b ≡ true
-  unfolding overlap
-  crossing-overlaps = share-overlap (segmentAt ls a) (segmentAt ls b) (x .point)
+-- boxes of lines that share a point overlap
+pub crossings-overlap : (ls : Lines) (a b : ℕ) → Cross ls a b → overlap ls a b ≡ true
+unfolding overlap
+crossings-overlap ls a b x = share-overlap (segmentAt ls a) (segmentAt ls b) (x .point)
 
 -- ---- THE THEOREM
 
@@ -85,5 +86,5 @@ module _ (plan : Plan) (covering : plan .mode ≡ Covering) {ls : Lines} {o t gs
   nothing-dropped =
       record {
         tested = λ a b x. rw (after .demand .tested a b (x .different) (x .first) (x .second)) (is-due a b x);
-        handed = λ cs v a b x. rw (after .demand .handed cs v a b (x .different) (x .first) (x .second), crossing-overlaps (st .grid) ls (grid-fits plan h ok .0) a b x) (is-due a b x);
+        handed = λ cs v a b x. rw (after .demand .handed cs v a b (x .different) (x .first) (x .second), crossings-overlap ls a b x) (is-due a b x);
       }

@@ -35,23 +35,23 @@ use Rattle.visit_laws.proofs.Number.{sum-zero, sum-suc, sum-front, sum-
 
 -- ---- the definitions' clauses
 
-one-true : one true ≡ 1
+pub one-true : one true ≡ 1
 unfolding one
 one-true = refl
 
-one-false : one false ≡ 0
+pub one-false : one false ≡ 0
 unfolding one
 one-false = refl
 
-times-nil : (a b : ℕ) → times a b [] ≡ 0
+pub times-nil : (a b : ℕ) → times a b [] ≡ 0
 unfolding times
 times-nil a b = refl
 
-times-cons : (a b : ℕ) (p : Pair) (ps : List Pair) → times a b (p ∷ ps) ≡ one (testOfBoth a b p) + times a b ps
+pub times-cons : (a b : ℕ) (p : Pair) (ps : List Pair) → times a b (p ∷ ps) ≡ one (testOfBoth a b p) + times a b ps
 unfolding times
 times-cons a b p ps = refl
 
-times-append : (a b : ℕ) (ps qs : List Pair) → times a b (ps ++ qs) ≡ times a b ps + times a b qs
+pub times-append : (a b : ℕ) (ps qs : List Pair) → times a b (ps ++ qs) ≡ times a b ps + times a b qs
 times-append a b [] qs = rw (times-nil, zero-add)
 times-append a b (p ∷ ps) qs = times-cons a b p (ps ++ qs) ∙ omega (arith, times-append a b ps qs, times-cons a b p ps)
 
@@ -168,6 +168,14 @@ module _ (a b : ℕ) (d : a ≡ b → ⊥) (cols : ℕ) (offsets items : List �
         sum-front left (λ x. together (c + x)),
         ap together (add-zero c),
       )
+
+  -- once for each of the first m cells whose list holds both
+  pub cells-shared : (m : ℕ) → ((x : ℕ) → x < m → Rising 0 (listIn offsets items x))
+      → times a b (cellTests cols offsets items m 0) ≡ countBelow m (λ c. elem a (listIn offsets items c) && elem b (listIn offsets items c))
+  unfolding together countBelow
+  cells-shared m r =
+      cells-times m 0 (λ x p q. r x (omega arith))
+      ∙ sum-same m (λ x. together (0 + x)) (λ c. one (elem a (listIn offsets items c) && elem b (listIn offsets items c))) (λ x. ap together (zero-add x))
 
 -- ---- the lines but those of a list
 
@@ -340,11 +348,10 @@ module _ (t : Tables) (f : TablesFit t) (a b : ℕ) (d : a ≡ b → ⊥) (la : 
 
   -- ONCE PER SHARED CELL, and once more where one of the two is global
   pub tests-often : times a b (testsOf t) ≡ shared + one (elem a (globalsOf t) || elem b (globalsOf t))
-  unfolding testsOf countBelow together
+  unfolding testsOf
   tests-often =
       let c : times a b (cellTests (t .cols) (t .offsets) (t .items) (cells t) 0) ≡ shared =
-      cells-times a b d (t .cols) (t .offsets) (t .items) (cells t) 0 (λ x p q. f .lists .lists x (omega arith) .rises)
-      ∙ sum-same (cells t) (λ x. together a b d (t .cols) (t .offsets) (t .items) (0 + x)) (λ c. one (elem a (listOf t c) && elem b (listOf t c))) (λ x. ap (together a b d (t .cols) (t .offsets) (t .items)) (zero-add x)) in
+      cells-shared a b d (t .cols) (t .offsets) (t .items) (cells t) (λ x q. f .lists .lists x q .rises) in
       times-append a b (cellTests (t .cols) (t .offsets) (t .items) (cells t) 0) (globalTests (t .lines) (t .globals) (t .«global_count») 0)
       ∙ rw (c, globals-all (t .lines) (t .«global_count») (t .globals) (globals-fit t f) a b d la lb)
 

@@ -51,6 +51,7 @@ fn main() {
         }
         if wanted("visits") {
             year::visits(clock, &years);
+            year::once(clock, &years, seed);
         }
         if wanted("memory") {
             year::memory(clock, &years[2]);

@@ -3,10 +3,10 @@
 use super::clock::Clock;
 use super::heap;
 use compare::kinds::build::Columns;
-use compare::model::{Standing, SCRATCH};
+use compare::model::{OnceLent, Standing, SCRATCH};
 use compare::oracle::{self, Built, Lines};
 use compare::random::Random;
-use compare::{cases, port, Mode, Sizing};
+use compare::{cases, port, Line, Mode, Sizing};
 use std::hint::black_box;
 
 const BAR: Option<f64> = Some(1.0);
@@ -30,11 +30,15 @@ pub struct Year {
 
 impl Year {
     pub fn new(r: &mut Random, n: usize) -> Self {
-        let lines = cases::year(r, n);
-        let rust_lines = Lines::new(&lines);
+        Year::of(&cases::year(r, n))
+    }
+
+    fn of(lines: &[Line]) -> Self {
+        let n = lines.len();
+        let rust_lines = Lines::new(lines);
         let built = oracle::build(&rust_lines);
         let (offsets, items, globals) = (built.offsets(), built.items().to_vec(), built.globals());
-        let mut y = Year { n, columns: Columns::new(&lines), rust_lines, built, offsets, items, globals, tests: 0, overlaps: 0 };
+        let mut y = Year { n, columns: Columns::new(lines), rust_lines, built, offsets, items, globals, tests: 0, overlaps: 0 };
         y.tests = y.standing().total();
         y.overlaps = rust_counted(&y);
         y
@@ -185,6 +189,34 @@ pub fn visits(clock: &Clock, years: &[Year]) {
             &format!("growth, {} to {} lines, output full", few.n, many.n), &format!("{:.2} times the tests", many.tests as f64 / few.tests as f64),
             [&mut || { port_visit(few, &mut a); }, &mut || { port_visit(many, &mut b); }],
             [&mut || rust_stored(few, &mut c, true), &mut || rust_stored(many, &mut d, true)],
+        );
+    }
+}
+
+/// A visit that hands out each pair once, beside the plain one in one batch. Both outputs just hold the pairs, so there is nothing to clear in them.
+pub fn once(clock: &Clock, years: &[Year], seed: u64) {
+    clock.head(
+        "Each pair once: lists by line, the visit, and zero in the scratch, beside one batch of the port that hands out every test's pair. The last \
+         two: 12 legs an orbit.",
+    );
+    let long = [8192, 65536].map(|n| Year::of(&cases::orbits(&mut Random::new(seed), n, 12.0)));
+    for y in years.iter().chain(&long) {
+        let standing = y.standing();
+        let lent = |room: usize| OnceLent {
+            first: vec![0; room], second: vec![0; room], starts: vec![0; y.n + 1], listing: vec![0; y.items.len()], counts: vec![0; y.n],
+        };
+        let mut out = [0u64];
+        // with no room the refusal says how many pairs there are
+        port::pairs_once(&standing, &mut lent(0), &mut out);
+        let (mut each, mut plain) = (lent(out[0] as usize), Pairs::new(y.overlaps as usize));
+        let times = clock.turns(&mut [
+            &mut || assert_eq!(port::pairs_once(&standing, &mut each, &mut [0]), 0),
+            &mut || assert_eq!(port_visit(y, &mut plain), y.overlaps),
+        ]);
+        let of_a_test = |party: usize| times.of(party) * 1e9 / y.tests as f64;
+        println!(
+            "  {:<64} once {:>7.2}  plain {:>7.2} ns a test  once/plain {:.3}",
+            format!("{} lines: {} tests, {} overlaps, {} pairs", y.n, y.tests, y.overlaps, out[0]), of_a_test(0), of_a_test(1), times.ratio(0, 1),
         );
     }
 }

@@ -1,0 +1,14 @@
+-- `once::boxes::greater` meets its contract. Assumes nothing.
+use Rattle.once.proofs.boxes.greater.Statement.{statement}
+use Rattle.once.proofs.boxes.greater.Tie as tie
+use Rattle.once.proofs.boxes.greater.Reads as reads
+use Rattle.once.proofs.boxes.greater.Lts as lts
+
+returns : tie.Need-returns
+returns c = rw (c .if1 .taken)
+
+returns-2 : tie.Need-returns-2
+returns-2 c = rw (c .if1 .left)
+
+pub greater-spec : {M : Type 1} → statement M
+greater-spec = tie.close (tie.spec returns returns-2)

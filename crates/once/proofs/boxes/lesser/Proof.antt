@@ -1,0 +1,14 @@
+-- `once::boxes::lesser` meets its contract. Assumes nothing.
+use Rattle.once.proofs.boxes.lesser.Statement.{statement}
+use Rattle.once.proofs.boxes.lesser.Tie as tie
+use Rattle.once.proofs.boxes.lesser.Reads as reads
+use Rattle.once.proofs.boxes.lesser.Lts as lts
+
+returns : tie.Need-returns
+returns c = rw (c .if1 .taken)
+
+returns-2 : tie.Need-returns-2
+returns-2 c = rw (c .if1 .left)
+
+pub lesser-spec : {M : Type 1} → statement M
+lesser-spec = tie.close (tie.spec returns returns-2)

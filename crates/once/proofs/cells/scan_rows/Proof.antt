@@ -1,0 +1,96 @@
+-- `once::cells::scan_rows` meets its contract. Assumes nothing.
+use Prim.Native.Nat.{_+_, _-_}
+use native.Mathlib.Omega.{arith}
+use lib.ListN.{length}
+use Rattle.grid.specs.Domain.{lines, count}
+use Rattle.visit.specs.Overlap.{overlap}
+use Rattle.once.specs.Inside.{Checked}
+use Rattle.once.proofs.Boxed.{row-first, row-held, line-asks}
+use Rattle.once.proofs.Lists.{part-all, Rows, rows-begin, rows-done, row-line, row-scan, rows-next}
+use Rattle.once.proofs.cells.scan_rows.Statement.{statement}
+use Rattle.once.proofs.cells.scan_rows.Tie as tie
+use Rattle.once.proofs.cells.scan_rows.Reads as reads
+use Rattle.once.proofs.cells.scan_rows.Lts as lts
+use Rattle.once.proofs.rows.row_of.Reads as row-of-reads
+use Rattle.once.proofs.rows.scan_list.Reads as scan-list-reads
+
+abbrev Inv-loop : tie.InvT-loop
+Inv-loop list start-x start-y end-x end-y starts listing counts first₀ second₀ hits hits₀ i₀ first second hits' i =
+    let ls = lines start-x start-y end-x end-y in Checked ls (Rows (overlap ls) (count ls) list starts listing counts first₀ second₀ hits first second hits' i)
+
+abbrev μ-loop : tie.MeasureT-loop
+μ-loop list start-x start-y end-x end-y starts listing counts first₀ second₀ hits hits₀ i₀ first second hits' i =
+    length list - i
+
+loop-holds : tie.Need-loop-holds Inv-loop μ-loop
+loop-holds c = let h = c .before .before .before .before .before .before .before .before .before .before .pre in record { fine = h .fine; asks = rows-begin (h .asks) }
+
+mul-row-of : tie.Need-mul-row-of Inv-loop μ-loop
+mul-row-of c = omega arith
+
+shared-slice-read-row-of : tie.Need-shared-slice-read-row-of Inv-loop μ-loop
+shared-slice-read-row-of c = omega arith
+
+row-of-requires : tie.Need-row-of-requires Inv-loop μ-loop
+row-of-requires c κs = let h = c .before .before .loop .inv in line-asks (h .fine) (row-line (h .asks) (c .before .loop-test .taken))
+
+add-i : tie.Need-add-i Inv-loop μ-loop
+add-i c = omega arith
+
+mul-scan-list : tie.Need-mul-scan-list Inv-loop μ-loop
+mul-scan-list c = omega arith
+
+sub-scan-list : tie.Need-sub-scan-list Inv-loop μ-loop
+sub-scan-list c = omega arith
+
+part-scan-list-start : tie.Need-part-scan-list-start Inv-loop μ-loop
+part-scan-list-start c = omega arith
+
+part-scan-list-end : tie.Need-part-scan-list-end Inv-loop μ-loop
+part-scan-list-end c = omega arith
+
+scan-list-requires : tie.Need-scan-list-requires Inv-loop μ-loop
+scan-list-requires c κs =
+    let l = c .before .before .before .before .before .before .loop in
+    let e = c .before .before .before .row-of .ensures in
+    row-held e (l .inv .fine) (row-scan (l .inv .asks) (c .before .before .before .before .before .loop-test .taken) (row-first e) (part-all (c .before .before .before .before .before .before .before .before .before .before .before .before .before .before .before .before .before .args .list .now) (l .i + 1)))
+
+loop-less : tie.Need-loop-less Inv-loop μ-loop
+loop-less c = omega arith
+
+loop-again : tie.Need-loop-again Inv-loop μ-loop
+loop-again c =
+    let l = c .before .before .before .before .before .before .before .before .before .before .before .loop in
+    let d = c .before .before .before .before .scan-list in
+    record { fine = l .inv .fine; asks = rows-next (l .inv .asks) (c .before .before .before .before .before .before .before .before .before .before .loop-test .taken) (row-first (c .before .before .before .before .before .before .before .before .row-of .ensures)) (part-all (c .before .before .before .before .before .before .before .before .before .before .before .before .before .before .before .before .before .before .before .before .before .before .args .list .now) (l .i + 1)) (d .ensures) (d .kept .1 .1 .1 .1 .1 .1 .1 .1 .1 .0) (d .kept .1 .1 .1 .1 .1 .1 .1 .1 .1 .1 .0) }
+
+same-length : tie.Need-same-length Inv-loop μ-loop
+same-length c = c .before .loop .inv .asks .first-long
+
+same-length-2 : tie.Need-same-length-2 Inv-loop μ-loop
+same-length-2 c = c .before .loop .inv .asks .second-long
+
+returns : tie.Need-returns Inv-loop μ-loop
+returns c = rows-done (c .before .loop .inv .asks) (c .loop-test .left)
+
+pub scan-rows-spec : {M : Type 1} → statement M
+scan-rows-spec =
+    tie.close
+    (tie.spec
+    Inv-loop
+    μ-loop
+    loop-holds
+    mul-row-of
+    shared-slice-read-row-of
+    row-of-requires
+    add-i
+    mul-scan-list
+    sub-scan-list
+    part-scan-list-start
+    part-scan-list-end
+    scan-list-requires
+    loop-less
+    loop-again
+    same-length
+    same-length-2
+    returns)

@@ -1,0 +1,155 @@
+// Each pair once: a full visit that hands out two lines at their first test alone. A test in a cell is the first if no cell before lists both
+// lines, a global's if no cell at all does. The lists by line are made first; as the visit goes on, it counts for each line how many of its
+// cells are behind, and looks back from there.
+use by_line::ByLine;
+use grid::Grid;
+use refusals::Check;
+use refusals::Refusal;
+ghost use Rattle.grid.specs.Domain.{lines};
+ghost use Rattle.visit.specs.Tests.{testsOf};
+ghost use Rattle.visit.specs.Overlap.{overlap};
+ghost use Rattle.visit.specs.Entries.{beside};
+ghost use Rattle.once.specs.Once.{keeps, onceBy, PairsAre};
+ghost use Rattle.once.specs.Scan.{Grown, RunAsks};
+ghost use Rattle.once.specs.Inside.{Checked};
+
+mod boxes;
+mod cells;
+pub mod ending;
+mod globals;
+mod rows;
+
+// The number of pairs, or a refusal.
+pub enum OnceAnswer {
+    Pairs(u64),
+    Refused(Refusal),
+}
+
+// The cells, and then the globals.
+fn run(
+    start_x: &[f64],
+    start_y: &[f64],
+    end_x: &[f64],
+    end_y: &[f64],
+    grid: Grid,
+    offsets: &[u32],
+    items: &[u32],
+    globals: &[u32],
+    global_count: usize,
+    starts: &[u32],
+    listing: &[u32],
+    counts: &mut [u32],
+    first: &mut [u32],
+    second: &mut [u32],
+) -> usize
+    requires { let ls = lines (now «start_x») (now «start_y») (now «end_x») (now «end_y») in
+        let t = beside ls grid (now offsets) (now items) (now globals) «global_count» in
+        ⌜ Checked ls (RunAsks grid t (now starts) (now listing) (now counts)) ⌝ }
+    ensures { λ r. let ls = lines (now («start_x» .entry)) (now («start_y» .entry)) (now («end_x» .entry)) (now («end_y» .entry)) in
+        let t = beside ls grid (now (offsets .entry)) (now (items .entry)) (now (globals .entry)) «global_count» in
+        ⌜ Grown (keeps (overlap ls) t) (testsOf t) (now (first .entry)) (now (second .entry)) 0 (now (first .exit)) (now (second .exit)) r ⌝ }
+{
+    let cells = (grid.rows as usize) * (grid.cols as usize);
+    let hits = cells::scan_cells(
+        cells,
+        offsets,
+        items,
+        start_x,
+        start_y,
+        end_x,
+        end_y,
+        starts,
+        listing,
+        counts,
+        first,
+        second,
+    );
+    globals::scan_globals(
+        start_x.len() as u32,
+        globals,
+        global_count,
+        start_x,
+        start_y,
+        end_x,
+        end_y,
+        starts,
+        listing,
+        counts,
+        first,
+        second,
+        hits,
+    )
+}
+
+// Refusals 3, of what is lent, then 3, 2, 1, 8 and 10, as a visit; then 5, with the number of pairs. The tables' check asks 2 again, of the
+// number of lines that has passed it.
+pub fn pairs_once(
+    start_x: &[f64],
+    start_y: &[f64],
+    end_x: &[f64],
+    end_y: &[f64],
+    grid: Grid,
+    offsets: &[u32],
+    items: &[u32],
+    globals: &[u32],
+    global_count: usize,
+    first: &mut [u32],
+    second: &mut [u32],
+    starts: &mut [u32],
+    listing: &mut [u32],
+    counts: &mut [u32],
+) -> OnceAnswer
+    ensures { λ r. let ls = lines (now («start_x» .entry)) (now («start_y» .entry)) (now («end_x» .entry)) (now («end_y» .entry)) in
+        let t = beside ls grid (now (offsets .entry)) (now (items .entry)) (now (globals .entry)) «global_count» in
+        let end = onceBy ls grid t (now (first .entry)) (now (second .entry)) (now (starts .entry)) (now (listing .entry)) (now (counts .entry)) in
+        ⌜ PairsAre end (now (first .entry)) (now (second .entry)) (now (starts .entry)) (now (listing .entry)) (now (counts .entry)) r
+        (now (first .exit)) (now (second .exit)) (now (starts .exit)) (now (listing .exit)) (now (counts .exit)) ⌝ }
+{
+    let lent = ending::check_lent(
+        start_x.len(),
+        items.len(),
+        first.len(),
+        second.len(),
+        starts.len(),
+        listing.len(),
+        counts.len(),
+    );
+    if let Check::Refused(r) = lent {
+        return OnceAnswer::Refused(r);
+    }
+    let lines = grid::checks::check_lines(start_x, start_y, end_x, end_y);
+    if let Check::Refused(r) = lines {
+        return OnceAnswer::Refused(r);
+    }
+    let listed = by_line::lists_by_line(
+        start_x.len(),
+        grid,
+        offsets,
+        items,
+        globals,
+        global_count,
+        starts,
+        listing,
+    );
+    if let ByLine::Refused(r) = listed {
+        return OnceAnswer::Refused(r);
+    }
+    slices::clear(counts);
+    let hits = run(
+        start_x,
+        start_y,
+        end_x,
+        end_y,
+        grid,
+        offsets,
+        items,
+        globals,
+        global_count,
+        starts,
+        listing,
+        counts,
+        first,
+        second,
+    );
+    ending::finish(hits, first, second, starts, listing, counts)
+}

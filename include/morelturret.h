@@ -56,6 +56,7 @@ enum {
     MT_BAD_WKB = 11,        /* not a LineString, or not a MultiLineString, that the reader takes: the byte position */
     MT_UNFIT_SNAP = 12,     /* snap size or strategy unfit: 0 */
     MT_SUM_TOO_LARGE = 13,  /* the sum of two counts is above 65,536: the first such entry */
+    MT_OUTSIDE_GRID = 14,   /* an end of a line that is to be added is outside the grid: 0 */
     MT_OFF_GRID = 16,       /* an end of one segment is off the grid of the covering walk: 0 */
     MT_OUT_SHORT = 100,     /* `out` has too few words; nothing is written */
     MT_FEW_WORDS = 101,     /* a grid has too few words; nothing is written */
@@ -223,6 +224,20 @@ uint32_t mt_tables_on(const double *start_x, size_t start_x_len, const double *s
                       const double *end_x, size_t end_x_len, const double *end_y, size_t end_y_len, const uint64_t *grid, size_t grid_len,
                       uint32_t mode, uint32_t *offsets, size_t offsets_len, uint32_t *items, size_t items_len,
                       uint32_t *globals, size_t globals_len, uint32_t *scratch, size_t scratch_len, uint64_t *out, size_t out_len);
+
+/* ---- one more line ---- */
+
+/* Adds a line, numbered `lines`, to the standing tables of so many lines at their grid, in a mode of walk (MT_RUST, MT_SIDED or MT_COVERING), in place. Its number goes
+ * to the end of the list of each cell that it visits, or of the globals if those are more than 2,048; all other lists keep their entries. Where the tables are those
+ * of the lines so far in that mode, they are then those of all lines on that grid. Beyond the tables offsets, items and globals are zeroed, and so is all of the
+ * scratch, which has at least 16,384 entries. A line adds at most 2,048 items, or one global.
+ * out (3 words): the number of items, the number of globals, and how many cells list the line, which is none where it is global.
+ * Refuses by 3, 2 (lines is not below 65,536), 1 (0), 8 (0 by 0 too), 10, 14, 7 (0), 5 (the new number of items), 6 (the new number of globals). No refusal changes the
+ * tables; 5, 6 and 7 leave the scratch zero. */
+uint32_t mt_add_line(const uint64_t *grid, size_t grid_len, uint32_t mode, double start_x, double start_y, double end_x, double end_y,
+                     size_t lines, uint32_t *offsets, size_t offsets_len, uint32_t *items, size_t items_len,
+                     uint32_t *globals, size_t globals_len, uint64_t global_count, uint32_t *scratch, size_t scratch_len,
+                     uint64_t *out, size_t out_len);
 
 /* ---- standing tables ---- */
 

@@ -53,7 +53,7 @@ typedef struct {
 } mt_points;
 
 /* The tables of a build. The caller sets the four addresses and how many entries each has room for; mt_tables_build fills in the rest. The list of
- * cell c is items[offsets[c]] up to items[offsets[c + 1]]. The scratch is needed by the build alone. */
+ * cell c is items[offsets[c]] up to items[offsets[c + 1]]. The scratch is needed by the build, and by a line that is added. */
 typedef struct {
     uint32_t *offsets, *items, *globals, *scratch;
     size_t offset_room, item_room, global_room, scratch_room;
@@ -144,6 +144,7 @@ static inline const char *mt_message(uint32_t number) {
     case MT_BAD_WKB: return "not a LineString, or not a MultiLineString, that the reader takes";
     case MT_UNFIT_SNAP: return "snap size or strategy unfit";
     case MT_SUM_TOO_LARGE: return "the sum of two counts is above 65,536";
+    case MT_OUTSIDE_GRID: return "an end of a line that is to be added is outside the grid";
     case MT_OFF_GRID: return "an end of one segment is off the grid of the covering walk";
     case MT_OUT_SHORT: return "out has too few words";
     case MT_FEW_WORDS: return "a grid has too few words";
@@ -296,6 +297,23 @@ static inline mt_refusal mt_tables_fill(mt_tables *tables, const mt_lines *lines
     if (number == MT_OK) {
         tables->grid = *grid;
         tables->line_count = n;
+        tables->item_count = (size_t)out[0];
+        tables->global_count = (size_t)out[1];
+    }
+    return mt_refused(number, out[0]);
+}
+
+/* Adds the line from (segment[0], segment[1]) to (segment[2], segment[3]) to the tables at their grid, as mt_add_line does; its number is the line_count of before.
+ * The items need room for at most MT_MAX_ITEMS_OF_LINE more, the globals for one. On a refusal the tables stand as they were.
+ * Refuses by 3, 2, 1, 8, 10, 14, 7, 5, 6. The values of 5 and 6 are the room that lacks. */
+static inline mt_refusal mt_tables_push(mt_tables *tables, const double segment[4], uint32_t mode) {
+    uint64_t grid[6], out[3] = {0};
+    mt_grid_words(&tables->grid, grid);
+    uint32_t number = mt_add_line(grid, 6, mode, segment[0], segment[1], segment[2], segment[3], tables->line_count, tables->offsets,
+                                  tables->offset_room, tables->items, tables->item_room, tables->globals, tables->global_room,
+                                  tables->global_count, tables->scratch, tables->scratch_room, out, 3);
+    if (number == MT_OK) {
+        tables->line_count++;
         tables->item_count = (size_t)out[0];
         tables->global_count = (size_t)out[1];
     }

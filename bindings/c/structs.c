@@ -204,6 +204,23 @@ static void members(const mt_points *points, const char *path) {
     }
 }
 
+/* The first line turned round, and one that is far off. */
+static void push(mt_tables *tables, const mt_lines *lines, const uint64_t *built, uint32_t mode, const char *path) {
+    if (lines->count == 0 || lines->count == LINES) return;
+    const double turned[4] = {lines->end_x[0], lines->end_y[0], lines->start_x[0], lines->start_y[0]}, far[4] = {1e9, 1e9, 1e9, 1e9};
+    uint64_t out[3];
+    uint32_t number = mt_add_line(built, 6, mode, far[0], far[1], far[2], far[3], lines->count, flat_offsets, MT_MAX_OFFSETS, flat_items, ITEMS, flat_globals,
+                                  LINES, built[7], flat_scratch, MT_SCRATCH, out, 3);
+    alike(mt_tables_push(tables, far, mode), number, out[0], "a line far off", path);
+    same(tables->line_count == lines->count && tables->item_count == built[6] && tables->global_count == built[7], "what a line far off leaves", path);
+    number = mt_add_line(built, 6, mode, turned[0], turned[1], turned[2], turned[3], lines->count, flat_offsets, MT_MAX_OFFSETS, flat_items, ITEMS, flat_globals,
+                         LINES, built[7], flat_scratch, MT_SCRATCH, out, 3);
+    if (!alike(mt_tables_push(tables, turned, mode), number, out[0], "a line added", path)) return;
+    same(tables->line_count == lines->count + 1 && tables->item_count == out[0] && tables->global_count == out[1], "what a line added answers", path);
+    same(!memcmp(offsets, flat_offsets, sizeof offsets) && !memcmp(items, flat_items, sizeof items) && !memcmp(globals, flat_globals, sizeof globals), "the tables with a line added", path);
+    same(mt_tables_check(tables).number == MT_OK, "the fit of the tables with a line added", path);
+}
+
 static void build(const mt_lines *lines, const mt_points *points, uint32_t sizing, uint32_t mode, const char *path) {
     const size_t n = lines->count;
     uint64_t built[8];
@@ -225,6 +242,7 @@ static void build(const mt_lines *lines, const mt_points *points, uint32_t sizin
     ask(&tables, lines, built, path);
     visit_once(&tables, lines, built, path);
     on_grid(&tables, points, built, path);
+    push(&tables, lines, built, mode, path);
     tables.grid.cols = 4005;
     same(mt_tables_check(&tables).number == MT_UNFIT_GRID, "the fit of a grid of 4,005 columns", path);
 }

@@ -1,12 +1,13 @@
 //! One comparison for each kind of question. Each asks the Rust, the model and the port.
 //! What the Rust cannot be asked (refusals, walks past the budget, the reader, cells sized by axis, the sided
-//! mode of walk, several benches) is asked of the model and the port. Kinds that
+//! mode of walk, several benches, lines added to standing tables) is asked of the model and the port. Kinds that
 //! turn on the sizes of cells are asked twice: `AXES` says that width and height are kept apart.
 
 use crate::random::Random;
 use crate::Grid;
 use std::collections::BTreeMap;
 
+pub mod added;
 pub mod build;
 pub mod counts;
 pub mod cover;
@@ -146,7 +147,7 @@ pub fn word(number: u32) -> &'static str {
         103 => "no such mode",
         _ => [
             "answered", "refused 1", "refused 2", "refused 3", "refused 4", "refused 5", "refused 6", "refused 7", "refused 8", "refused 9",
-            "refused 10", "refused 11", "refused 12", "refused 13",
+            "refused 10", "refused 11", "refused 12", "refused 13", "refused 14",
         ][number as usize],
     }
 }

@@ -948,6 +948,72 @@ impl Standing<'_> {
     }
 }
 
+/// Document 02, 11: one more line, numbered n, on the standing tables of n lines. The slices are the offsets, the items, the globals and the scratch; the lists
+/// are taken out of them, grown and laid out anew. out: the number of items, the number of globals, how many cells list the line.
+pub fn add_line(g: &Grid, mode: u32, line: &Line, n: usize, slices: [&mut [u32]; 4], global_count: u64, out: &mut [u64]) -> u32 {
+    if out.len() < 3 {
+        return SHORT;
+    }
+    let Some(mode) = mode_of(mode) else {
+        return NO_MODE;
+    };
+    let mut refuse = |number, value| {
+        out[0] = value;
+        number
+    };
+    let [offsets, items, globals, scratch] = slices;
+    if scratch.len() < SCRATCH {
+        return refuse(3, 0);
+    }
+    if n >= MOST_LINES {
+        return refuse(2, n as u64);
+    }
+    if !line.iter().all(|&v| coordinate_fits(v)) {
+        return refuse(1, 0);
+    }
+    if !grid_fits(g) || g.cols == 0 {
+        return refuse(8, 0);
+    }
+    if !(Lists { grid: *g, lines: n, offsets, items, globals, global_count }).fits() {
+        return refuse(10, 0);
+    }
+    let far = |low: f64, count: u32, size: f64| {
+        let reach = count as f64 * size;
+        low + reach
+    };
+    let (far_x, far_y) = (far(g.min_x, g.cols, g.cell_width), far(g.min_y, g.rows, g.cell_height));
+    let outside = |x: f64, y: f64| x < g.min_x || x > far_x || y < g.min_y || y > far_y;
+    if outside(line[0], line[1]) || outside(line[2], line[3]) {
+        return refuse(14, 0);
+    }
+    let mut visited = Vec::new();
+    let walked = walk(mode, g, line, &mut visited);
+    scratch.fill(0);
+    if walked.is_none() {
+        return refuse(7, 0);
+    }
+    let cells = g.cols as usize * g.rows as usize;
+    let lists = offsets[..cells + 1].windows(2).map(|w| items[w[0] as usize..w[1] as usize].to_vec()).collect();
+    let mut t = Listed { lists, globals: globals[..global_count as usize].to_vec() };
+    if visited.len() > MOST_CELLS {
+        t.globals.push(n as u32);
+        visited.clear();
+    }
+    visited.iter().for_each(|&c| t.lists[c as usize].push(n as u32));
+    let all = t.lists.concat();
+    if all.len() > items.len() {
+        return refuse(5, all.len() as u64);
+    }
+    if t.globals.len() > globals.len() {
+        return refuse(6, t.globals.len() as u64);
+    }
+    left(offsets, &t.offsets());
+    left(items, &all);
+    left(globals, &t.globals);
+    out[..3].copy_from_slice(&[all.len() as u64, t.globals.len() as u64, visited.len() as u64]);
+    0
+}
+
 /// Document 02, 3: the lines in a window, which is [low x, low y, high x, high y]. Asked of each line by itself. out: how many there are.
 pub fn window(s: &Standing, w: [f64; 4], found: &mut [u32], out: &mut [u64]) -> u32 {
     let refusal = if s.lines.uneven() { Some((3, 0)) } else { s.lines.refusal() }

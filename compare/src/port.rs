@@ -117,6 +117,13 @@ pub fn batch(s: &Standing, bookmark: u64, first: &mut [u32], second: &mut [u32],
     )
 }
 
+/// The slices are the offsets, the items, the globals and the scratch. out: the number of items, the number of globals, how many cells list the line.
+#[inline]
+pub fn add_line(g: &Grid, mode: u32, line: &Line, n: usize, slices: [&mut [u32]; 4], global_count: u64, out: &mut [u64]) -> u32 {
+    let [offsets, items, globals, scratch] = slices;
+    sys::add_line(&g.words(), mode, line[0], line[1], line[2], line[3], n, offsets, items, globals, global_count, scratch, out)
+}
+
 /// out: how many pairs there are.
 #[inline]
 pub fn pairs_once(s: &Standing, lent: &mut OnceLent, out: &mut [u64]) -> u32 {

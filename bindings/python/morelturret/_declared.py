@@ -24,6 +24,7 @@ FUNCTIONS = {
     "mt_count": "start_x: [f64], start_y: [f64], end_x: [f64], end_y: [f64], grid: [u64], mode: u32, counts: [mut u32], scratch: [mut u32], out: [mut u64] -> u32",
     "mt_add": "into: [mut u32], from: [u32], out: [mut u64] -> u32",
     "mt_tables_on": "start_x: [f64], start_y: [f64], end_x: [f64], end_y: [f64], grid: [u64], mode: u32, offsets: [mut u32], items: [mut u32], globals: [mut u32], scratch: [mut u32], out: [mut u64] -> u32",
+    "mt_add_line": "grid: [u64], mode: u32, start_x: f64, start_y: f64, end_x: f64, end_y: f64, lines: usize, offsets: [mut u32], items: [mut u32], globals: [mut u32], global_count: u64, scratch: [mut u32], out: [mut u64] -> u32",
     "mt_check_tables": "grid: [u64], lines: usize, offsets: [u32], items: [u32], globals: [u32], global_count: u64, out: [mut u64] -> u32",
     "mt_cell_list": "grid: [u64], lines: usize, offsets: [u32], items: [u32], globals: [u32], global_count: u64, row: u32, col: u32, out: [mut u64] -> u32",
     "mt_global_list": "grid: [u64], lines: usize, offsets: [u32], items: [u32], globals: [u32], global_count: u64, position: u64, out: [mut u64] -> u32",
@@ -54,6 +55,7 @@ CONSTANTS = {
     "MT_BAD_WKB": 11,
     "MT_UNFIT_SNAP": 12,
     "MT_SUM_TOO_LARGE": 13,
+    "MT_OUTSIDE_GRID": 14,
     "MT_OFF_GRID": 16,
     "MT_OUT_SHORT": 100,
     "MT_FEW_WORDS": 101,
@@ -87,5 +89,6 @@ REFUSALS = {
     11: ('the bytes are no LineString of 1 to 1,024 points, or no MultiLineString of such, or bytes follow it', 'the byte position of the fault', 'look at the field that begins there: the byte order at 0, the type at 1, the count at 5, the points at 9, and in a member so far from where it begins; a fault at the end of input is a cut'),
     12: ('the snap size is not 0 or 1e-6 to 1e6, or the strategy not 0', '0', 'choose such a size, and strategy 0'),
     13: ('the sum of two counts is above 65,536', 'the first such entry', 'the two tables count a line twice, or more than 65,536 lines: add tables of other lines'),
+    14: ("an end of a line that is to be added is below the grid's lower side on an axis, or above min + cols x cell_width (rows x cell_height); each step is rounded once, the product first", '0', 'build anew with that line: its grid will reach it'),
     16: ("one segment is asked for in the covering mode, and an end of it is below the grid's lower side on an axis, or 4,095 cells and more above it", '0', 'it counts as being in every cell, where it is counted or built on that grid: nothing is dropped by it. Cut it to the grid to have its cells; no line of a build is such a one'),
 }

@@ -9,6 +9,7 @@ from .refusal import Refusal
 
 MOST_LINES = 65_536  # above it refusal 2: see `parts`
 OFFSETS = 1_002_002  # enough for every build
+MOST_CELLS = 2_048  # the most that list a line; a line of more is global
 SHORT_ITEMS, SHORT_GLOBALS = 5, 6
 BATCH = 1 << 22  # pairs; every batch checks the tables once more, so few large ones are quicker than many small ones
 
@@ -148,6 +149,25 @@ class Tables:
         found = np.empty(len(self.lines), np.uint32)
         count, *_ = answer("mt_window", *self.beside_lines, low_x, low_y, high_x, high_y, found)
         return found[:count].copy()
+
+    def push(self, start_x, start_y, end_x, end_y, follows=False):
+        """Adds a line to the tables at their grid, by the walk that they were built by, and answers its number: the tables are then those of all lines on
+        that grid, without a rebuild. `follows` tells that the line is the next leg of the last one. An end outside the grid is refused by 14, and
+        the tables stay.
+
+        >>> tables = build(Lines.chain([0, 2, 2, 0], [0, 0, 2, 2]), walk="rust")
+        >>> tables.push(0, 2, 0, 0, follows=True), tables.cells[0, 0].tolist(), tables.tests
+        (3, [0, 3], 4)
+        """
+        number, walk = len(self.lines), chosen("walk", self.walk, WALKS)
+        # room for what one line may need, so that neither 5 nor 6 comes; a refusal leaves the arrays of before
+        items, globals_ = (np.append(table, np.zeros(more, np.uint32)) for table, more in ((self.items, MOST_CELLS), (self.globals, 1)))
+        offsets, scratch = self.offsets.copy(), np.empty(SCRATCH, np.uint32)
+        line = start_x, start_y, end_x, end_y
+        item_count, global_count, *_ = answer("mt_add_line", self.grid.words, walk, *line, number, offsets, items, globals_, len(self.globals), scratch)
+        self.lines = type(self.lines).together([self.lines, type(self.lines)(*([value] for value in line), [follows])])
+        self.offsets, self.items, self.globals = offsets, items[:item_count], globals_[:global_count]
+        return number
 
     def owner(self, x, y):
         """Whose each point is: see `Grid.owner`."""

@@ -166,6 +166,23 @@ class Visits(unittest.TestCase):
             add(full, np.array([0, 0, 1], np.uint32))
         self.assertEqual((raised.exception.number, raised.exception.value, full.tolist()), (13, 2, [65_536] * 3))
 
+    def test_lines_added_one_by_one(self):
+        """Tables grown line by line are those of all lines on their grid; an end outside is refused by 14, and changes nothing."""
+        lines = self.tables.lines
+        for walk in WALKS:
+            grown = build(lines[:200], walk=walk, grid=self.tables.grid)
+            for i in range(200, len(lines)):
+                ends = (float(slice_[i]) for slice_ in lines.slices)
+                self.assertEqual(grown.push(*ends, follows=bool(lines.follows[i])), i)
+            whole = build(lines, walk=walk, grid=self.tables.grid)
+            for name in ("offsets", "items", "globals"):
+                self.assertEqual(getattr(grown, name).tobytes(), getattr(whole, name).tobytes(), name)
+            self.assertTrue((grown.lines.follows == lines.follows).all())
+            self.assertEqual(grown.tests, whole.tests)
+            with self.assertRaises(Refusal) as raised:
+                grown.push(1e9, 1e9, 0, 0)
+            self.assertEqual((raised.exception.number, raised.exception.value, len(grown.lines)), (14, 0, len(lines)))
+
     def test_each_pair_once(self):
         plain, handed = pair_set(self.tables.pairs(once=False))
         once, listed = pair_set(self.tables.pairs())

@@ -35,11 +35,12 @@
 //! # Refusals
 //!
 //! [`Refusal`] has the numbers. Where several apply, the first in the order 3, 2, 1, 8, 12, 10, 9 is given; a build then goes by 4 and 7 at each
-//! grid that it tries, and at last by 5 and 6; adding goes by 3 and 13; a reader goes by 3 and 11, and one of many chains then by 2 and 5. Refusals 4 to 7 leave zeros in the slices that the call was lent to
-//! write. All others change nothing.
+//! grid that it tries, and at last by 5 and 6; adding goes by 3 and 13; one more line by 3, 2, 1, 8, 10, then 14, 7, 5 and 6; a reader goes by 3 and 11, and one of many chains then by 2 and 5. Refusals 4 to 7 leave zeros in the slices that the call was lent to
+//! write, save the tables that a line is added to, which no refusal changes. All others change nothing.
 
 #![deny(unsafe_code, missing_docs)]
 
+mod added;
 mod counts;
 pub mod drop_in;
 mod lines;
@@ -56,6 +57,7 @@ pub mod sys;
 mod tables;
 mod walk;
 
+pub use added::{add_line, Added};
 pub use counts::{add, agreed_grid, count, tables_on, Counted, Counts};
 pub use lines::{LineVec, Lines};
 pub use members::{lines_of_members, read_multi_line_string, write_multi_line_string, Members};

@@ -16,7 +16,7 @@ use std::fmt;
 /// ```
 #[derive(Clone, Copy, PartialEq, Eq, Hash)]
 pub struct Refusal {
-    /// Which refusal: 1 to 13, or 16.
+    /// Which refusal: 1 to 14, or 16.
     pub number: u32,
     /// What goes with it.
     pub value: u64,
@@ -49,6 +49,8 @@ impl Refusal {
     pub const UNFIT_SNAP: u32 = 12;
     /// The sum of two counts is above 65,536. The value is the first such entry.
     pub const SUM_TOO_LARGE: u32 = 13;
+    /// An end of a line that is to be added is outside the grid. The value is 0.
+    pub const OUTSIDE_GRID: u32 = 14;
     /// An end of one segment is off the grid of the covering walk. The value is 0.
     pub const OFF_GRID: u32 = 16;
 }
@@ -81,6 +83,8 @@ pub enum Reason {
     BadWkb,
     /// [`Refusal::UNFIT_SNAP`].
     UnfitSnap,
+    /// [`Refusal::OUTSIDE_GRID`].
+    OutsideGrid,
     /// [`Refusal::OFF_GRID`].
     OffGrid,
     /// A number that this crate does not know.
@@ -112,6 +116,7 @@ impl Refusal {
             Refusal::MISFIT_TABLES => Reason::MisfitTables,
             Refusal::BAD_WKB => Reason::BadWkb,
             Refusal::UNFIT_SNAP => Reason::UnfitSnap,
+            Refusal::OUTSIDE_GRID => Reason::OutsideGrid,
             Refusal::OFF_GRID => Reason::OffGrid,
             _ => Reason::Other,
         }
@@ -136,6 +141,7 @@ impl fmt::Display for Refusal {
             Refusal::BAD_WKB => write!(f, "WKB refused (byte {value})"),
             Refusal::UNFIT_SNAP => write!(f, "snap size or strategy unfit"),
             Refusal::SUM_TOO_LARGE => write!(f, "the sum of two counts is above 65,536 (entry {value})"),
+            Refusal::OUTSIDE_GRID => write!(f, "an end of the line is outside the grid"),
             Refusal::OFF_GRID => write!(f, "an end of the segment is off the grid"),
             _ => write!(f, "value {value}"),
         }

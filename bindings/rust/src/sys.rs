@@ -42,6 +42,9 @@ extern "C" {
         end_y: *const f64, end_y_len: usize, grid: *const u64, grid_len: usize, mode: u32, offsets: *mut u32, offsets_len: usize,
         items: *mut u32, items_len: usize, globals: *mut u32, globals_len: usize, scratch: *mut u32, scratch_len: usize,
         out: *mut u64, out_len: usize) -> u32;
+    fn mt_add_line(grid: *const u64, grid_len: usize, mode: u32, start_x: f64, start_y: f64, end_x: f64, end_y: f64, lines: usize,
+        offsets: *mut u32, offsets_len: usize, items: *mut u32, items_len: usize, globals: *mut u32, globals_len: usize, global_count: u64,
+        scratch: *mut u32, scratch_len: usize, out: *mut u64, out_len: usize) -> u32;
     fn mt_check_tables(grid: *const u64, grid_len: usize, lines: usize, offsets: *const u32, offsets_len: usize,
         items: *const u32, items_len: usize, globals: *const u32, globals_len: usize, global_count: u64,
         out: *mut u64, out_len: usize) -> u32;
@@ -235,6 +238,16 @@ pub fn tables_on(start_x: &[f64], start_y: &[f64], end_x: &[f64], end_y: &[f64],
     unsafe { mt_tables_on(start_x.as_ptr(), start_x.len(), start_y.as_ptr(), start_y.len(), end_x.as_ptr(), end_x.len(),
         end_y.as_ptr(), end_y.len(), grid.as_ptr(), grid.len(), mode, offsets.as_mut_ptr(), offsets.len(), items.as_mut_ptr(), items.len(),
         globals.as_mut_ptr(), globals.len(), scratch.as_mut_ptr(), scratch.len(), out.as_mut_ptr(), out.len()) }
+}
+
+/// `mt_add_line` of the header.
+#[inline]
+pub fn add_line(grid: &[u64], mode: u32, start_x: f64, start_y: f64, end_x: f64, end_y: f64, lines: usize, offsets: &mut [u32],
+    items: &mut [u32], globals: &mut [u32], global_count: u64, scratch: &mut [u32], out: &mut [u64]) -> u32 {
+    // SAFETY: numbers by value, and Rust slices that are lent for this call.
+    unsafe { mt_add_line(grid.as_ptr(), grid.len(), mode, start_x, start_y, end_x, end_y, lines, offsets.as_mut_ptr(), offsets.len(),
+        items.as_mut_ptr(), items.len(), globals.as_mut_ptr(), globals.len(), global_count, scratch.as_mut_ptr(), scratch.len(),
+        out.as_mut_ptr(), out.len()) }
 }
 
 /// `mt_check_tables` of the header.

@@ -1,7 +1,7 @@
 //! The build, its tables, and the visit of their tests.
 
 use crate::refusal::{answer, Refusal};
-use crate::{sys, tables_on, Grid, Lines, Mode, Plan, Sizing, MAX_CELLS_OF_LINE, MAX_LINES, MAX_OFFSETS, SCRATCH};
+use crate::{add_line, sys, tables_on, Grid, Lines, Mode, Plan, Sizing, MAX_CELLS_OF_LINE, MAX_LINES, MAX_OFFSETS, SCRATCH};
 use std::iter::FusedIterator;
 
 /// What a build answers beside the tables that it wrote.
@@ -101,7 +101,7 @@ pub struct Tables {
 
 impl Tables {
     /// Tables of no lines, with room for a build. This allocates; no later call on these tables does, save [`Tables::pairs`],
-    /// [`Tables::pairs_once`] and [`Tables::window`].
+    /// [`Tables::pairs_once`], [`Tables::window`] and [`Tables::push`].
     pub fn with_room(room: Room) -> Tables {
         Tables {
             grid: Grid::EMPTY,
@@ -251,6 +251,40 @@ impl Tables {
     /// The lines that visit more than 2,048 cells, increasing.
     pub fn globals(&self) -> &[u32] {
         &self.globals[..self.global_count]
+    }
+
+    /// Adds a line to these tables at their grid, in a mode of walk, and answers its number, which is that of the lines so far. It goes to the end of the list of
+    /// each cell that it visits, or of the global lines. Where the tables are those of the lines so far in that mode, they are then those of all lines on that
+    /// grid. Items and globals get the room that one line may need, so this may allocate. A bookmark of before means another test now.
+    ///
+    /// Refuses by 2 (65,536 lines stand), 1 (a coordinate), 8 (tables of no lines), 14 (an end outside the grid), 7 (a walk too long); the tables then stand as
+    /// they were.
+    ///
+    /// ```
+    /// use morelturret::{Lines, Mode, Refusal, Tables};
+    ///
+    /// let (x, y) = ([0.0, 2.0, 2.0, 0.0, 0.0], [0.0, 0.0, 2.0, 2.0, 0.0]);
+    /// let mut tables = Tables::of(Lines::chain(&x[..4], &y[..4]))?;
+    /// assert_eq!(tables.push((0.0, 2.0), (0.0, 0.0), Mode::Rust)?, 3);
+    /// assert_eq!(tables.cell(0, 0), [0, 3]);
+    /// // all pairs of the four lines, without a build
+    /// assert!(tables.pairs(Lines::chain(&x, &y), 256)?.any(|pair| pair == (0, 3)));
+    /// assert_eq!(tables.push((0.0, 0.0), (9.0, 0.0), Mode::Rust).unwrap_err().number, Refusal::OUTSIDE_GRID);
+    /// # Ok::<(), morelturret::Refusal>(())
+    /// ```
+    pub fn push(&mut self, start: (f64, f64), end: (f64, f64), mode: Mode) -> Result<usize, Refusal> {
+        let (items, globals) = (self.item_count + MAX_CELLS_OF_LINE, self.global_count + 1);
+        self.items.resize(self.items.len().max(items), 0);
+        self.globals.resize(self.globals.len().max(globals), 0);
+        let offsets = (self.grid.cols as usize * self.grid.rows as usize + 1).min(self.offsets.len());
+        // beyond the tables there are zeros: no more is lent than the line may need
+        let added = add_line(
+            self.grid, mode, start, end, self.line_count, &mut self.offsets[..offsets], &mut self.items[..items], &mut self.globals[..globals],
+            self.global_count, &mut self.scratch,
+        )?;
+        let number = self.line_count;
+        (self.line_count, self.item_count, self.global_count) = (number + 1, added.items, added.globals);
+        Ok(number)
     }
 
     /// The list of the cell (row, col): the lines that visit it, increasing. A cell beyond the grid's end has the empty list;

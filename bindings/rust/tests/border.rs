@@ -29,6 +29,7 @@ const TAKEN: [Asked; 15] = [
     ("test_at", |grid, out| sys::test_at(grid, &[], &[], &[], &[], &[0; 17], &[], &[], 0, 0, out), 6),
     ("count", |grid, out| sys::count(&[], &[], &[], &[], grid, 0, &mut [7; 17], &mut vec![7; SCRATCH], out), 2),
     ("tables_on", |grid, out| sys::tables_on(&[], &[], &[], &[], grid, 0, &mut [7; 17], &mut [], &mut [], &mut vec![7; SCRATCH], out), 2),
+    ("add_line", |grid, out| sys::add_line(grid, 0, 0.5, 0.5, 0.5, 0.5, 0, &mut [0; 17], &mut [7], &mut [], 0, &mut vec![7; SCRATCH], out), 3),
     ("batch", |grid, out| sys::batch(grid, &[], &[], &[], &[], &[0; 17], &[], &[], 0, 0, &mut [7], &mut [7], out), 3),
 ];
 

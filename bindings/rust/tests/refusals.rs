@@ -401,6 +401,50 @@ fn counting_on_a_grid() {
 }
 
 #[test]
+fn fourteen_an_end_outside_the_grid() {
+    let lines = square();
+    let standing = Tables::on(lines.lines(), FOUR, Mode::Rust).unwrap();
+    let offsets = [&standing.standing().offsets[..17], &[JUNK]].concat();
+    let items = [standing.items(), &[JUNK; 4]].concat();
+    // a call on junk beyond the tables: its refusal, whether the tables are as they were, and what the scratch holds throughout
+    let added = |grid: Grid, start, end, n: usize, room: usize, globals: usize, length: usize| {
+        let (mut o, mut t, mut g, mut s) = (offsets.clone(), items[..room].to_vec(), vec![JUNK; globals], vec![JUNK; length]);
+        let refusal = of(add_line(grid, Mode::Rust, start, end, n, &mut o, &mut t, &mut g, 0, &mut s));
+        assert!(o == offsets && t == items[..room] && g.iter().all(|&v| v == JUNK), "no refusal changes the tables");
+        (refusal, s.first().copied().filter(|v| s.iter().all(|w| w == v)))
+    };
+    let (n, room) = (lines.lines().len(), items.len());
+    let (inside, outside) = ((0.5, 0.5), (4.5, 0.5));
+    assert_eq!(added(FOUR, inside, outside, n, room, 0, SCRATCH), ((14, 0), Some(JUNK)));
+    assert_eq!(added(FOUR, (0.5, -5e-324), inside, n, room, 0, SCRATCH), ((14, 0), Some(JUNK)), "below min by one unit");
+    assert_eq!(added(FOUR, inside, outside, n, room, 0, SCRATCH - 1), ((3, 0), Some(JUNK)));
+    assert_eq!(added(FOUR, inside, outside, MAX_LINES, room, 0, SCRATCH), ((2, 65536), Some(JUNK)));
+    assert_eq!(added(UNFIT, (f64::NAN, 0.0), outside, n, room, 0, SCRATCH), ((1, 0), Some(JUNK)), "before 8");
+    assert_eq!(added(UNFIT, inside, outside, 0, room, 0, SCRATCH), ((8, 0), Some(JUNK)), "before 10");
+    assert_eq!(added(Grid::EMPTY, inside, inside, 0, room, 0, SCRATCH), ((8, 0), Some(JUNK)), "0 by 0 too");
+    assert_eq!(added(FOUR, inside, outside, n - 1, room, 0, SCRATCH), ((10, 0), Some(JUNK)), "before 14");
+    let total = standing.items().len();
+    assert_eq!(added(FOUR, inside, (1.5, 0.5), n, total + 1, 0, SCRATCH), ((5, total as u64 + 2), Some(0)));
+    let mut tables = standing.clone();
+    assert_eq!(of(tables.push(inside, outside, Mode::Rust)), (14, 0));
+    assert_eq!(of(Tables::with_room(Room { offsets: 0, items: 0, globals: 0 }).push(inside, inside, Mode::Rust)), (8, 0));
+    assert_eq!((tables.line_count(), tables.items()), (n, standing.items()));
+    // on the far edge an end is inside
+    assert_eq!(tables.push((0.0, 0.0), (4.0, 4.0), Mode::Rust), Ok(n));
+    assert_eq!(tables.cell(3, 3), [n as u32]);
+}
+
+#[test]
+fn six_of_an_added_line() {
+    let grid = Grid { cols: 4004, rows: 1, ..FOUR };
+    let (mut offsets, mut scratch) = (vec![0; 4005], vec![JUNK; SCRATCH]);
+    let mut add = |globals: &mut [u32]| add_line(grid, Mode::Rust, (0.5, 0.5), (2048.5, 0.5), 0, &mut offsets, &mut [], globals, 0, &mut scratch);
+    assert_eq!(of(add(&mut [])), (6, 1));
+    assert_eq!(add(&mut [7]), Ok(Added { items: 0, globals: 1, cells: 0 }));
+    assert!(scratch.iter().all(|&v| v == 0));
+}
+
+#[test]
 fn sixteen_an_end_off_the_grid() {
     let mut scratch = vec![JUNK; SCRATCH];
     let large = Grid { cols: 683, rows: 3, ..FOUR };
@@ -425,7 +469,7 @@ fn sixteen_an_end_off_the_grid() {
 
 #[test]
 fn words() {
-    for number in (1..=13).chain([16]) {
+    for number in (1..=14).chain([16]) {
         let text = Refusal { number, value: 77 }.to_string();
         assert!(text.starts_with(&format!("refused {number}: ")), "{text}");
         // those whose value says something say it

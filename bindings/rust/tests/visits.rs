@@ -160,3 +160,23 @@ fn empty_slices() {
     assert_eq!(segment_cells(Grid::EMPTY, (0.0, 0.0), (1.0, 1.0), Mode::Sided, &mut []), Err(Refusal { number: 3, value: 0 }));
     assert_eq!(read_line_string(&[], &mut [], &mut []), Err(Refusal { number: 3, value: 0 }));
 }
+
+/// Tables of some lines grown line by line are those of all lines on their grid, in every mode, and are visited alike.
+#[test]
+fn grown_line_by_line() {
+    for (name, lines) in samples().into_iter().filter(|(_, lines)| lines.lines().len() > 1) {
+        for mode in [Mode::Rust, Mode::Sided, Mode::Covering] {
+            let all = lines.lines();
+            let grid = Tables::planned(all, mode).unwrap().grid();
+            let half = all.len() / 2;
+            let first = Lines { start_x: &all.start_x[..half], start_y: &all.start_y[..half], end_x: &all.end_x[..half], end_y: &all.end_y[..half] };
+            let mut tables = Tables::on(first, grid, mode).unwrap();
+            for i in half..all.len() {
+                assert_eq!(tables.push((all.start_x[i], all.start_y[i]), (all.end_x[i], all.end_y[i]), mode), Ok(i), "{name}");
+            }
+            let whole = Tables::on(all, grid, mode).unwrap();
+            assert_eq!((tables.items(), tables.globals()), (whole.items(), whole.globals()), "{name}, {mode:?}");
+            assert!(tables.pairs(all, 64).unwrap().eq(whole.pairs(all, 64).unwrap()), "{name}, {mode:?}");
+        }
+    }
+}

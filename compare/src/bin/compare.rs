@@ -4,10 +4,10 @@
 //! The port takes part in every kind: --port may be said, and changes nothing.
 //! Ends with status 1 at the first difference.
 
-use compare::kinds::{self, build, counts, cover, covering, drop_in, lists, multi, numbers, once, own, owners, pairs, seams, sided, snap, straight, strategies, visit, walk, window, wkb};
+use compare::kinds::{self, added, build, counts, cover, covering, drop_in, lists, multi, numbers, once, own, owners, pairs, seams, sided, snap, straight, strategies, visit, walk, window, wkb};
 
 /// The kinds, with the cases of a full run.
-const KINDS: [(&str, u64); 31] = [
+const KINDS: [(&str, u64); 32] = [
     ("sample", 1),
     ("numbers", 10_000_000),
     ("walk", 1_000_000),
@@ -39,6 +39,7 @@ const KINDS: [(&str, u64); 31] = [
     ("once", 4_000),
     ("drop-in", 1_000),
     ("counts", 2_700),
+    ("added", 1_000),
 ];
 
 fn main() {
@@ -88,6 +89,7 @@ fn main() {
             "drop-in" => kinds::run::<drop_in::DropIn>(seed, n, drop_in::fixed()),
             "covering-build" => kinds::run::<covering::CoveringBuild>(seed, n, vec![]),
             "cover" => kinds::run::<cover::Cover>(seed, n, cover::fixed()),
+            "added" => kinds::run::<added::Added>(seed, n, added::fixed()),
             "pairs" => kinds::run::<pairs::Pairs>(seed, n, vec![]),
             "once" => kinds::run::<once::Once>(seed, n, vec![]),
             _ => kinds::run::<counts::Counts>(seed, n, counts::fixed()),

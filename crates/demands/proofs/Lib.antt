@@ -1,7 +1,8 @@
 -- DEMAND 3 of standing tables of any walk. `Listed` has what stands, `Refusals` that no visit of it is refused, `Often` how often two lines are
 -- tested, `Count` how many tests there are, `Calls` what the calls of a full visit hand out, `Handed` how often that is two lines, `Whole` the
--- demand itself. `Build` has the demand after a build, `Points` that a build in the covering mode drops nothing, and `Seven` that it is never refused by 7; these
--- alone speak of one, with the last law of `Once`, which has what `once::pairs_once` hands out.
+-- demand itself. `Grown` has the demand after a build, or one followed by added lines, `Build` the case of none, `Points` that in the covering mode nothing is
+-- dropped, and `Seven` that a build in it is never refused by 7; these alone speak of a build, with the last law of `Once`, which has what
+-- `once::pairs_once` hands out.
 pub mod Listed
 pub mod Refusals
 pub mod Often
@@ -9,6 +10,7 @@ pub mod Count
 pub mod Calls
 pub mod Handed
 pub mod Whole
+pub mod Grown
 pub mod Build
 pub mod Points
 pub mod Seven

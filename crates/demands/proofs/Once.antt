@@ -1,5 +1,5 @@
 -- EACH PAIR ONCE: a call of `once::pairs_once` hands out what a full visit hands out, each pair once, of any tables; and after a build in the
--- covering mode any two lines that share an exact point. Assumes nothing.
+-- covering mode, or one followed by lines added in it, any two lines that share an exact point. Assumes nothing.
 use mathlib.Core.Path.{_≡_, refl, sym, _∙_}
 use mathlib.Core.List.{List}
 use Prim.Native.Nat.{ℕ, _-_}
@@ -14,21 +14,17 @@ use Rattle.refusals.proofs.Answers.{then-passed}
 use Rattle.grid.specs.declared.Grid.{Grid}
 use Rattle.grid.specs.Domain.{Lines}
 use Rattle.tables.specs.Tables.{Tables}
-use Rattle.build.specs.declared.Plan.{Plan}
-use Rattle.build.specs.declared.Standing.{Standing}
-use Rattle.build.specs.declared.Built.{Built}
-use Rattle.build.specs.declared.Built.the-variants as built
-use Rattle.build.specs.Build.{endOf, BuildIs}
 use Rattle.walk.specs.declared.Mode.the-variants.{Covering}
 use Rattle.visit.specs.Tests.{Pair, testsOf}
 use Rattle.visit.specs.Batches.{overlapping, firsts, seconds}
-use Rattle.visit.specs.Entries.{beside, visitCheck}
+use Rattle.visit.specs.Entries.{visitCheck}
 use Rattle.visit.proofs.Standing.{stands}
 use Rattle.visit_laws.specs.Words.{one, times}
 use Rattle.visit_laws.proofs.Often.{one-true, handed-often}
 use Rattle.once.specs.declared.OnceAnswer.the-variants as answer
 use Rattle.once.specs.Once.{onceOf, onceBy}
 use Rattle.once_laws.proofs.Once.{once-as-visit}
+use Rattle.demands.specs.Grown.{Grown}
 use Rattle.demands.specs.Once.{OnceCall, onceOut, VisitOnce, CrossingsOnce}
 use Rattle.demands.proofs.Calls.{visit-firsts, visit-seconds}
 use Rattle.demands.proofs.Handed.{pairs-times}
@@ -84,11 +80,10 @@ visit-once ls g t c cs v a b =
     often-is c a b
     ∙ rw (visit-firsts ls g t cs v, visit-seconds ls g t cs v, pairs-times a b (overlapping ls (testsOf t)))
 
--- NO CROSSING IS LEFT OUT, AND NONE COMES TWICE, after a build in the covering mode
-module _ (plan : Plan) (covering : plan .mode ≡ Covering) {ls : Lines} {o t gs s : List ℕ} {r : Built} {o′ t′ gs′ s′ : List ℕ} {st : Standing}
-    (h : BuildIs (plan .mode) ls o t gs s r o′ t′ gs′ s′ (endOf plan ls (length o) (length t) (length gs) (length s))) (ok : r ≡ built.Tables st) where
-  pub crossings-once : CrossingsOnce ls (st .grid) (beside ls (st .grid) o′ t′ gs′ (st .globals))
+-- NO CROSSING IS LEFT OUT, AND NONE COMES TWICE, after a build in the covering mode, or one followed by lines added in it
+module _ {g : Grid} {ls : Lines} {t : Tables} (k : Grown Covering g ls t) where
+  pub crossings-once : CrossingsOnce ls g t
   crossings-once c a b x =
-      let k = nothing-dropped plan covering h ok .tested a b x in
-      let e = handed-often ls a b (testsOf (beside ls (st .grid) o′ t′ gs′ (st .globals))) (crossings-overlap ls a b x) in
-      often-is c a b ∙ rw (e, lt-ltb 0 (times a b (testsOf (beside ls (st .grid) o′ t′ gs′ (st .globals)))) k) one-true
+      let tested = nothing-dropped k .tested a b x in
+      let e = handed-often ls a b (testsOf t) (crossings-overlap ls a b x) in
+      often-is c a b ∙ rw (e, lt-ltb 0 (times a b (testsOf t)) tested) one-true

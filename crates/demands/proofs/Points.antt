@@ -1,5 +1,5 @@
--- NOTHING IS DROPPED: after a build in the covering mode, straight from what `build::build` ensures. Lines that share an exact point share a cell, or one of
--- them is global, so that they are due at least once; and their boxes overlap. Assumes nothing.
+-- NOTHING IS DROPPED: after a build in the covering mode, or one followed by lines added in it, straight from what the calls ensure. Lines that share an
+-- exact point share a cell, or one of them is global, so that they are due at least once; and their boxes overlap. Assumes nothing.
 use mathlib.Core.Path.{_≡_, refl, sym, ap, _∙_, subst}
 use mathlib.Core.Bool.{Bool, true, false, cond, _&&_, _||_}
 use mathlib.Core.List.{List}
@@ -15,24 +15,17 @@ use Rattle.grid.specs.Domain.{Lines, count, segmentAt, fit}
 use Rattle.cover.specs.Covering.{coveringOf, Common}
 use Rattle.cover.proofs.Laws.{common, covering-rises}
 use Rattle.cover.proofs.Boxes.{share-overlap}
-use Rattle.walk.specs.declared.Mode.{Mode}
 use Rattle.walk.specs.declared.Mode.the-variants.{Covering}
 use Rattle.walk.proofs.Reaching.{covering-given}
+use Rattle.tables.specs.Tables.{Tables}
 use Rattle.fill.specs.OnGrid.{walkOn, visited, cellsOn}
-use Rattle.build.specs.declared.Plan.{Plan}
-use Rattle.build.specs.declared.Standing.{Standing}
-use Rattle.build.specs.declared.Built.{Built}
-use Rattle.build.specs.declared.Built.the-variants as built
-use Rattle.build.specs.Build.{endOf, BuildIs}
-use Rattle.build.proofs.Theorems.{grid-fits}
-use Rattle.visit.specs.Entries.{beside}
 use Rattle.visit.specs.Overlap.{overlap}
 use Rattle.visit_laws.specs.Words.{one, countBelow}
 use Rattle.visit_laws.proofs.Number.{sum-suc}
 use Rattle.demands.specs.Words.{isGlobal, visits, sharedCells, due}
 use Rattle.demands.specs.Points.{Cross, NothingDropped}
-use Rattle.demands.specs.Build.{AfterBuild}
-use Rattle.demands.proofs.Build.{after-build}
+use Rattle.demands.specs.Grown.{Grown}
+use Rattle.demands.proofs.Grown.{grown-says, after-grown}
 
 -- ---- a shared cell is counted
 
@@ -74,17 +67,14 @@ crossings-overlap ls a b x = share-overlap (segmentAt ls a) (segmentAt ls b) (x 
 
 -- ---- THE THEOREM
 
-module _ (plan : Plan) (covering : plan .mode ≡ Covering) {ls : Lines} {o t gs s : List ℕ} {r : Built} {o′ t′ gs′ s′ : List ℕ} {st : Standing}
-    (h : BuildIs (plan .mode) ls o t gs s r o′ t′ gs′ s′ (endOf plan ls (length o) (length t) (length gs) (length s))) (ok : r ≡ built.Tables st) where
-  after : AfterBuild Covering ls (st .grid) (beside ls (st .grid) o′ t′ gs′ (st .globals))
-  after = subst (λ (m : Mode). AfterBuild m ls (st .grid) (beside ls (st .grid) o′ t′ gs′ (st .globals))) covering (after-build plan h ok)
+module _ {g : Grid} {ls : Lines} {t : Tables} (k : Grown Covering g ls t) where
+  is-due : (a b : ℕ) → Cross ls a b → 0 < due g (cellsOn Covering g ls) a b
+  is-due a b x = let s = grown-says k in crossing-due g ls (s .stands .grid-fit) a b x (let n : 1 ≤ count ls = omega (arith, x .first) in let m = s .some n in omega arith)
 
-  is-due : (a b : ℕ) → Cross ls a b → 0 < due (st .grid) (cellsOn Covering (st .grid) ls) a b
-  is-due a b x = crossing-due (st .grid) ls (grid-fits plan h ok .0) a b x (let n : 1 ≤ count ls = omega (arith, x .first) in let k = grid-fits plan h ok .1 n in omega arith)
-
-  pub nothing-dropped : NothingDropped ls (st .grid) (beside ls (st .grid) o′ t′ gs′ (st .globals))
+  pub nothing-dropped : NothingDropped ls g t
   nothing-dropped =
+      let d = after-grown k .demand in
       record {
-        tested = λ a b x. rw (after .demand .tested a b (x .different) (x .first) (x .second)) (is-due a b x);
-        handed = λ cs v a b x. rw (after .demand .handed cs v a b (x .different) (x .first) (x .second), crossings-overlap ls a b x) (is-due a b x);
+        tested = λ a b x. rw (d .tested a b (x .different) (x .first) (x .second)) (is-due a b x);
+        handed = λ cs v a b x. rw (d .handed cs v a b (x .different) (x .first) (x .second), crossings-overlap ls a b x) (is-due a b x);
       }

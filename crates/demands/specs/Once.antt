@@ -1,5 +1,5 @@
 -- Each pair once, of calls of `once::pairs_once` that are not refused: they hand out the pairs, taken without order, that a full visit hands
--- out, each once; and after a build in the covering mode any two different lines that share an exact point. Definitions only.
+-- out, each once; and after a build in the covering mode, or one followed by lines added in it, any two different lines that share an exact point. Definitions only.
 use mathlib.Core.Path.{_≡_}
 use mathlib.Core.List.{List}
 use Prim.Native.Nat.{ℕ}

@@ -1,6 +1,7 @@
 //! bench [--seed S] [--rounds R] [STAGE..]: times of the port and of the Rust, in one process, turn by turn, and the bytes that each uses.
 //! Prints medians, port / Rust, and beside a ratio that has a bar, the bar and whether it is met. Without stages, all of them.
 
+mod added;
 mod clock;
 mod covers;
 mod heap;
@@ -67,13 +68,17 @@ fn main() {
     if wanted("members") {
         members::times(clock, &mut Random::new(seed));
     }
+    if wanted("added") {
+        added::times(clock, &mut Random::new(seed));
+    }
     if wanted("window") {
         windows::times(clock, seed);
     }
     clock.end();
 }
 
-const STAGES: [&str; 11] = ["numbers", "walks", "covers", "orderings", "builds", "visits", "memory", "points", "sizings", "members", "window"];
+const STAGES: [&str; 12] =
+    ["numbers", "walks", "covers", "orderings", "builds", "visits", "memory", "points", "sizings", "members", "added", "window"];
 
 fn stop() -> ! {
     eprintln!("bench [--seed S] [--rounds R] [STAGE..], with STAGE one of {}", STAGES.join(" "));

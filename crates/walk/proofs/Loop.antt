@@ -11,6 +11,7 @@ use Rattle.numbers.specs.Order.{leastOf, magnitudeOf}
 use Rattle.slices.specs.Lists.{any}
 use Rattle.refusals.specs.Refusals.{refusal, refused, gives, _into_}
 use Rattle.walk.specs.declared.Course.{Course}
+use Rattle.walk.specs.declared.Next.{Next}
 use Rattle.walk.specs.declared.Position.{Position}
 use Rattle.walk.specs.declared.Turn.{Turn}
 use Rattle.walk.specs.declared.Walk.{Walk}
@@ -22,7 +23,7 @@ use Rattle.walk.specs.Pushes.{Outcome, before, after}
 use Rattle.walk.specs.Modular.{arrivedBy, turnBy, steppedBy, advancedBy, movedBy, pushBy, sidesBy, pushedBy, nextBy, goingBy, turnsBy, walkedBy}
 use Rattle.walk.specs.Inside.{Grown, Covers, RanTo, RanWithin, Far, Straight, Still, Runs, WalkedTo, Walks}
 use Rattle.walk.proofs.Floats.{sum-far}
-use Rattle.walk.proofs.Grows.{then, at-most-one}
+use Rattle.walk.proofs.Grows.{none, then, at-most-one}
 
 -- ---- how many a turn pushes
 
@@ -49,14 +50,29 @@ module _ (k : Turn) (cols rows : ℕ) (way : Way) (w : Walk) where
   unfolding pushedBy
   one-way e = rw (sides-none (k .x && k .y) cols rows way w e) (at-most-one cols rows (movedBy k way w .x .index) (movedBy k way w .y .index))
 
--- a turn's pushes from those of the code's steps
-pub turned : (cols rows : ℕ) (way : Way) (w w′ : Walk) (k : Turn) {s s′ s″ : List ℕ} {m a m′ : ℕ}
-    → k ≡ turnBy way w → w′ ≡ movedBy k way w
-    → Grown s s′ m a (sidesBy (k .x && k .y) cols rows way w)
-    → Grown s′ s″ a m′ (pushBy cols rows (w′ .x .index) (w′ .y .index))
-    → Grown s s″ m m′ (pushedBy (turnBy way w) cols rows way w)
+-- ---- one turn of the code
+
+-- what it comes to, from the state that it moves to, the side cells, and the cell of that state
+pub strode : (cols rows : ℕ) (way : Way) (w to : Walk) (k : Turn) (r : Next) {s s′ s″ : List ℕ} {n a : ℕ} → to ≡ movedBy k way w
+    → Grown s s′ n a (sidesBy (k .x && k .y) cols rows way w)
+    → (r .at ≡ to) × Grown s′ s″ a (r .count) (pushBy cols rows (to .x .index) (to .y .index))
+    → (r .at ≡ movedBy k way w) × Grown s s″ n (r .count) (pushedBy k cols rows way w)
 unfolding pushedBy
-turned cols rows way w w′ k e f g h = rw (← e, ← f) (then g h)
+strode cols rows way w to k r e g h = (h .0 ∙ e, rw (← e) (then g (h .1)))
+
+pub both-sides : (k : Turn) (cols rows : ℕ) (way : Way) (w : Walk) {s s′ : List ℕ} {n a : ℕ} → k .x ≡ true → k .y ≡ true → Grown s s′ n a (sidesBy true cols rows way w)
+    → Grown s s′ n a (sidesBy (k .x && k .y) cols rows way w)
+both-sides k cols rows way w p q g = rw (p, q) g
+
+-- on one axis there are no side cells
+pub no-sides : (k : Turn) (cols rows : ℕ) (way : Way) (w : Walk) {s : List ℕ} {n : ℕ} → (k .x && k .y) ≡ false → n ≤ length s → Grown s s n n (sidesBy (k .x && k .y) cols rows way w)
+no-sides k cols rows way w e h = rw (sides-none (k .x && k .y) cols rows way w e) (none h)
+
+pub not-both-x : (k : Turn) → k .x ≡ false → (k .x && k .y) ≡ false
+not-both-x k e = rw e
+
+pub not-both-y : (k : Turn) → k .x ≡ true → k .y ≡ false → (k .x && k .y) ≡ false
+not-both-y k e f = rw (e, f)
 
 next-is : (way : Way) (w w′ : Walk) (k : Turn) → k ≡ turnBy way w → w′ ≡ movedBy k way w → w′ ≡ nextBy way w
 unfolding nextBy
@@ -175,13 +191,12 @@ module _ {P Q : Type 0} {goal : Outcome} {n cols rows : ℕ} {way : Way} {left :
   }
 
   -- one turn of the code
-  pub again : {a m′ : ℕ} {s′ s″ : List ℕ} (k : Turn) (b : Bool) (w′ : Walk) → k ≡ turnBy way w → b ≡ goesOf k → b ≡ true → 0 < left → w′ ≡ movedBy k way w
-      → Grown s s′ m a (sidesBy (k .x && k .y) cols rows way w)
-      → Grown s′ s″ a m′ (pushBy cols rows (w′ .x .index) (w′ .y .index))
-      → Going P Q goal n cols rows way (left - 1) w′ m′ s″
-  again {a} {m′} {s′} {s″} k b w′ e f t h i p q =
-      subst (λ (v : Walk). Going P Q goal n cols rows way (left - 1) v m′ s″) (sym (next-is way w w′ k e i))
-      (more (going-is way w k b e f ∙ t) h (turned cols rows way w w′ k e i p q))
+  pub again : {s′ : List ℕ} (k : Turn) (b : Bool) (r : Next) → k ≡ turnBy way w → b ≡ goesOf k → b ≡ true → 0 < left
+      → (r .at ≡ movedBy k way w) × Grown s s′ m (r .count) (pushedBy k cols rows way w)
+      → Going P Q goal n cols rows way (left - 1) (r .at) (r .count) s′
+  again {s′} k b r e f t h p =
+      subst (λ (v : Walk). Going P Q goal n cols rows way (left - 1) v (r .count) s′) (sym (next-is way w (r .at) k e (p .0)))
+      (more (going-is way w k b e f ∙ t) h (subst (λ (z : Turn). Grown s s′ m (r .count) (pushedBy z cols rows way w)) e (p .1)))
 
   pub done : goingBy way w ≡ false → RanTo goal (Done m) s × ((m ≤ n + 15000) × ((P → m ≤ n + 5000) × (Q → m ≤ n)))
   unfolding before _into_

@@ -50,11 +50,11 @@ product-same c f (fin s m e) (fin t n d) h =
 
 -- ---- the greatest of two
 
-second : (x y : Float) → lt x y ≡ true → greatestOf x y ≡ y
+pub second : (x y : Float) → lt x y ≡ true → greatestOf x y ≡ y
 unfolding greatestOf
 second x y h = rw h
 
-first : (x y : Float) → lt x y ≡ false → isNan x ≡ false → greatestOf x y ≡ x
+pub first : (x y : Float) → lt x y ≡ false → isNan x ≡ false → greatestOf x y ≡ x
 unfolding greatestOf
 first x y h k = rw (h, k)
 

@@ -1,17 +1,20 @@
 -- What the private functions of a walk promise to one another. Definitions only.
 use mathlib.Core.Path.{_≡_}
 use mathlib.Core.Logic.{_⊎_}
-use mathlib.Core.Bool.{Bool, true, false, cond}
+use mathlib.Core.Bool.{Bool, true, false, cond, _&&_}
 use mathlib.Core.List.{List, _++_}
 use Prim.Native.Nat.{ℕ, zero, suc, _+_, _-_, _*_, _%_, _≤_, _<_}
 use lib.ListN.{length, take, getD}
 use lib.Dec.{eqb}
-use lib.Ieee.{Float}
+use lib.IntN.{negsuc}
+use lib.Ieee.{Float, fin, binary64, add, mul, lt, le, eq}
+use Rattle.numbers.specs.Order.{greatestOf}
 use Rattle.slices.specs.Lists.{any, Below}
 use Rattle.refusals.specs.Refusals.{refusal, refused, gives}
 use Rattle.grid.specs.declared.Grid.{Grid}
 use Rattle.grid.specs.declared.Segment.{Segment}
-use Rattle.grid.specs.Axes.{xAxis, yAxis}
+use Rattle.grid.specs.declared.Side.the-variants.{Off}
+use Rattle.grid.specs.Axes.{xAxis, yAxis, sideOn}
 use Rattle.walk.specs.declared.Course.{Course}
 use Rattle.walk.specs.declared.Mode.{Mode}
 use Rattle.walk.specs.declared.Neighbour.{Neighbour}
@@ -21,7 +24,7 @@ use Rattle.walk.specs.declared.Walk.{Walk}
 use Rattle.walk.specs.declared.Way.{Way}
 use Rattle.walk.specs.declared.Ran.{Ran}
 use Rattle.walk.specs.declared.Ran.the-variants.{Done, Over}
-use Rattle.walk.specs.Turns.{infinite}
+use Rattle.walk.specs.Turns.{nought, one, infinite}
 use Rattle.walk.specs.Pushes.{Outcome}
 use Rattle.walk.specs.Neighbours.{alongOn}
 use Rattle.walk.specs.Modular.{advancedBy}
@@ -49,6 +52,14 @@ lastIs (suc n) s c = eqb (getD s n 0) c
 pub record Complete (s : List ℕ) (r : ℕ) (cells : List ℕ) : Type 0 where
   pub within : r ≤ length s
   pub same : (f : ℕ → Bool) → any f (take r s) ≡ any f cells
+
+-- The tolerance by the greater t_max, and whether a turn is plain: the lesser t_max is above 0 and at most 1 + tolerance, and `gap`, by which the two
+-- differ, is more than the tolerance; or the greater is infinite.
+abbrev pub wide : Float → Float
+wide far = mul binary64 (fin false 1 (negsuc 48)) (greatestOf one far)
+
+unfoldable pub plainly : Float → Float → Float → Bool
+plainly near far gap = lt nought near && cond (lt (wide far) gap) (le near (add binary64 one (wide far))) (eq far infinite)
 
 -- what a run leaves: the cells at the front of s, or refusal 7
 abbrev pub RanTo : Outcome → Ran → List ℕ → Type 0
@@ -126,3 +137,10 @@ share x y = manyOf x + manyOf y + manyOf x * manyOf y
 unfoldable pub shareOf : Mode → Grid → Segment → ℕ
 shareOf mode g line =
     share (alongOn mode (xAxis g) (line .«start_x») (line .«end_x»)) (alongOn mode (yAxis g) (line .«start_y») (line .«end_y»))
+
+-- no coordinate of the line is on a boundary
+pub record Clear (g : Grid) (line : Segment) : Type 0 where
+  pub start-x : sideOn (xAxis g) (line .«start_x») ≡ Off
+  pub start-y : sideOn (yAxis g) (line .«start_y») ≡ Off
+  pub end-x : sideOn (xAxis g) (line .«end_x») ≡ Off
+  pub end-y : sideOn (yAxis g) (line .«end_y») ≡ Off

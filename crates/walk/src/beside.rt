@@ -1,20 +1,26 @@
 // What a line on a boundary, and its endpoints, add beside the walked cells.
 use crate::Mode;
 use crate::Neighbour;
+use crate::Walk;
+use crate::Way;
 use grid::Axis;
 use grid::Grid;
 use grid::Segment;
 use grid::Side;
+use numbers::order::magnitude;
 ghost use mathlib.Core.Path.{_≡_};
+ghost use mathlib.Core.Bool.{true};
 ghost use mathlib.Core.List.{flatMap};
 ghost use Prim.Native.Nat.{_+_, _*_, _≤_, _<_};
 ghost use lib.Dec.{eqb};
 ghost use lib.ListN.{length, take};
 ghost use Rattle.slices.specs.Lists.{Below};
+ghost use Rattle.grid.specs.declared.Side.the-variants.{Off};
+ghost use Rattle.grid.specs.Axes.{sideOn};
 ghost use Rattle.grid.proofs.Shapes.{Shape};
 ghost use Rattle.walk.specs.Neighbours.{neighbourFor, neighbourOn, alongOn, lowColOf, upColOf, lowRowOf, upRowOf, columnOf, rowOf, besideOf, cellOf, endOf};
 ghost use Rattle.walk.specs.Segment.{pushesOf};
-ghost use Rattle.walk.specs.Inside.{Grown, Covers, Complete, Within, AllWithin, lowerOf, manyOf, share, shareOf};
+ghost use Rattle.walk.specs.Inside.{Grown, Covers, Complete, Within, AllWithin, lowerOf, manyOf, share, shareOf, Clear};
 
 // Where the modes that walk by turns differ.
 fn neighbour_for(mode: Mode, side: Side) -> Neighbour
@@ -260,11 +266,59 @@ fn ended(s: &mut [u32], n: usize, mode: Mode, grid: Grid, x: f64, y: f64) -> usi
     )
 }
 
-// Pushes what the line and its endpoints add to the n walked cells.
-pub(crate) fn completed(s: &mut [u32], n: usize, mode: Mode, grid: Grid, line: Segment) -> usize
+// Whether a coordinate lies between the boundaries i and i + 1, and off both. It is asked of the index that is known already.
+fn is_between(axis: Axis, v: f64, i: u32) -> bool
+    ensures { λ r. ⌜ (r ≡ true → sideOn axis v ≡ Off) ⌝ }
+{
+    let at = axis.scaled(v);
+    let low = i as f64;
+    let high = low + 1.0;
+    if low < at {
+        if at < high {
+            if 1e-12 < magnitude(at - low) {
+                return 1e-12 < magnitude(at - high);
+            }
+            return false;
+        }
+        return false;
+    }
+    false
+}
+
+// Whether all four coordinates are off the boundaries, by the indices of the ends.
+fn is_clear(grid: Grid, line: Segment, way: Way, start: Walk) -> bool
+    ensures { λ r. ⌜ (r ≡ true → Clear grid line) ⌝ }
+{
+    let x = grid.x_axis();
+    let y = grid.y_axis();
+    if is_between(x, line.start_x, start.x.index) {
+        if is_between(y, line.start_y, start.y.index) {
+            if is_between(x, line.end_x, way.x.end) {
+                return is_between(y, line.end_y, way.y.end);
+            }
+            return false;
+        }
+        return false;
+    }
+    false
+}
+
+// Pushes what the line and its endpoints add to the n walked cells. Mostly that is nothing, which the indices of a walk show.
+pub(crate) fn completed(
+    s: &mut [u32],
+    n: usize,
+    mode: Mode,
+    grid: Grid,
+    line: Segment,
+    way: Way,
+    start: Walk,
+) -> usize
     requires { ⌜ Shape (grid .cols) (grid .rows) ⌝ ∗ ⌜ 0 < grid .cols ⌝ ∗ ⌜ n + n * shareOf mode grid line + 6 ≤ length (now s) ⌝ ∗ ⌜ Below (grid .rows * grid .cols) (take n (now s)) ⌝ }
     ensures { λ r. ⌜ Complete (now (s .exit)) r (pushesOf mode grid line (take n (now (s .entry)))) ⌝ }
 {
+    if is_clear(grid, line, way, start) {
+        return n;
+    }
     let x = along(mode, grid.x_axis(), line.start_x, line.end_x);
     let y = along(mode, grid.y_axis(), line.start_y, line.end_y);
     let a = added(s, n, x, y, grid.cols, grid.rows * grid.cols);

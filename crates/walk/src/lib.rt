@@ -78,6 +78,12 @@ pub struct Turn {
     pub y: bool,
 }
 
+// What a turn comes to: the state, and how many are pushed.
+pub struct Next {
+    pub at: Walk,
+    pub count: usize,
+}
+
 // How a run of turns ends: at a stop, with so many pushed, or with no turn left.
 pub enum Ran {
     Done(usize),
@@ -109,7 +115,7 @@ fn by_turns(mode: Mode, grid: Grid, line: Segment, scratch: &mut [u32]) -> Reach
     let r = walked(scratch, grid.cols, grid.rows, way, start);
     match r {
         Ran::Done(n) => {
-            let m = completed(scratch, n, mode, grid, line);
+            let m = completed(scratch, n, mode, grid, line, way, start);
             let count = ordering::order_and_keep(scratch, m);
             Reached::Found(count)
         },

@@ -1,14 +1,15 @@
 // What the turns of a walk push into the scratch.
+use crate::Next;
 use crate::Ran;
 use crate::Turn;
 use crate::Walk;
 use crate::Way;
 ghost use mathlib.Core.Path.{_≡_};
-ghost use mathlib.Core.Bool.{_&&_};
+ghost use mathlib.Core.Bool.{true};
 ghost use Prim.Native.Nat.{_+_, _*_, _≤_, _<_};
 ghost use lib.ListN.{length, take};
 ghost use Rattle.walk.specs.Pushes.{before};
-ghost use Rattle.walk.specs.Modular.{pushBy, sidesBy, goingBy, turnsBy, walkedBy};
+ghost use Rattle.walk.specs.Modular.{movedBy, pushBy, sidesBy, pushedBy, goingBy, turnsBy, walkedBy};
 ghost use Rattle.walk.specs.Inside.{Grown, Covers, lastIs, Runs, Walks};
 
 // Pushes the cell, where it is inside the grid.
@@ -57,18 +58,36 @@ fn put_other(s: &mut [u32], n: usize, cols: u32, rows: u32, col: u32, row: u32) 
 }
 
 // Pushes the side cells of a turn both ways.
-fn sides(w: Walk, k: Turn, cols: u32, rows: u32, way: Way, s: &mut [u32], n: usize) -> usize
+fn sides(s: &mut [u32], n: usize, cols: u32, rows: u32, way: Way, w: Walk) -> usize
     requires { ⌜ n + 2 ≤ length (now s) ⌝ ∗ ⌜ rows * cols ≤ 1002001 ⌝ }
-    ensures { λ r. ⌜ Grown (now (s .entry)) (now (s .exit)) n r (sidesBy (k .x && k .y) cols rows way w) ⌝ }
+    ensures { λ r. ⌜ Grown (now (s .entry)) (now (s .exit)) n r (sidesBy true cols rows way w) ⌝ }
+{
+    let a = put(s, n, cols, rows, w.x.stepped(way.x), w.y.index);
+    put(s, a, cols, rows, w.x.index, w.y.stepped(way.y))
+}
+
+// Pushes the cell of a state that a turn comes to.
+fn arrive(s: &mut [u32], n: usize, cols: u32, rows: u32, w: Walk) -> Next
+    requires { ⌜ n < length (now s) ⌝ ∗ ⌜ rows * cols ≤ 1002001 ⌝ }
+    ensures { λ r. ⌜ (r .at ≡ w) × Grown (now (s .entry)) (now (s .exit)) n (r .count) (pushBy cols rows (w .x .index) (w .y .index)) ⌝ }
+{
+    let m = put(s, n, cols, rows, w.x.index, w.y.index);
+    Next { at: w, count: m }
+}
+
+// One turn. Each way has a branch of its own, to the push: which way comes next is guessed well, and asking for it once more is slower.
+fn stride(s: &mut [u32], n: usize, cols: u32, rows: u32, way: Way, w: Walk, k: Turn) -> Next
+    requires { ⌜ n + 3 ≤ length (now s) ⌝ ∗ ⌜ rows * cols ≤ 1002001 ⌝ }
+    ensures { λ r. ⌜ (r .at ≡ movedBy k way w) × Grown (now (s .entry)) (now (s .exit)) n (r .count) (pushedBy k cols rows way w) ⌝ }
 {
     if k.x {
         if k.y {
-            let a = put(s, n, cols, rows, w.x.stepped(way.x), w.y.index);
-            return put(s, a, cols, rows, w.x.index, w.y.stepped(way.y));
+            let a = sides(s, n, cols, rows, way, w);
+            return arrive(s, a, cols, rows, w.moved(k, way));
         }
-        return n;
+        return arrive(s, n, cols, rows, w.moved(k, way));
     }
-    n
+    arrive(s, n, cols, rows, w.moved(k, way))
 }
 
 // The turns from a state on, 5,000 of them allowed.
@@ -88,9 +107,9 @@ fn run(s: &mut [u32], n: usize, cols: u32, rows: u32, way: Way, start: Walk) -> 
             return Ran::Over;
         }
         left -= 1;
-        let a = sides(w, k, cols, rows, way, s, m);
-        w = w.moved(k, way);
-        m = put(s, a, cols, rows, w.x.index, w.y.index);
+        let next = stride(s, m, cols, rows, way, w, k);
+        w = next.at;
+        m = next.count;
     }
 }
 

@@ -15,6 +15,7 @@ ghost use mathlib.Core.Bool.{true, false};
 ghost use lib.Ieee.{inf, binary64, sub};
 ghost use Rattle.walk.specs.Turns.{finiteOf, deltaOf, nextOn, firstOn, toleranceOf, nearOf, furtherOf, goesOf};
 ghost use Rattle.walk.specs.Modular.{stepBy, courseBy, positionBy, wayBy, startBy, arrivedBy, turnBy, steppedBy, advancedBy, movedBy};
+ghost use Rattle.walk.specs.Inside.{plainly};
 
 fn infinity() -> f64
     ensures { λ r. ⌜ r ≡ inf false ⌝ }
@@ -131,7 +132,8 @@ fn near(tx: f64, ty: f64, tol: f64) -> bool
     false
 }
 
-fn further(tx: f64, ty: f64) -> Turn
+// The turn of any two.
+fn weighed(tx: f64, ty: f64) -> Turn
     ensures { λ r. ⌜ r ≡ furtherOf tx ty ⌝ }
 {
     let tol = tolerance(tx, ty);
@@ -143,6 +145,40 @@ fn further(tx: f64, ty: f64) -> Turn
     }
     let x = tx < ty;
     Turn { x: x, y: !x }
+}
+
+// Whether the lesser t_max is above 0 and at most 1 + tolerance, and the two differ, by `gap`, by more than the tolerance, which goes by the greater then;
+// or the greater is infinite, as along an axis.
+fn is_plain(near: f64, far: f64, gap: f64) -> bool
+    ensures { λ r. ⌜ r ≡ plainly near far gap ⌝ }
+{
+    if 0.0 < near {
+        let tol = 1.7763568394002505e-15 * greatest(1.0, far);
+        if tol < gap {
+            return near <= 1.0 + tol;
+        }
+        return far == infinity();
+    }
+    false
+}
+
+// Nearly every turn is plain, and then less is asked.
+fn further(tx: f64, ty: f64) -> Turn
+    ensures { λ r. ⌜ r ≡ furtherOf tx ty ⌝ }
+{
+    if tx < ty {
+        if is_plain(tx, ty, magnitude(tx - ty)) {
+            return Turn { x: true, y: false };
+        }
+        return weighed(tx, ty);
+    }
+    if ty < tx {
+        if is_plain(ty, tx, magnitude(tx - ty)) {
+            return Turn { x: false, y: true };
+        }
+        return weighed(tx, ty);
+    }
+    weighed(tx, ty)
 }
 
 impl Turn {
@@ -194,7 +230,7 @@ impl Walk {
         further(self.x.t_max, self.y.t_max)
     }
 
-    // The state after the turn k. A branch for each way: which way comes next is guessed well, and choosing values without one is slower.
+    // The state after the turn k. A branch for each way: choosing values without one is slower.
     pub(crate) fn moved(self, k: Turn, way: Way) -> Walk
         ensures { λ r. ⌜ r ≡ movedBy k way self ⌝ }
     {

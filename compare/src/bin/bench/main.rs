@@ -5,6 +5,7 @@ mod added;
 mod clock;
 mod covers;
 mod heap;
+mod legs;
 mod members;
 mod numbers;
 mod orderings;
@@ -15,6 +16,7 @@ mod windows;
 mod year;
 
 use compare::random::Random;
+use compare::Mode;
 
 fn main() {
     let mut words = std::env::args().skip(1);
@@ -40,7 +42,7 @@ fn main() {
     }
     if wanted("covers") {
         covers::times(clock, &mut Random::new(seed));
-        covers::builds(clock, &mut Random::new(seed));
+        legs::builds(clock, &mut Random::new(seed), Mode::Covering);
     }
     if wanted("orderings") {
         orderings::times(clock, &mut Random::new(seed));
@@ -49,6 +51,7 @@ fn main() {
         let years = [1023, 8192, 65536].map(|n| year::Year::new(r, n));
         if wanted("builds") {
             year::builds(clock, &years);
+            legs::builds(clock, &mut Random::new(seed), Mode::Rust);
         }
         if wanted("visits") {
             year::visits(clock, &years);

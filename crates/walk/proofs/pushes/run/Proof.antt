@@ -1,5 +1,4 @@
 -- `walk::pushes::run` meets its contract. Assumes nothing.
-use mathlib.Core.Bool.{_&&_}
 use mathlib.Core.Logic.{inl}
 use mathlib.Core.Path.{_≡_, refl, _∙_}
 use native.Mathlib.Omega.{arith}
@@ -8,7 +7,7 @@ use lib.ListN.{length, take}
 use Rattle.walk.specs.Inside.{Straight, Still}
 use Rattle.walk.specs.Pushes.{before}
 use Rattle.walk.specs.Modular.{goingBy, turnsBy}
-use Rattle.walk.proofs.Loop.{Going, sides-le, going-is, again, done, over}
+use Rattle.walk.proofs.Loop.{Going, going-is, again, done, over}
 use Rattle.walk.proofs.pushes.run.Statement.{statement}
 use Rattle.walk.proofs.pushes.run.Tie as tie
 
@@ -42,20 +41,22 @@ returns-2 c = record { ran = over (c .before .before .before .before .loop .inv 
 sub-left : tie.Need-sub-left Inv-loop μ-loop
 sub-left c = omega arith
 
-sides-requires : tie.Need-sides-requires Inv-loop μ-loop
-sides-requires c κs = let g = c .before .before .before .before .before .loop .inv .0 in (omega (arith, g .room, g .size), c .before .before .before .before .before .before .before .pre .1)
-
-moved-requires : tie.Need-moved-requires Inv-loop μ-loop
-moved-requires c κs = tt
-
-put-requires : tie.Need-put-requires Inv-loop μ-loop
-put-requires c κs = let a = c .before .before .before .before .before .before .before .before .before .before .before .before .args in let l = c .before .before .before .before .before .before .before .before .before .before .loop in let p = c .before .before .before .before .sides .ensures in let k = c .before .before .before .before .before .before .before .before .before .turn .result in (omega (arith, l .inv .0 .room, l .inv .0 .size, p .count, p .len, sides-le (k .x && k .y) (a .cols) (a .rows) (a .way) (l .w)), c .before .before .before .before .before .before .before .before .before .before .before .before .pre .1)
+stride-requires : tie.Need-stride-requires Inv-loop μ-loop
+stride-requires c κs =
+    let g = c .before .before .before .before .before .loop .inv .0 in
+    (omega (arith, g .room, g .size), c .before .before .before .before .before .before .before .pre .1)
 
 loop-less : tie.Need-loop-less Inv-loop μ-loop
 loop-less c = omega arith
 
 loop-again : tie.Need-loop-again Inv-loop μ-loop
-loop-again c = let l = c .before .before .before .before .before .before .before .before .before .before .before .before .before .loop in (again (l .inv .0) _ _ _ (c .before .before .before .before .before .before .before .before .before .before .before .before .turn .ensures) (c .before .before .before .before .before .before .before .before .before .before .before .goes .ensures) (not-false _ (c .before .before .before .before .before .before .before .before .before .before .if1 .left)) (omega arith) (c .before .before .before .before .moved .ensures) (c .before .before .before .before .before .before .before .sides .ensures) (c .before .before .put .ensures), c .before .before .put .ensures .len ∙ c .before .before .before .before .before .before .before .sides .ensures .len ∙ l .inv .1)
+loop-again c =
+    let l = c .before .before .before .before .before .before .before .before .before .loop in
+    let p = c .before .before .before .stride .ensures in (
+      again (l .inv .0) _ _ _ (c .before .before .before .before .before .before .before .before .turn .ensures) (c .before .before .before .before .before .before .before .goes .ensures)
+          (not-false _ (c .before .before .before .before .before .before .if1 .left)) (omega arith) p,
+      p .1 .len ∙ l .inv .1,
+    )
 
 pub run-spec : {M : Type 1} → statement M
 run-spec =
@@ -71,8 +72,6 @@ run-spec =
     same-length-2
     returns-2
     sub-left
-    sides-requires
-    moved-requires
-    put-requires
+    stride-requires
     loop-less
     loop-again)

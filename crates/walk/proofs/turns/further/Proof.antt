@@ -1,32 +1,30 @@
 -- `walk::turns::further` meets its contract. Assumes nothing.
+use mathlib.Core.Path.{sym, ap, _∙_}
 use borrow.Author.Needs.{needs}
-use lib.Ieee.{ofBits}
-use Rattle.walk.specs.Turns.{furtherOf}
+use Rattle.walk.specs.Inside.{plainly}
+use Rattle.walk.proofs.Plain.{plain-x, plain-y}
 use Rattle.walk.proofs.turns.further.Statement.{statement}
 use Rattle.walk.proofs.turns.further.Tie as tie
 
-tolerance-requires : tie.Need-tolerance-requires
-tolerance-requires c κs = search needs
-
-least-requires : tie.Need-least-requires
-least-requires c κs = search needs
-
 returns : tie.Need-returns
-unfolding furtherOf ofBits
-returns c = rw (← c .before .before .tolerance .ensures, ← c .before .least .ensures, c .if1 .taken)
-
-near-requires : tie.Need-near-requires
-near-requires c κs = search needs
-
-returns-2 : tie.Need-returns-2
-unfolding furtherOf ofBits
-returns-2 c = rw (← c .before .before .before .before .tolerance .ensures, ← c .before .before .before .least .ensures, c .before .before .if1 .left, ← c .before .near .ensures, c .if2 .taken)
+returns c = plain-x _ _ (c .before .before .before .if1 .taken) (ap (plainly _ _) (sym (c .before .before .magnitude .ensures)) ∙ sym (c .before .is-plain .ensures) ∙ c .if2 .taken)
 
 returns-3 : tie.Need-returns-3
-unfolding furtherOf ofBits
-returns-3 c = rw (← c .before .before .before .before .tolerance .ensures, ← c .before .before .before .least .ensures, c .before .before .if1 .left, ← c .before .near .ensures, c .if2 .left)
+returns-3 c = plain-y _ _ (c .before .before .before .if3 .taken) (ap (plainly _ _) (sym (c .before .before .magnitude2 .ensures)) ∙ sym (c .before .is-plain2 .ensures) ∙ c .if4 .taken)
 
 pub further-spec : {M : Type 1} → statement M
 further-spec =
     tie.close
-    (tie.spec tolerance-requires least-requires returns near-requires returns-2 returns-3)
+    (tie.spec
+    (λ c κs. search needs)
+    (λ c κs. search needs)
+    returns
+    (λ c κs. search needs)
+    (λ c. search needs)
+    (λ c κs. search needs)
+    (λ c κs. search needs)
+    returns-3
+    (λ c κs. search needs)
+    (λ c. search needs)
+    (λ c κs. search needs)
+    (λ c. search needs))

@@ -57,6 +57,7 @@ enum {
     MT_UNFIT_SNAP = 12,     /* snap size or strategy unfit: 0 */
     MT_SUM_TOO_LARGE = 13,  /* the sum of two counts is above 65,536: the first such entry */
     MT_OUTSIDE_GRID = 14,   /* an end of a line that is to be added is outside the grid: 0 */
+    MT_BAD_SAMPLE = 15,     /* a number is no sample, its magnitude is above 2^29: the first such line */
     MT_OFF_GRID = 16,       /* an end of one segment is off the grid of the covering walk: 0 */
     MT_OUT_SHORT = 100,     /* `out` has too few words; nothing is written */
     MT_FEW_WORDS = 101,     /* a grid has too few words; nothing is written */
@@ -334,6 +335,22 @@ uint32_t mt_window(const uint64_t *grid, size_t grid_len, const double *start_x,
                    const uint32_t *offsets, size_t offsets_len, const uint32_t *items, size_t items_len,
                    const uint32_t *globals, size_t globals_len, uint64_t global_count, double low_x, double low_y, double high_x,
                    double high_y, uint32_t *found, size_t found_len, uint64_t *out, size_t out_len);
+
+/* ---- crossings of samples ---- */
+
+/* The pairs of lines that share a point, ends, overlaps and single points included, each once: at its first test, in the order of the visit, and with
+ * the lines in that test's order. Line i goes from (start_x[i], start_y[i]) to (end_x[i], end_y[i]), in samples, which are whole numbers of magnitude at
+ * most 2^29: there it is decided exactly. The tables are those of the same numbers as doubles. The pairs are those among the pairs that are tested: after
+ * a build in the mode MT_COVERING all that there are. Pair k is (first[k], second[k]); beyond the pairs both are zeroed. The last three slices are
+ * scratch, and zeroed: starts has at least one entry more than there are lines, listing as many as items, and counts one for each line.
+ * out (1 word): how many there are.
+ * Refuses by 3 (also where first and second differ in length, or scratch is short), 2, 15, 8, 10, 5 (how many there are; all five are zeroed). */
+uint32_t mt_crossings(const uint64_t *grid, size_t grid_len, const int32_t *start_x, size_t start_x_len,
+                      const int32_t *start_y, size_t start_y_len, const int32_t *end_x, size_t end_x_len,
+                      const int32_t *end_y, size_t end_y_len, const uint32_t *offsets, size_t offsets_len,
+                      const uint32_t *items, size_t items_len, const uint32_t *globals, size_t globals_len, uint64_t global_count,
+                      uint32_t *first, size_t first_len, uint32_t *second, size_t second_len, uint32_t *starts, size_t starts_len,
+                      uint32_t *listing, size_t listing_len, uint32_t *counts, size_t counts_len, uint64_t *out, size_t out_len);
 
 /* ---- well-known binary ---- */
 

@@ -45,6 +45,12 @@ typedef struct {
     size_t count;
 } mt_lines;
 
+/* Lines of samples, which are whole numbers of magnitude at most 2^29: line i goes from (start_x[i], start_y[i]) to (end_x[i], end_y[i]). */
+typedef struct {
+    const int32_t *start_x, *start_y, *end_x, *end_y;
+    size_t count;
+} mt_samples;
+
 /* Points, and room for more of them. */
 typedef struct {
     double *x, *y;
@@ -145,6 +151,7 @@ static inline const char *mt_message(uint32_t number) {
     case MT_UNFIT_SNAP: return "snap size or strategy unfit";
     case MT_SUM_TOO_LARGE: return "the sum of two counts is above 65,536";
     case MT_OUTSIDE_GRID: return "an end of a line that is to be added is outside the grid";
+    case MT_BAD_SAMPLE: return "a number is no sample, its magnitude is above 2^29";
     case MT_OFF_GRID: return "an end of one segment is off the grid of the covering walk";
     case MT_OUT_SHORT: return "out has too few words";
     case MT_FEW_WORDS: return "a grid has too few words";
@@ -453,6 +460,26 @@ static inline mt_refusal mt_tables_pairs_once(const mt_tables *tables, const mt_
     number = mt_pairs_once(grid, 6, lines->start_x, n, lines->start_y, n, lines->end_x, n, lines->end_y, n, tables->offsets, tables->offset_room,
                            tables->items, tables->item_room, tables->globals, tables->global_room, tables->global_count, pairs->first, pairs->room,
                            pairs->second, pairs->room, scratch, starts, scratch + starts + counts, left, scratch + starts, counts, out, 1);
+    if (number == MT_OK) pairs->count = (size_t)out[0];
+    return mt_refused(number, out[0]);
+}
+
+/* The pairs of lines that share a point, each once, as mt_crossings lists them: at its first test, in the order of the visit. The tables are those of
+ * the same numbers as doubles. The scratch is zeroed; it has at least tables->item_room + 2 * samples->count + 1 entries.
+ * Refuses by 3, 2, 15, 8, 10, 5 (how many pairs there are). */
+static inline mt_refusal mt_tables_crossings(const mt_tables *tables, const mt_samples *samples, mt_pairs_room *pairs, uint32_t *scratch,
+                                             size_t scratch_room) {
+    uint64_t grid[6], out[1] = {0};
+    size_t n = samples->count, left = scratch_room;
+    size_t starts = left < n + 1 ? left : n + 1;
+    size_t counts = left - starts < n ? left - starts : n;
+    uint32_t number;
+    left -= starts + counts;
+    mt_grid_words(&tables->grid, grid);
+    number = mt_crossings(grid, 6, samples->start_x, n, samples->start_y, n, samples->end_x, n, samples->end_y, n, tables->offsets,
+                          tables->offset_room, tables->items, tables->item_room, tables->globals, tables->global_room, tables->global_count,
+                          pairs->first, pairs->room, pairs->second, pairs->room, scratch, starts, scratch + starts + counts, left,
+                          scratch + starts, counts, out, 1);
     if (number == MT_OK) pairs->count = (size_t)out[0];
     return mt_refused(number, out[0]);
 }

@@ -85,6 +85,11 @@ def examples():
         "41c0000000000000 41c0000000000000 41c0000000000099 41c0000000000099",
     ))
 
+    # the same of whole numbers, which are samples: the legs 0 and 2 share the first point
+    yield "dropped_samples", line_string(
+        [(536870733, 536870733), (536870708, 536870678), (536870658, 536870818), (536870763, 536870699), (536870554, 536870554)] + [(536870912, 536870912)] * 32
+    )
+
     # One for each refusal that a chain can meet.
     yield "refused_1_not_a_number", line_string([(281.5, 36.25), (281.75, 36.5), (float("nan"), 36.5), (282, 36.75)])
     yield "refused_1_too_large", line_string([(281.5, 36.25), (281.75, 1000000001)])

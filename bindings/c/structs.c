@@ -18,6 +18,7 @@ static uint32_t lengths[MT_MAX_POINTS], flat_lengths[MT_MAX_POINTS];
 static double line_ends[4][LINES], flat_line_ends[4][LINES];
 static uint8_t written[BYTES + 9 * MT_MAX_POINTS], flat_written[BYTES + 9 * MT_MAX_POINTS];
 static uint32_t once[ONCE];
+static int32_t whole[4][LINES];
 static unsigned long held;
 
 static void same(int is_so, const char *what, const char *path) {
@@ -76,6 +77,32 @@ static void visit_once(const mt_tables *tables, const mt_lines *lines, const uin
         while (zeros < needed && once[zeros] == 0) zeros++;
         same(zeros == needed, "what is left in the scratch", path);
         alike(mt_tables_pairs_once(tables, lines, &pairs, once, needed - 1), MT_BAD_LENGTHS, 0, "a scratch that is short", path);
+    }
+}
+
+/* crossings of the whole parts of the coordinates, on the tables of the coordinates themselves: any tables that fit will do */
+static void cross(const mt_tables *tables, const mt_lines *lines, const uint64_t *grid, const char *path) {
+    const size_t n = lines->count, needed = ITEMS + 2 * n + 1;
+    const double *columns[4] = {lines->start_x, lines->start_y, lines->end_x, lines->end_y};
+    const mt_samples samples = {whole[0], whole[1], whole[2], whole[3], n};
+    const size_t rooms[2] = {ROOM, 0};
+    for (int c = 0; c < 4; c++) {
+        for (size_t i = 0; i < n; i++) whole[c][i] = (int32_t)columns[c][i];
+    }
+    for (int k = 0; k < 2; k++) {
+        uint64_t out[1] = {0};
+        mt_pairs_room pairs = {first, second, rooms[k], 0};
+        uint32_t number = mt_crossings(grid, 8, whole[0], n, whole[1], n, whole[2], n, whole[3], n, flat_offsets, MT_MAX_OFFSETS, flat_items, ITEMS, flat_globals, LINES, grid[7], flat_first, rooms[k], flat_second, rooms[k], flat_starts, n + 1, flat_cells, ITEMS, flat_counts, n, out, 1);
+        if (alike(mt_tables_crossings(tables, &samples, &pairs, once, needed), number, out[0], "the crossings", path)) {
+            same(pairs.count == out[0] && !memcmp(first, flat_first, sizeof first) && !memcmp(second, flat_second, sizeof second), "the pairs that cross", path);
+        }
+        alike(mt_tables_crossings(tables, &samples, &pairs, once, needed - 1), MT_BAD_LENGTHS, 0, "a scratch that is short for crossings", path);
+    }
+    if (n > 0) {
+        mt_pairs_room pairs = {first, second, ROOM, 0};
+        whole[2][n - 1] = (1 << 29) + 1;
+        mt_refusal refusal = mt_tables_crossings(tables, &samples, &pairs, once, needed);
+        same(refusal.number == MT_BAD_SAMPLE && refusal.value <= n - 1, "a number that is no sample", path);
     }
 }
 
@@ -241,6 +268,7 @@ static void build(const mt_lines *lines, const mt_points *points, uint32_t sizin
     visit(&tables, lines, built, path);
     ask(&tables, lines, built, path);
     visit_once(&tables, lines, built, path);
+    cross(&tables, lines, built, path);
     on_grid(&tables, points, built, path);
     push(&tables, lines, built, mode, path);
     tables.grid.cols = 4005;

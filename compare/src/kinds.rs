@@ -11,6 +11,7 @@ pub mod added;
 pub mod build;
 pub mod counts;
 pub mod cover;
+pub mod crossings;
 pub mod drop_in;
 pub mod lists;
 pub mod multi;
@@ -143,6 +144,7 @@ pub fn word(number: u32) -> &'static str {
     match number {
         100 => "out is short",
         102 => "no such sizing",
+        15 => "refused 15",
         16 => "refused 16",
         103 => "no such mode",
         _ => [

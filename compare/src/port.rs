@@ -143,6 +143,23 @@ pub fn window(s: &Standing, w: [f64; 4], found: &mut [u32], out: &mut [u64]) -> 
     )
 }
 
+/// Lines of samples, in four columns.
+pub struct Sampled<'a> {
+    pub start_x: &'a [i32],
+    pub start_y: &'a [i32],
+    pub end_x: &'a [i32],
+    pub end_y: &'a [i32],
+}
+
+/// The crossings of samples; the slices are first, second, starts, listing and counts. out: how many there are.
+#[inline]
+pub fn crossings(s: &Standing, l: &Sampled, [first, second, starts, listing, counts]: &mut [Vec<u32>; 5], out: &mut [u64]) -> u32 {
+    sys::crossings(
+        &s.grid.words(), l.start_x, l.start_y, l.end_x, l.end_y, s.offsets, s.items, s.globals, s.global_count, first, second, starts, listing, counts,
+        out,
+    )
+}
+
 /// out: 0 for a cell, 1 for a global line, 2 for the end mark; row or position; column; first; second; overlap.
 #[inline]
 pub fn test_at(s: &Standing, bookmark: u64, out: &mut [u64]) -> u32 {

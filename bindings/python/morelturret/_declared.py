@@ -34,6 +34,7 @@ FUNCTIONS = {
     "mt_batch": "grid: [u64], start_x: [f64], start_y: [f64], end_x: [f64], end_y: [f64], offsets: [u32], items: [u32], globals: [u32], global_count: u64, bookmark: u64, first: [mut u32], second: [mut u32], out: [mut u64] -> u32",
     "mt_pairs_once": "grid: [u64], start_x: [f64], start_y: [f64], end_x: [f64], end_y: [f64], offsets: [u32], items: [u32], globals: [u32], global_count: u64, first: [mut u32], second: [mut u32], starts: [mut u32], listing: [mut u32], counts: [mut u32], out: [mut u64] -> u32",
     "mt_window": "grid: [u64], start_x: [f64], start_y: [f64], end_x: [f64], end_y: [f64], offsets: [u32], items: [u32], globals: [u32], global_count: u64, low_x: f64, low_y: f64, high_x: f64, high_y: f64, found: [mut u32], out: [mut u64] -> u32",
+    "mt_crossings": "grid: [u64], start_x: [i32], start_y: [i32], end_x: [i32], end_y: [i32], offsets: [u32], items: [u32], globals: [u32], global_count: u64, first: [mut u32], second: [mut u32], starts: [mut u32], listing: [mut u32], counts: [mut u32], out: [mut u64] -> u32",
     "mt_read_line_string": "bytes: [u8], x: [mut f64], y: [mut f64], out: [mut u64] -> u32",
     "mt_read_multi_line_string": "bytes: [u8], x: [mut u64], y: [mut u64], lengths: [mut u32], out: [mut u64] -> u32",
     "mt_write_multi_line_string": "x: [u64], y: [u64], lengths: [u32], bytes: [mut u8], out: [mut u64] -> u32",
@@ -56,6 +57,7 @@ CONSTANTS = {
     "MT_UNFIT_SNAP": 12,
     "MT_SUM_TOO_LARGE": 13,
     "MT_OUTSIDE_GRID": 14,
+    "MT_BAD_SAMPLE": 15,
     "MT_OFF_GRID": 16,
     "MT_OUT_SHORT": 100,
     "MT_FEW_WORDS": 101,
@@ -90,5 +92,6 @@ REFUSALS = {
     12: ('the snap size is not 0 or 1e-6 to 1e6, or the strategy not 0', '0', 'choose such a size, and strategy 0'),
     13: ('the sum of two counts is above 65,536', 'the first such entry', 'the two tables count a line twice, or more than 65,536 lines: add tables of other lines'),
     14: ("an end of a line that is to be added is below the grid's lower side on an axis, or above min + cols x cell_width (rows x cell_height); each step is rounded once, the product first", '0', 'build anew with that line: its grid will reach it'),
+    15: ('a number that is to be a sample is above 2^29 in magnitude', 'the first such line', 'mend or leave out that line; where the numbers are no samples, decide crossings in floats'),
     16: ("one segment is asked for in the covering mode, and an end of it is below the grid's lower side on an axis, or 4,095 cells and more above it", '0', 'it counts as being in every cell, where it is counted or built on that grid: nothing is dropped by it. Cut it to the grid to have its cells; no line of a build is such a one'),
 }

@@ -14,8 +14,8 @@ except ImportError as missing:
 from ._declared import FUNCTIONS, SONAME
 from .refusal import Refusal
 
-C = {"f64": ctypes.c_double, "u64": ctypes.c_uint64, "u32": ctypes.c_uint32, "u8": ctypes.c_uint8, "usize": ctypes.c_size_t}
-DTYPE = {"f64": np.float64, "u64": np.uint64, "u32": np.uint32, "u8": np.uint8}
+C = {"f64": ctypes.c_double, "u64": ctypes.c_uint64, "u32": ctypes.c_uint32, "i32": ctypes.c_int32, "u8": ctypes.c_uint8, "usize": ctypes.c_size_t}
+DTYPE = {"f64": np.float64, "u64": np.uint64, "u32": np.uint32, "i32": np.int32, "u8": np.uint8}
 # The words that are lent for an answer; the longest has 8. A function that needs more would answer 100.
 WORDS = 16
 

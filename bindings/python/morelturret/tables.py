@@ -8,6 +8,7 @@ from .picture import picture
 from .refusal import Refusal
 
 MOST_LINES = 65_536  # above it refusal 2: see `parts`
+MOST_SAMPLE = 1 << 29  # above it refusal 15
 OFFSETS = 1_002_002  # enough for every build
 MOST_CELLS = 2_048  # the most that list a line; a line of more is global
 SHORT_ITEMS, SHORT_GLOBALS = 5, 6
@@ -114,12 +115,28 @@ class Tables:
         >>> [(int(a), int(b)) for a, b in zip(*tables.pairs_once())]
         [(0, 3), (0, 1), (2, 3), (1, 2)]
         """
+        return self._each_once("mt_pairs_once", self.beside_lines)
+
+    def crossings_of_samples(self):
+        """The pairs of lines that share a point, each once: at its first test, in the order of the visit. Two arrays. Every coordinate has to be a sample,
+        which is a whole number of magnitude at most 2^29; else refusal 15, with the first line that has another. There crossings are decided exactly, by
+        the library. By the covering walk every crossing is listed; by the others those that are tested.
+
+        >>> tables = build(Lines.chain([0, 4, 4, 0, 0, 2, 2], [0, 0, 4, 4, 0, 2, 6]))
+        >>> sorted((int(min(a, b)), int(max(a, b))) for a, b in zip(*tables.crossings_of_samples()))
+        [(0, 1), (0, 3), (0, 4), (1, 2), (2, 3), (2, 5), (3, 4), (4, 5)]
+        """
+        columns = [np.where((abs(v) <= MOST_SAMPLE) & (v == np.rint(v)), v, MOST_SAMPLE + 1).astype(np.int32) for v in self.lines.slices]
+        return self._each_once("mt_crossings", (self.grid.words, *columns, self.offsets, self.items, self.globals, len(self.globals)))
+
+    def _each_once(self, name, lent):
+        """The pairs of a call that hands out each once, with the room that it asks for."""
         scratch = [np.empty(size, np.uint32) for size in (len(self.lines) + 1, len(self.items), len(self.lines))]
         room = len(self.items)  # most visits hand out fewer pairs; else the refusal says how many
         while True:
             first, second = np.empty(room, np.uint32), np.empty(room, np.uint32)
             try:
-                count, *_ = answer("mt_pairs_once", *self.beside_lines, first, second, *scratch)
+                count, *_ = answer(name, *lent, first, second, *scratch)
                 return first[:count].copy(), second[:count].copy()
             except Refusal as refusal:
                 if refusal.number != SHORT_ITEMS:

@@ -6,9 +6,10 @@ import numpy as np
 
 from morelturret import OUTSIDE, SEAM, WALKS, Grid, Lines, Refusal, add, build, count, snap, strategies_agree
 from morelturret.once import Once
+from morelturret.tables import MOST_SAMPLE
 from morelturret.wkb import read_wkb
 
-from .shared import EXAMPLES, loops, pair_set
+from .shared import EXAMPLES, loops, meeting, pair_set
 
 FOUR = Grid(0, 0, 1, 1, 4, 4)
 THE_PROGRAMS = {"refused 4", "refused 5", "refused 6", "refused 11"}  # its room and its reader, which are not the package's
@@ -201,6 +202,24 @@ class Visits(unittest.TestCase):
                         met.add(frozenset(pair))
                         firsts.append(pair)
             self.assertEqual(list(zip(*(side.tolist() for side in tables.pairs_once()))), firsts)
+
+    def test_crossings_of_samples(self):
+        """On a small lattice, where legs touch, overlap and repeat: all pairs, by fractions; and what is no sample."""
+        rng = np.random.default_rng(7)
+        for walk in WALKS:
+            for low in (0, MOST_SAMPLE - 5, -MOST_SAMPLE):
+                x, y = rng.integers(low, low + 6, (2, 40))
+                tables = build(Lines.chain(x, y), walk=walk)
+                listed = [tuple(sorted(pair)) for pair in zip(*(side.tolist() for side in tables.crossings_of_samples()))]
+                sharing = meeting(tables.lines)
+                self.assertEqual(len(listed), len(set(listed)))
+                self.assertLessEqual(set(listed), sharing)
+                if walk == "covering":
+                    self.assertEqual(set(listed), sharing)
+        for bad in (0.5, MOST_SAMPLE + 1, -1e9):
+            with self.assertRaises(Refusal) as refused:
+                build(Lines.chain([0, 1, 2, bad], [0, 0, 0, 0])).crossings_of_samples()
+            self.assertEqual((refused.exception.number, refused.exception.value), (15, 2))
 
     def test_once_has(self):
         once = Once(self.tables)

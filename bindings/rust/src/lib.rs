@@ -35,7 +35,7 @@
 //! # Refusals
 //!
 //! [`Refusal`] has the numbers. Where several apply, the first in the order 3, 2, 1, 8, 12, 10, 9 is given; a build then goes by 4 and 7 at each
-//! grid that it tries, and at last by 5 and 6; adding goes by 3 and 13; one more line by 3, 2, 1, 8, 10, then 14, 7, 5 and 6; a reader goes by 3 and 11, and one of many chains then by 2 and 5. Refusals 4 to 7 leave zeros in the slices that the call was lent to
+//! grid that it tries, and at last by 5 and 6; adding goes by 3 and 13; one more line by 3, 2, 1, 8, 10, then 14, 7, 5 and 6; crossings have 15 in the place of 1, and 5 at last; a reader goes by 3 and 11, and one of many chains then by 2 and 5. Refusals 4 to 7 leave zeros in the slices that the call was lent to
 //! write, save the tables that a line is added to, which no refusal changes. All others change nothing.
 
 #![deny(unsafe_code, missing_docs)]
@@ -50,6 +50,7 @@ pub mod numbers;
 mod place;
 mod read;
 mod refusal;
+mod samples;
 mod sizing;
 #[allow(unsafe_code)]
 #[rustfmt::skip]
@@ -65,12 +66,16 @@ pub use mode::{Mode, Plan};
 pub use place::{overlap_owned, owner, owners, point_owned, snap, strategies_agree, Grid, Owner, Strategy};
 pub use read::{read_line_string, read_points};
 pub use refusal::{Reason, Refusal};
+pub use samples::Samples;
 pub use sizing::Sizing;
 pub use tables::{build, Batch, Built, Cost, Pairs, Place, Room, Standing, Tables, Test, Window};
 pub use walk::segment_cells;
 
 /// The most lines that a build or a visit takes: above it refusal 2.
 pub const MAX_LINES: usize = 65_536;
+
+/// The greatest magnitude of a sample, which is 2^29: above it refusal 15.
+pub const MAX_SAMPLE: i32 = 536_870_912;
 
 /// The entries of scratch that a walk and a build need: below it refusal 3.
 pub const SCRATCH: usize = 16_384;

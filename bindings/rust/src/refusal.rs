@@ -16,7 +16,7 @@ use std::fmt;
 /// ```
 #[derive(Clone, Copy, PartialEq, Eq, Hash)]
 pub struct Refusal {
-    /// Which refusal: 1 to 14, or 16.
+    /// Which refusal: 1 to 16.
     pub number: u32,
     /// What goes with it.
     pub value: u64,
@@ -51,6 +51,8 @@ impl Refusal {
     pub const SUM_TOO_LARGE: u32 = 13;
     /// An end of a line that is to be added is outside the grid. The value is 0.
     pub const OUTSIDE_GRID: u32 = 14;
+    /// A number is no sample: its magnitude is above 2^29. The value is the first such line.
+    pub const BAD_SAMPLE: u32 = 15;
     /// An end of one segment is off the grid of the covering walk. The value is 0.
     pub const OFF_GRID: u32 = 16;
 }
@@ -85,6 +87,8 @@ pub enum Reason {
     UnfitSnap,
     /// [`Refusal::OUTSIDE_GRID`].
     OutsideGrid,
+    /// [`Refusal::BAD_SAMPLE`].
+    BadSample,
     /// [`Refusal::OFF_GRID`].
     OffGrid,
     /// A number that this crate does not know.
@@ -117,6 +121,7 @@ impl Refusal {
             Refusal::BAD_WKB => Reason::BadWkb,
             Refusal::UNFIT_SNAP => Reason::UnfitSnap,
             Refusal::OUTSIDE_GRID => Reason::OutsideGrid,
+            Refusal::BAD_SAMPLE => Reason::BadSample,
             Refusal::OFF_GRID => Reason::OffGrid,
             _ => Reason::Other,
         }
@@ -142,6 +147,7 @@ impl fmt::Display for Refusal {
             Refusal::UNFIT_SNAP => write!(f, "snap size or strategy unfit"),
             Refusal::SUM_TOO_LARGE => write!(f, "the sum of two counts is above 65,536 (entry {value})"),
             Refusal::OUTSIDE_GRID => write!(f, "an end of the line is outside the grid"),
+            Refusal::BAD_SAMPLE => write!(f, "a number is no sample: its magnitude is above 2^29 (line {value})"),
             Refusal::OFF_GRID => write!(f, "an end of the segment is off the grid"),
             _ => write!(f, "value {value}"),
         }

@@ -77,6 +77,11 @@ extern "C" {
         end_x: *const f64, end_x_len: usize, end_y: *const f64, end_y_len: usize, offsets: *const u32, offsets_len: usize,
         items: *const u32, items_len: usize, globals: *const u32, globals_len: usize, global_count: u64, low_x: f64, low_y: f64,
         high_x: f64, high_y: f64, found: *mut u32, found_len: usize, out: *mut u64, out_len: usize) -> u32;
+    fn mt_crossings(grid: *const u64, grid_len: usize, start_x: *const i32, start_x_len: usize, start_y: *const i32, start_y_len: usize,
+        end_x: *const i32, end_x_len: usize, end_y: *const i32, end_y_len: usize, offsets: *const u32, offsets_len: usize,
+        items: *const u32, items_len: usize, globals: *const u32, globals_len: usize, global_count: u64, first: *mut u32, first_len: usize,
+        second: *mut u32, second_len: usize, starts: *mut u32, starts_len: usize, listing: *mut u32, listing_len: usize,
+        counts: *mut u32, counts_len: usize, out: *mut u64, out_len: usize) -> u32;
     fn mt_read_line_string(bytes: *const u8, bytes_len: usize, x: *mut f64, x_len: usize, y: *mut f64, y_len: usize,
         out: *mut u64, out_len: usize) -> u32;
     fn mt_read_multi_line_string(bytes: *const u8, bytes_len: usize, x: *mut u64, x_len: usize, y: *mut u64, y_len: usize,
@@ -337,6 +342,19 @@ pub fn window(grid: &[u64], start_x: &[f64], start_y: &[f64], end_x: &[f64], end
     unsafe { mt_window(grid.as_ptr(), grid.len(), start_x.as_ptr(), start_x.len(), start_y.as_ptr(), start_y.len(),
         end_x.as_ptr(), end_x.len(), end_y.as_ptr(), end_y.len(), offsets.as_ptr(), offsets.len(), items.as_ptr(), items.len(),
         globals.as_ptr(), globals.len(), global_count, low_x, low_y, high_x, high_y, found.as_mut_ptr(), found.len(),
+        out.as_mut_ptr(), out.len()) }
+}
+
+/// `mt_crossings` of the header.
+#[inline]
+pub fn crossings(grid: &[u64], start_x: &[i32], start_y: &[i32], end_x: &[i32], end_y: &[i32], offsets: &[u32], items: &[u32],
+    globals: &[u32], global_count: u64, first: &mut [u32], second: &mut [u32], starts: &mut [u32], listing: &mut [u32], counts: &mut [u32],
+    out: &mut [u64]) -> u32 {
+    // SAFETY: numbers by value, and Rust slices that are lent for this call.
+    unsafe { mt_crossings(grid.as_ptr(), grid.len(), start_x.as_ptr(), start_x.len(), start_y.as_ptr(), start_y.len(),
+        end_x.as_ptr(), end_x.len(), end_y.as_ptr(), end_y.len(), offsets.as_ptr(), offsets.len(), items.as_ptr(), items.len(),
+        globals.as_ptr(), globals.len(), global_count, first.as_mut_ptr(), first.len(), second.as_mut_ptr(), second.len(),
+        starts.as_mut_ptr(), starts.len(), listing.as_mut_ptr(), listing.len(), counts.as_mut_ptr(), counts.len(),
         out.as_mut_ptr(), out.len()) }
 }
 

@@ -545,18 +545,9 @@ impl<'a> Standing<'a> {
     /// # Ok::<(), morelturret::Refusal>(())
     /// ```
     pub fn pairs_once(&self, lines: Lines) -> Result<Vec<(u32, u32)>, Refusal> {
-        let n = lines.start_x.len();
-        let (mut starts, mut listing, mut counts) = (vec![0; n + 1], vec![0; self.items.len()], vec![0; n]);
-        // most visits hand out fewer pairs than there are items; else 5 says how many
-        let mut room = self.items.len();
-        loop {
-            let (mut first, mut second) = (vec![0; room], vec![0; room]);
-            match self.pairs_once_into(lines, &mut first, &mut second, &mut starts, &mut listing, &mut counts) {
-                Ok(count) => return Ok(first.into_iter().zip(second).take(count).collect()),
-                Err(Refusal { number: Refusal::SHORT_ITEMS, value }) => room = value as usize,
-                Err(refusal) => return Err(refusal),
-            }
-        }
+        each_once(self.items.len(), lines.start_x.len(), |[first, second, starts, listing, counts]| {
+            self.pairs_once_into(lines, first, second, starts, listing, counts)
+        })
     }
 
     /// [`Standing::pairs_once`] into lent slices: pair k is `(first[k], second[k])`, and beyond the pairs both are zeroed. The other three are scratch,
@@ -591,6 +582,25 @@ impl<'a> Standing<'a> {
         let (mut first, mut second) = (vec![0; room], vec![0; room]);
         let batch = self.batch(lines, 0, &mut first, &mut second)?;
         Ok(Pairs { standing: *self, lines, first, second, batch, handed: 0 })
+    }
+}
+
+/// The pairs of a call that hands out each once, into room of its own: first, second, starts, listing and counts. Most visits hand out fewer pairs than
+/// there are items; else 5 says how many.
+pub(crate) fn each_once(
+    items: usize, lines: usize, mut ask: impl FnMut(&mut [Vec<u32>; 5]) -> Result<usize, Refusal>,
+) -> Result<Vec<(u32, u32)>, Refusal> {
+    let mut room = items;
+    loop {
+        let mut slices = [room, room, lines + 1, items, lines].map(|size| vec![0; size]);
+        match ask(&mut slices) {
+            Ok(count) => {
+                let [first, second, ..] = slices;
+                return Ok(first.into_iter().zip(second).take(count).collect());
+            }
+            Err(Refusal { number: Refusal::SHORT_ITEMS, value }) => room = value as usize,
+            Err(refusal) => return Err(refusal),
+        }
     }
 }
 

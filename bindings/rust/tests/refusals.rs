@@ -469,11 +469,11 @@ fn sixteen_an_end_off_the_grid() {
 
 #[test]
 fn words() {
-    for number in (1..=14).chain([16]) {
+    for number in 1..=16 {
         let text = Refusal { number, value: 77 }.to_string();
         assert!(text.starts_with(&format!("refused {number}: ")), "{text}");
         // those whose value says something say it
-        assert_eq!(text.contains("77"), [1, 2, 4, 5, 6, 7, 9, 11, 13].contains(&number), "{text}");
+        assert_eq!(text.contains("77"), [1, 2, 4, 5, 6, 7, 9, 11, 13, 15].contains(&number), "{text}");
         assert!(!text.contains("value"), "{text} has words of its own");
     }
     let error: Box<dyn std::error::Error> = Box::new(Refusal { number: Refusal::MISFIT_TABLES, value: 0 });

@@ -4,10 +4,10 @@
 //! The port takes part in every kind: --port may be said, and changes nothing.
 //! Ends with status 1 at the first difference.
 
-use compare::kinds::{self, added, build, counts, cover, covering, drop_in, lists, multi, numbers, once, own, owners, pairs, seams, sided, snap, straight, strategies, visit, walk, window, wkb};
+use compare::kinds::{self, added, build, counts, cover, covering, crossings, drop_in, lists, multi, numbers, once, own, owners, pairs, seams, sided, snap, straight, strategies, visit, walk, window, wkb};
 
 /// The kinds, with the cases of a full run.
-const KINDS: [(&str, u64); 32] = [
+const KINDS: [(&str, u64); 33] = [
     ("sample", 1),
     ("numbers", 10_000_000),
     ("walk", 1_000_000),
@@ -40,6 +40,7 @@ const KINDS: [(&str, u64); 32] = [
     ("drop-in", 1_000),
     ("counts", 2_700),
     ("added", 1_000),
+    ("crossings", 10_000),
 ];
 
 fn main() {
@@ -92,6 +93,7 @@ fn main() {
             "added" => kinds::run::<added::Added>(seed, n, added::fixed()),
             "pairs" => kinds::run::<pairs::Pairs>(seed, n, vec![]),
             "once" => kinds::run::<once::Once>(seed, n, vec![]),
+            "crossings" => kinds::run::<crossings::Crossings>(seed, n, crossings::fixed()),
             _ => kinds::run::<counts::Counts>(seed, n, counts::fixed()),
         };
         println!("  (seed {seed}, {:.1} s)", begun.elapsed().as_secs_f64());

@@ -31,7 +31,7 @@ use Rattle.demands.proofs.Handed.{pairs-times}
 use Rattle.demands.proofs.Points.{nothing-dropped, crossings-overlap}
 
 -- a number of pairs is no refusal
-given : (end : Answer (List Pair)) (n : ℕ) → answer.Pairs n ≡ answerBy answer.Refused (λ ps. answer.Pairs (length ps)) end
+pub given : (end : Answer (List Pair)) (n : ℕ) → answer.Pairs n ≡ answerBy answer.Refused (λ ps. answer.Pairs (length ps)) end
     → (C : Type 0) → ((ps : List Pair) → end ≡ gives ps → n ≡ length ps → C) → C
 unfolding answerBy
 given (gives ps) n h C go = go ps refl (same h)
@@ -44,7 +44,7 @@ given (refused r) n h C go = apart h
     apart d = let z : _≡_ {A = ℕ} 0 1 = cc in absurd (omega arith)
 
 -- the front of an output is what was written
-front : (side : List Pair → List ℕ) (end : Answer (List Pair)) (ps : List Pair) (was now : List ℕ) (k : ℕ)
+pub front : (side : List Pair → List ℕ) (end : Answer (List Pair)) (ps : List Pair) (was now : List ℕ) (k : ℕ)
     → end ≡ gives ps → now ≡ leftIn 0 was end (λ qs. zeroBeyond 0 (length was) (side qs)) → k ≡ length (side ps) → take k now ≡ side ps
 unfolding leftIn zeroBeyond
 front side end ps was now k e h n = rw (n, h, e) (take-append-seam (side ps) (replicate (length was - length (side ps)) 0))

@@ -1,0 +1,62 @@
+-- `crossings::globals::scan_globals` meets its contract. Assumes nothing.
+use mathlib.Core.Path.{_≡_, refl, sym, _∙_}
+use Prim.Native.Nat.{ℕ, _-_}
+use native.Mathlib.Omega.{arith}
+use Rattle.samples.specs.Samples.{samples, count}
+use Rattle.samples.specs.Sharing.{shares}
+use Rattle.once.proofs.Runs.{Globals, globals-begin, globals-done, global-asks, globals-next}
+use Rattle.crossings.proofs.globals.scan_globals.Statement.{statement}
+use Rattle.crossings.proofs.globals.scan_globals.Tie as tie
+use Rattle.crossings.proofs.globals.scan_globals.Reads as reads
+use Rattle.crossings.proofs.globals.scan_globals.Lts as lts
+use Rattle.crossings.proofs.globals.scan_global.Reads as scan-global-reads
+
+abbrev Inv-loop : tie.InvT-loop
+Inv-loop n globals global-count start-x start-y end-x end-y starts listing counts first₀ second₀ hits hits₀ p₀ first second hits' p =
+    let ss = samples start-x start-y end-x end-y in (Globals (shares ss) (count ss) n globals global-count starts listing counts first₀ second₀ hits first second hits' p)
+
+abbrev μ-loop : tie.MeasureT-loop
+μ-loop n globals global-count start-x start-y end-x end-y starts listing counts first₀ second₀ hits hits₀ p₀ first second hits' p =
+    global-count - p
+
+loop-holds : tie.Need-loop-holds Inv-loop μ-loop
+loop-holds c = let h = c .before .before .before .before .before .before .pre in globals-begin (h)
+
+scan-global-requires : tie.Need-scan-global-requires Inv-loop μ-loop
+scan-global-requires c κs = let h = c .before .before .before .loop .inv in global-asks (h) (c .before .before .loop-test .taken)
+
+add-p : tie.Need-add-p Inv-loop μ-loop
+add-p c = omega arith
+
+loop-less : tie.Need-loop-less Inv-loop μ-loop
+loop-less c = omega arith
+
+loop-again : tie.Need-loop-again Inv-loop μ-loop
+loop-again c =
+    let d = c .before .before .before .before .scan-global in
+    let h = c .before .before .before .before .before .before .before .before .loop .inv in
+    globals-next (h) (c .before .before .before .before .before .before .before .loop-test .taken) (d .ensures) (d .kept .1 .1 .1 .1 .1 .1 .1 .1 .1 .1 .0) (d .kept .1 .1 .1 .1 .1 .1 .1 .1 .1 .1 .1 .0)
+
+same-length : tie.Need-same-length Inv-loop μ-loop
+same-length c = c .before .loop .inv .first-long
+
+same-length-2 : tie.Need-same-length-2 Inv-loop μ-loop
+same-length-2 c = c .before .loop .inv .second-long
+
+returns : tie.Need-returns Inv-loop μ-loop
+returns c = globals-done (c .before .loop .inv) (c .loop-test .left)
+
+pub scan-globals-spec : {M : Type 1} → statement M
+scan-globals-spec =
+    tie.close
+    (tie.spec
+    Inv-loop
+    μ-loop
+    loop-holds
+    scan-global-requires
+    add-p
+    loop-less
+    loop-again
+    same-length
+    same-length-2
+    returns)

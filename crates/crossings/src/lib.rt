@@ -1,0 +1,146 @@
+// Crossings: a full visit of lines of samples that hands out two lines that share a point, at their first test alone. It goes as the visit of `once`
+// does, over its lists by line and its counts, and asks of each test whether the two lines share a point, exactly.
+use by_line::ByLine;
+use grid::Grid;
+use once::OnceAnswer;
+use refusals::Check;
+ghost use mathlib.Core.Path.{_≡_};
+ghost use Rattle.visit.specs.Tests.{testsOf};
+ghost use Rattle.once.specs.Once.{keeps, PairsAre};
+ghost use Rattle.once.specs.Scan.{Grown, RunAsks};
+ghost use Rattle.samples.specs.Samples.{samples};
+ghost use Rattle.samples.specs.Sharing.{shares};
+ghost use Rattle.crossings.specs.Crossings.{beside, crossingsBy};
+
+mod cells;
+mod globals;
+mod rows;
+
+// The cells, and then the globals.
+fn run(
+    start_x: &[i32],
+    start_y: &[i32],
+    end_x: &[i32],
+    end_y: &[i32],
+    grid: Grid,
+    offsets: &[u32],
+    items: &[u32],
+    globals: &[u32],
+    global_count: usize,
+    starts: &[u32],
+    listing: &[u32],
+    counts: &mut [u32],
+    first: &mut [u32],
+    second: &mut [u32],
+) -> usize
+    requires { let ss = samples (now «start_x») (now «start_y») (now «end_x») (now «end_y») in
+        let t = beside ss grid (now offsets) (now items) (now globals) «global_count» in
+        ⌜ RunAsks grid t (now starts) (now listing) (now counts) ⌝ }
+    ensures { λ r. let ss = samples (now («start_x» .entry)) (now («start_y» .entry)) (now («end_x» .entry)) (now («end_y» .entry)) in
+        let t = beside ss grid (now (offsets .entry)) (now (items .entry)) (now (globals .entry)) «global_count» in
+        ⌜ Grown (keeps (shares ss) t) (testsOf t) (now (first .entry)) (now (second .entry)) 0 (now (first .exit)) (now (second .exit)) r ⌝ }
+{
+    let cells = (grid.rows as usize) * (grid.cols as usize);
+    let hits = cells::scan_cells(
+        cells,
+        offsets,
+        items,
+        start_x,
+        start_y,
+        end_x,
+        end_y,
+        starts,
+        listing,
+        counts,
+        first,
+        second,
+    );
+    globals::scan_globals(
+        start_x.len() as u32,
+        globals,
+        global_count,
+        start_x,
+        start_y,
+        end_x,
+        end_y,
+        starts,
+        listing,
+        counts,
+        first,
+        second,
+        hits,
+    )
+}
+
+// The pairs of lines that share a point, each once, in the order of the visit. Refusals 3, of what is lent, then 3, 2, 15, 8 and 10; then 5, with
+// the number of pairs. The tables' check asks 2 again, of the number of lines that has passed it.
+pub fn list_crossings(
+    start_x: &[i32],
+    start_y: &[i32],
+    end_x: &[i32],
+    end_y: &[i32],
+    grid: Grid,
+    offsets: &[u32],
+    items: &[u32],
+    globals: &[u32],
+    global_count: usize,
+    first: &mut [u32],
+    second: &mut [u32],
+    starts: &mut [u32],
+    listing: &mut [u32],
+    counts: &mut [u32],
+) -> OnceAnswer
+    ensures { λ r. let ss = samples (now («start_x» .entry)) (now («start_y» .entry)) (now («end_x» .entry)) (now («end_y» .entry)) in
+        let t = beside ss grid (now (offsets .entry)) (now (items .entry)) (now (globals .entry)) «global_count» in
+        let end = crossingsBy ss grid t (now (first .entry)) (now (second .entry)) (now (starts .entry)) (now (listing .entry)) (now (counts .entry)) in
+        ⌜ PairsAre end (now (first .entry)) (now (second .entry)) (now (starts .entry)) (now (listing .entry)) (now (counts .entry)) r
+        (now (first .exit)) (now (second .exit)) (now (starts .exit)) (now (listing .exit)) (now (counts .exit)) ⌝ }
+{
+    let lent = once::ending::check_lent(
+        start_x.len(),
+        items.len(),
+        first.len(),
+        second.len(),
+        starts.len(),
+        listing.len(),
+        counts.len(),
+    );
+    if let Check::Refused(r) = lent {
+        return OnceAnswer::Refused(r);
+    }
+    let lines = samples::checks::check_sample_lines(start_x, start_y, end_x, end_y);
+    if let Check::Refused(r) = lines {
+        return OnceAnswer::Refused(r);
+    }
+    let listed = by_line::lists_by_line(
+        start_x.len(),
+        grid,
+        offsets,
+        items,
+        globals,
+        global_count,
+        starts,
+        listing,
+    );
+    if let ByLine::Refused(r) = listed {
+        return OnceAnswer::Refused(r);
+    }
+    slices::clear(counts);
+    let hits = run(
+        start_x,
+        start_y,
+        end_x,
+        end_y,
+        grid,
+        offsets,
+        items,
+        globals,
+        global_count,
+        starts,
+        listing,
+        counts,
+        first,
+        second,
+    );
+    once::ending::finish(hits, first, second, starts, listing, counts)
+}

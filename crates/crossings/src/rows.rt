@@ -1,0 +1,158 @@
+// A row of a visit is the tests that share their place and their first line. Of each test it is asked whether its pair is handed out.
+use samples::Raised;
+ghost use mathlib.Core.Path.{_≡_};
+ghost use lib.ListN.{set};
+ghost use Prim.Native.Nat.{_-_};
+ghost use Rattle.samples.specs.Samples.{samples, count};
+ghost use Rattle.visit.specs.Inside.{numbers};
+ghost use Rattle.samples.specs.Sharing.{shares};
+ghost use Rattle.once.specs.Scan.{keepAt, PlaceAsks, PairAsks, RowGrown, ScanAsks};
+ghost use Rattle.crossings.specs.Inside.{rowOf, Held};
+
+// The first line of a row, raised.
+pub(crate) struct Row {
+    pub first: u32,
+    pub line: Raised,
+}
+
+pub(crate) fn row_of(
+    first: u32,
+    start_x: &[i32],
+    start_y: &[i32],
+    end_x: &[i32],
+    end_y: &[i32],
+) -> Row
+    ensures { λ r. ⌜ r ≡ rowOf (samples (now («start_x» .entry)) (now («start_y» .entry)) (now («end_x» .entry)) (now («end_y» .entry))) first ⌝ }
+{
+    let line = samples::line_at(start_x, start_y, end_x, end_y, first as usize);
+    Row { first, line }
+}
+
+// Writes an entry; one beyond the end is not written.
+fn put(s: &mut [u32], at: usize, v: u32)
+    ensures { λ _. ⌜ now (s .exit) ≡ set (now (s .entry)) at v ⌝ }
+{
+    if s.len() <= at {
+        return;
+    }
+    s[at] = v;
+}
+
+// Whether the pair of a test is handed out: the two lines share a point, and no cell that is behind lists both lines.
+fn keeps_pair(
+    row: Row,
+    b: u32,
+    start_x: &[i32],
+    start_y: &[i32],
+    end_x: &[i32],
+    end_y: &[i32],
+    starts: &[u32],
+    listing: &[u32],
+    counts: &[u32],
+) -> bool
+    requires { let ss = samples (now «start_x») (now «start_y») (now «end_x») (now «end_y») in
+        ⌜ Held ss row (PairAsks (count ss) (row .first) b (now starts) (now listing) (now counts)) ⌝ }
+    ensures { λ r. let ss = samples (now («start_x» .entry)) (now («start_y» .entry)) (now («end_x» .entry)) (now («end_y» .entry)) in
+        ⌜ ((h : PlaceAsks (count ss) (now (starts .entry)) (now (listing .entry)) (now (counts .entry))) → r ≡ keepAt (shares ss) (h .W) (h .c) (row .first) b) ⌝ }
+{
+    let other = samples::line_at(start_x, start_y, end_x, end_y, b as usize);
+    let line = row.line;
+    if samples::share_point(line, other) {
+        if by_line::first::met_before(row.first, b, starts, listing, counts) {
+            return false;
+        }
+        return true;
+    }
+    false
+}
+
+// The row with each line of a list.
+pub(crate) fn scan_list(
+    row: Row,
+    list: &[u32],
+    start_x: &[i32],
+    start_y: &[i32],
+    end_x: &[i32],
+    end_y: &[i32],
+    starts: &[u32],
+    listing: &[u32],
+    counts: &[u32],
+    first: &mut [u32],
+    second: &mut [u32],
+    hits: usize,
+) -> usize
+    requires { let ss = samples (now «start_x») (now «start_y») (now «end_x») (now «end_y») in
+        ⌜ Held ss row (ScanAsks (count ss) (row .first) (now list) (now starts) (now listing) (now counts) hits) ⌝ }
+    ensures { λ r. let ss = samples (now («start_x» .entry)) (now («start_y» .entry)) (now («end_x» .entry)) (now («end_y» .entry)) in
+        ⌜ RowGrown (shares ss) (count ss) (row .first) (now (starts .entry)) (now (listing .entry)) (now (counts .entry)) (now (list .entry))
+        (now (first .entry)) (now (second .entry)) hits (now (first .exit)) (now (second .exit)) r ⌝ }
+{
+    let mut hits = hits;
+    let mut j = 0;
+    while j < list.len() {
+        let b = list[j];
+        j = j + 1;
+        if keeps_pair(
+            row,
+            b,
+            start_x,
+            start_y,
+            end_x,
+            end_y,
+            starts,
+            listing,
+            counts,
+        ) {
+            put(first, hits, row.first);
+            put(second, hits, b);
+            hits = hits + 1;
+        }
+    }
+    hits
+}
+
+// The row with each line from k to before `stop`.
+pub(crate) fn scan_lines(
+    row: Row,
+    k: u32,
+    stop: u32,
+    start_x: &[i32],
+    start_y: &[i32],
+    end_x: &[i32],
+    end_y: &[i32],
+    starts: &[u32],
+    listing: &[u32],
+    counts: &[u32],
+    first: &mut [u32],
+    second: &mut [u32],
+    hits: usize,
+) -> usize
+    requires { let ss = samples (now «start_x») (now «start_y») (now «end_x») (now «end_y») in
+        ⌜ Held ss row (ScanAsks (count ss) (row .first) (numbers (stop - k) k) (now starts) (now listing) (now counts) hits) ⌝ }
+    ensures { λ r. let ss = samples (now («start_x» .entry)) (now («start_y» .entry)) (now («end_x» .entry)) (now («end_y» .entry)) in
+        ⌜ RowGrown (shares ss) (count ss) (row .first) (now (starts .entry)) (now (listing .entry)) (now (counts .entry)) (numbers (stop - k) k)
+        (now (first .entry)) (now (second .entry)) hits (now (first .exit)) (now (second .exit)) r ⌝ }
+{
+    let mut hits = hits;
+    let mut b = k;
+    while b < stop {
+        let line = b;
+        b = b + 1;
+        if keeps_pair(
+            row,
+            line,
+            start_x,
+            start_y,
+            end_x,
+            end_y,
+            starts,
+            listing,
+            counts,
+        ) {
+            put(first, hits, row.first);
+            put(second, hits, line);
+            hits = hits + 1;
+        }
+    }
+    hits
+}

@@ -391,6 +391,27 @@ uint32_t mt_lines_of_members(const uint64_t *x, size_t x_len, const uint64_t *y,
                              double *start_x, size_t start_x_len, double *start_y, size_t start_y_len, double *end_x, size_t end_x_len,
                              double *end_y, size_t end_y_len, uint64_t *out, size_t out_len);
 
+/* ---- cleaning ---- */
+
+/* What mt_clean says of a point:
+ *   MT_KEPT         it is kept.
+ *   MT_RANGE        it is outside the coordinate rule: finite, of magnitude at most 1e9.
+ *   MT_REPEAT       it equals the one kept just before it in its piece; zeros of either sign are equal.
+ *   MT_SHORT_PIECE  fewer than two points of its piece were left. */
+enum { MT_KEPT = 0, MT_RANGE = 1, MT_REPEAT = 2, MT_SHORT_PIECE = 3 };
+
+/* Cleans members, which are held as mt_read_multi_line_string leaves them, with nothing beyond. A point outside the coordinate rule is dropped, and its
+ * member split there; of the pieces repeats are dropped, and then pieces left with fewer than two points. What is kept goes to kept_x and kept_y, bit for
+ * bit, and the number of points of each piece to kept_lengths; it is what mt_write_multi_line_string and mt_lines_of_members take, and cleaning it again
+ * changes nothing. Each point of the input has its reason in `reasons`: the first rule that drops it, or MT_KEPT. Beyond what is written all four are
+ * zeroed. For n points kept_x, kept_y and reasons need n entries, kept_lengths n / 2.
+ * out (2 words): the number of points and the number of pieces that are kept.
+ * Refuses by 3 (as mt_write_multi_line_string does; or kept_x and kept_y differ in length, or one of the four slices is short), and then writes nothing
+ * to them. */
+uint32_t mt_clean(const uint64_t *x, size_t x_len, const uint64_t *y, size_t y_len, const uint32_t *lengths, size_t lengths_len,
+                  uint64_t *kept_x, size_t kept_x_len, uint64_t *kept_y, size_t kept_y_len, uint32_t *kept_lengths, size_t kept_lengths_len,
+                  uint32_t *reasons, size_t reasons_len, uint64_t *out, size_t out_len);
+
 #ifdef __cplusplus
 }
 #endif

@@ -262,6 +262,20 @@ static inline mt_refusal mt_members_lines(const mt_members *members, mt_lines_ro
     return mt_refused(number, out[0]);
 }
 
+/* What cleaning keeps of the members, and the reason of each of their points (MT_KEPT, MT_RANGE, MT_REPEAT, MT_SHORT_PIECE). `kept` has room for as many
+ * points, and for half as many members; `reasons` has an entry for each point. Refuses by 3. */
+static inline mt_refusal mt_members_clean(const mt_members *members, mt_members *kept, uint32_t *reasons) {
+    uint64_t out[2] = {0, 0};
+    size_t n = members->point_count, room = kept->point_room;
+    uint32_t number = mt_clean(members->x, n, members->y, n, members->lengths, members->member_count, kept->x, room, kept->y, room, kept->lengths,
+                               kept->member_room, reasons, n, out, 2);
+    if (number == MT_OK) {
+        kept->point_count = (size_t)out[0];
+        kept->member_count = (size_t)out[1];
+    }
+    return mt_refused(number, out[0]);
+}
+
 /* The lines that are there. Nothing is copied. */
 static inline mt_lines mt_lines_in(const mt_lines_room *room) {
     mt_lines lines;

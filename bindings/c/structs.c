@@ -15,6 +15,8 @@ static uint32_t starts[LINES + 1], flat_starts[LINES + 1], cells[ITEMS], flat_ce
 static uint32_t counts[MT_MAX_OFFSETS], flat_counts[MT_MAX_OFFSETS], more_counts[MT_MAX_OFFSETS], flat_more_counts[MT_MAX_OFFSETS];
 static uint64_t member_x[MT_MAX_POINTS], member_y[MT_MAX_POINTS], flat_member_x[MT_MAX_POINTS], flat_member_y[MT_MAX_POINTS];
 static uint32_t lengths[MT_MAX_POINTS], flat_lengths[MT_MAX_POINTS];
+static uint64_t kept_x[MT_MAX_POINTS], kept_y[MT_MAX_POINTS], flat_kept_x[MT_MAX_POINTS], flat_kept_y[MT_MAX_POINTS];
+static uint32_t kept_lengths[MT_MAX_POINTS], flat_kept_lengths[MT_MAX_POINTS], reasons[MT_MAX_POINTS], flat_reasons[MT_MAX_POINTS];
 static double line_ends[4][LINES], flat_line_ends[4][LINES];
 static uint8_t written[BYTES + 9 * MT_MAX_POINTS], flat_written[BYTES + 9 * MT_MAX_POINTS];
 static uint32_t once[ONCE];
@@ -203,6 +205,24 @@ static void share(const mt_lines *lines, uint32_t sizing, uint32_t mode, const c
     same(mt_tables_check(&tables).number == MT_OK, "the fit of tables on a grid", path);
 }
 
+/* Members with a gap and a repeat put in, cleaned, with room and without. */
+static void clean(const mt_members *read, const char *path) {
+    const size_t n = read->point_count;
+    uint64_t out[2];
+    if (n > 4) read->x[2] = read->x[1], read->y[2] = read->y[1];
+    if (n > 2) read->x[n / 2] = UINT64_C(0x7ff8000000000000);
+    for (size_t few = 0; few <= 1 && few <= n / 2; few++) {
+        const size_t room = n / 2 - few;
+        mt_members kept = {kept_x, kept_y, kept_lengths, MT_MAX_POINTS, room, 0, 0};
+        uint32_t number = mt_clean(read->x, n, read->y, n, read->lengths, read->member_count, flat_kept_x, MT_MAX_POINTS, flat_kept_y, MT_MAX_POINTS, flat_kept_lengths, room,
+                                   flat_reasons, n, out, 2);
+        if (!alike(mt_members_clean(read, &kept, reasons), number, out[0], "cleaning members", path)) continue;
+        same(kept.point_count == out[0] && kept.member_count == out[1] && (n <= 2 || reasons[n / 2] == MT_RANGE), "how many are kept", path);
+        same(!memcmp(kept_x, flat_kept_x, sizeof kept_x) && !memcmp(kept_y, flat_kept_y, sizeof kept_y) && !memcmp(kept_lengths, flat_kept_lengths, sizeof kept_lengths)
+             && !memcmp(reasons, flat_reasons, sizeof reasons), "the kept members", path);
+    }
+}
+
 /* The points as members of one file, the first of them alone in one, written, read again and made lines of. */
 static void members(const mt_points *points, const char *path) {
     const size_t n = points->count;
@@ -228,6 +248,7 @@ static void members(const mt_points *points, const char *path) {
         if (!alike(mt_members_lines(&read, &lines), number, out[0], "lines of members", path)) continue;
         same(lines.count == out[0] && lines.count == n - count && mt_lines_in(&lines).count == lines.count && mt_lines_in(&lines).end_y == line_ends[3], "how many lines members have", path);
         same(!memcmp(line_ends, flat_line_ends, sizeof line_ends), "the lines of members", path);
+        clean(&read, path);
     }
 }
 

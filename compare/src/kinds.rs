@@ -9,6 +9,7 @@ use std::collections::BTreeMap;
 
 pub mod added;
 pub mod build;
+pub mod clean;
 pub mod counts;
 pub mod cover;
 pub mod crossings;

@@ -1471,3 +1471,63 @@ pub fn lines_of_members(x: &[u64], y: &[u64], lengths: &[u32], slices: [&mut [f6
     out[0] = pairs.len() as u64;
     0
 }
+
+/// The reasons of the points of one member, and the points of the pieces that are kept of it, by document 02's words: the points outside the rule split
+/// it; of each piece the repeats go, and then the piece if fewer than two are left.
+fn cleaned(member: &[[u64; 2]]) -> (Vec<u32>, Vec<Vec<[u64; 2]>>) {
+    let value = |p: &[u64; 2]| p.map(f64::from_bits);
+    let right = |p: &[u64; 2]| value(p).iter().all(|v| v.is_finite() && v.abs() <= 1e9);
+    let mut reasons = vec![1; member.len()];
+    let mut pieces = Vec::new();
+    let mut start = 0;
+    while start < member.len() {
+        if !right(&member[start]) {
+            start += 1;
+            continue;
+        }
+        let end = start + member[start..].iter().take_while(|p| right(p)).count();
+        let mut left: Vec<usize> = Vec::new();
+        for i in start..end {
+            match left.last() {
+                Some(&before) if value(&member[before]) == value(&member[i]) => reasons[i] = 2,
+                _ => left.push(i),
+            }
+        }
+        let short = left.len() < 2;
+        left.iter().for_each(|&i| reasons[i] = if short { 3 } else { 0 });
+        if !short {
+            pieces.push(left.iter().map(|&i| member[i]).collect());
+        }
+        start = end;
+    }
+    (reasons, pieces)
+}
+
+/// out: the number of points and the number of pieces that are kept.
+pub fn clean(x: &[u64], y: &[u64], lengths: &[u32], kept: [&mut [u64]; 2], kept_lengths: &mut [u32], reasons: &mut [u32], out: &mut [u64]) -> u32 {
+    let Some(members) = held(x, y, lengths) else {
+        return refused(3, 0, out);
+    };
+    let n = x.len();
+    if kept[0].len() != kept[1].len() || kept[0].len() < n || kept_lengths.len() < n / 2 || reasons.len() < n {
+        return refused(3, 0, out);
+    }
+    let (mut why, mut pieces) = (Vec::new(), Vec::new());
+    for member in &members {
+        let (r, p) = cleaned(member);
+        why.extend(r);
+        pieces.extend(p);
+    }
+    let points = pieces.concat();
+    for (k, slice) in kept.into_iter().enumerate() {
+        slice.fill(0);
+        slice.iter_mut().zip(&points).for_each(|(s, p)| *s = p[k]);
+    }
+    kept_lengths.fill(0);
+    kept_lengths.iter_mut().zip(&pieces).for_each(|(s, p)| *s = p.len() as u32);
+    reasons.fill(0);
+    reasons[..n].copy_from_slice(&why);
+    out[0] = points.len() as u64;
+    out[1] = pieces.len() as u64;
+    0
+}

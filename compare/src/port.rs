@@ -15,6 +15,13 @@ pub mod numbers {
     pub use morelturret::sys::{ceiling, clamped_floor, floor, greatest, least, magnitude, round_half_away, square_root};
 }
 
+/// out: the number of points and the number of pieces that are kept.
+#[inline]
+pub fn clean(x: &[u64], y: &[u64], lengths: &[u32], kept: [&mut [u64]; 2], kept_lengths: &mut [u32], reasons: &mut [u32], out: &mut [u64]) -> u32 {
+    let [kept_x, kept_y] = kept;
+    sys::clean(x, y, lengths, kept_x, kept_y, kept_lengths, reasons, out)
+}
+
 /// The four slices are start x, start y, end x, end y. out: the number of lines.
 #[inline]
 pub fn lines_of_members(x: &[u64], y: &[u64], lengths: &[u32], slices: [&mut [f64]; 4], out: &mut [u64]) -> u32 {

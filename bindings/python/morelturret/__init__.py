@@ -16,6 +16,7 @@ True
 """
 from . import _library  # first of all: it says what is missing
 from ._declared import VERSION as __version__
+from .cleaning import REASONS, clean
 from .counts import add, count
 from .crossings import Crossings, crossings
 from .grid import DEFAULT_WALK, OUTSIDE, SEAM, SIZINGS, WALKS, Grid, snap, strategies_agree
@@ -28,6 +29,6 @@ from .tables import Cells, Tables, build
 from .wkb import read_wkb, write_wkb
 
 __all__ = [
-    "DEFAULT_WALK", "OUTSIDE", "SEAM", "SIZINGS", "WALKS", "Cells", "Crossings", "Grid", "Lines", "Parts", "Refusal", "Tables", "add", "build",
-    "count", "crossings", "page", "picture", "read_wkb", "snap", "strategies_agree", "write_wkb",
+    "DEFAULT_WALK", "OUTSIDE", "REASONS", "SEAM", "SIZINGS", "WALKS", "Cells", "Crossings", "Grid", "Lines", "Parts", "Refusal", "Tables", "add", "build",
+    "clean", "count", "crossings", "page", "picture", "read_wkb", "snap", "strategies_agree", "write_wkb",
 ]  # fmt: skip

@@ -39,6 +39,7 @@ FUNCTIONS = {
     "mt_read_multi_line_string": "bytes: [u8], x: [mut u64], y: [mut u64], lengths: [mut u32], out: [mut u64] -> u32",
     "mt_write_multi_line_string": "x: [u64], y: [u64], lengths: [u32], bytes: [mut u8], out: [mut u64] -> u32",
     "mt_lines_of_members": "x: [u64], y: [u64], lengths: [u32], start_x: [mut f64], start_y: [mut f64], end_x: [mut f64], end_y: [mut f64], out: [mut u64] -> u32",
+    "mt_clean": "x: [u64], y: [u64], lengths: [u32], kept_x: [mut u64], kept_y: [mut u64], kept_lengths: [mut u32], reasons: [mut u32], out: [mut u64] -> u32",
 }
 
 CONSTANTS = {
@@ -74,6 +75,10 @@ CONSTANTS = {
     "MT_SEAM": 2,
     "MT_SEAM_NUMBER": 4294967294,
     "MT_OUTSIDE_NUMBER": 4294967295,
+    "MT_KEPT": 0,
+    "MT_RANGE": 1,
+    "MT_REPEAT": 2,
+    "MT_SHORT_PIECE": 3,
 }
 
 # number: when it is given, what its value is, what to do
@@ -91,7 +96,7 @@ REFUSALS = {
     11: ('the bytes are no LineString of 1 to 1,024 points, or no MultiLineString of such, or bytes follow it', 'the byte position of the fault', 'look at the field that begins there: the byte order at 0, the type at 1, the count at 5, the points at 9, and in a member so far from where it begins; a fault at the end of input is a cut'),
     12: ('the snap size is not 0 or 1e-6 to 1e6, or the strategy not 0', '0', 'choose such a size, and strategy 0'),
     13: ('the sum of two counts is above 65,536', 'the first such entry', 'the two tables count a line twice, or more than 65,536 lines: add tables of other lines'),
-    14: ("an end of a line that is to be added is below the grid's lower side on an axis, or above min + cols x cell_width (rows x cell_height); each step is rounded once, the product first", '0', 'build anew with that line: its grid will reach it'),
     15: ('a number that is to be a sample is above 2^29 in magnitude', 'the first such line', 'mend or leave out that line; where the numbers are no samples, decide crossings in floats'),
+    14: ("an end of a line that is to be added is below the grid's lower side on an axis, or above min + cols x cell_width (rows x cell_height); each step is rounded once, the product first", '0', 'build anew with that line: its grid will reach it'),
     16: ("one segment is asked for in the covering mode, and an end of it is below the grid's lower side on an axis, or 4,095 cells and more above it", '0', 'it counts as being in every cell, where it is counted or built on that grid: nothing is dropped by it. Cut it to the grid to have its cells; no line of a build is such a one'),
 }

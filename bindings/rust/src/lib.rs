@@ -61,7 +61,7 @@ mod walk;
 pub use added::{add_line, Added};
 pub use counts::{add, agreed_grid, count, tables_on, Counted, Counts};
 pub use lines::{LineVec, Lines};
-pub use members::{lines_of_members, read_multi_line_string, write_multi_line_string, Members};
+pub use members::{clean, lines_of_members, read_multi_line_string, write_multi_line_string, Cleaning, Members};
 pub use mode::{Mode, Plan};
 pub use place::{overlap_owned, owner, owners, point_owned, snap, strategies_agree, Grid, Owner, Strategy};
 pub use read::{read_line_string, read_points};

@@ -71,6 +71,61 @@ pub fn lines_of_members(
     Ok(count as usize)
 }
 
+/// What [`clean`] says of a point: that it is kept, or the first rule that drops it.
+#[derive(Clone, Copy, PartialEq, Eq, Debug)]
+pub enum Cleaning {
+    /// It is kept.
+    Kept,
+    /// It is outside the coordinate rule: finite, of magnitude at most 1e9. Its member is split there.
+    Range,
+    /// It equals the one kept just before it in its piece; zeros of either sign are equal.
+    Repeat,
+    /// Fewer than two points of its piece were left.
+    Short,
+}
+
+impl Cleaning {
+    /// By its number in the slice that [`clean`] is lent.
+    pub fn by(number: u32) -> Cleaning {
+        match number {
+            0 => Cleaning::Kept,
+            1 => Cleaning::Range,
+            2 => Cleaning::Repeat,
+            _ => Cleaning::Short,
+        }
+    }
+}
+
+/// Cleans members into lent slices: points outside the coordinate rule are dropped, and their member is split there; of the pieces repeats are dropped,
+/// and then pieces left with fewer than two points. Writes the kept points, bit for bit, the number of points of each piece, and for each point of the
+/// input the number of its [`Cleaning`]; zeros beyond. Answers how many points and pieces are kept. Cleaning what is kept changes nothing. For n points
+/// `kept_x`, `kept_y` and `reasons` need n entries, `kept_lengths` n / 2. [`Members::clean`] does the same with slices of its own.
+///
+/// Refuses by 3 (as [`write_multi_line_string`] does; or the kept slices differ in length, or one of the four is short), and then writes nothing.
+///
+/// ```
+/// use morelturret::clean;
+///
+/// // a gap splits the chain: its one point before it is dropped, and of what follows the repeat
+/// let (x, y) = ([5.0, f64::NAN, 0.0, -0.0, 1.0].map(f64::to_bits), [5.0, 0.0, 2.0, 2.0, 2.0].map(f64::to_bits));
+/// let (mut kept_x, mut kept_y, mut lengths, mut reasons) = ([7; 5], [7; 5], [7; 2], [7; 5]);
+/// assert_eq!(clean(&x, &y, &[5], &mut kept_x, &mut kept_y, &mut lengths, &mut reasons), Ok((2, 1)));
+/// assert_eq!(reasons, [3, 1, 0, 2, 0]); // short, range, kept, repeat, kept
+/// assert_eq!((kept_x, lengths), ([0.0, 1.0, 0.0, 0.0, 0.0].map(f64::to_bits), [2, 0]));
+/// ```
+pub fn clean(
+    x: &[u64],
+    y: &[u64],
+    lengths: &[u32],
+    kept_x: &mut [u64],
+    kept_y: &mut [u64],
+    kept_lengths: &mut [u32],
+    reasons: &mut [u32],
+) -> Result<(usize, usize), Refusal> {
+    let [points, members] = answer(|out| sys::clean(x, y, lengths, kept_x, kept_y, kept_lengths, reasons, out))?;
+    Ok((points as usize, members as usize))
+}
+
 /// Chains of points that own their slices: what a MultiLineString holds. A point is two bit patterns, so that a NaN keeps all its bits.
 ///
 /// ```
@@ -140,5 +195,30 @@ impl Members {
         let LineVec { start_x, start_y, end_x, end_y } = &mut lines;
         lines_of_members(&self.x, &self.y, &self.lengths, start_x, start_y, end_x, end_y)?;
         Ok(lines)
+    }
+
+    /// What cleaning keeps of them, and the reason of each of their points: [`clean`] with slices of its own.
+    ///
+    /// Refuses by 3 (the lengths).
+    ///
+    /// ```
+    /// use morelturret::{Cleaning, Members};
+    ///
+    /// let mut chains = Members::default();
+    /// chains.push([(0.0, 0.0), (0.0, 0.0), (1.0, 0.0), (f64::NAN, 0.0), (2.0, 0.0)]);
+    /// let (kept, reasons) = chains.clean()?;
+    /// assert_eq!(kept.lengths, [2]);
+    /// assert_eq!(reasons, [Cleaning::Kept, Cleaning::Repeat, Cleaning::Kept, Cleaning::Range, Cleaning::Short]);
+    /// assert_eq!(kept.clean()?, (kept.clone(), vec![Cleaning::Kept; 2])); // again, nothing changes
+    /// # Ok::<(), morelturret::Refusal>(())
+    /// ```
+    pub fn clean(&self) -> Result<(Members, Vec<Cleaning>), Refusal> {
+        let n = self.x.len();
+        let (mut x, mut y, mut lengths, mut reasons) = (vec![0; n], vec![0; n], vec![0; n / 2], vec![0; n]);
+        let (points, members) = clean(&self.x, &self.y, &self.lengths, &mut x, &mut y, &mut lengths, &mut reasons)?;
+        x.truncate(points);
+        y.truncate(points);
+        lengths.truncate(members);
+        Ok((Members { x, y, lengths }, reasons.into_iter().map(Cleaning::by).collect()))
     }
 }

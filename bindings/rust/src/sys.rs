@@ -91,6 +91,9 @@ extern "C" {
     fn mt_lines_of_members(x: *const u64, x_len: usize, y: *const u64, y_len: usize, lengths: *const u32, lengths_len: usize,
         start_x: *mut f64, start_x_len: usize, start_y: *mut f64, start_y_len: usize, end_x: *mut f64, end_x_len: usize,
         end_y: *mut f64, end_y_len: usize, out: *mut u64, out_len: usize) -> u32;
+    fn mt_clean(x: *const u64, x_len: usize, y: *const u64, y_len: usize, lengths: *const u32, lengths_len: usize,
+        kept_x: *mut u64, kept_x_len: usize, kept_y: *mut u64, kept_y_len: usize, kept_lengths: *mut u32, kept_lengths_len: usize,
+        reasons: *mut u32, reasons_len: usize, out: *mut u64, out_len: usize) -> u32;
 }
 
 /// `mt_least` of the header.
@@ -390,5 +393,15 @@ pub fn lines_of_members(x: &[u64], y: &[u64], lengths: &[u32], start_x: &mut [f6
     unsafe { mt_lines_of_members(x.as_ptr(), x.len(), y.as_ptr(), y.len(), lengths.as_ptr(), lengths.len(),
         start_x.as_mut_ptr(), start_x.len(), start_y.as_mut_ptr(), start_y.len(), end_x.as_mut_ptr(), end_x.len(),
         end_y.as_mut_ptr(), end_y.len(), out.as_mut_ptr(), out.len()) }
+}
+
+/// `mt_clean` of the header.
+#[inline]
+pub fn clean(x: &[u64], y: &[u64], lengths: &[u32], kept_x: &mut [u64], kept_y: &mut [u64], kept_lengths: &mut [u32], reasons: &mut [u32],
+    out: &mut [u64]) -> u32 {
+    // SAFETY: numbers by value, and Rust slices that are lent for this call.
+    unsafe { mt_clean(x.as_ptr(), x.len(), y.as_ptr(), y.len(), lengths.as_ptr(), lengths.len(), kept_x.as_mut_ptr(), kept_x.len(),
+        kept_y.as_mut_ptr(), kept_y.len(), kept_lengths.as_mut_ptr(), kept_lengths.len(), reasons.as_mut_ptr(), reasons.len(),
+        out.as_mut_ptr(), out.len()) }
 }
 // ---- written by tools/declarations: to here

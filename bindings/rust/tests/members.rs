@@ -194,3 +194,47 @@ fn the_year_of_examples() {
     assert_eq!(lines.lines().len(), 7 * 31);
     assert!(Tables::of(lines.lines()).is_ok());
 }
+
+#[test]
+fn what_is_cleaned() {
+    let (a, b, gap) = ((1.0, 1.0), (2.0, 2.0), (f64::NAN, 0.0));
+    let above = f64::from_bits(1e9f64.to_bits() + 1);
+    let reasons = |points: &[(f64, f64)]| {
+        let mut chains = Members::default();
+        chains.push(points.iter().copied());
+        chains.clean().unwrap().1
+    };
+    use Cleaning::{Kept, Range, Repeat, Short};
+    assert_eq!(reasons(&[a, a]), [Short, Repeat]);
+    assert_eq!(reasons(&[a, a, gap, a]), [Short, Repeat, Range, Short]);
+    assert_eq!(reasons(&[a, gap, a, b]), [Short, Range, Kept, Kept], "no repeat across a gap");
+    assert_eq!(reasons(&[a, b, a]), [Kept; 3]);
+    assert_eq!(reasons(&[(0.0, -0.0), (-0.0, 0.0), a]), [Kept, Repeat, Kept], "zeros of either sign are equal");
+    assert_eq!(reasons(&[(1e9, -1e9), a, (above, 0.0), a, (0.0, f64::NEG_INFINITY)]), [Kept, Kept, Range, Short, Range]);
+    // members are cleaned each by itself, and the bits of the first of equals stay
+    let mut chains = Members::default();
+    chains.push([a, b]);
+    chains.push([b, (-0.0, 0.0), (0.0, -0.0)]);
+    let (kept, _) = chains.clean().unwrap();
+    assert_eq!((kept.lengths, kept.x[3]), (vec![2, 2], 1 << 63));
+    assert_eq!(Members::default().clean(), Ok((Members::default(), vec![])));
+}
+
+#[test]
+fn cleaning_refuses_by_lengths_alone() {
+    let (x, y) = ([1.0, 2.0, 3.0].map(f64::to_bits), [JUNK; 3]);
+    let whole = |kept_x: usize, kept_y: usize, lengths: usize, reasons: usize, members: &[u32]| {
+        let (mut kx, mut ky, mut kl, mut rs) = (vec![JUNK; kept_x], vec![JUNK; kept_y], vec![JUNK_LENGTH; lengths], vec![JUNK_LENGTH; reasons]);
+        let answer = clean(&x, &y, members, &mut kx, &mut ky, &mut kl, &mut rs);
+        let untouched = kx == vec![JUNK; kept_x] && ky == vec![JUNK; kept_y] && kl == vec![JUNK_LENGTH; lengths] && rs == vec![JUNK_LENGTH; reasons];
+        (answer, untouched)
+    };
+    assert!(whole(3, 3, 1, 3, &[3]).0.is_ok());
+    for (kept_x, kept_y, lengths, reasons, members) in [(2, 2, 1, 3, &[3][..]), (3, 4, 1, 3, &[3]), (3, 3, 0, 3, &[3]), (3, 3, 1, 2, &[3]), (3, 3, 1, 3, &[2]), (3, 3, 1, 3, &[3, 0])] {
+        let (answer, untouched) = whole(kept_x, kept_y, lengths, reasons, members);
+        assert_eq!((of(answer), untouched), ((3, 0), true));
+    }
+    let (mut kx, mut out) = ([JUNK; 3], [JUNK; 1]);
+    assert_eq!(sys::clean(&x, &y, &[3], &mut kx, &mut [JUNK; 3], &mut [7], &mut [7; 3], &mut out), 100);
+    assert_eq!((kx, out), ([JUNK; 3], [JUNK]));
+}

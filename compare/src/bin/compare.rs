@@ -4,10 +4,10 @@
 //! The port takes part in every kind: --port may be said, and changes nothing.
 //! Ends with status 1 at the first difference.
 
-use compare::kinds::{self, added, build, counts, cover, covering, crossings, drop_in, lists, multi, numbers, once, own, owners, pairs, seams, sided, snap, straight, strategies, visit, walk, window, wkb};
+use compare::kinds::{self, added, build, clean, counts, cover, covering, crossings, drop_in, lists, multi, numbers, once, own, owners, pairs, seams, sided, snap, straight, strategies, visit, walk, window, wkb};
 
 /// The kinds, with the cases of a full run.
-const KINDS: [(&str, u64); 33] = [
+const KINDS: [(&str, u64); 34] = [
     ("sample", 1),
     ("numbers", 10_000_000),
     ("walk", 1_000_000),
@@ -22,6 +22,7 @@ const KINDS: [(&str, u64); 33] = [
     ("wkb", 100_000),
     ("multi", 100_000),
     ("members", 100_000),
+    ("clean", 100_000),
     ("axes-walk", 500_000),
     ("axes-build", 3_000),
     ("axes-visit", 2_000),
@@ -76,6 +77,7 @@ fn main() {
             "wkb" => kinds::run::<wkb::Wkb>(seed, n, vec![]),
             "multi" => kinds::run::<multi::Multi>(seed, n, multi::fixed(seed)),
             "members" => kinds::run::<multi::Members>(seed, n, multi::fixed_members(seed)),
+            "clean" => kinds::run::<clean::Clean>(seed, n, clean::fixed()),
             "axes-walk" => kinds::run::<walk::Walk<true>>(seed, n, walk::fixed_by_axis()),
             "axes-build" => kinds::run::<build::Build<true>>(seed, n, build::fixed_by_axis(seed)),
             "axes-visit" => kinds::run::<visit::Visit<true>>(seed, n, vec![]),

@@ -76,7 +76,7 @@ fn is_held(x: usize, y: usize, lengths: &[u32]) -> bool
 }
 
 // 3: points and lengths that do not go together.
-fn check_held(x: usize, y: usize, lengths: &[u32]) -> Check
+pub fn check_held(x: usize, y: usize, lengths: &[u32]) -> Check
     ensures { λ r. ⌜ r ≡ heldCheck x y (now (lengths .entry)) ⌝ }
 {
     refusals::refuse_unless(is_held(x, y, lengths), 3, 0)

@@ -1,0 +1,2 @@
+-- `Outcomes`: the promise settles the number, `out` and all slices.
+pub mod Outcomes

@@ -352,6 +352,34 @@ uint32_t mt_crossings(const uint64_t *grid, size_t grid_len, const int32_t *star
                       uint32_t *first, size_t first_len, uint32_t *second, size_t second_len, uint32_t *starts, size_t starts_len,
                       uint32_t *listing, size_t listing_len, uint32_t *counts, size_t counts_len, uint64_t *out, size_t out_len);
 
+/* ---- counts per block ---- */
+
+/* The summary of standing tables of so many lines: for each block of 16 by 16 cells the number of items in it, which is the sum over its cells of the
+ * lengths of their lists. There are (cols + 15) / 16 blocks across and (rows + 15) / 16 up, whole numbers, those at the far edges smaller; they are
+ * numbered in row order, as cells are. A fit grid has at most 4,148, and a 0 by 0 grid none. summary is zeroed beyond them. Global lines are in no block.
+ * out (1 word): how many blocks there are.
+ * Refuses by 3 (a summary shorter than the blocks), 2, 8, 10. None of them changes the summary. */
+uint32_t mt_block_counts(const uint64_t *grid, size_t grid_len, size_t lines, const uint32_t *offsets, size_t offsets_len,
+                         const uint32_t *items, size_t items_len, const uint32_t *globals, size_t globals_len, uint64_t global_count,
+                         uint32_t *summary, size_t summary_len, uint64_t *out, size_t out_len);
+
+/* The numbers of a summary added up over a rectangle of whole blocks, from the lower corner to the upper, both included. Corners out of order give 0. On
+ * the tables' own summary that is the number of items in the lists of the rectangle's cells; any other summary may be handed in too, and the sum fits.
+ * out (1 word): how many items.
+ * Refuses by 3 (a summary shorter than the blocks), 8, 9 (a block beyond the end: its row of blocks, of the lower corner first). */
+uint32_t mt_items_in_blocks(const uint64_t *grid, size_t grid_len, const uint32_t *summary, size_t summary_len, uint32_t low_row,
+                            uint32_t low_col, uint32_t high_row, uint32_t high_col, uint64_t *out, size_t out_len);
+
+/* Adds a line to standing tables and to their summary together: to the tables as mt_add_line does, and one item more to the block of each cell that lists
+ * it. The summary has to be the tables' own; it is then that of the new tables, and zero beyond the blocks. A global line changes no block.
+ * out (3 words): as mt_add_line.
+ * Refuses by 3 (the scratch; a summary shorter than the blocks), 2, 1, 8, 10 (the tables; a summary that disagrees with the offsets), 14, 7, 5, 6, as
+ * mt_add_line does. No refusal changes the tables or the summary; 5, 6 and 7 leave the scratch zero. */
+uint32_t mt_add_line_blocks(const uint64_t *grid, size_t grid_len, uint32_t mode, double start_x, double start_y, double end_x,
+                            double end_y, size_t lines, uint32_t *offsets, size_t offsets_len, uint32_t *items, size_t items_len,
+                            uint32_t *globals, size_t globals_len, uint64_t global_count, uint32_t *summary, size_t summary_len,
+                            uint32_t *scratch, size_t scratch_len, uint64_t *out, size_t out_len);
+
 /* ---- well-known binary ---- */
 
 /* Reads one LineString in well-known binary (type 2, either byte order, 1 to 1,024 points, no bytes after it) into x and y, which both have

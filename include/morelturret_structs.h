@@ -27,6 +27,9 @@
 #define MT_MAX_OFFSETS 1002002
 #define MT_MAX_ITEMS_OF_LINE 2048
 
+/* The most blocks of a fit grid. */
+#define MT_MAX_BLOCKS 4148
+
 /* The number of the refusal, or MT_OK; and the refusal's value, or 0. */
 typedef struct {
     uint32_t number;
@@ -79,6 +82,14 @@ typedef struct {
     size_t room;
     size_t count;
 } mt_pairs_room;
+
+/* A summary of tables by blocks of 16 by 16 cells: room for the number of items of each block, in row order, and how many there are. */
+typedef struct {
+    uint32_t *counts;
+    size_t room;
+    size_t count;
+    mt_grid grid;
+} mt_blocks;
 
 /* One test of a visit, as mt_test_at tells it. */
 typedef struct {
@@ -403,6 +414,54 @@ static inline mt_refusal mt_tables_window(const mt_tables *tables, const mt_line
                        tables->items, tables->item_room, tables->globals, tables->global_room, tables->global_count, window[0], window[1],
                        window[2], window[3], found, room, out, 1);
     if (number == MT_OK) *count = (size_t)out[0];
+    return mt_refused(number, out[0]);
+}
+
+/* ---- counts per block ---- */
+
+/* How many blocks of 16 by 16 cells lie along so many cells. */
+static inline uint64_t mt_blocks_along(uint32_t cells) {
+    return ((uint64_t)cells + 15) / 16;
+}
+
+/* The summary of the tables by blocks: blocks->counts, in row order, with room for blocks->room of them, at most MT_MAX_BLOCKS. Refuses by 3 (the room), 2,
+ * 8, 10. */
+static inline mt_refusal mt_tables_blocks(const mt_tables *tables, mt_blocks *blocks) {
+    uint64_t grid[6], out[1] = {0};
+    uint32_t number;
+    mt_grid_words(&tables->grid, grid);
+    number = mt_block_counts(grid, 6, tables->line_count, tables->offsets, tables->offset_room, tables->items, tables->item_room,
+                             tables->globals, tables->global_room, tables->global_count, blocks->counts, blocks->room, out, 1);
+    if (number == MT_OK) {
+        blocks->grid = tables->grid;
+        blocks->count = (size_t)out[0];
+    }
+    return mt_refused(number, out[0]);
+}
+
+/* Adds a line to the tables, as mt_tables_push does, and to their summary. Refuses as that does, by 3 where the summary is short, and by 10 where it is
+ * not that of the tables; on a refusal both stand as they were. */
+static inline mt_refusal mt_tables_push_blocks(mt_tables *tables, const double segment[4], uint32_t mode, mt_blocks *blocks) {
+    uint64_t grid[6], out[3] = {0};
+    mt_grid_words(&tables->grid, grid);
+    uint32_t number = mt_add_line_blocks(grid, 6, mode, segment[0], segment[1], segment[2], segment[3], tables->line_count, tables->offsets,
+                                         tables->offset_room, tables->items, tables->item_room, tables->globals, tables->global_room,
+                                         tables->global_count, blocks->counts, blocks->room, tables->scratch, tables->scratch_room, out, 3);
+    if (number == MT_OK) {
+        tables->line_count++;
+        tables->item_count = (size_t)out[0];
+        tables->global_count = (size_t)out[1];
+    }
+    return mt_refused(number, out[0]);
+}
+
+/* The items of the blocks from a lower corner to an upper, each its row and its column of blocks, both included. Refuses by 3, 8, 9. */
+static inline mt_refusal mt_blocks_items(const mt_blocks *blocks, const uint32_t low[2], const uint32_t high[2], uint64_t *items) {
+    uint64_t grid[6], out[1] = {0};
+    uint32_t number;
+    mt_grid_words(&blocks->grid, grid);
+    number = mt_items_in_blocks(grid, 6, blocks->counts, blocks->room, low[0], low[1], high[0], high[1], out, 1);
+    if (number == MT_OK) *items = out[0];
     return mt_refused(number, out[0]);
 }
 

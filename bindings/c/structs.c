@@ -108,6 +108,27 @@ static void cross(const mt_tables *tables, const mt_lines *lines, const uint64_t
     }
 }
 
+static void by_blocks(const mt_tables *tables, const uint64_t *grid, const char *path) {
+    static uint32_t counts[MT_MAX_BLOCKS], flat[MT_MAX_BLOCKS];
+    mt_blocks blocks = {counts, MT_MAX_BLOCKS, 0, {0, 0, 0, 0, 0, 0}};
+    uint64_t out[1], items = 0;
+    uint32_t number = mt_block_counts(grid, 8, tables->line_count, flat_offsets, MT_MAX_OFFSETS, flat_items, ITEMS, flat_globals, LINES, grid[7], flat, MT_MAX_BLOCKS, out, 1);
+    if (!alike(mt_tables_blocks(tables, &blocks), number, out[0], "a summary", path)) return;
+    same(blocks.count == out[0] && blocks.count == mt_blocks_along(tables->grid.cols) * mt_blocks_along(tables->grid.rows) && !memcmp(counts, flat, sizeof counts), "the summary", path);
+    for (uint32_t row = 0; row < 3; row++) {
+        for (uint32_t col = 0; col < 3; col++) {
+            uint32_t low[2] = {0, col / 2}, high[2] = {row, col};
+            number = mt_items_in_blocks(grid, 8, flat, MT_MAX_BLOCKS, low[0], low[1], high[0], high[1], out, 1);
+            if (alike(mt_blocks_items(&blocks, low, high, &items), number, out[0], "blocks", path)) same(items == out[0], "the items of blocks", path);
+        }
+    }
+    /* a summary that is short is refused, and nothing of it is written */
+    if (blocks.count > 0) {
+        mt_blocks none = {counts, blocks.count - 1, 7, {0, 0, 0, 0, 0, 0}};
+        same(mt_tables_blocks(tables, &none).number == MT_BAD_LENGTHS && none.count == 7 && !memcmp(counts, flat, sizeof counts), "a short summary", path);
+    }
+}
+
 static void on_grid(const mt_tables *tables, const mt_points *points, const uint64_t *grid, const char *path) {
     const mt_grid *g = &tables->grid;
     uint64_t out[3];
@@ -267,6 +288,15 @@ static void push(mt_tables *tables, const mt_lines *lines, const uint64_t *built
     same(tables->line_count == lines->count + 1 && tables->item_count == out[0] && tables->global_count == out[1], "what a line added answers", path);
     same(!memcmp(offsets, flat_offsets, sizeof offsets) && !memcmp(items, flat_items, sizeof items) && !memcmp(globals, flat_globals, sizeof globals), "the tables with a line added", path);
     same(mt_tables_check(tables).number == MT_OK, "the fit of the tables with a line added", path);
+    static uint32_t counts[MT_MAX_BLOCKS], flat_counts[MT_MAX_BLOCKS];
+    mt_blocks blocks = {counts, MT_MAX_BLOCKS, 0, {0, 0, 0, 0, 0, 0}};
+    if (lines->count + 1 == LINES || !alike(mt_tables_blocks(tables, &blocks), MT_OK, 0, "a summary with a line added", path)) return;
+    memcpy(flat_counts, counts, sizeof counts);
+    number = mt_add_line_blocks(built, 6, mode, turned[0], turned[1], turned[2], turned[3], lines->count + 1, flat_offsets, MT_MAX_OFFSETS, flat_items, ITEMS,
+                                flat_globals, LINES, out[1], flat_counts, MT_MAX_BLOCKS, flat_scratch, MT_SCRATCH, out, 3);
+    if (!alike(mt_tables_push_blocks(tables, turned, mode, &blocks), number, out[0], "a line added with a summary", path)) return;
+    same(tables->line_count == lines->count + 2 && tables->item_count == out[0] && tables->global_count == out[1], "what that answers", path);
+    same(!memcmp(items, flat_items, sizeof items) && !memcmp(counts, flat_counts, sizeof counts), "tables and summary with a line added", path);
 }
 
 static void build(const mt_lines *lines, const mt_points *points, uint32_t sizing, uint32_t mode, const char *path) {
@@ -291,6 +321,7 @@ static void build(const mt_lines *lines, const mt_points *points, uint32_t sizin
     visit_once(&tables, lines, built, path);
     cross(&tables, lines, built, path);
     on_grid(&tables, points, built, path);
+    by_blocks(&tables, built, path);
     push(&tables, lines, built, mode, path);
     tables.grid.cols = 4005;
     same(mt_tables_check(&tables).number == MT_UNFIT_GRID, "the fit of a grid of 4,005 columns", path);

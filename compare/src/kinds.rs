@@ -8,6 +8,7 @@ use crate::Grid;
 use std::collections::BTreeMap;
 
 pub mod added;
+pub mod blocks;
 pub mod build;
 pub mod clean;
 pub mod counts;

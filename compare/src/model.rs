@@ -1014,6 +1014,44 @@ pub fn add_line(g: &Grid, mode: u32, line: &Line, n: usize, slices: [&mut [u32];
     0
 }
 
+/// A line added to tables and to their summary together. The slices are the offsets, the items, the globals, the summary and the scratch. What the tables alone
+/// would be answered decides what comes before a summary that disagrees, and what after it. out: as `add_line`.
+pub fn add_line_blocks(g: &Grid, mode: u32, line: &Line, n: usize, slices: [&mut [u32]; 5], global_count: u64, out: &mut [u64]) -> u32 {
+    let [offsets, items, globals, summary, scratch] = slices;
+    let mut alone = [offsets.to_vec(), items.to_vec(), globals.to_vec(), scratch.to_vec()];
+    let mut answer = out.to_vec();
+    let number = add_line(g, mode, line, n, alone.each_mut().map(|s| &mut s[..]), global_count, &mut answer);
+    if number == SHORT || number == NO_MODE {
+        return number;
+    }
+    let blocks = blocks_along(g.cols) * blocks_along(g.rows);
+    if blocks > summary.len() as u64 {
+        out[0] = 0;
+        return 3;
+    }
+    let of = |offsets: &[u32], items: &[u32], globals: &[u32], lines: usize, global_count: u64| {
+        let mut numbers = vec![0; blocks as usize];
+        block_counts(&Lists { grid: *g, lines, offsets, items, globals, global_count }, &mut numbers, &mut [0]);
+        numbers
+    };
+    if ![1, 2, 3, 8, 10].contains(&number) && of(offsets, items, globals, n, global_count) != summary[..blocks as usize] {
+        out[0] = 0;
+        return 10;
+    }
+    out.copy_from_slice(&answer);
+    let [of_offsets, of_items, of_globals, of_scratch] = alone;
+    if number == 0 {
+        let numbers = of(&of_offsets, &of_items, &of_globals, n + 1, answer[1]);
+        summary.fill(0);
+        summary[..numbers.len()].copy_from_slice(&numbers);
+    }
+    offsets.copy_from_slice(&of_offsets);
+    items.copy_from_slice(&of_items);
+    globals.copy_from_slice(&of_globals);
+    scratch.copy_from_slice(&of_scratch);
+    number
+}
+
 /// Document 02, 3: the lines in a window, which is [low x, low y, high x, high y]. Asked of each line by itself. out: how many there are.
 pub fn window(s: &Standing, w: [f64; 4], found: &mut [u32], out: &mut [u64]) -> u32 {
     let refusal = if s.lines.uneven() { Some((3, 0)) } else { s.lines.refusal() }
@@ -1047,6 +1085,48 @@ pub fn window(s: &Standing, w: [f64; 4], found: &mut [u32], out: &mut [u64]) -> 
         return 5;
     }
     found[..lines.len()].copy_from_slice(&lines);
+    0
+}
+
+/// Document 02, 12: how many blocks of 16 by 16 cells lie along so many cells.
+pub fn blocks_along(cells: u32) -> u64 {
+    (cells as u64).div_ceil(16)
+}
+
+/// The number of items of each block: every item is put to the block of its cell, one by one. out: how many blocks there are.
+pub fn block_counts(t: &Lists, summary: &mut [u32], out: &mut [u64]) -> u32 {
+    let (across, up) = (blocks_along(t.grid.cols), blocks_along(t.grid.rows));
+    let refusal = (across * up > summary.len() as u64).then_some((3, 0)).or_else(|| t.refusal());
+    if let Some((number, value)) = refusal {
+        out[0] = value;
+        return number;
+    }
+    summary.fill(0);
+    for cell in 0..t.cells() {
+        let (row, col) = (cell as u64 / t.grid.cols as u64, cell as u64 % t.grid.cols as u64);
+        for _ in t.offsets[cell]..t.offsets[cell + 1] {
+            summary[(row / 16 * across + col / 16) as usize] += 1;
+        }
+    }
+    out[0] = across * up;
+    0
+}
+
+/// The numbers of a summary added up over the blocks, each [row, column], from a lower corner to an upper. out: how many items.
+pub fn items_in_blocks(g: &Grid, summary: &[u32], low: [u32; 2], high: [u32; 2], out: &mut [u64]) -> u32 {
+    let (across, up) = (blocks_along(g.cols), blocks_along(g.rows));
+    let beyond = |b: [u32; 2]| (b[0] as u64 >= up || b[1] as u64 >= across).then_some((9, b[0] as u64));
+    let refusal = (across * up > summary.len() as u64)
+        .then_some((3, 0))
+        .or((!grid_fits(g)).then_some((8, 0)))
+        .or_else(|| beyond(low))
+        .or_else(|| beyond(high));
+    if let Some((number, value)) = refusal {
+        out[0] = value;
+        return number;
+    }
+    let inside = |b: u64| (low[0]..=high[0]).contains(&((b / across) as u32)) && (low[1]..=high[1]).contains(&((b % across) as u32));
+    out[0] = (0..across * up).filter(|&b| inside(b)).map(|b| summary[b as usize] as u64).sum();
     0
 }
 

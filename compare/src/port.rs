@@ -115,6 +115,18 @@ pub fn lists_by_line(t: &Lists, starts: &mut [u32], listing: &mut [u32], out: &m
     sys::lists_by_line(&t.grid.words(), t.lines, t.offsets, t.items, t.globals, t.global_count, starts, listing, out)
 }
 
+/// out: how many blocks there are.
+#[inline]
+pub fn block_counts(t: &Lists, summary: &mut [u32], out: &mut [u64]) -> u32 {
+    sys::block_counts(&t.grid.words(), t.lines, t.offsets, t.items, t.globals, t.global_count, summary, out)
+}
+
+/// The blocks from a lower corner to an upper, each [row, column]. out: how many items.
+#[inline]
+pub fn items_in_blocks(g: &Grid, summary: &[u32], low: [u32; 2], high: [u32; 2], out: &mut [u64]) -> u32 {
+    sys::items_in_blocks(&g.words(), summary, low[0], low[1], high[0], high[1], out)
+}
+
 /// out: tests, overlaps, the new bookmark.
 #[inline]
 pub fn batch(s: &Standing, bookmark: u64, first: &mut [u32], second: &mut [u32], out: &mut [u64]) -> u32 {
@@ -139,6 +151,13 @@ pub fn pairs_once(s: &Standing, lent: &mut OnceLent, out: &mut [u64]) -> u32 {
     sys::pairs_once(
         &s.grid.words(), l.start_x, l.start_y, l.end_x, l.end_y, s.offsets, s.items, s.globals, s.global_count, first, second, starts, listing, counts, out,
     )
+}
+
+/// The slices are the offsets, the items, the globals, the summary and the scratch. out: as `add_line`.
+#[inline]
+pub fn add_line_blocks(g: &Grid, mode: u32, line: &Line, n: usize, slices: [&mut [u32]; 5], global_count: u64, out: &mut [u64]) -> u32 {
+    let [offsets, items, globals, summary, scratch] = slices;
+    sys::add_line_blocks(&g.words(), mode, line[0], line[1], line[2], line[3], n, offsets, items, globals, global_count, summary, scratch, out)
 }
 
 /// The lines in the window [low x, low y, high x, high y]. out: how many there are.

@@ -1,7 +1,8 @@
 """Pictures as SVG: the grid with its cells shaded by the lengths of their lists, the chain coloured by time, global lines, and crossings.
 
 Up to 2,400 lines each is drawn; of more, a dozen stretches, and what is dense shows by the cells. Up to 1,200 crossings each is a dot; of more, dots grow
-with how many are near. Times go from dark blue to orange and lists from white to grey, so that the lightness of a colour tells as much as the colour."""
+with how many are near. Times go from dark blue to orange and lists from white to grey, so that the lightness of a colour tells as much as the colour.
+Blocks of 16 by 16 cells that list nothing are greyed out by strokes."""
 import html
 import pathlib
 
@@ -13,6 +14,7 @@ WIDTH, HEIGHT = 960, 600
 TOP, BOTTOM, RIGHT = 46, 66, 190  # room for the title, for the axis below, for the key
 TIMES = ("#0d0887", "#41049d", "#6a00a8", "#8f0da4", "#b12a90", "#cc4778", "#e16462", "#f2844b", "#fca636")
 SHADES = ("#f0f0f0", "#e0e0e0", "#cfcfcf", "#bdbdbd", "#a9a9a9", "#949494")
+EMPTY = "#d4d4d4"
 MOST_LINES, STRETCHES = 2400, 12
 MOST_DOTS, LARGEST_DOT = 1200, 9.0
 LEAST_BLOCK, NEAR = 3.0, 26  # pixels: cells that are smaller are shaded together; crossings that are nearer make one dot
@@ -61,16 +63,28 @@ class Drawing:
         left = 40 + 7 * max([len(text) for _, text in self.y.ticks(8)] or [1])
         self.x = Scale(low_x, high_x, left, WIDTH - RIGHT)
         self.longest = int(tables.cells.lengths.max()) if tables and len(tables.items) else 0
+        self.hollow = tables.blocks == 0 if self.longest else np.zeros((0, 0), bool)
         # the mean list of shade k is above reach[k - 1] and at most reach[k]: by a factor from one to the next, since few lists are long
         self.shades = SHADES[: self.longest]
         self.reach = [round(self.longest ** (k / len(self.shades))) for k in range(1, len(self.shades) + 1)]
 
     def svg(self, labels, title):
-        layers = self.cells(), self.chain(), self.globals(), self.crossings(), self.axes(labels), self.key(), self.words(title)
+        layers = self.empty(), self.cells(), self.chain(), self.globals(), self.crossings(), self.axes(labels), self.key(), self.words(title)
         size = f'width="{WIDTH}" height="{HEIGHT}" viewBox="0 0 {WIDTH} {HEIGHT}"'
         style = 'font-family="sans-serif" font-size="12" fill="#222"'
         body = "\n".join(element for layer in layers for element in layer)
         return f'<svg xmlns="http://www.w3.org/2000/svg" {size} {style}>\n<rect width="{WIDTH}" height="{HEIGHT}" fill="#fff"/>\n{body}\n</svg>\n'
+
+    def empty(self):
+        """What is empty, greyed out: the blocks that no list has an entry in, where there is more than one block."""
+        if not self.hollow.any():
+            return
+        grid = self.tables.grid
+        x_edges, y_edges = (scale(edges) for scale, edges in zip((self.x, self.y), grid.edges()))
+        x_edges, y_edges = x_edges[np.append(np.arange(0, grid.cols, 16), grid.cols)], y_edges[np.append(np.arange(0, grid.rows, 16), grid.rows)]
+        path = [f"M{x_edges[column]:.1f} {y_edges[row]:.1f}H{x_edges[end]:.1f}V{y_edges[row + 1]:.1f}H{x_edges[column]:.1f}z" for row, column, end in runs(self.hollow)]
+        yield f'<pattern id="empty" width="6" height="6" patternUnits="userSpaceOnUse" patternTransform="rotate(45)"><path stroke="{EMPTY}" d="M3 0V6"/></pattern>'
+        yield f'<path fill="url(#empty)" d="{"".join(path)}"/>'
 
     def cells(self):
         """The cells that list some line, shaded by how many; where cells are small, blocks of them, shaded by their mean."""
@@ -169,6 +183,9 @@ class Drawing:
             middle = f"{self.reach[2]:,}" if len(self.shades) == len(SHADES) else ""
             yield from scale(self.shades, "1", middle, f"{self.longest:,}")
             y += 66
+        if self.hollow.any():
+            yield f'<rect x="{x}" y="{y - 10}" width="20" height="12" fill="url(#empty)"/><text x="{x + 26}" y="{y}">nothing listed</text>'
+            y += 30
         if self.found is not None and len(self.found):
             yield f'<circle cx="{x + 9}" cy="{y - 4}" r="{LARGEST_DOT if self.most else 2.6}" fill="#fff" stroke="#000" stroke-width="0.9"/>'
             yield f'<text x="{x + 26}" y="{y}">{f"{self.most:,} crossings" if self.most else "crossing"}</text>'

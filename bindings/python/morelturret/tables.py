@@ -186,6 +186,29 @@ class Tables:
         self.offsets, self.items, self.globals = offsets, items[:item_count], globals_[:global_count]
         return number
 
+    @property
+    def blocks(self):
+        """How many items each block of 16 by 16 cells has, by row and column of blocks; those at the far edges may be smaller. Global lines are in none.
+
+        >>> build(Lines.chain([0, 2, 2, 0, 0], [0, 0, 2, 2, 0]), walk="rust").blocks
+        array([[18]], dtype=uint32)
+        """
+        rows, cols = -(-self.grid.rows // 16), -(-self.grid.cols // 16)
+        counts = np.empty(rows * cols, np.uint32)
+        answer("mt_block_counts", *self.standing, counts)
+        return counts.reshape(rows, cols)
+
+    def items_in_blocks(self, low, high, blocks=None):
+        """How many items the blocks from a lower corner to an upper have, both (row, column) of blocks and both included. Corners out of order give 0.
+        Where `blocks` are at hand, no table is read.
+
+        >>> tables = build(Lines.chain([0, 2, 2, 0, 0], [0, 0, 2, 2, 0]), walk="rust")
+        >>> tables.items_in_blocks((0, 0), (0, 0))
+        18
+        """
+        blocks = np.ascontiguousarray(self.blocks if blocks is None else blocks, np.uint32).reshape(-1)
+        return answer("mt_items_in_blocks", self.grid.words, blocks, *low, *high)[0]
+
     def owner(self, x, y):
         """Whose each point is: see `Grid.owner`."""
         return self.grid.owner(x, y)

@@ -141,6 +141,21 @@ class Visits(unittest.TestCase):
             inside = (lines.start_x >= x) & (lines.start_x <= x + wide) & (lines.start_y >= y) & (lines.start_y <= y + high)
             self.assertLessEqual(set(np.flatnonzero(inside).tolist()), set(found.tolist()))
 
+    def test_blocks(self):
+        swings = build(Lines.chain([1000 * (k % 2) for k in range(503)], [0] * 503), walk="rust")
+        for tables in (self.tables, swings, build(Lines.chain([], []))):
+            lengths, blocks = tables.cells.lengths, tables.blocks
+            rows, cols = blocks.shape
+            expected = [[lengths[16 * r : 16 * r + 16, 16 * c : 16 * c + 16].sum() for c in range(cols)] for r in range(rows)]
+            self.assertEqual(blocks.tolist(), [list(map(int, row)) for row in expected])
+            self.assertEqual(blocks.sum(), len(tables.items))
+            for low, high in itertools.product(itertools.product(range(min(rows, 3)), range(min(cols, 3))), repeat=2):
+                part = blocks[low[0] : high[0] + 1, low[1] : high[1] + 1] if low[0] <= high[0] and low[1] <= high[1] else blocks[:0]
+                self.assertEqual(tables.items_in_blocks(low, high, blocks), part.sum())
+            with self.assertRaises(Refusal) as caught:
+                tables.items_in_blocks((rows + 4, 0), (rows, 0))
+            self.assertEqual((caught.exception.number, caught.exception.value), (9, rows + 4))
+
     def test_cost_and_lists_by_line(self):
         swings = build(Lines.chain([1000 * (k % 2) for k in range(503)], [0] * 503), walk="rust")
         for tables in (self.tables, swings, build(Lines.chain([], []))):

@@ -41,6 +41,7 @@
 #![deny(unsafe_code, missing_docs)]
 
 mod added;
+mod blocks;
 mod counts;
 pub mod drop_in;
 mod lines;
@@ -59,6 +60,7 @@ mod tables;
 mod walk;
 
 pub use added::{add_line, Added};
+pub use blocks::{add_line_blocks, items_in, Block, Blocks};
 pub use counts::{add, agreed_grid, count, tables_on, Counted, Counts};
 pub use lines::{LineVec, Lines};
 pub use members::{clean, lines_of_members, read_multi_line_string, write_multi_line_string, Cleaning, Members};

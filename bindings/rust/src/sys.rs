@@ -82,6 +82,14 @@ extern "C" {
         items: *const u32, items_len: usize, globals: *const u32, globals_len: usize, global_count: u64, first: *mut u32, first_len: usize,
         second: *mut u32, second_len: usize, starts: *mut u32, starts_len: usize, listing: *mut u32, listing_len: usize,
         counts: *mut u32, counts_len: usize, out: *mut u64, out_len: usize) -> u32;
+    fn mt_block_counts(grid: *const u64, grid_len: usize, lines: usize, offsets: *const u32, offsets_len: usize,
+        items: *const u32, items_len: usize, globals: *const u32, globals_len: usize, global_count: u64,
+        summary: *mut u32, summary_len: usize, out: *mut u64, out_len: usize) -> u32;
+    fn mt_items_in_blocks(grid: *const u64, grid_len: usize, summary: *const u32, summary_len: usize, low_row: u32, low_col: u32,
+        high_row: u32, high_col: u32, out: *mut u64, out_len: usize) -> u32;
+    fn mt_add_line_blocks(grid: *const u64, grid_len: usize, mode: u32, start_x: f64, start_y: f64, end_x: f64, end_y: f64, lines: usize,
+        offsets: *mut u32, offsets_len: usize, items: *mut u32, items_len: usize, globals: *mut u32, globals_len: usize, global_count: u64,
+        summary: *mut u32, summary_len: usize, scratch: *mut u32, scratch_len: usize, out: *mut u64, out_len: usize) -> u32;
     fn mt_read_line_string(bytes: *const u8, bytes_len: usize, x: *mut f64, x_len: usize, y: *mut f64, y_len: usize,
         out: *mut u64, out_len: usize) -> u32;
     fn mt_read_multi_line_string(bytes: *const u8, bytes_len: usize, x: *mut u64, x_len: usize, y: *mut u64, y_len: usize,
@@ -359,6 +367,33 @@ pub fn crossings(grid: &[u64], start_x: &[i32], start_y: &[i32], end_x: &[i32], 
         globals.as_ptr(), globals.len(), global_count, first.as_mut_ptr(), first.len(), second.as_mut_ptr(), second.len(),
         starts.as_mut_ptr(), starts.len(), listing.as_mut_ptr(), listing.len(), counts.as_mut_ptr(), counts.len(),
         out.as_mut_ptr(), out.len()) }
+}
+
+/// `mt_block_counts` of the header.
+#[inline]
+pub fn block_counts(grid: &[u64], lines: usize, offsets: &[u32], items: &[u32], globals: &[u32], global_count: u64, summary: &mut [u32],
+    out: &mut [u64]) -> u32 {
+    // SAFETY: numbers by value, and Rust slices that are lent for this call.
+    unsafe { mt_block_counts(grid.as_ptr(), grid.len(), lines, offsets.as_ptr(), offsets.len(), items.as_ptr(), items.len(),
+        globals.as_ptr(), globals.len(), global_count, summary.as_mut_ptr(), summary.len(), out.as_mut_ptr(), out.len()) }
+}
+
+/// `mt_items_in_blocks` of the header.
+#[inline]
+pub fn items_in_blocks(grid: &[u64], summary: &[u32], low_row: u32, low_col: u32, high_row: u32, high_col: u32, out: &mut [u64]) -> u32 {
+    // SAFETY: numbers by value, and Rust slices that are lent for this call.
+    unsafe { mt_items_in_blocks(grid.as_ptr(), grid.len(), summary.as_ptr(), summary.len(), low_row, low_col, high_row, high_col,
+        out.as_mut_ptr(), out.len()) }
+}
+
+/// `mt_add_line_blocks` of the header.
+#[inline]
+pub fn add_line_blocks(grid: &[u64], mode: u32, start_x: f64, start_y: f64, end_x: f64, end_y: f64, lines: usize, offsets: &mut [u32],
+    items: &mut [u32], globals: &mut [u32], global_count: u64, summary: &mut [u32], scratch: &mut [u32], out: &mut [u64]) -> u32 {
+    // SAFETY: numbers by value, and Rust slices that are lent for this call.
+    unsafe { mt_add_line_blocks(grid.as_ptr(), grid.len(), mode, start_x, start_y, end_x, end_y, lines, offsets.as_mut_ptr(), offsets.len(),
+        items.as_mut_ptr(), items.len(), globals.as_mut_ptr(), globals.len(), global_count, summary.as_mut_ptr(), summary.len(),
+        scratch.as_mut_ptr(), scratch.len(), out.as_mut_ptr(), out.len()) }
 }
 
 /// `mt_read_line_string` of the header.

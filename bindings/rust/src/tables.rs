@@ -1,7 +1,7 @@
 //! The build, its tables, and the visit of their tests.
 
 use crate::refusal::{answer, Refusal};
-use crate::{add_line, sys, tables_on, Grid, Lines, Mode, Plan, Sizing, MAX_CELLS_OF_LINE, MAX_LINES, MAX_OFFSETS, SCRATCH};
+use crate::{add_line, sys, tables_on, Added, Grid, Lines, Mode, Plan, Sizing, MAX_CELLS_OF_LINE, MAX_LINES, MAX_OFFSETS, SCRATCH};
 use std::iter::FusedIterator;
 
 /// What a build answers beside the tables that it wrote.
@@ -273,14 +273,24 @@ impl Tables {
     /// # Ok::<(), morelturret::Refusal>(())
     /// ```
     pub fn push(&mut self, start: (f64, f64), end: (f64, f64), mode: Mode) -> Result<usize, Refusal> {
+        self.grow(|grid, line_count, offsets, items, globals, global_count, scratch| {
+            add_line(grid, mode, start, end, line_count, offsets, items, globals, global_count, scratch)
+        })
+    }
+
+    /// A line by a call that is lent the tables, with room for what one line may need; answers its number.
+    pub(crate) fn grow(
+        &mut self,
+        add: impl FnOnce(Grid, usize, &mut [u32], &mut [u32], &mut [u32], usize, &mut [u32]) -> Result<Added, Refusal>,
+    ) -> Result<usize, Refusal> {
         let (items, globals) = (self.item_count + MAX_CELLS_OF_LINE, self.global_count + 1);
         self.items.resize(self.items.len().max(items), 0);
         self.globals.resize(self.globals.len().max(globals), 0);
         let offsets = (self.grid.cols as usize * self.grid.rows as usize + 1).min(self.offsets.len());
         // beyond the tables there are zeros: no more is lent than the line may need
-        let added = add_line(
-            self.grid, mode, start, end, self.line_count, &mut self.offsets[..offsets], &mut self.items[..items], &mut self.globals[..globals],
-            self.global_count, &mut self.scratch,
+        let added = add(
+            self.grid, self.line_count, &mut self.offsets[..offsets], &mut self.items[..items], &mut self.globals[..globals], self.global_count,
+            &mut self.scratch,
         )?;
         let number = self.line_count;
         (self.line_count, self.item_count, self.global_count) = (number + 1, added.items, added.globals);

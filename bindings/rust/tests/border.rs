@@ -10,7 +10,7 @@ const FOUR: Grid = Grid { min_x: 0.0, min_y: 0.0, cell_width: 1.0, cell_height: 
 type Asked = (&'static str, fn(&[u64], &mut [u64]) -> u32, usize);
 
 /// Every function that takes a grid, each with arguments that it answers, on a grid of no lines but for the points.
-const TAKEN: [Asked; 15] = [
+const TAKEN: [Asked; 16] = [
     ("point_owned", |grid, out| sys::point_owned(grid, 0, 0, 0.5, 0.5, out), 1),
     ("overlap_owned", |grid, out| sys::overlap_owned(grid, 0, 0, 0.5, 0.5, 0.0, Strategy::Grid as u32, out), 1),
     ("owner", |grid, out| sys::owner(grid, 0.5, 0.5, out), 3),

@@ -171,12 +171,61 @@ fn grown_line_by_line() {
             let half = all.len() / 2;
             let first = Lines { start_x: &all.start_x[..half], start_y: &all.start_y[..half], end_x: &all.end_x[..half], end_y: &all.end_y[..half] };
             let mut tables = Tables::on(first, grid, mode).unwrap();
+            let mut blocks = tables.blocks();
             for i in half..all.len() {
-                assert_eq!(tables.push((all.start_x[i], all.start_y[i]), (all.end_x[i], all.end_y[i]), mode), Ok(i), "{name}");
+                let (start, end) = ((all.start_x[i], all.start_y[i]), (all.end_x[i], all.end_y[i]));
+                // the first two without the summary, which is then refused, and made anew
+                if i < half + 2 {
+                    assert_eq!(tables.push(start, end, mode), Ok(i), "{name}");
+                    let anew = tables.blocks();
+                    if anew != blocks {
+                        assert_eq!(tables.push_with(start, end, mode, &mut blocks).unwrap_err().number, 10, "{name}");
+                    }
+                    blocks = anew;
+                } else {
+                    assert_eq!(tables.push_with(start, end, mode, &mut blocks), Ok(i), "{name}");
+                }
             }
+            assert_eq!(blocks, tables.blocks(), "{name}, {mode:?}");
             let whole = Tables::on(all, grid, mode).unwrap();
             assert_eq!((tables.items(), tables.globals()), (whole.items(), whole.globals()), "{name}, {mode:?}");
             assert!(tables.pairs(all, 64).unwrap().eq(whole.pairs(all, 64).unwrap()), "{name}, {mode:?}");
+        }
+    }
+}
+
+/// Blocks by the lists themselves: each number, all of them, and rectangles of them.
+#[test]
+fn blocks_count_the_items_of_their_cells() {
+    for (name, sizing, _, tables) in built() {
+        let (blocks, grid) = (tables.blocks(), tables.grid());
+        assert_eq!((blocks.cols(), blocks.rows()), (grid.cols.div_ceil(16), grid.rows.div_ceil(16)), "{name} {sizing:?}");
+        let items = |low: Block, high: Block| -> u64 {
+            let inside = |row: u32, col: u32| (low.row..=high.row).contains(&(row / 16)) && (low.col..=high.col).contains(&(col / 16));
+            let cells = (0..grid.rows).flat_map(|row| (0..grid.cols).map(move |col| (row, col))).filter(|&(row, col)| inside(row, col));
+            cells.map(|(row, col)| tables.cell(row, col).len() as u64).sum()
+        };
+        assert_eq!(blocks.counts().iter().map(|&n| n as usize).sum::<usize>(), tables.items().len(), "{name} {sizing:?}");
+        for k in 0..blocks.counts().len() as u32 {
+            let one = Block { row: k / blocks.cols(), col: k % blocks.cols() };
+            assert_eq!(blocks.counts()[k as usize] as u64, items(one, one), "{name} {sizing:?}: block {k}");
+            let last = Block { row: blocks.rows() - 1, col: blocks.cols() - 1 };
+            assert_eq!(blocks.items_in(one, last), Ok(items(one, last)), "{name} {sizing:?}: from block {k} on");
+            let before = if one.row > 0 { Block { row: one.row - 1, ..one } } else { Block { row: 0, col: 0 } };
+            if before != one {
+                assert_eq!(blocks.items_in(one, before), Ok(0), "{name} {sizing:?}: out of order");
+            }
+        }
+        let beyond = Block { row: blocks.rows(), col: 0 };
+        let refused = |low, high| blocks.items_in(low, high).unwrap_err();
+        let first = Block { row: 0, col: 0 };
+        let lower = refused(Block { row: 7, col: blocks.cols() }, beyond);
+        assert_eq!((lower.number, lower.value), (9, 7), "{name} {sizing:?}");
+        if !blocks.counts().is_empty() {
+            let upper = refused(first, beyond);
+            assert_eq!((upper.number, upper.value), (9, blocks.rows() as u64), "{name} {sizing:?}");
+            let short = items_in(&grid, &blocks.counts()[1..], first, first).unwrap_err();
+            assert_eq!((short.number, short.value), (3, 0), "{name} {sizing:?}");
         }
     }
 }

@@ -4,10 +4,10 @@
 //! The port takes part in every kind: --port may be said, and changes nothing.
 //! Ends with status 1 at the first difference.
 
-use compare::kinds::{self, added, build, clean, counts, cover, covering, crossings, drop_in, lists, multi, numbers, once, own, owners, pairs, seams, sided, snap, straight, strategies, visit, walk, window, wkb};
+use compare::kinds::{self, added, blocks, build, clean, counts, cover, covering, crossings, drop_in, lists, multi, numbers, once, own, owners, pairs, seams, sided, snap, straight, strategies, visit, walk, window, wkb};
 
 /// The kinds, with the cases of a full run.
-const KINDS: [(&str, u64); 34] = [
+const KINDS: [(&str, u64); 35] = [
     ("sample", 1),
     ("numbers", 10_000_000),
     ("walk", 1_000_000),
@@ -42,6 +42,7 @@ const KINDS: [(&str, u64); 34] = [
     ("counts", 2_700),
     ("added", 1_000),
     ("crossings", 10_000),
+    ("blocks", 2_000),
 ];
 
 fn main() {
@@ -93,6 +94,7 @@ fn main() {
             "covering-build" => kinds::run::<covering::CoveringBuild>(seed, n, vec![]),
             "cover" => kinds::run::<cover::Cover>(seed, n, cover::fixed()),
             "added" => kinds::run::<added::Added>(seed, n, added::fixed()),
+            "blocks" => kinds::run::<blocks::Blocks>(seed, n, blocks::fixed()),
             "pairs" => kinds::run::<pairs::Pairs>(seed, n, vec![]),
             "once" => kinds::run::<once::Once>(seed, n, vec![]),
             "crossings" => kinds::run::<crossings::Crossings>(seed, n, crossings::fixed()),

@@ -88,7 +88,8 @@ fn coordinate(r: &mut Random, low: f64, size: f64, count: u32) -> f64 {
     }
 }
 
-fn line(r: &mut Random, g: &Grid, before: &[Line]) -> Line {
+/// A line on or about the grid, often from where the last one ends.
+pub fn line(r: &mut Random, g: &Grid, before: &[Line]) -> Line {
     let x = |r: &mut Random| coordinate(r, g.min_x, g.cell_width, g.cols);
     let y = |r: &mut Random| coordinate(r, g.min_y, g.cell_height, g.rows);
     match r.below(10) {

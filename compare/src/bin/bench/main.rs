@@ -2,6 +2,7 @@
 //! Prints medians, port / Rust, and beside a ratio that has a bar, the bar and whether it is met. Without stages, all of them.
 
 mod added;
+mod blocks;
 mod clock;
 mod covers;
 mod heap;
@@ -77,11 +78,14 @@ fn main() {
     if wanted("window") {
         windows::times(clock, seed);
     }
+    if wanted("blocks") {
+        blocks::times(clock, &mut Random::new(seed));
+    }
     clock.end();
 }
 
-const STAGES: [&str; 12] =
-    ["numbers", "walks", "covers", "orderings", "builds", "visits", "memory", "points", "sizings", "members", "added", "window"];
+const STAGES: [&str; 13] =
+    ["numbers", "walks", "covers", "orderings", "builds", "visits", "memory", "points", "sizings", "members", "added", "blocks", "window"];
 
 fn stop() -> ! {
     eprintln!("bench [--seed S] [--rounds R] [STAGE..], with STAGE one of {}", STAGES.join(" "));

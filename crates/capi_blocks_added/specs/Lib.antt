@@ -1,0 +1,2 @@
+-- The definitions that the contract of `capi_blocks_added` cites.
+pub mod Lent

@@ -44,7 +44,7 @@ extern "C" {
 enum {
     MT_OK = 0,
     MT_BAD_COORDINATE = 1,  /* a coordinate is not finite or above 1e9 in magnitude: the first such line, or of many points the first (0 for one point or one segment) */
-    MT_TOO_MANY_LINES = 2,  /* more than 65,536 lines: the number of lines */
+    MT_TOO_MANY_LINES = 2,  /* more than 65,536 lines: the number of lines; examples/c/parts.c takes any number */
     MT_BAD_LENGTHS = 3,     /* slices that belong together differ in length, or one is too short: 0 */
     MT_SHORT_OFFSETS = 4,   /* a grid tried has more cells + 1 than the lent offsets: that cells + 1 */
     MT_SHORT_ITEMS = 5,     /* items, points, members, bytes, lines or pairs lent are fewer than needed: the number needed */
@@ -179,8 +179,8 @@ uint32_t mt_segment_cells(const uint64_t *grid, size_t grid_len, double start_x,
  * than 500 lines and 4 times the cells are below 1,000,000, both sizes are halved, at most twice. Beyond what is written offsets, items and
  * globals are zeroed, and so is all of the scratch, which has at least 16,384 entries. Offsets for 1,002,002 entries, items for 2,048 times the
  * lines and globals for the lines are always enough.
- * More than 65,536 lines: cut them in parts of at most 32,768, and build each two parts together, every two once. Parts built alone lose the
- * pairs between them.
+ * More than 65,536 lines: cut them in parts of at most 32,768, and build each two parts together, every two once, as examples/c/parts.c does. Parts
+ * built alone lose the pairs between them.
  * out (8 words): the six words of the grid (the bits of min_x, min_y, cell_width and cell_height, cols, rows), the number of items, the number of
  * globals. The grid is fit. A minimum that is zero has the sign of the first zero coordinate on its axis, lines in order, start before end.
  * Refuses by 3, 2, 1; at each grid tried by 4, 7; then by 5, 6. */

@@ -11,66 +11,20 @@
  *   tools/build_library
  *   cc -O2 -Itarget/library examples/c/visit_year.c target/library/libmorelturret.a -o visit_year
  * `tools/run_examples` does that, and runs it beside bindings/rust/examples/visit_year.rs, which prints the same. */
-#include "morelturret_structs.h"
-#include <inttypes.h>
-#include <stdio.h>
-#include <stdlib.h>
-#include <string.h>
+#include "chain.h"
 
 enum { BATCH = 4096 };
 
 static uint32_t offsets[MT_MAX_OFFSETS], scratch[MT_SCRATCH], first[BATCH], second[BATCH];
 
-/* The status to end with: one look tells whether all was written, on a full disk too. */
-static int ended(int status) {
-    if (fflush(stdout) == 0 && !ferror(stdout)) return status;
-    fprintf(stderr, "visit_year: standard output can't be written\n");
-    return 2;
-}
-
-static int refused(mt_refusal refusal) {
-    printf("refused %" PRIu32 ", value %" PRIu64 "\n", refusal.number, refusal.value);
-    return ended(1);
-}
-
-/* n entries of some size, all zero. A slice's address is never null, also where it has no entries. */
-static void *lent(size_t n, size_t size) {
-    void *slice = calloc(n > 0 ? n : 1, size);
-    if (slice) return slice;
-    fprintf(stderr, "visit_year: memory is short\n");
-    exit(2);
-}
-
-/* The bytes of a file, and how many there are; null where it can't be read. */
-static uint8_t *bytes_of(const char *path, size_t *length) {
-    FILE *file = fopen(path, "rb");
-    uint8_t *bytes = NULL;
-    size_t room = 0;
-    *length = 0;
-    if (!file) return NULL;
-    do {
-        room = 2 * room + 65536;
-        uint8_t *more = realloc(bytes, room);
-        if (!more) break;
-        bytes = more;
-        *length += fread(bytes + *length, 1, room - *length, file);
-    } while (*length == room);
-    int failed = ferror(file) || *length == room;
-    fclose(file);
-    return failed ? NULL : bytes;
-}
-
 int main(int argc, char **argv) {
+    program = "visit_year";
     if (argc != 2) {
         fprintf(stderr, "visit_year: one FILE is needed, a MultiLineString in well-known binary\n");
         return 2;
     }
     size_t length;
     uint8_t *bytes = bytes_of(argv[1], &length);
-    if (!bytes) {
-        fprintf(stderr, "visit_year: %s can't be read\n", argv[1]);
-        return 2;
-    }
 
     /* 1. Bytes to points, as bit patterns, and to member lengths. A point takes 16 bytes and a member at least 25, so this is room enough. */
     mt_members members = {.point_room = length / 16, .member_room = length / 25};
@@ -81,11 +35,7 @@ int main(int argc, char **argv) {
     if (refusal.number != MT_OK) return refused(refusal);
 
     /* 2. Points to lines: none joins two members. */
-    mt_lines_room room = {.room = members.point_count - members.member_count};
-    room.start_x = lent(room.room, sizeof(double));
-    room.start_y = lent(room.room, sizeof(double));
-    room.end_x = lent(room.room, sizeof(double));
-    room.end_y = lent(room.room, sizeof(double));
+    mt_lines_room room = room_for(members.point_count - members.member_count);
     refusal = mt_members_lines(&members, &room);
     if (refusal.number != MT_OK) return refused(refusal);
     mt_lines lines = mt_lines_in(&room);

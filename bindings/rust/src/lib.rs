@@ -28,7 +28,7 @@
 //!
 //! # The domain
 //!
-//! At most [`MAX_LINES`] lines; each coordinate finite and at most 1e9 in magnitude. A walk needs [`SCRATCH`] entries of scratch. A [`Grid`] is
+//! At most [`MAX_LINES`] lines, and [`Parts`] takes more; each coordinate finite and at most 1e9 in magnitude. A walk needs [`SCRATCH`] entries of scratch. A [`Grid`] is
 //! fit if both minima obey the coordinate rule, its cells are from a quarter of 1e-6 to 2e9 wide and as much high, and its columns and rows are both
 //! 0, or each 1 to 4,004 with product at most 1,002,001.
 //!
@@ -48,6 +48,7 @@ mod lines;
 mod members;
 mod mode;
 pub mod numbers;
+mod parts;
 mod place;
 mod read;
 mod refusal;
@@ -65,6 +66,7 @@ pub use counts::{add, agreed_grid, count, tables_on, Counted, Counts};
 pub use lines::{LineVec, Lines};
 pub use members::{clean, lines_of_members, read_multi_line_string, write_multi_line_string, Cleaning, Members};
 pub use mode::{Mode, Plan};
+pub use parts::{PartPairs, Parts};
 pub use place::{overlap_owned, owner, owners, point_owned, snap, strategies_agree, Grid, Owner, Strategy};
 pub use read::{read_line_string, read_points};
 pub use refusal::{Reason, Refusal};
@@ -73,7 +75,7 @@ pub use sizing::Sizing;
 pub use tables::{build, Batch, Built, Cost, Pairs, Place, Room, Standing, Tables, Test, Window};
 pub use walk::segment_cells;
 
-/// The most lines that a build or a visit takes: above it refusal 2.
+/// The most lines that a build or a visit takes: above it refusal 2. [`Parts`] takes any number.
 pub const MAX_LINES: usize = 65_536;
 
 /// The greatest magnitude of a sample, which is 2^29: above it refusal 15.

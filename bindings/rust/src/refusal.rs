@@ -25,7 +25,7 @@ pub struct Refusal {
 impl Refusal {
     /// A coordinate is not finite or above 1e9 in magnitude. The value is the first such line, 0 for a point or one segment.
     pub const BAD_COORDINATE: u32 = 1;
-    /// More than 65,536 lines. The value is their number.
+    /// More than 65,536 lines. The value is their number. [`Parts`](crate::Parts) takes any number, and loses no pair.
     pub const TOO_MANY_LINES: u32 = 2;
     /// Slices that belong together differ in length, or one is too short. The value is 0.
     pub const BAD_LENGTHS: u32 = 3;

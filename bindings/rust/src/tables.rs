@@ -164,9 +164,15 @@ impl Tables {
         // most grids have about as many cells as there are lines, and most lines visit few cells
         let n = lines.len().min(MAX_LINES);
         let mut tables = Tables::with_room(Room { offsets: 4 * n + 16, items: 8 * n, globals: 0 });
+        tables.fill(lines, plan)?;
+        Ok(tables)
+    }
+
+    /// [`Tables::build`], with as much more room as refusals 4, 5 and 6 ask for.
+    pub(crate) fn fill(&mut self, lines: Lines, plan: Plan) -> Result<(), Refusal> {
         loop {
-            let Err(refusal) = tables.build(lines, plan) else { return Ok(tables) };
-            tables.make_room(refusal)?;
+            let Err(refusal) = self.build(lines, plan) else { return Ok(()) };
+            self.make_room(refusal)?;
         }
     }
 

@@ -5,13 +5,14 @@ use Prim.Native.Nat.{ℕ, _+_, _-_, _≤_, _<_}
 use native.Mathlib.Omega.{arith}
 use borrow.Author.Tests.{eqb-true, leb-true}
 use lib.Dec.{leb, eqb}
-use lib.ListN.{length}
+use lib.ListN.{length, getD}
+use lib.Ieee.{nan}
 use Rattle.refusals.specs.declared.Check.the-variants.{Fine, Refused}
 use Rattle.refusals.specs.Refusals.{refusal, unless, eachFrom, clears}
 use Rattle.refusals.proofs.Checks.{unless-fine, andThen-left, andThen-right, each-good, each-bad, each-over, each-says}
 use Rattle.refusals.proofs.Leaving.{Clearing, clearing-unless, clearing-then, clearing-each}
 use Rattle.grid.specs.declared.Grid.{Grid}
-use Rattle.grid.specs.Domain.{Lines, count, Alike, lineFits, lengthsCheck, scratchCheck, countCheck, coordinatesCheck, gridCheck, linesCheck}
+use Rattle.grid.specs.Domain.{Lines, count, Alike, coordinate, point, segment, lineFits, lengthsCheck, scratchCheck, countCheck, coordinatesCheck, gridCheck, linesCheck}
 use Rattle.grid.proofs.Bools.{and-left, and-right}
 
 -- ---- the slices have one length
@@ -57,6 +58,33 @@ module _ {ls : Lines} {i : ℕ} (h : Searched ls i) where
 
   pub searched-over : count ls ≤ i → Fine ≡ coordinatesCheck ls
   searched-over l = sym (h .rest ∙ each-over (lineFits ls) 1 (count ls) i l)
+
+-- all lines were looked at before line i, and where `all` is true none of them was bad
+pub record Looked (ls : Lines) (all : Bool) (i : ℕ) : Type 0 where
+  pub same : Alike ls
+  pub at : i ≤ count ls
+  pub good : all ≡ true → Searched ls i
+
+pub looked-none : (ls : Lines) → Alike ls → Looked ls true 0
+looked-none ls h = record { same = h; at = omega arith; good = λ e. searched-none ls h }
+
+module _ {ls : Lines} {all : Bool} {i : ℕ} (h : Looked ls all i) where
+  pub looked-more : i < count ls → (a b d e : Bool)
+      → a ≡ coordinate (getD (ls .«start_x») i nan)
+      → b ≡ coordinate (getD (ls .«start_y») i nan)
+      → d ≡ coordinate (getD (ls .«end_x») i nan)
+      → e ≡ coordinate (getD (ls .«end_y») i nan)
+      → Looked ls (all && ((a && b) && (d && e))) (i + 1)
+  unfolding lineFits segment point
+  looked-more l a b d e p q s t =
+      record {
+        same = h .same;
+        at = omega arith;
+        good = λ k. searched-more (h .good (and-left all ((a && b) && (d && e)) k)) l (sym (rw (p, q, s, t)) ∙ and-right all ((a && b) && (d && e)) k);
+      }
+
+  pub looked-over : count ls ≤ i → all ≡ true → Fine ≡ coordinatesCheck ls
+  looked-over l e = searched-over (h .good e) l
 
 -- ---- the checks 3, 2, 1 of lent lines
 

@@ -6,9 +6,10 @@ use refusals::Check;
 use refusals::Refusal;
 use refusals::refuse_unless;
 ghost use mathlib.Core.Path.{_≡_};
-ghost use mathlib.Core.Bool.{false, _&&_};
+ghost use mathlib.Core.Bool.{false, true, _&&_};
 ghost use lib.Dec.{leb, ltb, eqb};
 ghost use lib.ListN.{length};
+ghost use Rattle.refusals.specs.declared.Check.the-variants.{Fine};
 ghost use Rattle.grid.specs.Domain.{coordinate, point, segment, lines, Alike, counts, shape, sizeFits, sizesFit, fit};
 ghost use Rattle.grid.specs.Domain.{lengthsCheck, scratchCheck, countCheck, coordinatesCheck, coordinateCheck, pointCheck, segmentCheck, gridCheck};
 ghost use Rattle.grid.specs.Domain.{snapSize, snapSizeCheck, snapCheck, cellCheck, linesCheck};
@@ -208,11 +209,30 @@ pub fn check_lengths(start_x: &[f64], start_y: &[f64], end_x: &[f64], end_y: &[f
     )
 }
 
-// The first line with a coordinate that breaks the rule. The slices have one length.
+// Whether every coordinate obeys the rule. Every line is looked at and none is a branch, so that several are looked at at once.
+fn all_obey(start_x: &[f64], start_y: &[f64], end_x: &[f64], end_y: &[f64]) -> bool
+    requires { ⌜ Alike (lines (now «start_x») (now «start_y») (now «end_x») (now «end_y»)) ⌝ }
+    ensures { λ r. let ls = lines (now («start_x» .entry)) (now («start_y» .entry)) (now («end_x» .entry)) (now («end_y» .entry)) in ⌜ (r ≡ true → Fine ≡ coordinatesCheck ls) ⌝ }
+{
+    let mut all = true;
+    let mut i = 0;
+    while i < start_x.len() {
+        all = all
+            & ((is_coordinate(start_x[i]) & is_coordinate(start_y[i]))
+                & (is_coordinate(end_x[i]) & is_coordinate(end_y[i])));
+        i += 1;
+    }
+    all
+}
+
+// The first line with a coordinate that breaks the rule, sought where there is one. The slices have one length.
 fn check_coordinates(start_x: &[f64], start_y: &[f64], end_x: &[f64], end_y: &[f64]) -> Check
     requires { ⌜ Alike (lines (now «start_x») (now «start_y») (now «end_x») (now «end_y»)) ⌝ }
     ensures { λ r. ⌜ r ≡ coordinatesCheck (lines (now («start_x» .entry)) (now («start_y» .entry)) (now («end_x» .entry)) (now («end_y» .entry))) ⌝ }
 {
+    if all_obey(start_x, start_y, end_x, end_y) {
+        return Check::Fine;
+    }
     let mut i = 0;
     while i < start_x.len() {
         if !is_segment(segment_at(start_x, start_y, end_x, end_y, i)) {

@@ -2,7 +2,7 @@
 use grid::Grid;
 use refusals::Check;
 ghost use mathlib.Core.Path.{_≡_};
-ghost use Prim.Native.Nat.{_<_, _≤_};
+ghost use Prim.Native.Nat.{_+_, _<_, _≤_};
 ghost use mathlib.Core.Bool.{_&&_};
 ghost use lib.ListN.{length, take};
 ghost use lib.Dec.{leb};
@@ -15,24 +15,26 @@ fn wide(x: u32) -> usize
     x as usize
 }
 
-// A list strictly increases below the number of lines.
+fn after(x: u32) -> usize
+    ensures { λ r. ⌜ r ≡ x + 1 ⌝ }
+{
+    wide(x) + 1
+}
+
+// A list strictly increases below the number of lines. Every entry is looked at and none is a branch, so that several are looked at at once.
 pub fn is_increasing(lines: usize, list: &[u32]) -> bool
     ensures { λ r. ⌜ r ≡ increases 0 lines (now (list .entry)) ⌝ }
 {
+    let mut fits = true;
     let mut next = 0;
     let mut i = 0;
     while i < list.len() {
         let v = wide(list[i]);
-        if v < next {
-            return false;
-        }
-        if lines <= v {
-            return false;
-        }
-        next = v + 1;
+        fits = fits & ((next <= v) & (v < lines));
+        next = after(list[i]);
         i = i + 1;
     }
-    true
+    fits
 }
 
 // One pass over the offsets and the items between them.

@@ -1,36 +1,11 @@
 // What the programs do: one LineString in well-known binary from standard input; what document 01 says of it in a plan, to standard output.
 // A read or a write that fails is said on standard error, and so is the value of a refusal. A report is whole if its last line is that of the visit, or a
 // refusal.
-ghost use Rattle.program.specs.Input.{Within};
 use build::Plan;
+use input::Input;
 use libc::STDERR_FILENO;
 use libc::STDIN_FILENO;
 use libc::STDOUT_FILENO;
-
-// What a read of the whole input comes to: so many bytes, or a read that failed.
-enum Input {
-    Bytes(usize),
-    Failed,
-}
-
-// Reads until the bytes are full or the input ends.
-fn read_input(fd: i32, bytes: &mut [u8]) -> Input
-    ensures { λ r. ⌜ Within r (now (bytes .exit)) ⌝ }
-{
-    let mut done = 0;
-    while done < bytes.len() {
-        let got = libc::read(fd, &mut bytes[done..]);
-        if got < 0 {
-            return Input::Failed;
-        }
-        let more = io::count(got, &bytes[done..]);
-        if more == 0 {
-            return Input::Bytes(done);
-        }
-        done += more;
-    }
-    Input::Bytes(done)
-}
 
 // Says on standard error the value of the refusal that is due, if one is. It reads and builds for itself: the report has no place for a value.
 fn tell_value(bytes: &[u8], plan: Plan) {
@@ -64,8 +39,8 @@ fn respond(bytes: &[u8], plan: Plan) {
 // the first 9 bytes, or what follows the last of at most 1,024 points (`first-bytes` of `chain`). The rest is not read.
 pub fn run(plan: Plan) {
     let mut bytes = [0u8; 16394];
-    let input = read_input(STDIN_FILENO, &mut bytes);
-    match input {
+    let read = input::read_input(STDIN_FILENO, &mut bytes);
+    match read {
         Input::Bytes(n) => respond(&bytes[..n], plan),
         Input::Failed => {
             io::write_all(

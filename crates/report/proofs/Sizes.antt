@@ -1,13 +1,13 @@
 -- How long the lines can be: a number has at most 20 digits. Assumes nothing.
 use mathlib.Core.Path.{_≡_, refl, ap, subst}
-use mathlib.Core.Bool.{Bool, true, false}
+use mathlib.Core.Bool.{Bool, true, false, cond}
 use mathlib.Core.List.{List, [], _∷_, _++_}
 use Prim.Native.Nat.{ℕ, zero, suc, _+_, _*_, _/_, _%_, _≤_}
 use native.Mathlib.Omega.{arith}
 use lib.Dec.{eqb}
 use lib.ListN.{length, length-append}
 use Rattle.report.specs.Numbers.{glyph, noneIf, leading, decimal, hex}
-use Rattle.report.specs.Lines.{spaced, line, gridLine, cellLine, globalLine, visitLine, refusedLine}
+use Rattle.report.specs.Lines.{spaced, line, gridLine, cellLine, globalLine, visitLine, refusedLine, reasonWord, droppedLine}
 
 none-size : (b : Bool) (xs : List ℕ) (k : ℕ) → length xs ≤ k → length (noneIf b xs) ≤ k
 unfolding noneIf
@@ -65,3 +65,20 @@ visit-size tests overlaps = let a = spaced-size (tests ∷ overlaps ∷ []) in s
 pub refused-size : (number : ℕ) → length (refusedLine number) ≤ 29
 unfolding refusedLine
 refused-size number = let a = spaced-size (number ∷ []) in simp line-size (omega arith)
+
+reason-size : (reason : ℕ) → length (reasonWord reason) ≤ 6
+unfolding reasonWord
+reason-size reason = go (eqb reason 1) (eqb reason 2)
+  where
+    go : (a b : Bool) → length (cond {A = List ℕ} a (114 ∷ 97 ∷ 110 ∷ 103 ∷ 101 ∷ []) (cond b (114 ∷ 101 ∷ 112 ∷ 101 ∷ 97 ∷ 116 ∷ []) (115 ∷ 104 ∷ 111 ∷ 114 ∷ 116 ∷ []))) ≤ 6
+    go true b = omega arith
+    go false true = omega arith
+    go false false = omega arith
+
+pub dropped-size : (member point reason : ℕ) → length (droppedLine member point reason) ≤ 49
+unfolding droppedLine
+dropped-size member point reason =
+    let a = decimal-size member in
+    let b = decimal-size point in
+    let w = reason-size reason in
+    simp (line-size, length-append) (omega arith)

@@ -1,6 +1,8 @@
 -- Document 01, "The program", with document 02's two sizes: the lines that it prints, as bytes in ASCII. Definitions only.
 use Prim.Native.Nat.{ℕ}
+use mathlib.Core.Bool.{cond}
 use mathlib.Core.List.{List, [], _∷_, _++_}
+use lib.Dec.{eqb}
 use Rattle.report.specs.Numbers.{decimal, hex}
 
 -- each number after a space
@@ -35,3 +37,11 @@ visitLine tests overlaps = line (118 ∷ 105 ∷ 115 ∷ 105 ∷ 116 ∷ []) (sp
 -- `refused` and the number
 unfoldable pub refusedLine : ℕ → List ℕ
 refusedLine number = line (114 ∷ 101 ∷ 102 ∷ 117 ∷ 115 ∷ 101 ∷ 100 ∷ []) (spaced (number ∷ []))
+
+-- why a point is dropped: `range` for 1, `repeat` for 2, and else `short`
+unfoldable pub reasonWord : ℕ → List ℕ
+reasonWord reason = cond (eqb reason 1) (114 ∷ 97 ∷ 110 ∷ 103 ∷ 101 ∷ []) (cond (eqb reason 2) (114 ∷ 101 ∷ 112 ∷ 101 ∷ 97 ∷ 116 ∷ []) (115 ∷ 104 ∷ 111 ∷ 114 ∷ 116 ∷ []))
+
+-- a dropped point: its member, its number in the member, and why
+unfoldable pub droppedLine : ℕ → ℕ → ℕ → List ℕ
+droppedLine member point reason = line (decimal member) ((32 ∷ decimal point) ++ (32 ∷ reasonWord reason))

@@ -6,7 +6,7 @@ ghost use mathlib.Core.List.{[], _∷_};
 ghost use Rattle.report.specs.Pages.{page, Puts};
 ghost use Rattle.report.specs.Numbers.{glyph as Numbers·glyph};
 ghost use Rattle.report.specs.Numbers.{decimal, hex};
-ghost use Rattle.report.specs.Lines.{spaced, gridLine, cellLine, globalLine, visitLine, refusedLine};
+ghost use Rattle.report.specs.Lines.{spaced, gridLine, cellLine, globalLine, visitLine, refusedLine, reasonWord, droppedLine};
 
 // One byte, where there is room.
 fn put(b: u8, out: &mut [u8], at: usize) -> usize
@@ -177,5 +177,29 @@ pub fn refused_line(number: u32, out: &mut [u8], at: usize) -> usize
 {
     let at = put_all(b"refused", out, at);
     let at = put_number(number as u64, out, at);
+    put(b'\n', out, at)
+}
+
+// `range`, `repeat` or `short`, after a space.
+fn put_reason(reason: u32, out: &mut [u8], at: usize) -> usize
+    ensures { λ r. ⌜ Puts (32 ∷ reasonWord reason) (page (now (out .entry)) at) (page (now (out .exit)) r) ⌝ }
+{
+    let at = put(b' ', out, at);
+    if reason == 1 {
+        return put_all(b"range", out, at);
+    }
+    if reason == 2 {
+        return put_all(b"repeat", out, at);
+    }
+    put_all(b"short", out, at)
+}
+
+// A dropped point: its member, its number in the member, and why.
+pub fn dropped_line(member: u64, point: u64, reason: u32, out: &mut [u8], at: usize) -> usize
+    ensures { λ r. ⌜ Puts (droppedLine member point reason) (page (now (out .entry)) at) (page (now (out .exit)) r) ⌝ }
+{
+    let at = put_decimal(member, out, at);
+    let at = put_number(point, out, at);
+    let at = put_reason(reason, out, at);
     put(b'\n', out, at)
 }

@@ -5,7 +5,7 @@ use Rattle.program.proofs.run.Tie as tie
 use Rattle.program.proofs.run.Reads as reads
 use Rattle.program.proofs.run.Lts as lts
 use Rattle.program.proofs.respond.Reads as respond-reads
-use Rattle.program.proofs.read_input.Reads as read-input-reads
+use Rattle.input.proofs.read_input.Reads as read-input-reads
 use Rattle.io.proofs.write_all.Reads as write-all-reads
 
 -- src/main.rt:46:42
@@ -17,16 +17,16 @@ read-input-requires : tie.Need-read-input-requires
 read-input-requires c κs = search needs
 
 -- src/main.rt:48:22
-enum-known-input : tie.Need-enum-known-input
-enum-known-input c = search needs
+enum-known-read : tie.Need-enum-known-read
+enum-known-read c = search needs
 
 -- src/main.rt:48:34
 array-share-prefix-bytes : tie.Need-array-share-prefix-bytes
-array-share-prefix-bytes c = (rw (c .before .input .given .1) at (c .before .before .before .before .read-input .ensures)) .0
+array-share-prefix-bytes c = (rw (c .before .read .given .1) at (c .before .before .before .before .read-input .ensures)) .0
 
 -- src/main.rt:48:34
 slice-aggregate-respond : tie.Need-slice-aggregate-respond
-slice-aggregate-respond c = (rw (c .before .before .input .given .1) at (c .before .before .before .before .before .read-input .ensures)) .1
+slice-aggregate-respond c = (rw (c .before .before .read .given .1) at (c .before .before .before .before .before .read-input .ensures)) .1
 
 -- src/main.rt:48:28
 respond-requires : tie.Need-respond-requires
@@ -58,7 +58,7 @@ run-spec =
     (tie.spec
     slice-aggregate-read-input
     read-input-requires
-    enum-known-input
+    enum-known-read
     array-share-prefix-bytes
     slice-aggregate-respond
     respond-requires

@@ -1,4 +1,4 @@
--- `program::read_input` meets its contract. The invariant: `done` bytes are within the buffer. Assumes nothing.
+-- `input::read_input` meets its contract. The invariant: `done` bytes are within the buffer. Assumes nothing.
 use mathlib.Core.Path.{_≡_, refl, sym, _∙_}
 use mathlib.Core.List.{List}
 use Prim.Native.Nat.{ℕ, _≤_, _+_, _-_}
@@ -7,10 +7,10 @@ use borrow.Author.Needs.{needs}
 use lib.ListN.{length}
 use lib.Seq.{length-take-le}
 use borrow.Rule.Slice.PartMut.{midOf, putMid, same-len-mid, mid-len}
-use Rattle.program.proofs.read_input.Statement.{statement}
-use Rattle.program.proofs.read_input.Tie as tie
-use Rattle.program.proofs.read_input.Reads as reads
-use Rattle.program.proofs.read_input.Lts as lts
+use Rattle.input.proofs.read_input.Statement.{statement}
+use Rattle.input.proofs.read_input.Tie as tie
+use Rattle.input.proofs.read_input.Reads as reads
+use Rattle.input.proofs.read_input.Lts as lts
 
 abbrev Inv-loop : tie.InvT-loop
 Inv-loop fd bytes₀ done₀ bytes done = (done ≤ length bytes) × (length bytes ≡ length bytes₀)

@@ -1,0 +1,3 @@
+-- `Printed`: what is written and printed for the bytes of an input, after document 02. `Steps`: what private functions ask and promise.
+pub mod Printed
+pub mod Steps

@@ -1,0 +1,2 @@
+-- `Whole`: what reading the input promises.
+pub mod Whole

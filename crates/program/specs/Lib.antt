@@ -1,2 +1,0 @@
--- What reading the input promises.
-pub mod Input

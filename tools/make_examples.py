@@ -2,7 +2,8 @@
 """make_examples.py [FOLDER]: writes the files of examples/ (well-known binary) to FOLDER, or to examples/ beside this script's folder: LineStrings, and
 the MultiLineString `year`, which the program refuses and the examples named visit_year read; what they print stands in year.txt.
 What the program prints for NAME.wkb stands in NAME.out, by `--sizing axes` in NAME.axes.out, by `--walk sided` in NAME.sided.out and
-NAME.axes.sided.out, by `--walk covering` in NAME.covering.out and NAME.axes.covering.out. Nothing here is random: each run writes the
+NAME.axes.sided.out, by `--walk covering` in NAME.covering.out and NAME.axes.covering.out. What the program of crossings prints stands,
+for some, in NAME.crossings, NAME.axes.crossings and so on. Nothing here is random: each run writes the
 same bytes.
 
 With points of your own, `write(path, points)` makes a file that the program reads: little-endian, type 2, 1 to 1,024 points (x, y)."""

@@ -136,7 +136,7 @@ fn put_chain(bytes: &[u8], plan: Plan, out: &mut [u8]) -> usize
 }
 
 // Writes zero to each byte.
-fn clear(s: &mut [u8])
+pub fn clear(s: &mut [u8])
     ensures { λ _. ⌜ now (s .exit) ≡ replicate (length (now (s .entry))) 0 ⌝ }
 {
     let mut i = 0;

@@ -7,7 +7,7 @@ use native.Mathlib.Omega.{arith}
 use lib.Dec.{eqb}
 use lib.ListN.{length, length-append}
 use Rattle.report.specs.Numbers.{glyph, noneIf, leading, decimal, hex}
-use Rattle.report.specs.Lines.{spaced, line, gridLine, cellLine, globalLine, visitLine, refusedLine, reasonWord, droppedLine}
+use Rattle.report.specs.Lines.{spaced, line, gridLine, cellLine, globalLine, visitLine, crossingsLine, pairLine, refusedLine, reasonWord, droppedLine}
 
 none-size : (b : Bool) (xs : List ℕ) (k : ℕ) → length xs ≤ k → length (noneIf b xs) ≤ k
 unfolding noneIf
@@ -82,3 +82,11 @@ dropped-size member point reason =
     let b = decimal-size point in
     let w = reason-size reason in
     simp (line-size, length-append) (omega arith)
+
+pub crossings-size : (count : ℕ) → length (crossingsLine count) ≤ 31
+unfolding crossingsLine
+crossings-size count = let a = spaced-size (count ∷ []) in simp line-size (omega arith)
+
+pub pair-size : (first second : ℕ) → length (pairLine first second) ≤ 47
+unfolding pairLine
+pair-size first second = let a = spaced-size (first ∷ second ∷ []) in simp line-size (omega arith)

@@ -34,6 +34,14 @@ globalLine (l ∷ ls) = line (103 ∷ 108 ∷ 111 ∷ 98 ∷ 97 ∷ 108 ∷ []) 
 unfoldable pub visitLine : ℕ → ℕ → List ℕ
 visitLine tests overlaps = line (118 ∷ 105 ∷ 115 ∷ 105 ∷ 116 ∷ []) (spaced (tests ∷ overlaps ∷ []))
 
+-- `crossings` and how many there are
+unfoldable pub crossingsLine : ℕ → List ℕ
+crossingsLine count = line (99 ∷ 114 ∷ 111 ∷ 115 ∷ 115 ∷ 105 ∷ 110 ∷ 103 ∷ 115 ∷ []) (spaced (count ∷ []))
+
+-- `pair` and its two lines
+unfoldable pub pairLine : ℕ → ℕ → List ℕ
+pairLine first second = line (112 ∷ 97 ∷ 105 ∷ 114 ∷ []) (spaced (first ∷ second ∷ []))
+
 -- `refused` and the number
 unfoldable pub refusedLine : ℕ → List ℕ
 refusedLine number = line (114 ∷ 101 ∷ 102 ∷ 117 ∷ 115 ∷ 101 ∷ 100 ∷ []) (spaced (number ∷ []))

@@ -6,7 +6,7 @@ ghost use mathlib.Core.List.{[], _∷_};
 ghost use Rattle.report.specs.Pages.{page, Puts};
 ghost use Rattle.report.specs.Numbers.{glyph as Numbers·glyph};
 ghost use Rattle.report.specs.Numbers.{decimal, hex};
-ghost use Rattle.report.specs.Lines.{spaced, gridLine, cellLine, globalLine, visitLine, refusedLine, reasonWord, droppedLine};
+ghost use Rattle.report.specs.Lines.{spaced, gridLine, cellLine, globalLine, visitLine, crossingsLine, pairLine, refusedLine, reasonWord, droppedLine};
 
 // One byte, where there is room.
 fn put(b: u8, out: &mut [u8], at: usize) -> usize
@@ -168,6 +168,24 @@ pub fn visit_line(tests: u64, overlaps: u64, out: &mut [u8], at: usize) -> usize
 {
     let at = put_all(b"visit", out, at);
     let at = put_two(tests, overlaps, out, at);
+    put(b'\n', out, at)
+}
+
+// `crossings` and how many there are.
+pub fn crossings_line(count: u64, out: &mut [u8], at: usize) -> usize
+    ensures { λ r. ⌜ Puts (crossingsLine count) (page (now (out .entry)) at) (page (now (out .exit)) r) ⌝ }
+{
+    let at = put_all(b"crossings", out, at);
+    let at = put_number(count, out, at);
+    put(b'\n', out, at)
+}
+
+// `pair` and its two lines.
+pub fn pair_line(first: u32, second: u32, out: &mut [u8], at: usize) -> usize
+    ensures { λ r. ⌜ Puts (pairLine first second) (page (now (out .entry)) at) (page (now (out .exit)) r) ⌝ }
+{
+    let at = put_all(b"pair", out, at);
+    let at = put_two(first as u64, second as u64, out, at);
     put(b'\n', out, at)
 }
 

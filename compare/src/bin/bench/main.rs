@@ -5,6 +5,8 @@ mod added;
 mod blocks;
 mod clock;
 mod covers;
+mod crossings;
+mod geos;
 mod heap;
 mod legs;
 mod members;
@@ -78,14 +80,17 @@ fn main() {
     if wanted("window") {
         windows::times(clock, seed);
     }
+    if wanted("crossings") {
+        crossings::times(clock, seed);
+    }
     if wanted("blocks") {
         blocks::times(clock, &mut Random::new(seed));
     }
     clock.end();
 }
 
-const STAGES: [&str; 13] =
-    ["numbers", "walks", "covers", "orderings", "builds", "visits", "memory", "points", "sizings", "members", "added", "blocks", "window"];
+const STAGES: [&str; 14] =
+    ["numbers", "walks", "covers", "orderings", "builds", "visits", "memory", "points", "sizings", "members", "added", "blocks", "window", "crossings"];
 
 fn stop() -> ! {
     eprintln!("bench [--seed S] [--rounds R] [STAGE..], with STAGE one of {}", STAGES.join(" "));

@@ -1,94 +1,13 @@
-//! The lines in a window beside GEOS's STRtree, which is built once and then asked; and what the check of the tables is of a query. GEOS is loaded where Debian's
-//! libgeos-c1v5, which libgeos-dev brings, is installed; else the port is timed alone.
+//! The lines in a window beside GEOS's STRtree, which is built once and then asked; and what the check of the tables is of a query. Without GEOS the port is
+//! timed alone.
 
 use super::clock::Clock;
+use super::geos::Geos;
 use compare::cases;
 use compare::kinds::build::Columns;
 use compare::random::Random;
 use morelturret::{Lines, Mode, Tables, Window};
-use std::ffi::{c_char, c_int, c_uint, c_void, CString};
 use std::hint::black_box;
-use std::mem::transmute_copy;
-
-type Pointer = *mut c_void;
-
-extern "C" {
-    fn dlopen(file: *const c_char, flags: c_int) -> Pointer;
-    fn dlsym(library: Pointer, name: *const c_char) -> Pointer;
-}
-
-/// The functions of GEOS's C interface, and its handle.
-struct Geos {
-    handle: Pointer,
-    sequence: unsafe extern "C" fn(Pointer, c_uint, c_uint) -> Pointer,
-    set: unsafe extern "C" fn(Pointer, Pointer, c_uint, f64, f64) -> c_int,
-    line: unsafe extern "C" fn(Pointer, Pointer) -> Pointer,
-    tree: unsafe extern "C" fn(Pointer, usize) -> Pointer,
-    insert: unsafe extern "C" fn(Pointer, Pointer, Pointer, Pointer),
-    query: unsafe extern "C" fn(Pointer, Pointer, Pointer, unsafe extern "C" fn(Pointer, Pointer), Pointer),
-}
-
-impl Geos {
-    fn load() -> Option<Self> {
-        const NOW: c_int = 2;
-        // SAFETY: the names and types are those of geos_c.h, and the library is never closed.
-        unsafe {
-            let library = dlopen(c"libgeos_c.so.1".as_ptr(), NOW);
-            if library.is_null() {
-                return None;
-            }
-            fn function<F>(library: Pointer, name: &str) -> Option<F> {
-                let name = CString::new(name).unwrap();
-                // SAFETY: as above; F is a function pointer, which has the size of a pointer.
-                let found = unsafe { dlsym(library, name.as_ptr()) };
-                (!found.is_null()).then(|| unsafe { transmute_copy(&found) })
-            }
-            let init: unsafe extern "C" fn() -> Pointer = function(library, "GEOS_init_r")?;
-            Some(Geos {
-                handle: init(),
-                sequence: function(library, "GEOSCoordSeq_create_r")?,
-                set: function(library, "GEOSCoordSeq_setXY_r")?,
-                line: function(library, "GEOSGeom_createLineString_r")?,
-                tree: function(library, "GEOSSTRtree_create_r")?,
-                insert: function(library, "GEOSSTRtree_insert_r")?,
-                query: function(library, "GEOSSTRtree_query_r")?,
-            })
-        }
-    }
-
-    /// A line from one point to another. Its envelope is all that the tree asks of it.
-    fn segment(&self, [x, y, u, v]: [f64; 4]) -> Pointer {
-        // SAFETY: a sequence of two points of two coordinates, which the line takes over; none is freed before the process ends.
-        unsafe {
-            let points = (self.sequence)(self.handle, 2, 2);
-            (self.set)(self.handle, points, 0, x, y);
-            (self.set)(self.handle, points, 1, u, v);
-            (self.line)(self.handle, points)
-        }
-    }
-
-    /// The tree of all lines; each is known by its number.
-    fn tree(&self, lines: &[[f64; 4]]) -> Pointer {
-        // SAFETY: 10 entries to a node, as GEOS advises.
-        let tree = unsafe { (self.tree)(self.handle, 10) };
-        for (i, line) in lines.iter().enumerate() {
-            // SAFETY: the number stands in the pointer and is never followed.
-            unsafe { (self.insert)(self.handle, tree, self.segment(*line), i as Pointer) };
-        }
-        tree
-    }
-
-    /// The numbers of the lines whose boxes overlap the window, in the tree's order.
-    fn ask(&self, tree: Pointer, window: Pointer, found: &mut Vec<u32>) {
-        unsafe extern "C" fn put(item: Pointer, found: Pointer) {
-            // SAFETY: what `query` is handed below.
-            unsafe { (*found.cast::<Vec<u32>>()).push(item as usize as u32) };
-        }
-        found.clear();
-        // SAFETY: the vector lives through the call.
-        unsafe { (self.query)(self.handle, tree, window, put, (found as *mut Vec<u32>).cast()) };
-    }
-}
 
 pub fn times(clock: &Clock, seed: u64) {
     clock.head(
@@ -96,9 +15,6 @@ pub fn times(clock: &Clock, seed: u64) {
          middle. The check: what mt_check_tables takes, which every query does too. GEOS: an STRtree of the lines' boxes, built once, queries timed alone.",
     );
     let geos = Geos::load();
-    if geos.is_none() {
-        println!("  there is no libgeos_c.so.1 (Debian's libgeos-dev): the port is timed alone");
-    }
     println!("  | legs an orbit | share | found | query | check | of it | GEOS found | GEOS query | port / GEOS |\n  |---|---|---|---|---|---|---|---|---|");
     for legs in [12.0, 179.0] {
         let drawn = cases::orbits(&mut Random::new(seed), 65536, legs);
@@ -128,9 +44,9 @@ pub fn times(clock: &Clock, seed: u64) {
                 Some((g, tree)) => {
                     let frame = g.segment(w);
                     // the first query builds the tree
-                    g.ask(*tree, frame, &mut boxes);
+                    tree.ask(frame, &mut boxes);
                     let times = clock.turns(&mut [&mut query, &mut check, &mut || {
-                        g.ask(black_box(*tree), frame, &mut boxes);
+                        black_box(tree).ask(frame, &mut boxes);
                         black_box(&mut boxes);
                     }]);
                     let text = format!("{} | {} | {:.1} |", boxes.len(), micro(times.of(2)), times.ratio(0, 2));

@@ -11,6 +11,7 @@ pub mod added;
 pub mod blocks;
 pub mod build;
 pub mod clean;
+pub mod clean_program;
 pub mod counts;
 pub mod cover;
 pub mod crossings;

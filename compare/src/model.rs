@@ -1583,6 +1583,26 @@ fn cleaned(member: &[[u64; 2]]) -> (Vec<u32>, Vec<Vec<[u64; 2]>>) {
     (reasons, pieces)
 }
 
+/// The cleaning program: what it prints for the bytes that it reads, and the file that it writes.
+pub fn clean_program(bytes: &[u8]) -> (String, Option<Vec<u8>>) {
+    if bytes.len() > 65_536 {
+        return ("refused 5\n".into(), None);
+    }
+    let line = chain(bytes, 0).ok().filter(|(_, end)| *end == bytes.len()).map(|(points, _)| vec![points]);
+    let Some(members) = line.or_else(|| chains(bytes).ok()) else {
+        return ("refused 11\n".into(), None);
+    };
+    let (mut text, mut kept) = (String::new(), Vec::new());
+    for (k, member) in members.iter().enumerate() {
+        let (reasons, pieces) = cleaned(member);
+        for (i, &reason) in reasons.iter().enumerate().filter(|(_, &reason)| reason > 0) {
+            text += &format!("{k} {i} {}\n", ["range", "repeat", "short"][reason as usize - 1]);
+        }
+        kept.extend(pieces.into_iter().map(|points| (true, points)));
+    }
+    (text, Some(multi_line_string(true, &kept)))
+}
+
 /// out: the number of points and the number of pieces that are kept.
 pub fn clean(x: &[u64], y: &[u64], lengths: &[u32], kept: [&mut [u64]; 2], kept_lengths: &mut [u32], reasons: &mut [u32], out: &mut [u64]) -> u32 {
     let Some(members) = held(x, y, lengths) else {

@@ -4,10 +4,10 @@
 //! The port takes part in every kind: --port may be said, and changes nothing.
 //! Ends with status 1 at the first difference.
 
-use compare::kinds::{self, added, blocks, build, clean, counts, cover, covering, crossings, drop_in, lists, multi, numbers, once, own, owners, pairs, seams, sided, snap, straight, strategies, visit, walk, window, wkb};
+use compare::kinds::{self, added, blocks, build, clean, clean_program, counts, cover, covering, crossings, drop_in, lists, multi, numbers, once, own, owners, pairs, seams, sided, snap, straight, strategies, visit, walk, window, wkb};
 
 /// The kinds, with the cases of a full run.
-const KINDS: [(&str, u64); 35] = [
+const KINDS: [(&str, u64); 36] = [
     ("sample", 1),
     ("numbers", 10_000_000),
     ("walk", 1_000_000),
@@ -23,6 +23,7 @@ const KINDS: [(&str, u64); 35] = [
     ("multi", 100_000),
     ("members", 100_000),
     ("clean", 100_000),
+    ("clean-program", 1_500),
     ("axes-walk", 500_000),
     ("axes-build", 3_000),
     ("axes-visit", 2_000),
@@ -79,6 +80,11 @@ fn main() {
             "multi" => kinds::run::<multi::Multi>(seed, n, multi::fixed(seed)),
             "members" => kinds::run::<multi::Members>(seed, n, multi::fixed_members(seed)),
             "clean" => kinds::run::<clean::Clean>(seed, n, clean::fixed()),
+            "clean-program" => {
+                let right = kinds::run::<clean_program::Program>(seed, n, clean_program::fixed());
+                clean_program::end();
+                right
+            }
             "axes-walk" => kinds::run::<walk::Walk<true>>(seed, n, walk::fixed_by_axis()),
             "axes-build" => kinds::run::<build::Build<true>>(seed, n, build::fixed_by_axis(seed)),
             "axes-visit" => kinds::run::<visit::Visit<true>>(seed, n, vec![]),

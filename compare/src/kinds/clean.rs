@@ -9,6 +9,20 @@ use crate::random::Random;
 /// What slices hold before a call: anything but zero, so that an entry left alone shows.
 const JUNK: u64 = 0x1234_5678_9abc_def0;
 
+/// Two points, one that is no number, zeros of either sign, the edge of the rule and its neighbour above.
+pub const A: [u64; 2] = [0x3ff0_0000_0000_0000; 2];
+pub const B: [u64; 2] = [0x4000_0000_0000_0000; 2];
+pub const NAN: [u64; 2] = [0x7ff0_0000_0000_0001, 0];
+pub const ZERO: [u64; 2] = [0, 1 << 63];
+pub const MINUS: [u64; 2] = [1 << 63, 0];
+pub const EDGE: [u64; 2] = [0x41cd_cd65_0000_0000; 2];
+pub const ABOVE: [u64; 2] = [0x41cd_cd65_0000_0000, 0x41cd_cd65_0000_0001];
+
+/// Every chain of n points of five kinds.
+pub fn every_short(n: u32) -> impl Iterator<Item = Vec<[u64; 2]>> {
+    (0..5usize.pow(n)).map(move |k| (0..n).map(|i| [A, B, NAN, ZERO, MINUS][k / 5usize.pow(i) % 5]).collect())
+}
+
 #[derive(Clone)]
 pub struct Chains {
     pub x: Vec<u64>,
@@ -36,6 +50,18 @@ fn value(r: &mut Random, gaps: u64) -> u64 {
     }
 }
 
+/// The n points of a member, of a sensor that gets stuck.
+pub fn member(r: &mut Random, n: u32, gaps: u64) -> Vec<[u64; 2]> {
+    let mut points: Vec<[u64; 2]> = Vec::new();
+    for k in 0..n {
+        let stuck = k > 0 && r.once_in(3);
+        let point = if stuck { points[points.len() - 1] } else { [value(r, gaps), value(r, gaps)] };
+        // a stuck sensor may turn the sign of a zero
+        points.push(point.map(|v| if v << 1 == 0 && r.once_in(3) { v ^ 1 << 63 } else { v }));
+    }
+    points
+}
+
 pub struct Clean;
 
 impl Kind for Clean {
@@ -46,15 +72,7 @@ impl Kind for Clean {
     fn draw(r: &mut Random) -> (&'static str, Chains) {
         let gaps = r.pick(&[4, 12, 60]);
         let lengths: Vec<u32> = (0..r.below(5)).map(|_| if r.once_in(20) { r.pick(&[1, 1023, 1024]) } else { 1 + r.below(14) as u32 }).collect();
-        let mut points: Vec<[u64; 2]> = Vec::new();
-        for &n in &lengths {
-            for k in 0..n {
-                let stuck = k > 0 && r.once_in(3);
-                let point = if stuck { points[points.len() - 1] } else { [value(r, gaps), value(r, gaps)] };
-                // a stuck sensor may turn the sign of a zero
-                points.push(point.map(|v| if v << 1 == 0 && r.once_in(3) { v ^ 1 << 63 } else { v }));
-            }
-        }
+        let points = lengths.iter().flat_map(|&n| member(r, n, gaps)).collect::<Vec<_>>();
         let mut c = Chains::just(&points, lengths);
         let shape = match r.below(8) {
             0 => {
@@ -144,18 +162,16 @@ impl Kind for Clean {
     }
 }
 
-/// Document 02's own cases, each by itself: A A; A A NaN A; A NaN A B; A B A; 0 and -0; the edge of the rule and its neighbour above; no members; and all
-/// members of up to four points of four kinds.
+/// Document 02's own cases: no points; A A; A A NaN A; A NaN A B; A B A; 0 and -0; the edge of the rule and its neighbour above; a gap alone.
+pub fn named() -> Vec<Vec<[u64; 2]>> {
+    vec![vec![], vec![A, A], vec![A, A, NAN, A], vec![A, NAN, A, B], vec![A, B, A], vec![ZERO, MINUS, A], vec![EDGE, A, ABOVE, A, EDGE], vec![NAN]]
+}
+
+/// Each of these by itself, and all members of up to five points of five kinds.
 pub fn fixed() -> Vec<(&'static str, Chains)> {
-    let (a, b, nan) = ([1f64.to_bits(); 2], [2f64.to_bits(); 2], [0x7ff0_0000_0000_0001, 0]);
-    let (zero, minus) = ([0, 1 << 63], [1 << 63, 0]);
-    let (edge, above) = ([1e9f64.to_bits(); 2], [1e9f64.to_bits(), 1e9f64.to_bits() + 1]);
-    let named: [&[[u64; 2]]; 8] = [&[], &[a, a], &[a, a, nan, a], &[a, nan, a, b], &[a, b, a], &[zero, minus, a], &[edge, a, above, a, edge], &[nan]];
-    let mut all: Vec<_> = named.iter().map(|ps| ("by name", Chains::just(ps, if ps.is_empty() { vec![] } else { vec![ps.len() as u32] }))).collect();
-    let kinds = [a, b, nan, zero, minus];
+    let mut all: Vec<_> = named().iter().map(|ps| ("by name", Chains::just(ps, if ps.is_empty() { vec![] } else { vec![ps.len() as u32] }))).collect();
     for n in 1..=5u32 {
-        for mut k in 0..5usize.pow(n) {
-            let points: Vec<_> = (0..n).map(|_| { let p = kinds[k % 5]; k /= 5; p }).collect();
+        for points in every_short(n) {
             all.push(("every short chain", Chains::just(&points, vec![n])));
             if n > 2 {
                 all.push(("every short chain", Chains::just(&points, vec![2, n - 2])));

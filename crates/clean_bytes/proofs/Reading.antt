@@ -46,7 +46,7 @@ head-is : multiHead Little 1 ≡ head
 unfolding multiHead orderByte wordBytes littleBytes
 head-is = refl
 
-one-member : {bs : List ℕ} {ps : List Point} → LineString bs ps → MultiLineString (multiHead Little 1 ++ bs) (ps ∷ [])
+pub one-member : {bs : List ℕ} {ps : List Point} → LineString bs ps → MultiLineString (multiHead Little 1 ++ bs) (ps ∷ [])
 one-member {bs} l = record {
   order = Little;
   rest = bs ++ [];

@@ -1,4 +1,4 @@
--- How much is found in so many bytes, and how much of it is kept: the file of what is kept is no longer than the input, so it can be cleaned again.
+-- How much is found in so many bytes, and how much of it is kept: the file of what is kept is no longer than a MultiLineString of what came in.
 -- Assumes nothing.
 use mathlib.Core.Path.{_≡_, refl, sym, ap, _∙_, subst}
 use mathlib.Core.Bool.{Bool, true, false, cond}

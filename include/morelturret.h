@@ -309,6 +309,18 @@ uint32_t mt_batch(const uint64_t *grid, size_t grid_len, const double *start_x, 
                   const uint32_t *globals, size_t globals_len, uint64_t global_count, uint64_t bookmark, uint32_t *first, size_t first_len,
                   uint32_t *second, size_t second_len, uint64_t *out, size_t out_len);
 
+/* A batch that says where each pair was tested: mt_batch in all, and beside pair k the number of its place in places[k]. A cell has the number row *
+ * cols + column, as mt_owners has it, and a global the number of cells and its position. places is of the length of first and second, and zeroed
+ * beyond the pairs too.
+ * out (3 words): the tests made, the pairs handed out, the new bookmark.
+ * Refuses by 3, 2, 1, 8, 10, 9. */
+uint32_t mt_batch_places(const uint64_t *grid, size_t grid_len, const double *start_x, size_t start_x_len,
+                         const double *start_y, size_t start_y_len, const double *end_x, size_t end_x_len,
+                         const double *end_y, size_t end_y_len, const uint32_t *offsets, size_t offsets_len,
+                         const uint32_t *items, size_t items_len, const uint32_t *globals, size_t globals_len, uint64_t global_count,
+                         uint64_t bookmark, uint32_t *first, size_t first_len, uint32_t *second, size_t second_len,
+                         uint32_t *places, size_t places_len, uint64_t *out, size_t out_len);
+
 /* Each pair once: a full visit that hands out two lines whose boxes overlap at their first test alone, in the order of the visit and with the lines
  * in that test's order. Pair k is (first[k], second[k]); first and second are of one length, and zeroed beyond the pairs. starts, listing and counts
  * are scratch, and zeroed: starts has at least one entry more than there are lines, listing at least as many as items, used or not, and counts at

@@ -518,6 +518,24 @@ static inline mt_refusal mt_tables_pairs(const mt_tables *tables, const mt_lines
     return mt_refused(number, out[0]);
 }
 
+/* The pairs of mt_tables_pairs, and beside each the number of the place where it was tested, as mt_batch_places says it; places has pairs->room entries.
+ * Refuses by 3, 2, 1, 8, 10, 9. */
+static inline mt_refusal mt_tables_pairs_places(const mt_tables *tables, const mt_lines *lines, uint64_t *bookmark, mt_pairs_room *pairs,
+                                                uint32_t *places) {
+    uint64_t grid[6], out[3] = {0, 0, 0};
+    size_t n = lines->count;
+    uint32_t number;
+    mt_grid_words(&tables->grid, grid);
+    number = mt_batch_places(grid, 6, lines->start_x, n, lines->start_y, n, lines->end_x, n, lines->end_y, n, tables->offsets,
+                             tables->offset_room, tables->items, tables->item_room, tables->globals, tables->global_room,
+                             tables->global_count, *bookmark, pairs->first, pairs->room, pairs->second, pairs->room, places, pairs->room, out, 3);
+    if (number == MT_OK) {
+        pairs->count = (size_t)out[1];
+        *bookmark = out[2];
+    }
+    return mt_refused(number, out[0]);
+}
+
 /* The pairs of a full visit, each once, as mt_pairs_once hands them out: at its first test, in the order of the visit. The scratch is zeroed; it has
  * at least tables->item_room + 2 * lines->count + 1 entries.
  * Refuses by 3, 2, 1, 8, 10, 5 (how many pairs there are). */

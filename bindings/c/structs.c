@@ -62,6 +62,27 @@ static void visit(const mt_tables *tables, const mt_lines *lines, const uint64_t
     same(number == MT_BEYOND_END && beyond == bookmark + 1 && pairs.count == count, "what a batch beyond the end leaves", path);
 }
 
+/* the same batches with the places of their pairs, and one beyond the end */
+static void visit_places(const mt_tables *tables, const mt_lines *lines, const uint64_t *grid, const char *path) {
+    const size_t n = lines->count;
+    const double *sx = lines->start_x, *sy = lines->start_y, *ex = lines->end_x, *ey = lines->end_y;
+    static uint32_t places[ROOM], flat_places[ROOM];
+    uint64_t bookmark = 0, flat_bookmark = 0, out[3];
+    mt_pairs_room pairs = {first, second, ROOM, 0};
+    do {
+        uint32_t number = mt_batch_places(grid, 8, sx, n, sy, n, ex, n, ey, n, flat_offsets, MT_MAX_OFFSETS, flat_items, ITEMS, flat_globals, LINES, grid[7], flat_bookmark, flat_first, ROOM, flat_second, ROOM, flat_places, ROOM, out, 3);
+        if (!alike(mt_tables_pairs_places(tables, lines, &bookmark, &pairs, places), number, out[0], "a batch with places", path)) return;
+        flat_bookmark = out[2];
+        same(bookmark == out[2] && pairs.count == out[1] && !memcmp(first, flat_first, sizeof first) && !memcmp(second, flat_second, sizeof second) &&
+             !memcmp(places, flat_places, sizeof places), "a batch's pairs and places", path);
+    } while (pairs.count == pairs.room);
+    uint64_t beyond = bookmark + 1;
+    uint32_t number = mt_batch_places(grid, 8, sx, n, sy, n, ex, n, ey, n, flat_offsets, MT_MAX_OFFSETS, flat_items, ITEMS, flat_globals, LINES, grid[7], beyond, flat_first, ROOM, flat_second, ROOM, flat_places, ROOM, out, 3);
+    size_t count = pairs.count;
+    alike(mt_tables_pairs_places(tables, lines, &beyond, &pairs, places), number, out[0], "a batch with places beyond the end", path);
+    same(number == MT_BEYOND_END && beyond == bookmark + 1 && pairs.count == count, "what a batch with places beyond the end leaves", path);
+}
+
 /* each pair once; with room, with too little for one pair, and with a scratch that is short by one */
 static void visit_once(const mt_tables *tables, const mt_lines *lines, const uint64_t *grid, const char *path) {
     const size_t n = lines->count, needed = ITEMS + 2 * n + 1;
@@ -318,6 +339,7 @@ static void build(const mt_lines *lines, const mt_points *points, uint32_t sizin
     same(mt_tables_check(&tables).number == MT_OK, "the tables' fit", path);
     visit(&tables, lines, built, path);
     ask(&tables, lines, built, path);
+    visit_places(&tables, lines, built, path);
     visit_once(&tables, lines, built, path);
     cross(&tables, lines, built, path);
     on_grid(&tables, points, built, path);

@@ -23,6 +23,7 @@ pub mod once;
 pub mod own;
 pub mod owners;
 pub mod pairs;
+pub mod places;
 pub mod seams;
 pub mod covering;
 pub mod sided;

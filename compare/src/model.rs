@@ -1152,6 +1152,35 @@ pub fn batch(s: &Standing, tests: &[Test], bookmark: u64, first: &mut [u32], sec
     0
 }
 
+/// A batch by three outputs: its pairs, and beside each the number of the place of its test. A cell is numbered row by row; after the cells come the
+/// globals, by their position.
+pub fn batch_places(s: &Standing, tests: &[Test], bookmark: u64, outputs: [&mut [u32]; 3], out: &mut [u64]) -> u32 {
+    if out.len() < 3 {
+        return SHORT;
+    }
+    let [first, second, places] = outputs;
+    if let Some((number, value)) = s.refusal(first.len() != second.len() || first.len() != places.len(), bookmark) {
+        out[0] = value;
+        return number;
+    }
+    let (Grid { rows, cols, .. }, rest) = (s.grid, &tests[bookmark as usize..]);
+    // as many tests as it takes to find a pair for each entry
+    let found: Vec<usize> = (0..rest.len()).filter(|&k| rest[k].overlap).take(first.len()).collect();
+    let made = match found.last() {
+        _ if first.is_empty() => 0,
+        Some(last) if found.len() == first.len() => last + 1,
+        _ => rest.len(),
+    };
+    for k in 0..first.len() {
+        (first[k], second[k], places[k]) = match found.get(k).map(|&at| rest[at]) {
+            None => (0, 0, 0),
+            Some(t) => (t.first, t.second, if t.cell { t.row_or_position * cols + t.col } else { rows * cols + t.row_or_position }),
+        };
+    }
+    out[..3].copy_from_slice(&[made as u64, found.len() as u64, bookmark + made as u64]);
+    0
+}
+
 /// The five slices that a visit is lent that hands out each pair once.
 #[derive(Clone)]
 pub struct OnceLent {

@@ -136,6 +136,16 @@ pub fn batch(s: &Standing, bookmark: u64, first: &mut [u32], second: &mut [u32],
     )
 }
 
+/// The outputs are first, second and places. out: tests, overlaps, the new bookmark.
+#[inline]
+pub fn batch_places(s: &Standing, bookmark: u64, outputs: [&mut [u32]; 3], out: &mut [u64]) -> u32 {
+    let l = &s.lines;
+    let [first, second, places] = outputs;
+    sys::batch_places(
+        &s.grid.words(), l.start_x, l.start_y, l.end_x, l.end_y, s.offsets, s.items, s.globals, s.global_count, bookmark, first, second, places, out,
+    )
+}
+
 /// The slices are the offsets, the items, the globals and the scratch. out: the number of items, the number of globals, how many cells list the line.
 #[inline]
 pub fn add_line(g: &Grid, mode: u32, line: &Line, n: usize, slices: [&mut [u32]; 4], global_count: u64, out: &mut [u64]) -> u32 {

@@ -108,6 +108,29 @@ class Tables:
             _, pairs, bookmark, *_ = answer("mt_batch", *self.beside_lines, bookmark, first, second)
             yield first[:pairs], second[:pairs], bookmark
 
+    def batches_with_places(self, size=BATCH):
+        """`batches`, and in a third array, before the tests, the number of the place where each pair was tested: a cell's number, as `owner` answers it,
+        or the number of cells and the position of a global. `place` has it in words.
+
+        >>> tables = build(Lines.chain([0, 2, 2, 0, 0], [0, 0, 2, 2, 0]), walk="rust")
+        >>> [[int(number) for number in places] for first, second, places, tests in tables.batches_with_places(size=5)]
+        [[0, 1, 2, 3, 4], [5, 6, 7, 8]]
+        """
+        bookmark, total = 0, self.tests
+        while bookmark < total:
+            first, second, places = (np.empty(size, np.uint32) for _ in range(3))
+            _, pairs, bookmark, *_ = answer("mt_batch_places", *self.beside_lines, bookmark, first, second, places)
+            yield first[:pairs], second[:pairs], places[:pairs], bookmark
+
+    def place(self, number):
+        """What a number among the places of `batches_with_places` stands for: ("cell", row, column), or ("global", position).
+
+        >>> build(Lines.chain([0, 2, 2, 0, 0], [0, 0, 2, 2, 0]), walk="rust").place(1)
+        ('cell', 0, 1)
+        """
+        number, cells = int(number), self.grid.cols * self.grid.rows
+        return ("cell", *divmod(number, self.grid.cols)) if number < cells else ("global", number - cells)
+
     def pairs_once(self):
         """The pairs of lines whose boxes overlap, each once: at its first test, in the order of the visit. Two arrays.
 

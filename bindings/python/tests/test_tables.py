@@ -124,6 +124,10 @@ class Visits(unittest.TestCase):
         for size in (1, 97, 1 << 20):
             handed = [pair for first, second, _ in tables.batches(size) for pair in zip(first.tolist(), second.tolist())]
             self.assertEqual(handed, expected)
+            placed = [entry for first, second, places, _ in tables.batches_with_places(size) for entry in zip(first.tolist(), second.tolist(), places.tolist())]
+            self.assertEqual([entry[:2] for entry in placed], expected)
+            for i, j, number in placed:
+                self.assertLessEqual({i, j}, set(tables.cells[tables.place(number)[1:]].tolist()))
         place, first, second, overlap = tables.test(0)
         self.assertEqual(list(tables.cells[place[1:]][:2]), [first, second])
         self.assertIsInstance(overlap, bool)

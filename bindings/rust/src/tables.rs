@@ -340,6 +340,13 @@ impl Tables {
         self.standing().batch(lines, bookmark, first, second)
     }
 
+    /// The tests from a bookmark on, with the place of each pair: [`Standing::batch_places`]. The lines are those that were built.
+    ///
+    /// Refuses by 3 (lengths), 2 (too many lines), 1 (a coordinate), 10 (fewer lines than were built), 9 (the bookmark).
+    pub fn batch_places(&self, lines: Lines, bookmark: u64, first: &mut [u32], second: &mut [u32], places: &mut [u32]) -> Result<Batch, Refusal> {
+        self.standing().batch_places(lines, bookmark, first, second, places)
+    }
+
     /// The lines that may enter a window: [`Standing::window`]. The lines are those that were built.
     ///
     /// Refuses by 3 (lengths), 2 (too many lines), 1 (a coordinate; 0 for the window), 10 (fewer lines than were built).
@@ -510,6 +517,41 @@ impl<'a> Standing<'a> {
         Ok(Batch { tests, overlaps: overlaps as usize, bookmark })
     }
 
+    /// [`Standing::batch`], and beside pair k the number of the place where it was tested in `places[k]`, which is zeroed beyond the pairs too: a cell's
+    /// number is row * cols + column, and after the cells come the globals, by their position. [`Place::by_number`] has it as a place. A cell's number
+    /// is what [`owners`](crate::owners) answers, so what a pair stands for can be taken in the cell that owns it, and left in the others.
+    ///
+    /// Refuses by 3 (lengths), 2 (too many lines), 1 (a coordinate), 8 (the grid), 10 (the tables), 9 (the bookmark).
+    ///
+    /// ```
+    /// use morelturret::{owner, Lines, Owner, Place, Tables};
+    ///
+    /// // the sides of a square meet in its corners, and a corner is tested in each cell that lists both sides
+    /// let lines = Lines::chain(&[0.0, 2.0, 2.0, 0.0, 0.0], &[0.0, 0.0, 2.0, 2.0, 0.0]);
+    /// let tables = Tables::of(lines)?;
+    /// let (mut first, mut second, mut places) = ([0; 16], [0; 16], [0; 16]);
+    /// let batch = tables.batch_places(lines, 0, &mut first, &mut second, &mut places)?;
+    /// let mut corners = 0;
+    /// for k in 0..batch.overlaps {
+    ///     // the first line's end is the second's start, or the other way round
+    ///     let (a, b) = (lines.get(first[k] as usize).unwrap(), lines.get(second[k] as usize).unwrap());
+    ///     let corner = if a[2..] == b[..2] { (a[2], a[3]) } else { (a[0], a[1]) };
+    ///     if let (Place::Cell { row, col }, Owner::Cell { row: r, col: c }) = (Place::by_number(places[k], tables.grid()), owner(tables.grid(), corner.0, corner.1)?) {
+    ///         corners += ((row, col) == (r, c)) as usize;
+    ///     }
+    /// }
+    /// assert_eq!((batch.overlaps, corners), (9, 4));
+    /// # Ok::<(), morelturret::Refusal>(())
+    /// ```
+    pub fn batch_places(&self, lines: Lines, bookmark: u64, first: &mut [u32], second: &mut [u32], places: &mut [u32]) -> Result<Batch, Refusal> {
+        let Standing { grid, offsets, items, globals, global_count, .. } = *self;
+        let Lines { start_x, start_y, end_x, end_y } = lines;
+        let [tests, overlaps, bookmark] = answer(|out| {
+            sys::batch_places(&grid.words(), start_x, start_y, end_x, end_y, offsets, items, globals, global_count, bookmark, first, second, places, out)
+        })?;
+        Ok(Batch { tests, overlaps: overlaps as usize, bookmark })
+    }
+
     /// The lines that may enter a window, each once, increasing: those whose own boxes overlap it, where equality counts, and which are global, or
     /// listed in a cell of the block from the cell of its lower corner to that of its upper corner. A window with a corner out of order matches nothing.
     ///
@@ -657,6 +699,18 @@ pub enum Place {
         /// Its position among the globals.
         position: u64,
     },
+}
+
+impl Place {
+    /// The place that a number among the places of [`Standing::batch_places`] stands for, on a grid: a cell's number is below the number of cells. That
+    /// there is such a global is not asked.
+    pub fn by_number(number: u32, grid: Grid) -> Place {
+        let (number, cells) = (number as u64, grid.cols as u64 * grid.rows as u64);
+        match number.checked_sub(cells) {
+            Some(position) => Place::Global { position },
+            None => Place::Cell { row: (number / grid.cols as u64) as u32, col: (number % grid.cols as u64) as u32 },
+        }
+    }
 }
 
 /// One test of a visit.

@@ -114,6 +114,40 @@ fn batches_end_to_end_are_the_visit() {
 }
 
 #[test]
+fn each_pair_with_its_place() {
+    for (name, sizing, owned, tables) in built() {
+        let lines = owned.lines();
+        let tests = tests_of(&tables, lines);
+        let wanted: Vec<(Place, u32, u32)> = tests.iter().filter(|t| t.overlap).map(|t| (t.place, t.first, t.second)).collect();
+        for room in [1, 3, 256, wanted.len() + 1] {
+            if wanted.len() / room > 5_000 {
+                continue;
+            }
+            let (mut bookmark, mut joined) = (0, Vec::new());
+            loop {
+                let mut lent = [(); 3].map(|()| vec![u32::MAX; room]);
+                let [first, second, places] = &mut lent;
+                let batch = tables.batch_places(lines, bookmark, first, second, places).unwrap();
+                let (mut plain_first, mut plain_second) = (vec![u32::MAX; room], vec![u32::MAX; room]);
+                assert_eq!(tables.batch(lines, bookmark, &mut plain_first, &mut plain_second), Ok(batch), "{name} {room}");
+                assert!(*first == plain_first && *second == plain_second, "{name} {room}: the pairs are those of a batch without places");
+                joined.extend((0..batch.overlaps).map(|k| (Place::by_number(places[k], tables.grid()), first[k], second[k])));
+                assert!(places[batch.overlaps..].iter().all(|&entry| entry == 0), "zero beyond the pairs");
+                bookmark = batch.bookmark;
+                if batch.tests == 0 {
+                    break;
+                }
+            }
+            assert!(joined == wanted, "{name} {sizing:?}: batches of {room} joined");
+        }
+        // a slice of places of another length is refused, and nothing is written
+        let (mut first, mut second, mut places) = ([7; 4], [7; 4], [7; 3]);
+        assert_eq!(tables.batch_places(lines, 0, &mut first, &mut second, &mut places), Err(Refusal { number: Refusal::BAD_LENGTHS, value: 0 }));
+        assert_eq!((first, second, places), ([7; 4], [7; 4], [7; 3]));
+    }
+}
+
+#[test]
 fn each_test_by_its_bookmark() {
     for (name, sizing, owned, tables) in built() {
         let lines = owned.lines();

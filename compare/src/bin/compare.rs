@@ -4,10 +4,10 @@
 //! The port takes part in every kind: --port may be said, and changes nothing.
 //! Ends with status 1 at the first difference.
 
-use compare::kinds::{self, added, blocks, build, clean, clean_program, counts, cover, covering, crossings, drop_in, lists, multi, numbers, once, own, owners, pairs, seams, sided, snap, straight, strategies, visit, walk, window, wkb};
+use compare::kinds::{self, added, blocks, build, clean, clean_program, counts, cover, covering, crossings, drop_in, lists, multi, numbers, once, own, owners, pairs, places, seams, sided, snap, straight, strategies, visit, walk, window, wkb};
 
 /// The kinds, with the cases of a full run.
-const KINDS: [(&str, u64); 36] = [
+const KINDS: [(&str, u64); 37] = [
     ("sample", 1),
     ("numbers", 10_000_000),
     ("walk", 1_000_000),
@@ -39,6 +39,7 @@ const KINDS: [(&str, u64); 36] = [
     ("covering-build", 2_000),
     ("pairs", 20_000),
     ("once", 4_000),
+    ("places", 4_000),
     ("drop-in", 1_000),
     ("counts", 2_700),
     ("added", 1_000),
@@ -103,6 +104,7 @@ fn main() {
             "blocks" => kinds::run::<blocks::Blocks>(seed, n, blocks::fixed()),
             "pairs" => kinds::run::<pairs::Pairs>(seed, n, vec![]),
             "once" => kinds::run::<once::Once>(seed, n, vec![]),
+            "places" => kinds::run::<places::Places>(seed, n, vec![]),
             "crossings" => kinds::run::<crossings::Crossings>(seed, n, crossings::fixed()),
             _ => kinds::run::<counts::Counts>(seed, n, counts::fixed()),
         };

@@ -23,6 +23,7 @@ use Rattle.tables.specs.Fit.{tablesCheck, standingCheck}
 use Rattle.visit.specs.declared.Test.{Test}
 use Rattle.visit.specs.declared.TestAnswer.the-variants as answer
 use Rattle.visit.specs.declared.Tally.{Tally}
+use Rattle.visit.specs.declared.BatchAnswer.{BatchAnswer}
 use Rattle.visit.specs.declared.BatchAnswer.the-variants as batch
 use Rattle.visit.specs.declared.cursor.Cursor.{Cursor}
 use Rattle.visit.specs.declared.seek.Sought.{Sought}
@@ -31,9 +32,10 @@ use Rattle.visit.specs.declared.scan.Ran.{Ran}
 use Rattle.visit.specs.declared.scan.Step.{Step}
 use Rattle.visit.specs.declared.scan.Step.the-variants as step
 use Rattle.visit.specs.Tests.{Pair, testsOf}
-use Rattle.visit.specs.Batches.{made, handed, firsts, seconds}
-use Rattle.visit.specs.Entries.{beside, visitCheck, bookmarkCheck, outputsCheck, testsFrom, nextTest, testAt, tallyOf, batchTests, batchOf, batchAnswer, pairsLeft, BatchIs}
-use Rattle.visit.specs.Inside.{nextStep, restOf, Ready, CursorIs, SeekIs, RunAsks, RanAll}
+use Rattle.visit.specs.Batches.{made, handed, firsts, seconds, placeNumbers}
+use Rattle.visit.specs.Places.{numberOf}
+use Rattle.visit.specs.Entries.{beside, visitCheck, bookmarkCheck, outputsCheck, testsFrom, nextTest, testAt, tallyOf, batchTests, batchOf, batchAnswer, pairsLeft, BatchIs, placesCheck, placedTests, PlacedBatchIs}
+use Rattle.visit.specs.Inside.{nextStep, restOf, Ready, CursorIs, SeekIs, RunAsks, RanAll, BatchMade}
 use Rattle.visit.proofs.Lengths.{total-fits}
 use Rattle.visit.proofs.RunWhole.{here}
 
@@ -133,12 +135,16 @@ visit-spares : (ls : Lines) (g : Grid) (t : Tables) → Clearing false (visitChe
 unfolding visitCheck tablesCheck clears
 visit-spares ls g t = clearing-then (lines-spare ls) (clearing-then (grid-spares g) (clearing-unless _ 10 0 refl))
 
-module _ (ls : Lines) (g : Grid) (t : Tables) (b : ℕ) (fs ss : List ℕ) where
-  none : (r : Refusal) → batchTests ls g t b fs ss ≡ refused r → clears (r .number) ≡ false → BatchIs ls g t b fs ss fs ss (batch.Refused r)
+module _ (ls : Lines) (g : Grid) (t : Tables) (b : ℕ) (fs ss ps : List ℕ) where
+  none : (r : Refusal) → batchTests ls g t b fs ss ≡ refused r → clears (r .number) ≡ false → BatchMade ls g t b fs ss ps fs ss ps (batch.Refused r)
   unfolding batchAnswer batchOf pairsLeft answerBy leftIn
-  none r e k = record { answers = rw e; first-is = rw e (sym (left-same 0 r fs k)); second-is = rw e (sym (left-same 0 r ss k)) }
+  none r e k =
+      record {
+        is = record { answers = rw e; first-is = rw e (sym (left-same 0 r fs k)); second-is = rw e (sym (left-same 0 r ss k)) };
+        places-are = λ l. rw e (sym (left-same 0 r ps k));
+      }
 
-  pub batch-unlike : (r : Refusal) → outputsCheck fs ss ≡ Refused r → BatchIs ls g t b fs ss fs ss (batch.Refused r)
+  pub batch-unlike : (r : Refusal) → outputsCheck fs ss ≡ Refused r → BatchMade ls g t b fs ss ps fs ss ps (batch.Refused r)
   unfolding batchTests outputsCheck clears
   batch-unlike r e = none r (then-refused _ _ r e) (clearing-unless _ 3 0 refl .says r e)
 
@@ -147,16 +153,16 @@ module _ (ls : Lines) (g : Grid) (t : Tables) (b : ℕ) (fs ss : List ℕ) where
     unfolding batchTests
     tests = then-fine _ _ same
 
-    pub batch-refused : (r : Refusal) → visitCheck ls g t ≡ Refused r → BatchIs ls g t b fs ss fs ss (batch.Refused r)
+    pub batch-refused : (r : Refusal) → visitCheck ls g t ≡ Refused r → BatchMade ls g t b fs ss ps fs ss ps (batch.Refused r)
     unfolding testsFrom
     batch-refused r e = none r (tests ∙ then-refused _ _ r e) (visit-spares ls g t .says r e)
 
     module _ (f : visitCheck ls g t ≡ Fine) where
-      pub batch-beyond : length (testsOf t) < b → BatchIs ls g t b fs ss fs ss (batch.Refused (refusal 9 b))
+      pub batch-beyond : length (testsOf t) < b → BatchMade ls g t b fs ss ps fs ss ps (batch.Refused (refusal 9 b))
       unfolding testsFrom clears
       batch-beyond h = none (refusal 9 b) (tests ∙ then-fine _ _ f ∙ then-refused _ _ _ (book-out t b h)) refl
 
-      module _ (c : Cursor) (k : CursorIs ls g t b c) (fs₁ ss₁ : List ℕ) (r : Ran) (w : RanAll ls t c fs ss fs₁ ss₁ r) where
+      module _ (c : Cursor) (k : CursorIs ls g t b c) (fs₁ ss₁ ps₁ : List ℕ) (r : Ran) (w : RanAll ls t c fs ss ps fs₁ ss₁ ps₁ r) where
         rest : List Pair
         rest = drop b (testsOf t)
 
@@ -180,24 +186,47 @@ module _ (ls : Lines) (g : Grid) (t : Tables) (b : ℕ) (fs ss : List ℕ) where
         unfolding rest
         second-is = w .second-is ∙ rw (k .rest)
 
+        places-is : length ps ≡ length fs → take (r .hits) ps₁ ≡ placeNumbers (numberOf t) (handed ls rest (length fs))
+        unfolding rest
+        places-is l = w .places-are l ∙ rw (k .rest)
+
         -- an output that is cleared from the hits on holds what is written, and zero beyond
         cleared : (xs ys out : List ℕ) (n : ℕ) → ys ≡ clearedFrom (r .hits) xs → take (r .hits) xs ≡ out → length xs ≡ n → length out ≡ r .hits
             → ys ≡ zeroBeyond 0 n out
         unfolding clearedFrom zeroBeyond
         cleared xs ys out n e p l h = e ∙ rw (p, l, h)
 
-        pub batch-done : (fs₂ ss₂ : List ℕ) → fs₂ ≡ clearedFrom (r .hits) fs₁ → ss₂ ≡ clearedFrom (r .hits) ss₁
-            → BatchIs ls g t b fs ss fs₂ ss₂ (batch.Done (record { tests = r .tests; overlaps = r .hits; bookmark = b + r .tests }))
+        pub batch-done : (fs₂ ss₂ ps₂ : List ℕ) → fs₂ ≡ clearedFrom (r .hits) fs₁ → ss₂ ≡ clearedFrom (r .hits) ss₁ → ps₂ ≡ clearedFrom (r .hits) ps₁
+            → BatchMade ls g t b fs ss ps fs₂ ss₂ ps₂ (batch.Done (record { tests = r .tests; overlaps = r .hits; bookmark = b + r .tests }))
         unfolding batchAnswer batchOf pairsLeft answerBy leftIn rest
-        batch-done fs₂ ss₂ p q =
+        batch-done fs₂ ss₂ ps₂ p q o =
             record {
-              answers = rw (given, tests-is, hits-is);
-              first-is = rw given (cleared fs₁ fs₂ (firsts (handed ls rest (length fs))) (length fs) p first-is (w .first-long) (length-map (handed ls rest (length fs)) (λ (x : Pair). x .first) ∙ sym hits-is));
-              second-is = rw given (cleared ss₁ ss₂ (seconds (handed ls rest (length fs))) (length ss) q second-is (w .second-long) (length-map (handed ls rest (length fs)) (λ (x : Pair). x .second) ∙ sym hits-is));
+              is = record {
+                answers = rw (given, tests-is, hits-is);
+                first-is = rw given (cleared fs₁ fs₂ (firsts (handed ls rest (length fs))) (length fs) p first-is (w .first-long) (length-map (handed ls rest (length fs)) (λ (x : Pair). x .first) ∙ sym hits-is));
+                second-is = rw given (cleared ss₁ ss₂ (seconds (handed ls rest (length fs))) (length ss) q second-is (w .second-long) (length-map (handed ls rest (length fs)) (λ (x : Pair). x .second) ∙ sym hits-is));
+              };
+              places-are = λ l. rw given (cleared ps₁ ps₂ (placeNumbers (numberOf t) (handed ls rest (length fs))) (length ps) o (places-is l) (w .place-long) (length-map (handed ls rest (length fs)) (λ (x : Pair). numberOf t (x .place)) ∙ sym hits-is));
             }
 
+  -- ---- a batch with places: 3 where their slice has another length, and else the batch that was made
+
+  pub placed-unlike : (r : Refusal) → placesCheck fs ps ≡ Refused r → PlacedBatchIs ls g t b fs ss ps fs ss ps (batch.Refused r)
+  unfolding placedTests placesCheck batchOf pairsLeft answerBy leftIn clears
+  placed-unlike r e =
+      let x : placedTests ls g t b fs ss ps ≡ refused r = then-refused _ _ r e in
+      let k : clears (r .number) ≡ false = clearing-unless _ 3 0 refl .says r e in
+      record { answers = rw x; first-is = rw x (sym (left-same 0 r fs k)); second-is = rw x (sym (left-same 0 r ss k)); places-are = rw x (sym (left-same 0 r ps k)) }
+
+  pub placed-made : placesCheck fs ps ≡ Fine → (fs′ ss′ ps′ : List ℕ) (r : BatchAnswer) → BatchMade ls g t b fs ss ps fs′ ss′ ps′ r → PlacedBatchIs ls g t b fs ss ps fs′ ss′ ps′ r
+  unfolding placedTests placesCheck batchAnswer
+  placed-made e fs′ ss′ ps′ r m =
+      let x : placedTests ls g t b fs ss ps ≡ batchTests ls g t b fs ss = then-fine _ _ e in
+      let l : length ps ≡ length fs = sym (eqb-true (length fs) (length ps) (unless-fine _ _ _ e)) in
+      record { answers = rw x (m .is .answers); first-is = rw x (m .is .first-is); second-is = rw x (m .is .second-is); places-are = rw x (m .places-are l) }
+
 module _ (ls : Lines) (g : Grid) (offsets items globals : List ℕ) (m : ℕ) (f : visitCheck ls g (beside ls g offsets items globals m) ≡ Fine) (b : ℕ) (c : Cursor)
-    (k : CursorIs ls g (beside ls g offsets items globals m) b c) (fs ss : List ℕ) where
+    (k : CursorIs ls g (beside ls g offsets items globals m) b c) (fs ss ps : List ℕ) where
   total : length (testsOf (beside ls g offsets items globals m)) < 2 ^ 64
   total = total-fits ls g offsets items globals m (here ls g offsets items globals m f)
 
@@ -208,5 +237,5 @@ module _ (ls : Lines) (g : Grid) (offsets items globals : List ℕ) (m : ℕ) (f
   unfolding outputsCheck
   run-asks e = record { ready = k .ready; same = sym (eqb-true (length fs) (length ss) (unless-fine _ _ _ e)); small = omega (arith, left, total) }
 
-  pub bookmark-fits : (fs₁ ss₁ : List ℕ) (r : Ran) → RanAll ls (beside ls g offsets items globals m) c fs ss fs₁ ss₁ r → b + r .tests < 2 ^ 64
-  bookmark-fits fs₁ ss₁ r w = omega (arith, w .most, left, total, k .at-most)
+  pub bookmark-fits : (fs₁ ss₁ ps₁ : List ℕ) (r : Ran) → RanAll ls (beside ls g offsets items globals m) c fs ss ps fs₁ ss₁ ps₁ r → b + r .tests < 2 ^ 64
+  bookmark-fits fs₁ ss₁ ps₁ r w = omega (arith, w .most, left, total, k .at-most)

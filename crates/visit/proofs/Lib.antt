@@ -6,6 +6,7 @@ pub mod CellTurns
 pub mod OtherLines
 pub mod GlobalTurns
 pub mod Moves
+pub mod Placing
 pub mod RowTurns
 pub mod RunTurns
 pub mod Standing

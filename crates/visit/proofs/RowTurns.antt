@@ -21,10 +21,11 @@ use Rattle.visit.specs.declared.scan.Row.{Row}
 use Rattle.visit.specs.Tests.{Pair, pair, withEach}
 use Rattle.visit.specs.Overlap.{overlap}
 use Rattle.visit.specs.Entries.{testOf}
-use Rattle.visit.specs.Inside.{nextStep, numbers, RowAsks, Moved, ListAsks, InList, LinesAsk, InLines}
+use Rattle.visit.specs.Inside.{nextStep, numbers, RowAsks, Moved, HandedAt, ListAsks, InList, LinesAsk, InLines}
 use Rattle.visit.proofs.Clauses.{left-suc, with-nil, with-cons, numbers-zero, numbers-suc}
 use Rattle.visit.proofs.OtherLines.{length-numbers}
 use Rattle.visit.proofs.Moves.{moved-none, moved-then, moved-hit, moved-miss}
+use Rattle.visit.proofs.Placing.{at-none, at-then, at-hit, at-miss}
 
 -- the record of a test, as the code makes it
 pub row-test : (ls : Lines) (row : Row) (second : ℕ) → RowAsks ls row → (other : Box) (o : Bool) → other ≡ boxOf (segmentAt ls second) → o ≡ overlaps (row .bounds) other
@@ -69,6 +70,8 @@ module _ (ls : Lines) (pl : Place) (a : ℕ) where
 pub record Scanning (ls : Lines) (row : Row) (ys₀ ys : List ℕ) (steps : ℕ) (fs ss : List ℕ) (hits : ℕ) (fs′ ss′ : List ℕ) (hits′ : ℕ) : Type 0 where
   pub moved : (later : List Pair)
       → Moved ls (withEach (row .place) (row .first) ys₀ ++ later) (withEach (row .place) (row .first) ys ++ later) steps (length fs) fs ss hits fs′ ss′ hits′
+  pub handed-at : (later : List Pair)
+      → HandedAt ls (row .place) (withEach (row .place) (row .first) ys₀ ++ later) (withEach (row .place) (row .first) ys ++ later) (length fs) hits hits′
   pub still : steps ≡ 0 → hits′ ≡ hits
   pub first-long : length fs′ ≡ length fs
   pub second-long : length ss′ ≡ length fs
@@ -77,6 +80,7 @@ pub scanning-none : (ls : Lines) (row : Row) (ys : List ℕ) (fs ss : List ℕ) 
 scanning-none ls row ys fs ss hits e h =
     record {
       moved = λ later. moved-none ls (length fs) (withEach (row .place) (row .first) ys ++ later) fs ss hits h;
+      handed-at = λ later. at-none ls (length fs) (row .place) (withEach (row .place) (row .first) ys ++ later) hits;
       still = λ z. refl;
       first-long = refl;
       second-long = e;
@@ -101,8 +105,11 @@ module _ (ls : Lines) (row : Row) (ys₀ ys : List ℕ) (steps : ℕ) (fs ss : L
       let o₁ : overlap ls (row .first) b ≡ true = sym (ap (λ (x : Test). x .overlap) test-is) ∙ o in
       let k : (later : List Pair) → Moved ls (withEach (row .place) (row .first) ys ++ later) (withEach (row .place) (row .first) bs ++ later) 1 (length fs) fs′ ss′ hits′ (set fs′ hits′ (t .first)) (set ss′ hits′ (t .second)) (hits′ + 1) =
       λ later. rw (begins later, test-is) (moved-hit ls (length fs) one (withEach (row .place) (row .first) bs ++ later) fs′ ss′ hits′ h (s .first-long) (s .second-long) o₁) in
+      let x : (later : List Pair) → HandedAt ls (row .place) (withEach (row .place) (row .first) ys ++ later) (withEach (row .place) (row .first) bs ++ later) (length fs) hits′ (hits′ + 1) =
+      λ later. rw (begins later) (at-hit ls (length fs) (row .place) one (withEach (row .place) (row .first) bs ++ later) hits′ h refl o₁) in
       record {
         moved = λ later. moved-then ls (length fs) _ _ _ steps 1 fs ss hits fs′ ss′ hits′ _ _ _ (s .moved later) (k later);
+        handed-at = λ later. at-then ls (length fs) (row .place) _ _ _ hits hits′ _ (s .handed-at later) (x later);
         still = λ z. absurd (omega arith);
         first-long = length-set fs′ hits′ (t .first) ∙ s .first-long;
         second-long = length-set ss′ hits′ (t .second) ∙ s .second-long;
@@ -114,8 +121,11 @@ module _ (ls : Lines) (row : Row) (ys₀ ys : List ℕ) (steps : ℕ) (fs ss : L
       let o₁ : overlap ls (row .first) b ≡ false = sym (ap (λ (x : Test). x .overlap) test-is) ∙ o in
       let k : (later : List Pair) → Moved ls (withEach (row .place) (row .first) ys ++ later) (withEach (row .place) (row .first) bs ++ later) 1 (length fs) fs′ ss′ hits′ (set fs′ hits′ (t .first)) (set ss′ hits′ (t .second)) hits′ =
       λ later. rw (begins later, test-is) (moved-miss ls (length fs) one (withEach (row .place) (row .first) bs ++ later) fs′ ss′ hits′ h (s .first-long) (s .second-long) o₁) in
+      let x : (later : List Pair) → HandedAt ls (row .place) (withEach (row .place) (row .first) ys ++ later) (withEach (row .place) (row .first) bs ++ later) (length fs) hits′ hits′ =
+      λ later. rw (begins later) (at-miss ls (length fs) (row .place) one (withEach (row .place) (row .first) bs ++ later) hits′ h refl o₁) in
       record {
         moved = λ later. moved-then ls (length fs) _ _ _ steps 1 fs ss hits fs′ ss′ hits′ _ _ _ (s .moved later) (k later);
+        handed-at = λ later. at-then ls (length fs) (row .place) _ _ _ hits hits′ _ (s .handed-at later) (x later);
         still = λ z. absurd (omega arith);
         first-long = length-set fs′ hits′ (t .first) ∙ s .first-long;
         second-long = length-set ss′ hits′ (t .second) ∙ s .second-long;
@@ -178,6 +188,7 @@ module _ (ls : Lines) (row : Row) (xs : List ℕ) (j₀ j : ℕ) (fs ss : List �
         from = s .from;
         to = s .to;
         moved = s .along .moved;
+        handed-at = s .along .handed-at;
         some = λ h k. go h (ℕ-discrete j j₀);
       }
     where
@@ -193,6 +204,7 @@ module _ (ls : Lines) (row : Row) (xs : List ℕ) (j₀ j : ℕ) (fs ss : List �
         from = s .from;
         to = s .to;
         moved = s .along .moved;
+        handed-at = s .along .handed-at;
         some = λ h k. omega (arith, length-drop j xs);
       }
 
@@ -247,6 +259,7 @@ module _ (ls : Lines) (row : Row) (stop k₀ k : ℕ) (fs ss : List ℕ) (hits :
         from = s .from;
         to = s .to;
         moved = s .along .moved;
+        handed-at = s .along .handed-at;
         some = λ h l. go h (ℕ-discrete k k₀);
       }
     where
@@ -262,5 +275,6 @@ module _ (ls : Lines) (row : Row) (stop k₀ k : ℕ) (fs ss : List ℕ) (hits :
         from = s .from;
         to = s .to;
         moved = s .along .moved;
+        handed-at = s .along .handed-at;
         some = λ h l. omega (arith, length-numbers (stop - k) k);
       }

@@ -22,10 +22,12 @@ use Rattle.visit.specs.declared.scan.Row.{Row}
 use Rattle.visit.specs.declared.scan.ListEnd.{ListEnd}
 use Rattle.visit.specs.declared.scan.LinesEnd.{LinesEnd}
 use Rattle.visit.specs.Tests.{Pair, withEach, pairs, placeOf, cellTests, others, globalTests}
-use Rattle.visit.specs.Inside.{restIn, cellsRest, globalsRest, numbers, stopOf, rowOf, CellsFit, PlaceFits, CellAsks, CellIs, CellFound, GlobalsFit, LineFits, GlobalAsks, GlobalIs, GlobalFound, RowAsks, LineAsks, Moved, OutputsAsk, ListAsks, InList, LinesAsk, InLines, CellsAsk, CellsRan, GlobalsAsk, GlobalsRan}
+use Rattle.visit.specs.Inside.{restIn, cellsRest, globalsRest, numbers, stopOf, rowOf, CellsFit, PlaceFits, CellAsks, CellIs, CellFound, GlobalsFit, LineFits, GlobalAsks, GlobalIs, GlobalFound, RowAsks, LineAsks, Moved, HandedAt, Placed, PutIs, OutputsAsk, ListAsks, InList, LinesAsk, InLines, CellsAsk, CellsRan, GlobalsAsk, GlobalsRan}
 use Rattle.visit.proofs.CellTurns.{length-list, rest-at}
 use Rattle.visit.proofs.GlobalTurns.{grest-at, grest-run, stop-most, line-further}
+use Rattle.visit.specs.Places.{numberIn}
 use Rattle.visit.proofs.Moves.{moved-none, moved-then}
+use Rattle.visit.proofs.Placing.{number-of-cell, placed-none, placed-then, placed-row}
 
 -- what was found, taken apart by what it is
 module _ (m : ℕ) (offsets items : List ℕ) (cell i j : ℕ) (r : CellAt) (f : CellFound m offsets items cell i j r) where
@@ -84,16 +86,23 @@ row-is ls pl pl′ xs ys b row e p q = e ∙ rw (p, q)
 pub regroup : (a b d e : List Pair) → ((a ++ b) ++ d) ++ e ≡ a ++ (b ++ (d ++ e))
 regroup a b d e = simp append-assoc
 
-pub record CellsRun (ls : Lines) (cols m : ℕ) (offsets items : List ℕ) (cell₀ i₀ j₀ : ℕ) (fs ss : List ℕ) (fs′ ss′ : List ℕ) (cell i j tests hits : ℕ) : Type 0 where
+pub record CellsRun (ls : Lines) (cols m : ℕ) (offsets items : List ℕ) (cell₀ i₀ j₀ : ℕ) (fs ss ps : List ℕ) (fs′ ss′ ps′ : List ℕ) (cell i j tests hits : ℕ) : Type 0 where
   pub place : PlaceFits m items cell i j
   pub moved : (later : List Pair)
       → Moved ls (cellsRest cols offsets items (m - cell₀) cell₀ i₀ j₀ ++ later) (cellsRest cols offsets items (m - cell) cell i j ++ later) tests (length fs) fs ss 0 fs′ ss′ hits
+  pub placed : (later : List Pair)
+      → Placed ls (numberIn cols m) (cellsRest cols offsets items (m - cell₀) cell₀ i₀ j₀ ++ later) (cellsRest cols offsets items (m - cell) cell i j ++ later) (length fs) ps 0 ps′ hits
 
-pub cells-run : (ls : Lines) (cols m : ℕ) (offsets items : List ℕ) (cell i j : ℕ) (fs ss : List ℕ) → CellsAsk ls cols m offsets items cell i j fs ss → CellsRun ls cols m offsets items cell i j fs ss fs ss cell i j 0 0
-cells-run ls cols m offsets items cell i j fs ss a = record { place = a .place; moved = λ later. moved-none ls (length fs) _ fs ss 0 (omega arith) }
+pub cells-run : (ls : Lines) (cols m : ℕ) (offsets items : List ℕ) (cell i j : ℕ) (fs ss ps : List ℕ) → CellsAsk ls cols m offsets items cell i j fs ss → CellsRun ls cols m offsets items cell i j fs ss ps fs ss ps cell i j 0 0
+cells-run ls cols m offsets items cell i j fs ss ps a =
+    record {
+      place = a .place;
+      moved = λ later. moved-none ls (length fs) _ fs ss 0 (omega arith);
+      placed = λ later. placed-none ls (length fs) (numberIn cols m) _ ps 0;
+    }
 
-module _ (ls : Lines) (cols m : ℕ) (offsets items : List ℕ) (cell₀ i₀ j₀ : ℕ) (fs ss : List ℕ) (q : CellsAsk ls cols m offsets items cell₀ i₀ j₀ fs ss)
-    (fs′ ss′ : List ℕ) (cell i j tests hits : ℕ) (s : CellsRun ls cols m offsets items cell₀ i₀ j₀ fs ss fs′ ss′ cell i j tests hits) where
+module _ (ls : Lines) (cols m : ℕ) (offsets items : List ℕ) (cell₀ i₀ j₀ : ℕ) (fs ss ps : List ℕ) (q : CellsAsk ls cols m offsets items cell₀ i₀ j₀ fs ss)
+    (fs′ ss′ ps′ : List ℕ) (cell i j tests hits : ℕ) (s : CellsRun ls cols m offsets items cell₀ i₀ j₀ fs ss ps fs′ ss′ ps′ cell i j tests hits) where
   first-long : length fs′ ≡ length fs
   first-long = s .moved [] .first-long
 
@@ -106,15 +115,18 @@ module _ (ls : Lines) (cols m : ℕ) (offsets items : List ℕ) (cell₀ i₀ j�
   pub cells-long-2 : length ss′ ≡ length ss
   cells-long-2 = s .moved [] .second-long
 
+  pub cells-long-3 : length ps′ ≡ length ps
+  cells-long-3 = s .placed [] .place-long
+
   -- how many tests were made, and how many are left
   counts : tests + length (cellsRest cols offsets items (m - cell) cell i j) ≡ length (cellsRest cols offsets items (m - cell₀) cell₀ i₀ j₀)
   counts = rw (append-nil, append-nil) at (s .moved [] .counts)
 
-  pub cells-full : length fs ≤ hits → CellsRan ls cols m offsets items cell₀ i₀ j₀ fs ss fs′ ss′ (record { tests = tests; hits = hits })
-  cells-full h = record { rest = cellsRest cols offsets items (m - cell) cell i j; moved = s .moved; ends = λ l. absurd (omega arith) }
+  pub cells-full : length fs ≤ hits → CellsRan ls cols m offsets items cell₀ i₀ j₀ fs ss ps fs′ ss′ ps′ (record { tests = tests; hits = hits })
+  cells-full h = record { rest = cellsRest cols offsets items (m - cell) cell i j; moved = s .moved; placed = s .placed; ends = λ l. absurd (omega arith) }
 
-  pub cells-over : ((c : ℕ) → cellsRest c offsets items (m - cell) cell i j ≡ []) → CellsRan ls cols m offsets items cell₀ i₀ j₀ fs ss fs′ ss′ (record { tests = tests; hits = hits })
-  cells-over e = record { rest = cellsRest cols offsets items (m - cell) cell i j; moved = s .moved; ends = λ l. e cols }
+  pub cells-over : ((c : ℕ) → cellsRest c offsets items (m - cell) cell i j ≡ []) → CellsRan ls cols m offsets items cell₀ i₀ j₀ fs ss ps fs′ ss′ ps′ (record { tests = tests; hits = hits })
+  cells-over e = record { rest = cellsRest cols offsets items (m - cell) cell i j; moved = s .moved; placed = s .placed; ends = λ l. e cols }
 
   module _ (a b d : ℕ) (f : CellIs m offsets items cell i j a b d) where
     cell-list : List ℕ
@@ -154,8 +166,18 @@ module _ (ls : Lines) (cols m : ℕ) (offsets items : List ℕ) (cell₀ i₀ j�
             let w₁ : Moved ls (withEach (row .place) (row .first) (drop d xs) ++ z) (withEach (row .place) (row .first) (drop (r .j) xs) ++ z) (r .j - d) (length fs′) fs′ ss′ hits fs″ ss″ (r .hits) = w .moved z in
             rw (f .same cols, left-at d later, left-at (r .j) later) (rw (er, ex, first-long) at w₁)
 
-        pub cells-turn : CellsRun ls cols m offsets items cell₀ i₀ j₀ fs ss fs″ ss″ a b (r .j) (tests + (r .j - d)) (r .hits)
-        cells-turn =
+        -- the number of the cell is put beside what the row handed out
+        placed-step : (ps″ : List ℕ) → PutIs ps′ hits (r .hits) a ps″ → (later : List Pair)
+            → Placed ls (numberIn cols m) (cellsRest cols offsets items (m - cell) cell i j ++ later) (cellsRest cols offsets items (m - a) a b (r .j) ++ later) (length fs) ps′ hits ps″ (r .hits)
+        placed-step ps″ o later =
+            let z : List Pair = pairs (placeOf cols a) (drop (suc b) (listIn offsets items a)) ++ (cellTests cols offsets items (m - suc a) (suc a) ++ later) in
+            let w₁ : HandedAt ls (row .place) (withEach (row .place) (row .first) (drop d xs) ++ z) (withEach (row .place) (row .first) (drop (r .j) xs) ++ z) (length fs′) hits (r .hits) = w .handed-at z in
+            let w₂ : HandedAt ls (placeOf cols a) (cellsRest cols offsets items (m - cell) cell i j ++ later) (cellsRest cols offsets items (m - a) a b (r .j) ++ later) (length fs) hits (r .hits) =
+            rw (f .same cols, left-at d later, left-at (r .j) later) (rw (er, ex, first-long) at w₁) in
+            placed-row ls (length fs) (numberIn cols m) _ _ ps′ hits ps″ (r .hits) (placeOf cols a) a w₂ (step later .in-room) (number-of-cell cols m a) o
+
+        pub cells-turn : (ps″ : List ℕ) → PutIs ps′ hits (r .hits) a ps″ → CellsRun ls cols m offsets items cell₀ i₀ j₀ fs ss ps fs″ ss″ ps″ a b (r .j) (tests + (r .j - d)) (r .hits)
+        cells-turn ps″ o =
             record {
               place = record {
                 at-most = f .fits .at-most;
@@ -163,6 +185,7 @@ module _ (ls : Lines) (cols m : ℕ) (offsets items : List ℕ) (cell₀ i₀ j�
                 small = omega (arith, w .to, ap length ex, small-list);
               };
               moved = λ later. moved-then ls (length fs) _ _ _ tests (r .j - d) fs ss 0 fs′ ss′ hits fs″ ss″ (r .hits) (s .moved later) (step later);
+              placed = λ later. placed-then ls (length fs) (numberIn cols m) _ _ ps 0 ps′ hits _ ps″ (r .hits) (s .placed later) (placed-step ps″ o later);
             }
           where
             small-list : length (listIn offsets items a) ≤ length items
@@ -178,30 +201,43 @@ module _ (ls : Lines) (cols m : ℕ) (offsets items : List ℕ) (cell₀ i₀ j�
 
 -- ---- the run through the globals
 
-pub record GlobalsRun (ls : Lines) (m : ℕ) (globals : List ℕ) (p₀ k₀ : ℕ) (fs ss : List ℕ) (hits₀ : ℕ) (fs′ ss′ : List ℕ) (p q k tests hits : ℕ) : Type 0 where
+pub record GlobalsRun (ls : Lines) (cells m : ℕ) (globals : List ℕ) (p₀ k₀ : ℕ) (fs ss ps : List ℕ) (hits₀ : ℕ) (fs′ ss′ ps′ : List ℕ) (p q k tests hits : ℕ) : Type 0 where
   pub place : LineFits (count ls) m globals p q k
   pub moved : Moved ls (globalsRest (count ls) globals (m - p₀) p₀ k₀) (globalsRest (count ls) globals (m - p) p k) tests (length fs) fs ss hits₀ fs′ ss′ hits
+  pub placed : (cols : ℕ) → Placed ls (numberIn cols cells) (globalsRest (count ls) globals (m - p₀) p₀ k₀) (globalsRest (count ls) globals (m - p) p k) (length fs) ps hits₀ ps′ hits
 
-pub globals-run : (ls : Lines) (m : ℕ) (globals : List ℕ) (p q k : ℕ) (fs ss : List ℕ) (hits : ℕ) → GlobalsAsk ls m globals p q k fs ss hits → GlobalsRun ls m globals p k fs ss hits fs ss p q k 0 hits
-globals-run ls m globals p q k fs ss hits a = record { place = a .place .place; moved = moved-none ls (length fs) _ fs ss hits (a .outputs .in-room) }
+pub globals-run : (ls : Lines) (cells m : ℕ) (globals : List ℕ) (p q k : ℕ) (fs ss ps : List ℕ) (hits : ℕ) → GlobalsAsk ls cells m globals p q k fs ss hits → GlobalsRun ls cells m globals p k fs ss ps hits fs ss ps p q k 0 hits
+globals-run ls cells m globals p q k fs ss ps hits a =
+    record {
+      place = a .place .place;
+      moved = moved-none ls (length fs) _ fs ss hits (a .outputs .in-room);
+      placed = λ cols. placed-none ls (length fs) (numberIn cols cells) _ ps hits;
+    }
 
-module _ (ls : Lines) (m : ℕ) (globals : List ℕ) (p₀ q₀ k₀ : ℕ) (fs ss : List ℕ) (hits₀ : ℕ) (w : GlobalsAsk ls m globals p₀ q₀ k₀ fs ss hits₀)
-    (fs′ ss′ : List ℕ) (p q k tests hits : ℕ) (s : GlobalsRun ls m globals p₀ k₀ fs ss hits₀ fs′ ss′ p q k tests hits) where
+module _ (ls : Lines) (cells m : ℕ) (globals : List ℕ) (p₀ q₀ k₀ : ℕ) (fs ss ps : List ℕ) (hits₀ : ℕ) (w : GlobalsAsk ls cells m globals p₀ q₀ k₀ fs ss hits₀)
+    (fs′ ss′ ps′ : List ℕ) (p q k tests hits : ℕ) (s : GlobalsRun ls cells m globals p₀ k₀ fs ss ps hits₀ fs′ ss′ ps′ p q k tests hits) where
   pub globals-long : length fs′ ≡ length fs
   globals-long = s .moved .first-long
 
   pub globals-long-2 : length ss′ ≡ length ss
   globals-long-2 = s .moved .second-long
 
-  pub globals-full : length fs ≤ hits → GlobalsRan ls m globals p₀ k₀ fs ss hits₀ fs′ ss′ (record { tests = tests; hits = hits })
-  globals-full h = record { rest = globalsRest (count ls) globals (m - p) p k; moved = s .moved; ends = λ l. absurd (omega arith) }
+  pub globals-long-3 : length ps′ ≡ length ps
+  globals-long-3 = s .placed 0 .place-long
 
-  pub globals-over : globalsRest (count ls) globals (m - p) p k ≡ [] → GlobalsRan ls m globals p₀ k₀ fs ss hits₀ fs′ ss′ (record { tests = tests; hits = hits })
-  globals-over e = record { rest = globalsRest (count ls) globals (m - p) p k; moved = s .moved; ends = λ l. e }
+  pub globals-full : length fs ≤ hits → GlobalsRan ls cells m globals p₀ k₀ fs ss ps hits₀ fs′ ss′ ps′ (record { tests = tests; hits = hits })
+  globals-full h = record { rest = globalsRest (count ls) globals (m - p) p k; moved = s .moved; placed = s .placed; ends = λ l. absurd (omega arith) }
+
+  pub globals-over : globalsRest (count ls) globals (m - p) p k ≡ [] → GlobalsRan ls cells m globals p₀ k₀ fs ss ps hits₀ fs′ ss′ ps′ (record { tests = tests; hits = hits })
+  globals-over e = record { rest = globalsRest (count ls) globals (m - p) p k; moved = s .moved; placed = s .placed; ends = λ l. e }
 
   module _ (a b d stop : ℕ) (f : GlobalIs (count ls) m globals p q k a b d stop) where
     pub global-in : a < length globals
     global-in = omega (arith, f .inside, w .place .table .long)
+
+    -- and the number of its place fits
+    pub global-few : cells + a < 2 ^ 32
+    global-few = omega (arith, f .inside, w .few)
 
     pub global-asks : LineAsks ls (getD globals a 0)
     global-asks = record { fine = w .fine; one = w .place .table .below a (f .inside) }
@@ -234,11 +270,23 @@ module _ (ls : Lines) (m : ℕ) (globals : List ℕ) (p₀ q₀ k₀ : ℕ) (fs 
             let h : d ≤ stop = omega (arith, f .one) in
             rw (f .same, run-at d (omega arith) h, run-at (r .k) (v .from) (v .to)) (rw (er, globals-long) at v₁)
 
-        pub globals-turn : GlobalsRun ls m globals p₀ k₀ fs ss hits₀ fs″ ss″ a b (r .k) (tests + (r .k - d)) (r .hits)
-        globals-turn =
+        placed-run : (ps″ : List ℕ) → PutIs ps′ hits (r .hits) (cells + a) ps″ → (cols : ℕ)
+            → Placed ls (numberIn cols cells) (globalsRest (count ls) globals (m - p) p k) (globalsRest (count ls) globals (m - a) a (r .k)) (length fs) ps′ hits ps″ (r .hits)
+        unfolding numberIn
+        placed-run ps″ o cols =
+            let z : List Pair = withEach (Global a) (getD globals a 0) (others (take (suc a) globals) (count ls - stop) stop) ++ globalTests (count ls) globals (m - suc a) (suc a) in
+            let v₁ : HandedAt ls (row .place) (withEach (row .place) (row .first) (numbers (stop - d) d) ++ z) (withEach (row .place) (row .first) (numbers (stop - r .k) (r .k)) ++ z) (length fs′) hits (r .hits) = v .handed-at z in
+            let h : d ≤ stop = omega (arith, f .one) in
+            let v₂ : HandedAt ls (Global a) (globalsRest (count ls) globals (m - p) p k) (globalsRest (count ls) globals (m - a) a (r .k)) (length fs) hits (r .hits) =
+            rw (f .same, run-at d (omega arith) h, run-at (r .k) (v .from) (v .to)) (rw (er, globals-long) at v₁) in
+            placed-row ls (length fs) (numberIn cols cells) _ _ ps′ hits ps″ (r .hits) (Global a) (cells + a) v₂ (run-step .in-room) refl o
+
+        pub globals-turn : (ps″ : List ℕ) → PutIs ps′ hits (r .hits) (cells + a) ps″ → GlobalsRun ls cells m globals p₀ k₀ fs ss ps hits₀ fs″ ss″ ps″ a b (r .k) (tests + (r .k - d)) (r .hits)
+        globals-turn ps″ o =
             record {
               place = line-further (count ls) m globals (w .place .table) a b d (f .fits) (f .inside) (r .k) (v .from) (omega (arith, v .to, f .stops));
               moved = moved-then ls (length fs) _ _ _ tests (r .k - d) fs ss hits₀ fs′ ss′ hits fs″ ss″ (r .hits) (s .moved) run-step;
+              placed = λ cols. placed-then ls (length fs) (numberIn cols cells) _ _ ps hits₀ ps′ hits _ ps″ (r .hits) (s .placed cols) (placed-run ps″ o cols);
             }
 
         pub globals-less : hits < length fs′ → length (globalsRest (count ls) globals (m - a) a (r .k)) < length (globalsRest (count ls) globals (m - p) p k)

@@ -21,9 +21,10 @@ use Rattle.visit.specs.declared.scan.Ran.{Ran}
 use Rattle.visit.specs.declared.scan.Step.{Step}
 use Rattle.visit.specs.declared.scan.Step.the-variants as step
 use Rattle.visit.specs.Tests.{Pair, withEach, placeOf, pairs, cellTests, others, globalTests}
-use Rattle.visit.specs.Batches.{made, handed, firsts, seconds}
+use Rattle.visit.specs.Batches.{made, handed, firsts, seconds, placeNumbers}
+use Rattle.visit.specs.Places.{numberIn}
 use Rattle.visit.specs.Entries.{beside, visitCheck}
-use Rattle.visit.specs.Inside.{cellsRest, globalsRest, restIn, restOf, numbers, rowOf, nextStep, CellsFit, CellAsks, CellIs, GlobalAsks, GlobalIs, Moved, Ready, RunAsks, CellsAsk, CellsRan, GlobalsAsk, GlobalsRan, RanAll, RowAsks, LineAsks, TestInAsks, TestBeforeAsks}
+use Rattle.visit.specs.Inside.{cellsRest, globalsRest, restIn, restOf, numbers, rowOf, nextStep, CellsFit, CellAsks, CellIs, GlobalAsks, GlobalIs, Moved, Placed, Ready, RunAsks, CellsAsk, CellsRan, GlobalsAsk, GlobalsRan, RanAll, RowAsks, LineAsks, TestInAsks, TestBeforeAsks}
 use Rattle.visit.proofs.Clauses.{made-full, handed-full, with-cons}
 use Rattle.visit.proofs.CellTurns.{rest-at}
 use Rattle.visit.proofs.GlobalTurns.{grest-run, stop-most}
@@ -31,6 +32,7 @@ use Rattle.visit.proofs.Moves.{none-made, none-handed}
 use Rattle.visit.proofs.RowTurns.{numbers-some}
 use Rattle.visit.proofs.RunTurns.{regroup}
 use Rattle.visit.proofs.Standing.{Stands, stands, cells-fit, lists-below, globals-fit, has-columns}
+use Rattle.visit.proofs.Lengths.{length-increasing}
 
 -- what stands, for m cells as the code counts them
 module _ (ls : Lines) (g : Grid) (offsets items globals : List ℕ) (count-of : ℕ) (h : visitCheck ls g (beside ls g offsets items globals count-of) ≡ Fine) where
@@ -56,9 +58,14 @@ module _ (ls : Lines) (g : Grid) (offsets items globals : List ℕ) (count-of : 
     pub m-few : m < 2 ^ 32
     m-few = omega (arith, here .grid .counts .cells)
 
+    pub m-few-both : m + count-of < 2 ^ 32
+    m-few-both =
+        let k : length (take count-of globals) ≤ count ls = length-increasing (count ls) (take count-of globals) (here .tables .globals) in
+        omega (arith, here .grid .counts .cells, lines-few, length-take-le count-of globals (here .tables .counted))
+
 -- ---- a run
 
-module _ (ls : Lines) (g : Grid) (offsets items globals : List ℕ) (count-of : ℕ) (c : Cursor) (fs ss : List ℕ)
+module _ (ls : Lines) (g : Grid) (offsets items globals : List ℕ) (count-of : ℕ) (c : Cursor) (fs ss ps : List ℕ)
     (a : RunAsks ls g (beside ls g offsets items globals count-of) c fs ss) (m : ℕ) (e : m ≡ g .rows * g .cols) where
   tests-cells : List Pair
   tests-cells = cellsRest (g .cols) offsets items (m - c .cell) (c .cell) (c .i) (c .j)
@@ -87,12 +94,12 @@ module _ (ls : Lines) (g : Grid) (offsets items globals : List ℕ) (count-of : 
         small = omega (arith, long, a .small);
       }
 
-  module _ (fs₁ ss₁ : List ℕ) (r₁ : Ran) (w₁ : CellsRan ls (g .cols) m offsets items (c .cell) (c .i) (c .j) fs ss fs₁ ss₁ r₁) where
+  module _ (fs₁ ss₁ ps₁ : List ℕ) (r₁ : Ran) (w₁ : CellsRan ls (g .cols) m offsets items (c .cell) (c .i) (c .j) fs ss ps fs₁ ss₁ ps₁ r₁) where
     first-moved : Moved ls (tests-cells ++ tests-globals) (w₁ .rest ++ tests-globals) (r₁ .tests) (length fs) fs ss 0 fs₁ ss₁ (r₁ .hits)
     unfolding tests-cells tests-globals
     first-moved = w₁ .moved tests-globals
 
-    pub globals-asks : GlobalsAsk ls count-of globals (c .p) (c .q) (c .k) fs₁ ss₁ (r₁ .hits)
+    pub globals-asks : GlobalsAsk ls m count-of globals (c .p) (c .q) (c .k) fs₁ ss₁ (r₁ .hits)
     unfolding tests-globals
     globals-asks =
         record {
@@ -103,9 +110,10 @@ module _ (ls : Lines) (g : Grid) (offsets items globals : List ℕ) (count-of : 
           };
           outputs = record { same = first-moved .second-long ∙ a .same ∙ sym (first-moved .first-long); in-room = omega (arith, first-moved .in-room, first-moved .first-long) };
           small = omega (arith, long, a .small);
+          few = omega (arith, m-few-both ls g offsets items globals count-of (a .ready .fine) m e);
         }
 
-    module _ (fs₂ ss₂ : List ℕ) (r₂ : Ran) (w₂ : GlobalsRan ls count-of globals (c .p) (c .k) fs₁ ss₁ (r₁ .hits) fs₂ ss₂ r₂) where
+    module _ (fs₂ ss₂ ps₂ : List ℕ) (r₂ : Ran) (w₂ : GlobalsRan ls m count-of globals (c .p) (c .k) fs₁ ss₁ ps₁ (r₁ .hits) fs₂ ss₂ ps₂ r₂) where
       room : length fs₁ ≡ length fs
       room = first-moved .first-long
 
@@ -155,6 +163,21 @@ module _ (ls : Lines) (g : Grid) (offsets items globals : List ℕ) (count-of : 
           (rw sub-zero at (first-moved .seconds-are)
           ∙ rw handed-on (second-moved .seconds-are ∙ rw no-more (append-nil (take (r₂ .hits) ss₂))))
 
+      first-placed : Placed ls (numberIn (g .cols) m) (tests-cells ++ tests-globals) (w₁ .rest ++ tests-globals) (length fs) ps 0 ps₁ (r₁ .hits)
+      unfolding tests-cells tests-globals
+      first-placed = w₁ .placed tests-globals
+
+      second-placed : Placed ls (numberIn (g .cols) m) tests-globals (w₂ .rest) (length fs) ps₁ (r₁ .hits) ps₂ (r₂ .hits)
+      unfolding tests-globals
+      second-placed = rw room at (w₂ .placed (g .cols))
+
+      places-all : length ps ≡ length fs → take (r₂ .hits) ps₂ ≡ placeNumbers (numberIn (g .cols) m) handed-all
+      unfolding handed-all
+      places-all l =
+          sym
+          (rw sub-zero at (first-placed .places-are l)
+          ∙ rw handed-on (second-placed .places-are (first-placed .place-long ∙ l) ∙ rw no-more (append-nil (take (r₂ .hits) ps₂))))
+
       tests-all : r₁ .tests + r₂ .tests ≡ length (made ls (tests-cells ++ tests-globals) (length fs))
       tests-all =
           let x : length (made ls (tests-cells ++ tests-globals) (length fs)) ≡ r₁ .tests + length (made ls tests-globals (length fs - r₁ .hits)) =
@@ -174,7 +197,10 @@ module _ (ls : Lines) (g : Grid) (offsets items globals : List ℕ) (count-of : 
       pub run-long-2 : length ss₂ ≡ length ss
       run-long-2 = second-moved .second-long ∙ first-moved .second-long
 
-      pub run-is : RanAll ls (beside ls g offsets items globals count-of) c fs ss fs₂ ss₂ (record { tests = r₁ .tests + r₂ .tests; hits = r₂ .hits })
+      pub run-long-3 : length ps₂ ≡ length ps
+      run-long-3 = second-placed .place-long ∙ first-placed .place-long
+
+      pub run-is : RanAll ls (beside ls g offsets items globals count-of) c fs ss ps fs₂ ss₂ ps₂ (record { tests = r₁ .tests + r₂ .tests; hits = r₂ .hits })
       unfolding handed-all
       run-is =
           record {
@@ -183,8 +209,10 @@ module _ (ls : Lines) (g : Grid) (offsets items globals : List ℕ) (count-of : 
             hits = rw whole (sym (length-take-le (r₂ .hits) fs₂ (omega (arith, second-moved .in-room, run-long))) ∙ ap length firsts-all ∙ length-map handed-all (λ (p : Pair). p .first));
             first-is = rw whole firsts-all;
             second-is = rw whole seconds-all;
+            places-are = λ l. rw (whole, ← e) (places-all l);
             first-long = run-long;
             second-long = run-long-2;
+            place-long = run-long-3;
           }
 
 -- ---- the one test at a cursor

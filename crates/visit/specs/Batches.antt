@@ -4,6 +4,7 @@ use Prim.Native.Nat.{ℕ, zero, suc}
 use mathlib.Core.Bool.{Bool, true, false}
 use mathlib.Core.List.{List, [], _∷_, map}
 use Rattle.grid.specs.Domain.{Lines}
+use Rattle.visit.specs.declared.Place.{Place}
 use Rattle.visit.specs.Tests.{Pair}
 use Rattle.visit.specs.Overlap.{overlap}
 
@@ -36,3 +37,7 @@ firsts ps = map (λ (p : Pair). p .first) ps
 
 abbrev pub seconds : List Pair → List ℕ
 seconds ps = map (λ (p : Pair). p .second) ps
+
+-- the numbers of their places
+abbrev pub placeNumbers : (Place → ℕ) → List Pair → List ℕ
+placeNumbers number ps = map (λ (p : Pair). number (p .place)) ps

@@ -1,4 +1,5 @@
--- What the two entries of a visit answer: one test by its bookmark, and a batch from a bookmark. Definitions only.
+-- What the entries of a visit answer: one test by its bookmark, and a batch from a bookmark, without and with the places of its pairs.
+-- Definitions only.
 use Prim.Native.Nat.{ℕ, _+_}
 use mathlib.Core.Path.{_≡_}
 use mathlib.Core.List.{List, [], _∷_}
@@ -18,7 +19,8 @@ use Rattle.visit.specs.declared.BatchAnswer.{BatchAnswer}
 use Rattle.visit.specs.declared.BatchAnswer.the-variants as batch
 use Rattle.visit.specs.Tests.{Pair, testsOf}
 use Rattle.visit.specs.Overlap.{overlap}
-use Rattle.visit.specs.Batches.{made, handed, firsts, seconds}
+use Rattle.visit.specs.Batches.{made, handed, firsts, seconds, placeNumbers}
+use Rattle.visit.specs.Places.{numberOf}
 
 -- ---- the refusals
 
@@ -83,3 +85,19 @@ pub record BatchIs (ls : Lines) (g : Grid) (t : Tables) (b : ℕ) (first second 
   pub answers : r ≡ batchAnswer ls g t b first second
   pub first-is : first′ ≡ pairsLeft ls (length first) firsts (batchTests ls g t b first second) first
   pub second-is : second′ ≡ pairsLeft ls (length first) seconds (batchTests ls g t b first second) second
+
+-- ---- a batch that says where each pair was tested
+
+-- 3: the places' slice and the outputs differ in length
+unfoldable pub placesCheck : List ℕ → List ℕ → Check
+placesCheck first places = unless (eqb (length first) (length places)) 3 0
+
+unfoldable pub placedTests : Lines → Grid → Tables → ℕ → List ℕ → List ℕ → List ℕ → Answer (List Pair)
+placedTests ls g t b first second places = placesCheck first places then batchTests ls g t b first second
+
+-- the answer r, the two outputs and the places before and after: all as a batch leaves it, and beside each pair the number of its place
+pub record PlacedBatchIs (ls : Lines) (g : Grid) (t : Tables) (b : ℕ) (first second places first′ second′ places′ : List ℕ) (r : BatchAnswer) : Type 0 where
+  pub answers : r ≡ batchOf ls b (length first) (placedTests ls g t b first second places)
+  pub first-is : first′ ≡ pairsLeft ls (length first) firsts (placedTests ls g t b first second places) first
+  pub second-is : second′ ≡ pairsLeft ls (length first) seconds (placedTests ls g t b first second places) second
+  pub places-are : places′ ≡ pairsLeft ls (length first) (placeNumbers (numberOf t)) (placedTests ls g t b first second places) places

@@ -4,7 +4,7 @@ use Prim.Native.Nat.{ℕ, zero, suc, _+_, _-_, _≤_, _<_, _^_}
 use mathlib.Core.Path.{_≡_}
 use mathlib.Core.Bool.{Bool, true, false, _&&_}
 use mathlib.Core.List.{List, [], _∷_, _++_}
-use lib.ListN.{length, getD, take, drop}
+use lib.ListN.{length, getD, take, drop, replicate}
 use lib.Dec.{leb}
 use lib.Ieee.{le}
 use Rattle.slices.specs.Lists.{Below}
@@ -26,11 +26,13 @@ use Rattle.visit.specs.declared.scan.Step.the-variants as step
 use Rattle.visit.specs.declared.scan.ListEnd.{ListEnd}
 use Rattle.visit.specs.declared.scan.LinesEnd.{LinesEnd}
 use Rattle.visit.specs.declared.scan.Ran.{Ran}
+use Rattle.visit.specs.declared.BatchAnswer.{BatchAnswer}
 use Rattle.visit.specs.declared.seek.Sought.{Sought}
 use Rattle.visit.specs.declared.seek.Sought.the-variants as sought
 use Rattle.visit.specs.Tests.{Pair, withEach, pairs, placeOf, cellTests, others, globalTests, testsOf}
-use Rattle.visit.specs.Batches.{made, handed, firsts, seconds}
-use Rattle.visit.specs.Entries.{visitCheck, testOf}
+use Rattle.visit.specs.Batches.{made, handed, firsts, seconds, placeNumbers}
+use Rattle.visit.specs.Places.{numberIn, numberOf}
+use Rattle.visit.specs.Entries.{visitCheck, testOf, batchTests, pairsLeft, BatchIs}
 
 -- ---- lines
 
@@ -180,6 +182,23 @@ pub record Moved (ls : Lines) (rest rest′ : List Pair) (steps room : ℕ) (fs 
   pub first-long : length fs′ ≡ length fs
   pub second-long : length ss′ ≡ length ss
 
+-- of a row, all of whose tests are at `pl`: what is handed out between `hits` and hits′ was tested there
+pub record HandedAt (ls : Lines) (pl : Place) (rest rest′ : List Pair) (room hits hits′ : ℕ) : Type 0 where
+  pub rises : hits ≤ hits′
+  pub handed-are : (number : Place → ℕ)
+      → placeNumbers number (handed ls rest (room - hits)) ≡ replicate (hits′ - hits) (number pl) ++ placeNumbers number (handed ls rest′ (room - hits′))
+
+-- beside `Moved`: a slice that is as long as the outputs holds the numbers of the places; one of another length has no meaning
+pub record Placed (ls : Lines) (number : Place → ℕ) (rest rest′ : List Pair) (room : ℕ) (ps : List ℕ) (hits : ℕ) (ps′ : List ℕ) (hits′ : ℕ) : Type 0 where
+  pub places-are : length ps ≡ room
+      → take hits ps ++ placeNumbers number (handed ls rest (room - hits)) ≡ take hits′ ps′ ++ placeNumbers number (handed ls rest′ (room - hits′))
+  pub place-long : length ps′ ≡ length ps
+
+-- v is put at the entries from `from` to before `to`, where the slice has them
+pub record PutIs (ps : List ℕ) (from to v : ℕ) (ps′ : List ℕ) : Type 0 where
+  pub put : from ≤ to → to ≤ length ps → take to ps′ ≡ take from ps ++ replicate (to - from) v
+  pub long : length ps′ ≡ length ps
+
 -- the outputs have one length, and `hits` pairs stand in them
 pub record OutputsAsk (fs ss : List ℕ) (hits : ℕ) : Type 0 where
   pub same : length ss ≡ length fs
@@ -197,6 +216,8 @@ pub record InList (ls : Lines) (row : Row) (xs : List ℕ) (j : ℕ) (fs ss : Li
   pub to : r .j ≤ length xs
   pub moved : (later : List Pair)
       → Moved ls (withEach (row .place) (row .first) (drop j xs) ++ later) (withEach (row .place) (row .first) (drop (r .j) xs) ++ later) (r .j - j) (length fs) fs ss hits fs′ ss′ (r .hits)
+  pub handed-at : (later : List Pair)
+      → HandedAt ls (row .place) (withEach (row .place) (row .first) (drop j xs) ++ later) (withEach (row .place) (row .first) (drop (r .j) xs) ++ later) (length fs) hits (r .hits)
   pub some : hits < length fs → j < length xs → j < r .j
 
 pub record LinesAsk (ls : Lines) (row : Row) (k stop : ℕ) (fs ss : List ℕ) (hits : ℕ) : Type 0 where
@@ -211,6 +232,8 @@ pub record InLines (ls : Lines) (row : Row) (k stop : ℕ) (fs ss : List ℕ) (h
   pub to : r .k ≤ stop
   pub moved : (later : List Pair)
       → Moved ls (withEach (row .place) (row .first) (numbers (stop - k) k) ++ later) (withEach (row .place) (row .first) (numbers (stop - r .k) (r .k)) ++ later) (r .k - k) (length fs) fs ss hits fs′ ss′ (r .hits)
+  pub handed-at : (later : List Pair)
+      → HandedAt ls (row .place) (withEach (row .place) (row .first) (numbers (stop - k) k) ++ later) (withEach (row .place) (row .first) (numbers (stop - r .k) (r .k)) ++ later) (length fs) hits (r .hits)
   pub some : hits < length fs → k < stop → k < r .k
 
 -- ---- runs
@@ -241,33 +264,43 @@ pub record CellsAsk (ls : Lines) (cols m : ℕ) (offsets items : List ℕ) (cell
   pub small : length (cellsRest cols offsets items (m - cell) cell i j) < 2 ^ 64
 
 -- a run through the cells: where room is left, none of their tests is
-pub record CellsRan (ls : Lines) (cols m : ℕ) (offsets items : List ℕ) (cell i j : ℕ) (fs ss fs′ ss′ : List ℕ) (r : Ran) : Type 0 where
+pub record CellsRan (ls : Lines) (cols m : ℕ) (offsets items : List ℕ) (cell i j : ℕ) (fs ss ps fs′ ss′ ps′ : List ℕ) (r : Ran) : Type 0 where
   pub rest : List Pair
   pub moved : (later : List Pair) → Moved ls (cellsRest cols offsets items (m - cell) cell i j ++ later) (rest ++ later) (r .tests) (length fs) fs ss 0 fs′ ss′ (r .hits)
+  pub placed : (later : List Pair) → Placed ls (numberIn cols m) (cellsRest cols offsets items (m - cell) cell i j ++ later) (rest ++ later) (length fs) ps 0 ps′ (r .hits)
   pub ends : r .hits < length fs → rest ≡ []
 
--- m globals, and a place among them
-pub record GlobalsAsk (ls : Lines) (m : ℕ) (globals : List ℕ) (p q k : ℕ) (fs ss : List ℕ) (hits : ℕ) : Type 0 where
+-- m globals after `cells` cells, and a place among them
+pub record GlobalsAsk (ls : Lines) (cells m : ℕ) (globals : List ℕ) (p q k : ℕ) (fs ss : List ℕ) (hits : ℕ) : Type 0 where
   pub fine : linesCheck ls ≡ Fine
   pub place : GlobalAsks (count ls) m globals p q k
   pub outputs : OutputsAsk fs ss hits
   pub small : length (globalsRest (count ls) globals (m - p) p k) < 2 ^ 64
+  pub few : cells + m < 2 ^ 32
 
 -- a run through the globals
-pub record GlobalsRan (ls : Lines) (m : ℕ) (globals : List ℕ) (p k : ℕ) (fs ss : List ℕ) (hits : ℕ) (fs′ ss′ : List ℕ) (r : Ran) : Type 0 where
+pub record GlobalsRan (ls : Lines) (cells m : ℕ) (globals : List ℕ) (p k : ℕ) (fs ss ps : List ℕ) (hits : ℕ) (fs′ ss′ ps′ : List ℕ) (r : Ran) : Type 0 where
   pub rest : List Pair
   pub moved : Moved ls (globalsRest (count ls) globals (m - p) p k) rest (r .tests) (length fs) fs ss hits fs′ ss′ (r .hits)
+  pub placed : (cols : ℕ) → Placed ls (numberIn cols cells) (globalsRest (count ls) globals (m - p) p k) rest (length fs) ps hits ps′ (r .hits)
   pub ends : r .hits < length fs → rest ≡ []
 
 -- a run from a cursor: it has made what a batch makes of the rest
-pub record RanAll (ls : Lines) (t : Tables) (c : Cursor) (fs ss fs′ ss′ : List ℕ) (r : Ran) : Type 0 where
+pub record RanAll (ls : Lines) (t : Tables) (c : Cursor) (fs ss ps fs′ ss′ ps′ : List ℕ) (r : Ran) : Type 0 where
   pub tests : r .tests ≡ length (made ls (restOf t c) (length fs))
   pub most : r .tests ≤ length (restOf t c)
   pub hits : r .hits ≡ length (handed ls (restOf t c) (length fs))
   pub first-is : take (r .hits) fs′ ≡ firsts (handed ls (restOf t c) (length fs))
   pub second-is : take (r .hits) ss′ ≡ seconds (handed ls (restOf t c) (length fs))
+  pub places-are : length ps ≡ length fs → take (r .hits) ps′ ≡ placeNumbers (numberOf t) (handed ls (restOf t c) (length fs))
   pub first-long : length fs′ ≡ length fs
   pub second-long : length ss′ ≡ length ss
+  pub place-long : length ps′ ≡ length ps
+
+-- what both batches make: a batch, and the places of its pairs in a slice that is as long as the outputs
+pub record BatchMade (ls : Lines) (g : Grid) (t : Tables) (b : ℕ) (first second places first′ second′ places′ : List ℕ) (r : BatchAnswer) : Type 0 where
+  pub is : BatchIs ls g t b first second first′ second′ r
+  pub places-are : length places ≡ length first → places′ ≡ pairsLeft ls (length first) (placeNumbers (numberOf t)) (batchTests ls g t b first second) places
 
 -- ---- seeking a bookmark
 

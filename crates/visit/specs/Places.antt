@@ -1,4 +1,4 @@
--- A list by its place: a cell's part of the items, or the globals from a position on. Definitions only.
+-- A list by its place: a cell's part of the items, or the globals from a position on; and the number of a place. Definitions only.
 use Prim.Native.Nat.{ℕ, _+_, _*_}
 use mathlib.Core.List.{List, []}
 use lib.Seq.{slice}
@@ -7,7 +7,7 @@ use Rattle.refusals.specs.declared.Check.{Check}
 use Rattle.refusals.specs.Refusals.{unless, andThen, gives, _then_, answerBy}
 use Rattle.grid.specs.declared.Grid.{Grid}
 use Rattle.grid.specs.Domain.{cellCheck}
-use Rattle.tables.specs.Tables.{Tables, listOf}
+use Rattle.tables.specs.Tables.{Tables, cells, listOf}
 use Rattle.tables.specs.Fit.{standingCheck}
 use Rattle.visit.specs.declared.Place.{Place}
 use Rattle.visit.specs.declared.Place.the-variants.{Cell, Global}
@@ -29,3 +29,12 @@ listAt t (Global p) = slice p (t .«global_count») (t .globals)
 -- a refusal returns an empty part
 unfoldable pub partAt : Grid → Tables → Place → List ℕ
 partAt g t pl = answerBy (λ r. []) (listAt t) (listCheck g t pl then gives pl)
+
+-- the number of a place, where there are m cells in rows of `cols`: a cell's in row order, and after the cells a global's by its position
+unfoldable pub numberIn : ℕ → ℕ → Place → ℕ
+numberIn cols m (Cell row col) = row * cols + col
+numberIn cols m (Global p) = m + p
+
+-- the number of a place of standing tables
+abbrev pub numberOf : Tables → Place → ℕ
+numberOf t pl = numberIn (t .cols) (cells t) pl

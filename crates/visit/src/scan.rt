@@ -16,7 +16,7 @@ ghost use lib.ListN.{length, drop};
 ghost use Rattle.grid.specs.Domain.{lines};
 ghost use Rattle.visit.specs.Tests.{pair, withEach, placeOf};
 ghost use Rattle.visit.specs.Entries.{beside, testOf};
-ghost use Rattle.visit.specs.Inside.{LineAsks, rowOf, nextStep, TestAsks, TestInAsks, TestBeforeAsks, ListAsks, InList, LinesAsk, InLines, numbers, CellsAsk, CellsRan, GlobalsAsk, GlobalsRan, Ready, restOf, RunAsks, RanAll};
+ghost use Rattle.visit.specs.Inside.{LineAsks, rowOf, nextStep, TestAsks, TestInAsks, TestBeforeAsks, ListAsks, InList, LinesAsk, InLines, numbers, PutIs, CellsAsk, CellsRan, GlobalsAsk, GlobalsRan, Ready, restOf, RunAsks, RanAll};
 
 // The first line of a row, with its box.
 pub(crate) struct Row {
@@ -206,6 +206,21 @@ fn scan_lines(
     LinesEnd { k, hits }
 }
 
+// The number of a row's place, beside each pair that it handed out. A slice that ends before is left alone: a batch without places lends an
+// empty one.
+fn put_places(places: &mut [u32], from: usize, to: usize, number: u32)
+    ensures { λ r. ⌜ PutIs (now (places .entry)) «from» to number (now (places .exit)) ⌝ }
+{
+    if places.len() < to {
+        return;
+    }
+    let mut i = from;
+    while i < to {
+        places[i] = number;
+        i = i + 1;
+    }
+}
+
 // From row to row through the cells. The items between two offsets are handed on as a part.
 fn run_cells(
     cols: u32,
@@ -221,10 +236,11 @@ fn run_cells(
     end_y: &[f64],
     first: &mut [u32],
     second: &mut [u32],
+    places: &mut [u32],
 ) -> Ran
     requires { ⌜ CellsAsk (lines (now «start_x») (now «start_y») (now «end_x») (now «end_y»)) cols cells (now offsets) (now items) cell i j (now first) (now second) ⌝ }
     ensures { λ r. let ls = lines (now («start_x» .entry)) (now («start_y» .entry)) (now («end_x» .entry)) (now («end_y» .entry)) in
-        ⌜ CellsRan ls cols cells (now (offsets .entry)) (now (items .entry)) cell i j (now (first .entry)) (now (second .entry)) (now (first .exit)) (now (second .exit)) r ⌝ }
+        ⌜ CellsRan ls cols cells (now (offsets .entry)) (now (items .entry)) cell i j (now (first .entry)) (now (second .entry)) (now (places .entry)) (now (first .exit)) (now (second .exit)) (now (places .exit)) r ⌝ }
 {
     let mut cell = cell;
     let mut i = i;
@@ -257,6 +273,7 @@ fn run_cells(
             second,
             hits,
         );
+        put_places(places, hits, end.hits, c as u32);
         tests = tests + ((end.j - b) as u64);
         hits = end.hits;
         cell = c;
@@ -268,6 +285,7 @@ fn run_cells(
 
 // From run to run through the globals.
 fn run_globals(
+    cells: usize,
     globals: &[u32],
     count: usize,
     p: usize,
@@ -279,11 +297,12 @@ fn run_globals(
     end_y: &[f64],
     first: &mut [u32],
     second: &mut [u32],
+    places: &mut [u32],
     hits: usize,
 ) -> Ran
-    requires { ⌜ GlobalsAsk (lines (now «start_x») (now «start_y») (now «end_x») (now «end_y»)) count (now globals) p q k (now first) (now second) hits ⌝ }
+    requires { ⌜ GlobalsAsk (lines (now «start_x») (now «start_y») (now «end_x») (now «end_y»)) cells count (now globals) p q k (now first) (now second) hits ⌝ }
     ensures { λ r. let ls = lines (now («start_x» .entry)) (now («start_y» .entry)) (now («end_x» .entry)) (now («end_y» .entry)) in
-        ⌜ GlobalsRan ls count (now (globals .entry)) p k (now (first .entry)) (now (second .entry)) hits (now (first .exit)) (now (second .exit)) r ⌝ }
+        ⌜ GlobalsRan ls cells count (now (globals .entry)) p k (now (first .entry)) (now (second .entry)) (now (places .entry)) hits (now (first .exit)) (now (second .exit)) (now (places .exit)) r ⌝ }
 {
     let n = start_x.len() as u32;
     let mut p = p;
@@ -314,6 +333,7 @@ fn run_globals(
             second,
             hits,
         );
+        put_places(places, hits, end.hits, (cells + a) as u32);
         tests = tests + ((end.k - d) as u64);
         hits = end.hits;
         p = a;
@@ -337,13 +357,14 @@ pub(crate) fn run(
     global_count: usize,
     first: &mut [u32],
     second: &mut [u32],
+    places: &mut [u32],
 ) -> Ran
     requires { let ls = lines (now «start_x») (now «start_y») (now «end_x») (now «end_y») in
         let t = beside ls grid (now offsets) (now items) (now globals) «global_count» in
         ⌜ RunAsks ls grid t cursor (now first) (now second) ⌝ }
     ensures { λ r. let ls = lines (now («start_x» .entry)) (now («start_y» .entry)) (now («end_x» .entry)) (now («end_y» .entry)) in
         let t = beside ls grid (now (offsets .entry)) (now (items .entry)) (now (globals .entry)) «global_count» in
-        ⌜ RanAll ls t cursor (now (first .entry)) (now (second .entry)) (now (first .exit)) (now (second .exit)) r ⌝ }
+        ⌜ RanAll ls t cursor (now (first .entry)) (now (second .entry)) (now (places .entry)) (now (first .exit)) (now (second .exit)) (now (places .exit)) r ⌝ }
 {
     let cells = wide(grid.rows) * wide(grid.cols);
     let listed = run_cells(
@@ -360,8 +381,10 @@ pub(crate) fn run(
         end_y,
         first,
         second,
+        places,
     );
     let global = run_globals(
+        cells,
         globals,
         global_count,
         cursor.p,
@@ -373,6 +396,7 @@ pub(crate) fn run(
         end_y,
         first,
         second,
+        places,
         listed.hits,
     );
     Ran {

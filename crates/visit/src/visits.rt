@@ -1,5 +1,5 @@
-// The two entries of a visit: one test by its bookmark, and a batch from a bookmark. Each checks all that it is lent, once, and refuses
-// before it writes.
+// The entries of a visit: one test by its bookmark, and a batch from a bookmark, without and with the places of its pairs. Each checks all
+// that it is lent, once, and refuses before it writes.
 use crate::BatchAnswer;
 use crate::Tally;
 use crate::TestAnswer;
@@ -12,7 +12,8 @@ use refusals::Check;
 use refusals::Refusal;
 ghost use mathlib.Core.Path.{_≡_};
 ghost use Rattle.grid.specs.Domain.{lines};
-ghost use Rattle.visit.specs.Entries.{beside, visitCheck, testAt, BatchIs};
+ghost use Rattle.visit.specs.Entries.{beside, visitCheck, testAt, BatchIs, PlacedBatchIs};
+ghost use Rattle.visit.specs.Inside.{BatchMade};
 
 // Refusals 3, 2, 1, 8 and 10, in that order. The tables' check asks 2 again, of the number of lines that has passed it.
 fn check_visit(
@@ -104,8 +105,9 @@ pub fn test_at(
     TestAnswer::Made(test)
 }
 
-// The tests from a bookmark on, until the outputs are full or the end comes: the pairs that overlap, with zero beyond them.
-pub fn batch(
+// What both batches do: the tests from a bookmark on, until the outputs are full or the end comes. The places are written where their slice is
+// as long as the outputs.
+fn make_batch(
     start_x: &[f64],
     start_y: &[f64],
     end_x: &[f64],
@@ -118,10 +120,11 @@ pub fn batch(
     bookmark: u64,
     first: &mut [u32],
     second: &mut [u32],
+    places: &mut [u32],
 ) -> BatchAnswer
     ensures { λ r. let ls = lines (now («start_x» .entry)) (now («start_y» .entry)) (now («end_x» .entry)) (now («end_y» .entry)) in
         let t = beside ls grid (now (offsets .entry)) (now (items .entry)) (now (globals .entry)) «global_count» in
-        ⌜ BatchIs ls grid t bookmark (now (first .entry)) (now (second .entry)) (now (first .exit)) (now (second .exit)) r ⌝ }
+        ⌜ BatchMade ls grid t bookmark (now (first .entry)) (now (second .entry)) (now (places .entry)) (now (first .exit)) (now (second .exit)) (now (places .exit)) r ⌝ }
 {
     let lent = refusals::refuse_unless(first.len() == second.len(), 3, 0);
     if let Check::Refused(r) = lent {
@@ -172,12 +175,93 @@ pub fn batch(
         global_count,
         first,
         second,
+        places,
     );
     slices::clear_from(first, ran.hits);
     slices::clear_from(second, ran.hits);
+    slices::clear_from(places, ran.hits);
     BatchAnswer::Done(Tally {
         tests: ran.tests,
         overlaps: ran.hits as u64,
         bookmark: bookmark + ran.tests,
     })
+}
+
+// The tests from a bookmark on, until the outputs are full or the end comes: the pairs that overlap, with zero beyond them.
+pub fn batch(
+    start_x: &[f64],
+    start_y: &[f64],
+    end_x: &[f64],
+    end_y: &[f64],
+    grid: Grid,
+    offsets: &[u32],
+    items: &[u32],
+    globals: &[u32],
+    global_count: usize,
+    bookmark: u64,
+    first: &mut [u32],
+    second: &mut [u32],
+) -> BatchAnswer
+    ensures { λ r. let ls = lines (now («start_x» .entry)) (now («start_y» .entry)) (now («end_x» .entry)) (now («end_y» .entry)) in
+        let t = beside ls grid (now (offsets .entry)) (now (items .entry)) (now (globals .entry)) «global_count» in
+        ⌜ BatchIs ls grid t bookmark (now (first .entry)) (now (second .entry)) (now (first .exit)) (now (second .exit)) r ⌝ }
+{
+    let mut none: [u32; 0] = [];
+    make_batch(
+        start_x,
+        start_y,
+        end_x,
+        end_y,
+        grid,
+        offsets,
+        items,
+        globals,
+        global_count,
+        bookmark,
+        first,
+        second,
+        &mut none,
+    )
+}
+
+// The same batch, and beside each pair the number of the place where it was tested: its cell's, in row order, or the number of cells and the
+// position of its global.
+pub fn batch_with_places(
+    start_x: &[f64],
+    start_y: &[f64],
+    end_x: &[f64],
+    end_y: &[f64],
+    grid: Grid,
+    offsets: &[u32],
+    items: &[u32],
+    globals: &[u32],
+    global_count: usize,
+    bookmark: u64,
+    first: &mut [u32],
+    second: &mut [u32],
+    places: &mut [u32],
+) -> BatchAnswer
+    ensures { λ r. let ls = lines (now («start_x» .entry)) (now («start_y» .entry)) (now («end_x» .entry)) (now («end_y» .entry)) in
+        let t = beside ls grid (now (offsets .entry)) (now (items .entry)) (now (globals .entry)) «global_count» in
+        ⌜ PlacedBatchIs ls grid t bookmark (now (first .entry)) (now (second .entry)) (now (places .entry)) (now (first .exit)) (now (second .exit)) (now (places .exit)) r ⌝ }
+{
+    let lent = refusals::refuse_unless(first.len() == places.len(), 3, 0);
+    if let Check::Refused(r) = lent {
+        return BatchAnswer::Refused(r);
+    }
+    make_batch(
+        start_x,
+        start_y,
+        end_x,
+        end_y,
+        grid,
+        offsets,
+        items,
+        globals,
+        global_count,
+        bookmark,
+        first,
+        second,
+        places,
+    )
 }

@@ -1,15 +1,16 @@
 -- The words of the laws of a full visit: how often two lines are tested, in how many cells they meet, and batches laid end to end.
 -- Definitions only.
-use Prim.Native.Nat.{ℕ, zero, suc, _+_, _-_, _*_, _/_, _<_}
+use Prim.Native.Nat.{ℕ, zero, suc, _+_, _-_, _*_, _/_, _≤_, _<_}
 use mathlib.Core.Path.{_≡_}
 use mathlib.Core.Bool.{Bool, true, false, _&&_, _||_}
 use mathlib.Core.List.{List, [], _∷_, _++_}
-use lib.ListN.{length, drop}
+use lib.ListN.{length, getD, drop}
 use lib.Dec.{eqb}
 use Rattle.grid.specs.Domain.{Lines}
 use Rattle.slices.specs.Lists.{elem}
 use Rattle.tables.specs.Tables.{Tables, cells, listOf, globalsOf}
 use Rattle.visit.specs.Tests.{Pair, testsOf}
+use Rattle.visit.specs.Places.{numberOf}
 use Rattle.visit.specs.Batches.{handed}
 use Rattle.visit.specs.Entries.{tallyOf}
 
@@ -47,6 +48,17 @@ times a b (p ∷ ps) = one (testOfBoth a b p) + times a b ps
 abbrev pub Different : ℕ → List Pair → Type 0
 Different n [] = Unit {0}
 Different n (p ∷ ps) = ((p .first < n) × (p .second < n) × (p .first ≡ p .second → ⊥)) × Different n ps
+
+-- the number of a test's place says where its lines are listed: below the number of cells, both stand in that cell's list; from there on, the
+-- first is the global at the position that is left
+pub record Listed (t : Tables) (p : Pair) : Type 0 where
+  pub in-cell : numberOf t (p .place) < cells t
+      → (elem (p .first) (listOf t (numberOf t (p .place))) ≡ true) × (elem (p .second) (listOf t (numberOf t (p .place))) ≡ true)
+  pub of-global : cells t ≤ numberOf t (p .place) → p .first ≡ getD (t .globals) (numberOf t (p .place) - cells t) 0
+
+abbrev pub AllListed : Tables → List Pair → Type 0
+AllListed t [] = Unit {0}
+AllListed t (p ∷ ps) = Listed t p × AllListed t ps
 
 -- tables whose global lines stand in no cell's list, as a build leaves them
 pub record Apart (t : Tables) : Type 0 where

@@ -19,27 +19,27 @@ wide-requires-2 c κs = search needs
 
 mul-cells : tie.Need-mul-cells
 mul-cells c =
-    let a = c .before .before .before .before .before .before .before .before .before .before .before .args in
+    let a = c .before .before .before .before .before .before .before .before .before .before .before .before .args in
     let ls = lines (a .start-x .now) (a .start-y .now) (a .end-x .now) (a .end-y .now) in
-    record { fits = rows-cols ls (a .grid) (a .offsets .now) (a .items .now) (a .globals .now) (a .global-count) (c .before .before .before .before .before .before .before .before .before .before .before .pre .ready .fine) (c .before .wide .result) (c .wide2 .result) (c .before .wide .ensures) (c .wide2 .ensures) }
+    record { fits = rows-cols ls (a .grid) (a .offsets .now) (a .items .now) (a .globals .now) (a .global-count) (c .before .before .before .before .before .before .before .before .before .before .before .before .pre .ready .fine) (c .before .wide .result) (c .wide2 .result) (c .before .wide .ensures) (c .wide2 .ensures) }
 
 run-cells-requires : tie.Need-run-cells-requires
 run-cells-requires c κs =
-    let a = c .before .before .before .before .before .before .before .before .before .before .before .before .before .args in
+    let a = c .before .before .before .before .before .before .before .before .before .before .before .before .before .before .before .args in
     let ls = lines (a .start-x .now) (a .start-y .now) (a .end-x .now) (a .end-y .now) in
-    cells-asks ls (a .grid) (a .offsets .now) (a .items .now) (a .globals .now) (a .global-count) (a .cursor) (a .first .now) (a .second .now) (c .before .before .before .before .before .before .before .before .before .before .before .before .before .pre) _ (rw (c .before .before .before .wide .ensures, c .before .before .wide2 .ensures))
+    cells-asks ls (a .grid) (a .offsets .now) (a .items .now) (a .globals .now) (a .global-count) (a .cursor) (a .first .now) (a .second .now) (a .places .now) (c .before .before .before .before .before .before .before .before .before .before .before .before .before .before .before .pre) _ (rw (c .before .before .before .before .wide .ensures, c .before .before .before .wide2 .ensures))
 
 run-globals-requires : tie.Need-run-globals-requires
 run-globals-requires c κs =
-    let a = c .before .before .before .before .before .before .before .before .before .before .before .before .before .before .before .before .before .before .before .before .args in
+    let a = c .before .before .before .before .before .before .before .before .before .before .before .before .before .before .before .before .before .before .before .before .before .before .before .before .before .args in
     let ls = lines (a .start-x .now) (a .start-y .now) (a .end-x .now) (a .end-y .now) in
-    globals-asks ls (a .grid) (a .offsets .now) (a .items .now) (a .globals .now) (a .global-count) (a .cursor) (a .first .now) (a .second .now) (c .before .before .before .before .before .before .before .before .before .before .before .before .before .before .before .before .before .before .before .before .pre) _ (rw (c .before .before .before .before .before .before .before .before .before .before .wide .ensures, c .before .before .before .before .before .before .before .before .before .wide2 .ensures)) _ _ (c .before .before .before .before .before .before .run-cells .result) (c .before .before .before .before .before .before .run-cells .ensures)
+    globals-asks ls (a .grid) (a .offsets .now) (a .items .now) (a .globals .now) (a .global-count) (a .cursor) (a .first .now) (a .second .now) (a .places .now) (c .before .before .before .before .before .before .before .before .before .before .before .before .before .before .before .before .before .before .before .before .before .before .before .before .before .pre) _ (rw (c .before .before .before .before .before .before .before .before .before .before .before .before .before .before .wide .ensures, c .before .before .before .before .before .before .before .before .before .before .before .before .before .wide2 .ensures)) _ _ _ (c .before .before .before .before .before .before .before .before .before .run-cells .result) (c .before .before .before .before .before .before .before .before .before .run-cells .ensures)
 
-add-t26 : tie.Need-add-t26
-add-t26 c =
-    let a = c .before .before .before .before .before .before .before .before .before .before .before .before .before .before .before .before .before .before .before .before .before .before .before .before .before .before .before .args in
+add-t31 : tie.Need-add-t31
+add-t31 c =
+    let a = c .before .before .before .before .before .before .before .before .before .before .before .before .before .before .before .before .before .before .before .before .before .before .before .before .before .before .before .before .before .before .before .before .before .before .args in
     let ls = lines (a .start-x .now) (a .start-y .now) (a .end-x .now) (a .end-y .now) in
-    record { fits = run-small ls (a .grid) (a .offsets .now) (a .items .now) (a .globals .now) (a .global-count) (a .cursor) (a .first .now) (a .second .now) (c .before .before .before .before .before .before .before .before .before .before .before .before .before .before .before .before .before .before .before .before .before .before .before .before .before .before .before .pre) _ (rw (c .before .before .before .before .before .before .before .before .before .before .before .before .before .before .before .before .before .wide .ensures, c .before .before .before .before .before .before .before .before .before .before .before .before .before .before .before .before .wide2 .ensures)) _ _ (c .before .before .before .before .before .before .before .before .before .before .before .before .before .run-cells .result) (c .before .before .before .before .before .before .before .before .before .before .before .before .before .run-cells .ensures) _ _ (c .before .before .before .before .before .before .run-globals .result) (c .before .before .before .before .before .before .run-globals .ensures) }
+    record { fits = run-small ls (a .grid) (a .offsets .now) (a .items .now) (a .globals .now) (a .global-count) (a .cursor) (a .first .now) (a .second .now) (a .places .now) (c .before .before .before .before .before .before .before .before .before .before .before .before .before .before .before .before .before .before .before .before .before .before .before .before .before .before .before .before .before .before .before .before .before .before .pre) _ (rw (c .before .before .before .before .before .before .before .before .before .before .before .before .before .before .before .before .before .before .before .before .before .before .before .wide .ensures, c .before .before .before .before .before .before .before .before .before .before .before .before .before .before .before .before .before .before .before .before .before .before .wide2 .ensures)) _ _ _ (c .before .before .before .before .before .before .before .before .before .before .before .before .before .before .before .before .before .before .run-cells .result) (c .before .before .before .before .before .before .before .before .before .before .before .before .before .before .before .before .before .before .run-cells .ensures) _ _ _ (c .before .before .before .before .before .before .before .before .run-globals .result) (c .before .before .before .before .before .before .before .before .run-globals .ensures) }
 
 same-length : tie.Need-same-length
 same-length c = search needs
@@ -47,11 +47,14 @@ same-length c = search needs
 same-length-2 : tie.Need-same-length-2
 same-length-2 c = search needs
 
+same-length-3 : tie.Need-same-length-3
+same-length-3 c = search needs
+
 returns : tie.Need-returns
 returns c =
-    let a = c .before .before .before .before .before .before .before .before .before .before .before .before .before .before .before .before .before .before .before .before .before .before .before .before .before .before .before .args in
+    let a = c .before .before .before .before .before .before .before .before .before .before .before .before .before .before .before .before .before .before .before .before .before .before .before .before .before .before .before .before .before .before .before .before .before .before .args in
     let ls = lines (a .start-x .now) (a .start-y .now) (a .end-x .now) (a .end-y .now) in
-    run-is ls (a .grid) (a .offsets .now) (a .items .now) (a .globals .now) (a .global-count) (a .cursor) (a .first .now) (a .second .now) (c .before .before .before .before .before .before .before .before .before .before .before .before .before .before .before .before .before .before .before .before .before .before .before .before .before .before .before .pre) _ (rw (c .before .before .before .before .before .before .before .before .before .before .before .before .before .before .before .before .before .wide .ensures, c .before .before .before .before .before .before .before .before .before .before .before .before .before .before .before .before .wide2 .ensures)) _ _ (c .before .before .before .before .before .before .before .before .before .before .before .before .before .run-cells .result) (c .before .before .before .before .before .before .before .before .before .before .before .before .before .run-cells .ensures) _ _ (c .before .before .before .before .before .before .run-globals .result) (c .before .before .before .before .before .before .run-globals .ensures)
+    run-is ls (a .grid) (a .offsets .now) (a .items .now) (a .globals .now) (a .global-count) (a .cursor) (a .first .now) (a .second .now) (a .places .now) (c .before .before .before .before .before .before .before .before .before .before .before .before .before .before .before .before .before .before .before .before .before .before .before .before .before .before .before .before .before .before .before .before .before .before .pre) _ (rw (c .before .before .before .before .before .before .before .before .before .before .before .before .before .before .before .before .before .before .before .before .before .before .before .wide .ensures, c .before .before .before .before .before .before .before .before .before .before .before .before .before .before .before .before .before .before .before .before .before .before .wide2 .ensures)) _ _ _ (c .before .before .before .before .before .before .before .before .before .before .before .before .before .before .before .before .before .before .run-cells .result) (c .before .before .before .before .before .before .before .before .before .before .before .before .before .before .before .before .before .before .run-cells .ensures) _ _ _ (c .before .before .before .before .before .before .before .before .run-globals .result) (c .before .before .before .before .before .before .before .before .run-globals .ensures)
 
 pub run-spec : {M : Type 1} → statement M
 run-spec =
@@ -62,7 +65,8 @@ run-spec =
     mul-cells
     run-cells-requires
     run-globals-requires
-    add-t26
+    add-t31
     same-length
     same-length-2
+    same-length-3
     returns)

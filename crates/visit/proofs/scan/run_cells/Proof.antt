@@ -9,7 +9,7 @@ use Rattle.grid.specs.Domain.{lines}
 use Rattle.tables.specs.Tables.{listIn}
 use Rattle.visit.specs.Inside.{cellsRest, CellIs, rowOf}
 use Rattle.visit.specs.Tests.{placeOf}
-use Rattle.visit.proofs.RunTurns.{cell-at, cell-past, PartOf, part-of, row-is, CellsRun, cells-run, cells-long, cells-long-2, cells-full, cells-over, row-asks, list-asks, cells-turn, cells-less, cells-small}
+use Rattle.visit.proofs.RunTurns.{cell-at, cell-past, PartOf, part-of, row-is, CellsRun, cells-run, cells-long, cells-long-2, cells-long-3, cells-full, cells-over, row-asks, list-asks, cells-turn, cells-less, cells-small}
 use Rattle.visit.proofs.scan.run_cells.Statement.{statement}
 use Rattle.visit.proofs.scan.run_cells.Tie as tie
 use Rattle.visit.proofs.scan.run_cells.Reads as reads
@@ -19,45 +19,46 @@ use Rattle.visit.proofs.cursor.wide.Reads as wide-reads
 use Rattle.visit.proofs.scan.place_of.Reads as place-of-reads
 use Rattle.visit.proofs.scan.row_of.Reads as row-of-reads
 use Rattle.visit.proofs.scan.scan_list.Reads as scan-list-reads
+use Rattle.visit.proofs.scan.put_places.Reads as put-places-reads
 
 abbrev Inv-loop : tie.InvT-loop
-Inv-loop cols cells offsets items cell i j start-x start-y end-x end-y first₀ second₀ cell₀ i₀ j₀ tests₀ hits₀ first second cell' i' j' tests hits =
-    CellsRun (lines start-x start-y end-x end-y) cols cells offsets items cell i j first₀ second₀ first second cell' i' j' tests hits
+Inv-loop cols cells offsets items cell i j start-x start-y end-x end-y first₀ second₀ places₀ cell₀ i₀ j₀ tests₀ hits₀ first second places cell' i' j' tests hits =
+    CellsRun (lines start-x start-y end-x end-y) cols cells offsets items cell i j first₀ second₀ places₀ first second places cell' i' j' tests hits
 
 abbrev μ-loop : tie.MeasureT-loop
-μ-loop cols cells offsets items cell i j start-x start-y end-x end-y first₀ second₀ cell₀ i₀ j₀ tests₀ hits₀ first second cell' i' j' tests hits =
+μ-loop cols cells offsets items cell i j start-x start-y end-x end-y first₀ second₀ places₀ cell₀ i₀ j₀ tests₀ hits₀ first second places cell' i' j' tests hits =
     length (cellsRest cols offsets items (cells - cell') cell' i' j')
 
 -- the place that was found
 found : (c : tie.After-c Inv-loop μ-loop)
-    → let a = c .before .before .before .before .before .before .before .before .before .before .before .before .before .args in
+    → let a = c .before .before .before .before .before .before .before .before .before .before .before .before .before .before .args in
     let l = c .before .before .before .before .loop in
     let f = c .c .given .0 in
     CellIs (a .cells) (a .offsets .now) (a .items .now) (l .cell) (l .i) (l .j) (f .0) (f .1 .0) (f .1 .1 .0)
 found c =
-    let a = c .before .before .before .before .before .before .before .before .before .before .before .before .before .args in
+    let a = c .before .before .before .before .before .before .before .before .before .before .before .before .before .before .args in
     let l = c .before .before .before .before .loop in
     let f = c .c .given .0 in
     cell-at (a .cells) (a .offsets .now) (a .items .now) (l .cell) (l .i) (l .j) _ (c .before .before .settle-cell .ensures) (f .0) (f .1 .0) (f .1 .1 .0) (c .c .given .1)
 
 -- its list, as the part of the items
 part : (c : tie.After-wide2 Inv-loop μ-loop)
-    → let a = c .before .before .before .before .before .before .before .before .before .before .before .before .before .before .before .before .before .before .args in
+    → let a = c .before .before .before .before .before .before .before .before .before .before .before .before .before .before .before .before .before .before .before .args in
     let f = c .before .before .before .before .before .c .given .0 in
     PartOf (a .offsets .now) (a .items .now) (f .0) (f .1 .0) (f .1 .1 .0) (c .before .before .wide .result) (c .wide2 .result)
 part c =
-    let a = c .before .before .before .before .before .before .before .before .before .before .before .before .before .before .before .before .before .before .args in
+    let a = c .before .before .before .before .before .before .before .before .before .before .before .before .before .before .before .before .before .before .before .args in
     let l = c .before .before .before .before .before .before .before .before .before .loop in
     let f = c .before .before .before .before .before .c .given .0 in
-    part-of (a .cells) (a .offsets .now) (a .items .now) (c .before .before .before .before .before .before .before .before .before .before .before .before .before .before .before .before .before .before .pre .table) (l .cell) (l .i) (l .j) (f .0) (f .1 .0) (f .1 .1 .0) (found (c .before .before .before .before .before)) (c .before .before .wide .result) (c .wide2 .result) (c .before .before .wide .ensures) (c .wide2 .ensures)
+    part-of (a .cells) (a .offsets .now) (a .items .now) (c .before .before .before .before .before .before .before .before .before .before .before .before .before .before .before .before .before .before .before .pre .table) (l .cell) (l .i) (l .j) (f .0) (f .1 .0) (f .1 .1 .0) (found (c .before .before .before .before .before)) (c .before .before .wide .result) (c .wide2 .result) (c .before .before .wide .ensures) (c .wide2 .ensures)
 
 -- its row
 row : (c : tie.After-row-of Inv-loop μ-loop)
-    → let a = c .before .before .before .before .before .before .before .before .before .before .before .before .before .before .before .before .before .before .before .before .before .before .args in
+    → let a = c .before .before .before .before .before .before .before .before .before .before .before .before .before .before .before .before .before .before .before .before .before .before .before .args in
     let f = c .before .before .before .before .before .before .before .before .before .c .given .0 in
     c .row-of .result ≡ rowOf (lines (a .start-x .now) (a .start-y .now) (a .end-x .now) (a .end-y .now)) (placeOf (a .cols) (f .0)) (getD (listIn (a .offsets .now) (a .items .now) (f .0)) (f .1 .0) 0)
 row c =
-    let a = c .before .before .before .before .before .before .before .before .before .before .before .before .before .before .before .before .before .before .before .before .before .before .args in
+    let a = c .before .before .before .before .before .before .before .before .before .before .before .before .before .before .before .before .before .before .before .before .before .before .before .args in
     let f = c .before .before .before .before .before .before .before .before .before .c .given .0 in
     let from = c .before .before .before .before .before .before .wide .result in
     let to = c .before .before .before .before .wide2 .result in
@@ -65,11 +66,11 @@ row c =
 
 loop-holds : tie.Need-loop-holds Inv-loop μ-loop
 loop-holds c =
-    let a = c .before .before .before .before .before .before .before .before .args in
-    cells-run (lines (a .start-x .now) (a .start-y .now) (a .end-x .now) (a .end-y .now)) (a .cols) (a .cells) (a .offsets .now) (a .items .now) (a .cell) (a .i) (a .j) (a .first .now) (a .second .now) (c .before .before .before .before .before .before .before .before .pre)
+    let a = c .before .before .before .before .before .before .before .before .before .args in
+    cells-run (lines (a .start-x .now) (a .start-y .now) (a .end-x .now) (a .end-y .now)) (a .cols) (a .cells) (a .offsets .now) (a .items .now) (a .cell) (a .i) (a .j) (a .first .now) (a .second .now) (a .places .now) (c .before .before .before .before .before .before .before .before .before .pre)
 
 settle-cell-requires : tie.Need-settle-cell-requires Inv-loop μ-loop
-settle-cell-requires c κs = record { table = c .before .before .before .before .before .before .before .before .before .before .pre .table; place = c .before .loop .inv .place }
+settle-cell-requires c κs = record { table = c .before .before .before .before .before .before .before .before .before .before .before .pre .table; place = c .before .loop .inv .place }
 
 enum-known-c : tie.Need-enum-known-c Inv-loop μ-loop
 enum-known-c c = search needs
@@ -78,28 +79,28 @@ enum-told : tie.Need-enum-told Inv-loop μ-loop
 enum-told c = search needs
 
 mul-wide : tie.Need-mul-wide Inv-loop μ-loop
-mul-wide c = omega (arith, (found (c .before)) .inside, c .before .before .before .before .before .before .before .before .before .before .before .before .before .before .pre .table .long, c .before .before .before .before .before .before .before .before .before .before .before .before .before .before .good .1 .1 .0)
+mul-wide c = omega (arith, (found (c .before)) .inside, c .before .before .before .before .before .before .before .before .before .before .before .before .before .before .before .pre .table .long, c .before .before .before .before .before .before .before .before .before .before .before .before .before .before .before .good .1 .1 .0)
 
 shared-slice-read-wide : tie.Need-shared-slice-read-wide Inv-loop μ-loop
-shared-slice-read-wide c = omega (arith, (found (c .before .before)) .inside, c .before .before .before .before .before .before .before .before .before .before .before .before .before .before .before .pre .table .long, c .before .before .before .before .before .before .before .before .before .before .before .before .before .before .before .good .1 .1 .0)
+shared-slice-read-wide c = omega (arith, (found (c .before .before)) .inside, c .before .before .before .before .before .before .before .before .before .before .before .before .before .before .before .before .pre .table .long, c .before .before .before .before .before .before .before .before .before .before .before .before .before .before .before .before .good .1 .1 .0)
 
 wide-requires : tie.Need-wide-requires Inv-loop μ-loop
 wide-requires c κs = tt
 
 add-wide : tie.Need-add-wide Inv-loop μ-loop
-add-wide c = omega (arith, (found (c .before .before .before)) .inside, c .before .before .before .before .before .before .before .before .before .before .before .before .before .before .before .before .pre .table .long, c .before .before .before .before .before .before .before .before .before .before .before .before .before .before .before .before .good .1 .1 .0)
+add-wide c = omega (arith, (found (c .before .before .before)) .inside, c .before .before .before .before .before .before .before .before .before .before .before .before .before .before .before .before .before .pre .table .long, c .before .before .before .before .before .before .before .before .before .before .before .before .before .before .before .before .before .good .1 .1 .0)
 
 mul-wide-2 : tie.Need-mul-wide-2 Inv-loop μ-loop
-mul-wide-2 c = omega (arith, (found (c .before .before .before)) .inside, c .before .before .before .before .before .before .before .before .before .before .before .before .before .before .before .before .pre .table .long, c .before .before .before .before .before .before .before .before .before .before .before .before .before .before .before .before .good .1 .1 .0)
+mul-wide-2 c = omega (arith, (found (c .before .before .before)) .inside, c .before .before .before .before .before .before .before .before .before .before .before .before .before .before .before .before .before .pre .table .long, c .before .before .before .before .before .before .before .before .before .before .before .before .before .before .before .before .before .good .1 .1 .0)
 
 shared-slice-read-wide-2 : tie.Need-shared-slice-read-wide-2 Inv-loop μ-loop
-shared-slice-read-wide-2 c = omega (arith, (found (c .before .before .before .before)) .inside, c .before .before .before .before .before .before .before .before .before .before .before .before .before .before .before .before .before .pre .table .long, c .before .before .before .before .before .before .before .before .before .before .before .before .before .before .before .before .before .good .1 .1 .0)
+shared-slice-read-wide-2 c = omega (arith, (found (c .before .before .before .before)) .inside, c .before .before .before .before .before .before .before .before .before .before .before .before .before .before .before .before .before .before .pre .table .long, c .before .before .before .before .before .before .before .before .before .before .before .before .before .before .before .before .before .before .good .1 .1 .0)
 
 wide-requires-2 : tie.Need-wide-requires-2 Inv-loop μ-loop
 wide-requires-2 c κs = tt
 
 mul-list : tie.Need-mul-list Inv-loop μ-loop
-mul-list c = omega (arith, part c .rises, part c .within, c .before .before .before .before .before .before .before .before .before .before .before .before .before .before .before .before .before .before .good .1 .1 .1 .0)
+mul-list c = omega (arith, part c .rises, part c .within, c .before .before .before .before .before .before .before .before .before .before .before .before .before .before .before .before .before .before .before .good .1 .1 .1 .0)
 
 sub-list : tie.Need-sub-list Inv-loop μ-loop
 sub-list c = part c .rises
@@ -111,116 +112,138 @@ part-list-end : tie.Need-part-list-end Inv-loop μ-loop
 part-list-end c = part c .within
 
 cast-place-of : tie.Need-cast-place-of Inv-loop μ-loop
-cast-place-of c = omega (arith, (found (c .before .before .before .before .before .before)) .inside, c .before .before .before .before .before .before .before .before .before .before .before .before .before .before .before .before .before .before .before .pre .few)
+cast-place-of c = omega (arith, (found (c .before .before .before .before .before .before)) .inside, c .before .before .before .before .before .before .before .before .before .before .before .before .before .before .before .before .before .before .before .before .pre .few)
 
 place-of-requires : tie.Need-place-of-requires Inv-loop μ-loop
-place-of-requires c κs = c .before .before .before .before .before .before .before .before .before .before .before .before .before .before .before .before .before .before .before .pre .wide (omega (arith, (found (c .before .before .before .before .before .before)) .inside))
+place-of-requires c κs = c .before .before .before .before .before .before .before .before .before .before .before .before .before .before .before .before .before .before .before .before .pre .wide (omega (arith, (found (c .before .before .before .before .before .before)) .inside))
 
 mul-row-of : tie.Need-mul-row-of Inv-loop μ-loop
 mul-row-of c =
     let h = part (c .before .before) in
-    omega (arith, h .first, h .long, h .within, c .before .before .before .before .before .before .before .before .before .before .before .before .before .before .before .before .before .before .before .before .good .1 .1 .1 .0)
+    omega (arith, h .first, h .long, h .within, c .before .before .before .before .before .before .before .before .before .before .before .before .before .before .before .before .before .before .before .before .before .good .1 .1 .1 .0)
 
 shared-slice-read-row-of : tie.Need-shared-slice-read-row-of Inv-loop μ-loop
 shared-slice-read-row-of c = rw (part (c .before .before .before) .is) (part (c .before .before .before) .first)
 
 row-of-requires : tie.Need-row-of-requires Inv-loop μ-loop
 row-of-requires c κs =
-    let a = c .before .before .before .before .before .before .before .before .before .before .before .before .before .before .before .before .before .before .before .before .before .args in
+    let a = c .before .before .before .before .before .before .before .before .before .before .before .before .before .before .before .before .before .before .before .before .before .before .args in
     let l = c .before .before .before .before .before .before .before .before .before .before .before .before .loop in
     let f = c .before .before .before .before .before .before .before .before .c .given .0 in
-    let p = c .before .before .before .before .before .before .before .before .before .before .before .before .before .before .before .before .before .before .before .before .before .pre in
+    let p = c .before .before .before .before .before .before .before .before .before .before .before .before .before .before .before .before .before .before .before .before .before .before .pre in
     let ls = lines (a .start-x .now) (a .start-y .now) (a .end-x .now) (a .end-y .now) in
     let h = part (c .before .before .before) in
-    row-asks ls (a .cols) (a .cells) (a .offsets .now) (a .items .now) (a .cell) (a .i) (a .j) (a .first .now) (a .second .now) p (l .first) (l .second) (l .cell) (l .i) (l .j) (l .tests) (l .hits) (l .inv) (f .0) (f .1 .0) (f .1 .1 .0) (found (c .before .before .before .before .before .before .before .before)) _ (ap (λ (xs : List ℕ). getD xs (f .1 .0) 0) (h .is)) (h .first)
+    row-asks ls (a .cols) (a .cells) (a .offsets .now) (a .items .now) (a .cell) (a .i) (a .j) (a .first .now) (a .second .now) (a .places .now) p (l .first) (l .second) (l .places) (l .cell) (l .i) (l .j) (l .tests) (l .hits) (l .inv) (f .0) (f .1 .0) (f .1 .1 .0) (found (c .before .before .before .before .before .before .before .before)) _ (ap (λ (xs : List ℕ). getD xs (f .1 .0) 0) (h .is)) (h .first)
 
 scan-list-requires : tie.Need-scan-list-requires Inv-loop μ-loop
 scan-list-requires c κs =
-    let a = c .before .before .before .before .before .before .before .before .before .before .before .before .before .before .before .before .before .before .before .before .before .before .before .before .args in
+    let a = c .before .before .before .before .before .before .before .before .before .before .before .before .before .before .before .before .before .before .before .before .before .before .before .before .before .args in
     let l = c .before .before .before .before .before .before .before .before .before .before .before .before .before .before .before .loop in
     let f = c .before .before .before .before .before .before .before .before .before .before .before .c .given .0 in
-    let p = c .before .before .before .before .before .before .before .before .before .before .before .before .before .before .before .before .before .before .before .before .before .before .before .before .pre in
+    let p = c .before .before .before .before .before .before .before .before .before .before .before .before .before .before .before .before .before .before .before .before .before .before .before .before .before .pre in
     let ls = lines (a .start-x .now) (a .start-y .now) (a .end-x .now) (a .end-y .now) in
     let h = part (c .before .before .before .before .before .before) in
-    list-asks ls (a .cols) (a .cells) (a .offsets .now) (a .items .now) (a .cell) (a .i) (a .j) (a .first .now) (a .second .now) p (l .first) (l .second) (l .cell) (l .i) (l .j) (l .tests) (l .hits) (l .inv) (f .0) (f .1 .0) (f .1 .1 .0) (found (c .before .before .before .before .before .before .before .before .before .before .before)) (c .before .before .row-of .result) (row (c .before .before)) (take (c .before .before .before .before .before .before .wide2 .result - c .before .before .before .before .before .before .before .before .wide .result) (drop (c .before .before .before .before .before .before .before .before .wide .result) (a .items .now))) (h .is) (omega (arith, h .later)) (c .before .before .before .before .before .before .before .before .before .before .before .before .before .before .loop-test .taken)
+    list-asks ls (a .cols) (a .cells) (a .offsets .now) (a .items .now) (a .cell) (a .i) (a .j) (a .first .now) (a .second .now) (a .places .now) p (l .first) (l .second) (l .places) (l .cell) (l .i) (l .j) (l .tests) (l .hits) (l .inv) (f .0) (f .1 .0) (f .1 .1 .0) (found (c .before .before .before .before .before .before .before .before .before .before .before)) (c .before .before .row-of .result) (row (c .before .before)) (take (c .before .before .before .before .before .before .wide2 .result - c .before .before .before .before .before .before .before .before .wide .result) (drop (c .before .before .before .before .before .before .before .before .wide .result) (a .items .now))) (h .is) (omega (arith, h .later)) (c .before .before .before .before .before .before .before .before .before .before .before .before .before .before .loop-test .taken)
+
+put-places-requires : tie.Need-put-places-requires Inv-loop μ-loop
+put-places-requires c κs = tt
+
+cast-put-places : tie.Need-cast-put-places Inv-loop μ-loop
+cast-put-places c = omega (arith, (found (c .before .before .before .before .before .before .before .before .before .before .before .before .before .before .before .before .before)) .inside, c .before .before .before .before .before .before .before .before .before .before .before .before .before .before .before .before .before .before .before .before .before .before .before .before .before .before .before .before .before .before .before .pre .few, c .before .before .before .before .before .before .before .before .before .before .before .before .before .before .before .before .before .before .before .before .before .loop .inv .place .at-most)
 
 sub-tests : tie.Need-sub-tests Inv-loop μ-loop
-sub-tests c = c .before .before .before .before .before .scan-list .ensures .from
+sub-tests c = c .before .before .before .before .before .before .before .before .before .scan-list .ensures .from
 
 add-tests : tie.Need-add-tests Inv-loop μ-loop
 add-tests c =
-    let a = c .before .before .before .before .before .before .before .before .before .before .before .before .before .before .before .before .before .before .before .before .before .before .before .before .before .before .before .before .before .before .args in
-    let l = c .before .before .before .before .before .before .before .before .before .before .before .before .before .before .before .before .before .before .before .before .before .loop in
-    let f = c .before .before .before .before .before .before .before .before .before .before .before .before .before .before .before .before .before .c .given .0 in
-    let p = c .before .before .before .before .before .before .before .before .before .before .before .before .before .before .before .before .before .before .before .before .before .before .before .before .before .before .before .before .before .before .pre in
+    let a = c .before .before .before .before .before .before .before .before .before .before .before .before .before .before .before .before .before .before .before .before .before .before .before .before .before .before .before .before .before .before .before .before .before .before .before .args in
+    let l = c .before .before .before .before .before .before .before .before .before .before .before .before .before .before .before .before .before .before .before .before .before .before .before .before .before .loop in
+    let f = c .before .before .before .before .before .before .before .before .before .before .before .before .before .before .before .before .before .before .before .before .before .c .given .0 in
+    let p = c .before .before .before .before .before .before .before .before .before .before .before .before .before .before .before .before .before .before .before .before .before .before .before .before .before .before .before .before .before .before .before .before .before .before .before .pre in
     let ls = lines (a .start-x .now) (a .start-y .now) (a .end-x .now) (a .end-y .now) in
-    record { fits = cells-small ls (a .cols) (a .cells) (a .offsets .now) (a .items .now) (a .cell) (a .i) (a .j) (a .first .now) (a .second .now) p (l .first) (l .second) (l .cell) (l .i) (l .j) (l .tests) (l .hits) (l .inv) (f .0) (f .1 .0) (f .1 .1 .0) (found (c .before .before .before .before .before .before .before .before .before .before .before .before .before .before .before .before .before)) (c .before .before .before .before .before .before .before .before .row-of .result) (row (c .before .before .before .before .before .before .before .before)) (take (c .before .before .before .before .before .before .before .before .before .before .before .before .wide2 .result - c .before .before .before .before .before .before .before .before .before .before .before .before .before .before .wide .result) (drop (c .before .before .before .before .before .before .before .before .before .before .before .before .before .before .wide .result) (a .items .now))) (part (c .before .before .before .before .before .before .before .before .before .before .before .before) .is) _ _ (c .before .before .before .before .before .scan-list .result) (c .before .before .before .before .before .scan-list .ensures) }
+    record { fits = cells-small ls (a .cols) (a .cells) (a .offsets .now) (a .items .now) (a .cell) (a .i) (a .j) (a .first .now) (a .second .now) (a .places .now) p (l .first) (l .second) (l .places) (l .cell) (l .i) (l .j) (l .tests) (l .hits) (l .inv) (f .0) (f .1 .0) (f .1 .1 .0) (found (c .before .before .before .before .before .before .before .before .before .before .before .before .before .before .before .before .before .before .before .before .before)) (c .before .before .before .before .before .before .before .before .before .before .before .before .row-of .result) (row (c .before .before .before .before .before .before .before .before .before .before .before .before)) (take (c .before .before .before .before .before .before .before .before .before .before .before .before .before .before .before .before .wide2 .result - c .before .before .before .before .before .before .before .before .before .before .before .before .before .before .before .before .before .before .wide .result) (drop (c .before .before .before .before .before .before .before .before .before .before .before .before .before .before .before .before .before .before .wide .result) (a .items .now))) (part (c .before .before .before .before .before .before .before .before .before .before .before .before .before .before .before .before) .is) _ _ (c .before .before .before .before .before .before .before .before .before .scan-list .result) (c .before .before .before .before .before .before .before .before .before .scan-list .ensures) }
 
 loop-less : tie.Need-loop-less Inv-loop μ-loop
 loop-less c =
-    let a = c .before .before .before .before .before .before .before .before .before .before .before .before .before .before .before .before .before .before .before .before .before .before .before .before .before .before .before .before .before .before .args in
-    let l = c .before .before .before .before .before .before .before .before .before .before .before .before .before .before .before .before .before .before .before .before .before .loop in
-    let f = c .before .before .before .before .before .before .before .before .before .before .before .before .before .before .before .before .before .c .given .0 in
-    let p = c .before .before .before .before .before .before .before .before .before .before .before .before .before .before .before .before .before .before .before .before .before .before .before .before .before .before .before .before .before .before .pre in
+    let a = c .before .before .before .before .before .before .before .before .before .before .before .before .before .before .before .before .before .before .before .before .before .before .before .before .before .before .before .before .before .before .before .before .before .before .before .args in
+    let l = c .before .before .before .before .before .before .before .before .before .before .before .before .before .before .before .before .before .before .before .before .before .before .before .before .before .loop in
+    let f = c .before .before .before .before .before .before .before .before .before .before .before .before .before .before .before .before .before .before .before .before .before .c .given .0 in
+    let p = c .before .before .before .before .before .before .before .before .before .before .before .before .before .before .before .before .before .before .before .before .before .before .before .before .before .before .before .before .before .before .before .before .before .before .before .pre in
     let ls = lines (a .start-x .now) (a .start-y .now) (a .end-x .now) (a .end-y .now) in
-    cells-less ls (a .cols) (a .cells) (a .offsets .now) (a .items .now) (a .cell) (a .i) (a .j) (a .first .now) (a .second .now) p (l .first) (l .second) (l .cell) (l .i) (l .j) (l .tests) (l .hits) (l .inv) (f .0) (f .1 .0) (f .1 .1 .0) (found (c .before .before .before .before .before .before .before .before .before .before .before .before .before .before .before .before .before)) (c .before .before .before .before .before .before .before .before .row-of .result) (row (c .before .before .before .before .before .before .before .before)) (take (c .before .before .before .before .before .before .before .before .before .before .before .before .wide2 .result - c .before .before .before .before .before .before .before .before .before .before .before .before .before .before .wide .result) (drop (c .before .before .before .before .before .before .before .before .before .before .before .before .before .before .wide .result) (a .items .now))) (part (c .before .before .before .before .before .before .before .before .before .before .before .before) .is) _ _ (c .before .before .before .before .before .scan-list .result) (c .before .before .before .before .before .scan-list .ensures) (part (c .before .before .before .before .before .before .before .before .before .before .before .before) .later) (c .before .before .before .before .before .before .before .before .before .before .before .before .before .before .before .before .before .before .before .before .loop-test .taken)
+    cells-less ls (a .cols) (a .cells) (a .offsets .now) (a .items .now) (a .cell) (a .i) (a .j) (a .first .now) (a .second .now) (a .places .now) p (l .first) (l .second) (l .places) (l .cell) (l .i) (l .j) (l .tests) (l .hits) (l .inv) (f .0) (f .1 .0) (f .1 .1 .0) (found (c .before .before .before .before .before .before .before .before .before .before .before .before .before .before .before .before .before .before .before .before .before)) (c .before .before .before .before .before .before .before .before .before .before .before .before .row-of .result) (row (c .before .before .before .before .before .before .before .before .before .before .before .before)) (take (c .before .before .before .before .before .before .before .before .before .before .before .before .before .before .before .before .wide2 .result - c .before .before .before .before .before .before .before .before .before .before .before .before .before .before .before .before .before .before .wide .result) (drop (c .before .before .before .before .before .before .before .before .before .before .before .before .before .before .before .before .before .before .wide .result) (a .items .now))) (part (c .before .before .before .before .before .before .before .before .before .before .before .before .before .before .before .before) .is) _ _ (c .before .before .before .before .before .before .before .before .before .scan-list .result) (c .before .before .before .before .before .before .before .before .before .scan-list .ensures) (part (c .before .before .before .before .before .before .before .before .before .before .before .before .before .before .before .before) .later) (c .before .before .before .before .before .before .before .before .before .before .before .before .before .before .before .before .before .before .before .before .before .before .before .before .loop-test .taken)
 
 loop-again : tie.Need-loop-again Inv-loop μ-loop
 loop-again c =
-    let a = c .before .before .before .before .before .before .before .before .before .before .before .before .before .before .before .before .before .before .before .before .before .before .before .before .before .before .before .before .before .before .args in
-    let l = c .before .before .before .before .before .before .before .before .before .before .before .before .before .before .before .before .before .before .before .before .before .loop in
-    let f = c .before .before .before .before .before .before .before .before .before .before .before .before .before .before .before .before .before .c .given .0 in
-    let p = c .before .before .before .before .before .before .before .before .before .before .before .before .before .before .before .before .before .before .before .before .before .before .before .before .before .before .before .before .before .before .pre in
+    let a = c .before .before .before .before .before .before .before .before .before .before .before .before .before .before .before .before .before .before .before .before .before .before .before .before .before .before .before .before .before .before .before .before .before .before .before .args in
+    let l = c .before .before .before .before .before .before .before .before .before .before .before .before .before .before .before .before .before .before .before .before .before .before .before .before .before .loop in
+    let f = c .before .before .before .before .before .before .before .before .before .before .before .before .before .before .before .before .before .before .before .before .before .c .given .0 in
+    let p = c .before .before .before .before .before .before .before .before .before .before .before .before .before .before .before .before .before .before .before .before .before .before .before .before .before .before .before .before .before .before .before .before .before .before .before .pre in
     let ls = lines (a .start-x .now) (a .start-y .now) (a .end-x .now) (a .end-y .now) in
-    cells-turn ls (a .cols) (a .cells) (a .offsets .now) (a .items .now) (a .cell) (a .i) (a .j) (a .first .now) (a .second .now) p (l .first) (l .second) (l .cell) (l .i) (l .j) (l .tests) (l .hits) (l .inv) (f .0) (f .1 .0) (f .1 .1 .0) (found (c .before .before .before .before .before .before .before .before .before .before .before .before .before .before .before .before .before)) (c .before .before .before .before .before .before .before .before .row-of .result) (row (c .before .before .before .before .before .before .before .before)) (take (c .before .before .before .before .before .before .before .before .before .before .before .before .wide2 .result - c .before .before .before .before .before .before .before .before .before .before .before .before .before .before .wide .result) (drop (c .before .before .before .before .before .before .before .before .before .before .before .before .before .before .wide .result) (a .items .now))) (part (c .before .before .before .before .before .before .before .before .before .before .before .before) .is) _ _ (c .before .before .before .before .before .scan-list .result) (c .before .before .before .before .before .scan-list .ensures)
+    cells-turn ls (a .cols) (a .cells) (a .offsets .now) (a .items .now) (a .cell) (a .i) (a .j) (a .first .now) (a .second .now) (a .places .now) p (l .first) (l .second) (l .places) (l .cell) (l .i) (l .j) (l .tests) (l .hits) (l .inv) (f .0) (f .1 .0) (f .1 .1 .0) (found (c .before .before .before .before .before .before .before .before .before .before .before .before .before .before .before .before .before .before .before .before .before)) (c .before .before .before .before .before .before .before .before .before .before .before .before .row-of .result) (row (c .before .before .before .before .before .before .before .before .before .before .before .before)) (take (c .before .before .before .before .before .before .before .before .before .before .before .before .before .before .before .before .wide2 .result - c .before .before .before .before .before .before .before .before .before .before .before .before .before .before .before .before .before .before .wide .result) (drop (c .before .before .before .before .before .before .before .before .before .before .before .before .before .before .before .before .before .before .wide .result) (a .items .now))) (part (c .before .before .before .before .before .before .before .before .before .before .before .before .before .before .before .before) .is) _ _ (c .before .before .before .before .before .before .before .before .before .scan-list .result) (c .before .before .before .before .before .before .before .before .before .scan-list .ensures) _ (c .before .before .before .put-places .ensures)
 
 same-length : tie.Need-same-length Inv-loop μ-loop
 same-length c =
-    let a = c .before .before .before .before .before .before .before .before .before .before .args in
+    let a = c .before .before .before .before .before .before .before .before .before .before .before .args in
     let l = c .before .loop in
-    let p = c .before .before .before .before .before .before .before .before .before .before .pre in
+    let p = c .before .before .before .before .before .before .before .before .before .before .before .pre in
     let ls = lines (a .start-x .now) (a .start-y .now) (a .end-x .now) (a .end-y .now) in
-    cells-long ls (a .cols) (a .cells) (a .offsets .now) (a .items .now) (a .cell) (a .i) (a .j) (a .first .now) (a .second .now) p (l .first) (l .second) (l .cell) (l .i) (l .j) (l .tests) (l .hits) (l .inv)
+    cells-long ls (a .cols) (a .cells) (a .offsets .now) (a .items .now) (a .cell) (a .i) (a .j) (a .first .now) (a .second .now) (a .places .now) p (l .first) (l .second) (l .places) (l .cell) (l .i) (l .j) (l .tests) (l .hits) (l .inv)
 
 same-length-2 : tie.Need-same-length-2 Inv-loop μ-loop
 same-length-2 c =
-    let a = c .before .before .before .before .before .before .before .before .before .before .args in
+    let a = c .before .before .before .before .before .before .before .before .before .before .before .args in
     let l = c .before .loop in
-    let p = c .before .before .before .before .before .before .before .before .before .before .pre in
+    let p = c .before .before .before .before .before .before .before .before .before .before .before .pre in
     let ls = lines (a .start-x .now) (a .start-y .now) (a .end-x .now) (a .end-y .now) in
-    cells-long-2 ls (a .cols) (a .cells) (a .offsets .now) (a .items .now) (a .cell) (a .i) (a .j) (a .first .now) (a .second .now) p (l .first) (l .second) (l .cell) (l .i) (l .j) (l .tests) (l .hits) (l .inv)
-
-returns : tie.Need-returns Inv-loop μ-loop
-returns c =
-    let a = c .before .before .before .before .before .before .before .before .before .before .args in
-    let l = c .before .loop in
-    let p = c .before .before .before .before .before .before .before .before .before .before .pre in
-    let ls = lines (a .start-x .now) (a .start-y .now) (a .end-x .now) (a .end-y .now) in
-    cells-full ls (a .cols) (a .cells) (a .offsets .now) (a .items .now) (a .cell) (a .i) (a .j) (a .first .now) (a .second .now) p (l .first) (l .second) (l .cell) (l .i) (l .j) (l .tests) (l .hits) (l .inv) (omega (arith, cells-long ls (a .cols) (a .cells) (a .offsets .now) (a .items .now) (a .cell) (a .i) (a .j) (a .first .now) (a .second .now) p (l .first) (l .second) (l .cell) (l .i) (l .j) (l .tests) (l .hits) (l .inv), c .loop-test .left))
+    cells-long-2 ls (a .cols) (a .cells) (a .offsets .now) (a .items .now) (a .cell) (a .i) (a .j) (a .first .now) (a .second .now) (a .places .now) p (l .first) (l .second) (l .places) (l .cell) (l .i) (l .j) (l .tests) (l .hits) (l .inv)
 
 same-length-3 : tie.Need-same-length-3 Inv-loop μ-loop
 same-length-3 c =
-    let a = c .before .before .before .before .before .before .before .before .before .before .before .before .before .args in
-    let l = c .before .before .before .before .loop in
-    let p = c .before .before .before .before .before .before .before .before .before .before .before .before .before .pre in
+    let a = c .before .before .before .before .before .before .before .before .before .before .before .args in
+    let l = c .before .loop in
+    let p = c .before .before .before .before .before .before .before .before .before .before .before .pre in
     let ls = lines (a .start-x .now) (a .start-y .now) (a .end-x .now) (a .end-y .now) in
-    cells-long ls (a .cols) (a .cells) (a .offsets .now) (a .items .now) (a .cell) (a .i) (a .j) (a .first .now) (a .second .now) p (l .first) (l .second) (l .cell) (l .i) (l .j) (l .tests) (l .hits) (l .inv)
+    cells-long-3 ls (a .cols) (a .cells) (a .offsets .now) (a .items .now) (a .cell) (a .i) (a .j) (a .first .now) (a .second .now) (a .places .now) p (l .first) (l .second) (l .places) (l .cell) (l .i) (l .j) (l .tests) (l .hits) (l .inv)
+
+returns : tie.Need-returns Inv-loop μ-loop
+returns c =
+    let a = c .before .before .before .before .before .before .before .before .before .before .before .args in
+    let l = c .before .loop in
+    let p = c .before .before .before .before .before .before .before .before .before .before .before .pre in
+    let ls = lines (a .start-x .now) (a .start-y .now) (a .end-x .now) (a .end-y .now) in
+    cells-full ls (a .cols) (a .cells) (a .offsets .now) (a .items .now) (a .cell) (a .i) (a .j) (a .first .now) (a .second .now) (a .places .now) p (l .first) (l .second) (l .places) (l .cell) (l .i) (l .j) (l .tests) (l .hits) (l .inv) (omega (arith, cells-long ls (a .cols) (a .cells) (a .offsets .now) (a .items .now) (a .cell) (a .i) (a .j) (a .first .now) (a .second .now) (a .places .now) p (l .first) (l .second) (l .places) (l .cell) (l .i) (l .j) (l .tests) (l .hits) (l .inv), c .loop-test .left))
 
 same-length-4 : tie.Need-same-length-4 Inv-loop μ-loop
 same-length-4 c =
-    let a = c .before .before .before .before .before .before .before .before .before .before .before .before .before .args in
+    let a = c .before .before .before .before .before .before .before .before .before .before .before .before .before .before .args in
     let l = c .before .before .before .before .loop in
-    let p = c .before .before .before .before .before .before .before .before .before .before .before .before .before .pre in
+    let p = c .before .before .before .before .before .before .before .before .before .before .before .before .before .before .pre in
     let ls = lines (a .start-x .now) (a .start-y .now) (a .end-x .now) (a .end-y .now) in
-    cells-long-2 ls (a .cols) (a .cells) (a .offsets .now) (a .items .now) (a .cell) (a .i) (a .j) (a .first .now) (a .second .now) p (l .first) (l .second) (l .cell) (l .i) (l .j) (l .tests) (l .hits) (l .inv)
+    cells-long ls (a .cols) (a .cells) (a .offsets .now) (a .items .now) (a .cell) (a .i) (a .j) (a .first .now) (a .second .now) (a .places .now) p (l .first) (l .second) (l .places) (l .cell) (l .i) (l .j) (l .tests) (l .hits) (l .inv)
+
+same-length-5 : tie.Need-same-length-5 Inv-loop μ-loop
+same-length-5 c =
+    let a = c .before .before .before .before .before .before .before .before .before .before .before .before .before .before .args in
+    let l = c .before .before .before .before .loop in
+    let p = c .before .before .before .before .before .before .before .before .before .before .before .before .before .before .pre in
+    let ls = lines (a .start-x .now) (a .start-y .now) (a .end-x .now) (a .end-y .now) in
+    cells-long-2 ls (a .cols) (a .cells) (a .offsets .now) (a .items .now) (a .cell) (a .i) (a .j) (a .first .now) (a .second .now) (a .places .now) p (l .first) (l .second) (l .places) (l .cell) (l .i) (l .j) (l .tests) (l .hits) (l .inv)
+
+same-length-6 : tie.Need-same-length-6 Inv-loop μ-loop
+same-length-6 c =
+    let a = c .before .before .before .before .before .before .before .before .before .before .before .before .before .before .args in
+    let l = c .before .before .before .before .loop in
+    let p = c .before .before .before .before .before .before .before .before .before .before .before .before .before .before .pre in
+    let ls = lines (a .start-x .now) (a .start-y .now) (a .end-x .now) (a .end-y .now) in
+    cells-long-3 ls (a .cols) (a .cells) (a .offsets .now) (a .items .now) (a .cell) (a .i) (a .j) (a .first .now) (a .second .now) (a .places .now) p (l .first) (l .second) (l .places) (l .cell) (l .i) (l .j) (l .tests) (l .hits) (l .inv)
 
 returns-2 : tie.Need-returns-2 Inv-loop μ-loop
 returns-2 c =
-    let a = c .before .before .before .before .before .before .before .before .before .before .before .before .before .args in
+    let a = c .before .before .before .before .before .before .before .before .before .before .before .before .before .before .args in
     let l = c .before .before .before .before .loop in
-    let p = c .before .before .before .before .before .before .before .before .before .before .before .before .before .pre in
+    let p = c .before .before .before .before .before .before .before .before .before .before .before .before .before .before .pre in
     let ls = lines (a .start-x .now) (a .start-y .now) (a .end-x .now) (a .end-y .now) in
-    cells-over ls (a .cols) (a .cells) (a .offsets .now) (a .items .now) (a .cell) (a .i) (a .j) (a .first .now) (a .second .now) p (l .first) (l .second) (l .cell) (l .i) (l .j) (l .tests) (l .hits) (l .inv) (cell-past (a .cells) (a .offsets .now) (a .items .now) (l .cell) (l .i) (l .j) _ (c .before .before .settle-cell .ensures) (c .enum-told .given .1))
+    cells-over ls (a .cols) (a .cells) (a .offsets .now) (a .items .now) (a .cell) (a .i) (a .j) (a .first .now) (a .second .now) (a .places .now) p (l .first) (l .second) (l .places) (l .cell) (l .i) (l .j) (l .tests) (l .hits) (l .inv) (cell-past (a .cells) (a .offsets .now) (a .items .now) (l .cell) (l .i) (l .j) _ (c .before .before .settle-cell .ensures) (c .enum-told .given .1))
 
 pub run-cells-spec : {M : Type 1} → statement M
 run-cells-spec =
@@ -249,13 +272,17 @@ run-cells-spec =
     shared-slice-read-row-of
     row-of-requires
     scan-list-requires
+    cast-put-places
+    put-places-requires
     sub-tests
     add-tests
     loop-less
     loop-again
     same-length
     same-length-2
-    returns
     same-length-3
+    returns
     same-length-4
+    same-length-5
+    same-length-6
     returns-2)

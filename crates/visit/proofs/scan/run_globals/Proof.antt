@@ -7,7 +7,7 @@ use lib.ListN.{length, getD}
 use Rattle.grid.specs.Domain.{lines}
 use Rattle.grid.proofs.Fine.{lines-fine}
 use Rattle.visit.specs.Inside.{globalsRest, GlobalIs}
-use Rattle.visit.proofs.RunTurns.{global-at, global-past, GlobalsRun, globals-run, globals-long, globals-long-2, globals-full, globals-over, global-in, global-asks, lines-asks, globals-turn, globals-less, globals-small}
+use Rattle.visit.proofs.RunTurns.{global-at, global-past, GlobalsRun, globals-run, globals-long, globals-long-2, globals-long-3, globals-full, globals-over, global-in, global-few, global-asks, lines-asks, globals-turn, globals-less, globals-small}
 use Rattle.visit.proofs.scan.run_globals.Statement.{statement}
 use Rattle.visit.proofs.scan.run_globals.Tie as tie
 use Rattle.visit.proofs.scan.run_globals.Reads as reads
@@ -15,39 +15,40 @@ use Rattle.visit.proofs.scan.run_globals.Lts as lts
 use Rattle.visit.proofs.cursor.settle_global.Reads as settle-global-reads
 use Rattle.visit.proofs.scan.row_of.Reads as row-of-reads
 use Rattle.visit.proofs.scan.scan_lines.Reads as scan-lines-reads
+use Rattle.visit.proofs.scan.put_places.Reads as put-places-reads
 
 abbrev Inv-loop : tie.InvT-loop
-Inv-loop globals count p q k start-x start-y end-x end-y first₀ second₀ hits n p₀ q₀ k₀ tests₀ hits₀ first second p' q' k' tests hits' =
-    GlobalsRun (lines start-x start-y end-x end-y) count globals p k first₀ second₀ hits first second p' q' k' tests hits'
+Inv-loop cells globals count p q k start-x start-y end-x end-y first₀ second₀ places₀ hits n p₀ q₀ k₀ tests₀ hits₀ first second places p' q' k' tests hits' =
+    GlobalsRun (lines start-x start-y end-x end-y) cells count globals p k first₀ second₀ places₀ hits first second places p' q' k' tests hits'
 
 abbrev μ-loop : tie.MeasureT-loop
-μ-loop globals count p q k start-x start-y end-x end-y first₀ second₀ hits n p₀ q₀ k₀ tests₀ hits₀ first second p' q' k' tests hits' =
+μ-loop cells globals count p q k start-x start-y end-x end-y first₀ second₀ places₀ hits n p₀ q₀ k₀ tests₀ hits₀ first second places p' q' k' tests hits' =
     length (globalsRest (length start-x) globals (count - p') p' k')
 
 -- the run that was found
 found : (c : tie.After-a Inv-loop μ-loop)
-    → let a = c .before .before .before .before .before .before .before .before .before .before .before .before .args in
+    → let a = c .before .before .before .before .before .before .before .before .before .before .before .before .before .args in
     let l = c .before .before .before .before .loop in
     let f = c .a .given .0 in
     GlobalIs (length (a .start-x .now)) (a .count) (a .globals .now) (l .p) (l .q) (l .k) (f .0) (f .1 .0) (f .1 .1 .0) (f .1 .1 .1 .0)
 found c =
-    let a = c .before .before .before .before .before .before .before .before .before .before .before .before .args in
+    let a = c .before .before .before .before .before .before .before .before .before .before .before .before .before .args in
     let l = c .before .before .before .before .loop in
     let f = c .a .given .0 in
     global-at (length (a .start-x .now)) (a .count) (a .globals .now) (l .p) (l .q) (l .k) _ (c .before .before .settle-global .ensures) (f .0) (f .1 .0) (f .1 .1 .0) (f .1 .1 .1 .0) (c .a .given .1)
 
 cast-n : tie.Need-cast-n Inv-loop μ-loop
 cast-n c =
-    let a = c .before .before .before .before .before .before .before .args in
-    omega (arith, (lines-fine (lines (a .start-x .now) (a .start-y .now) (a .end-x .now) (a .end-y .now)) (c .before .before .before .before .before .before .before .pre .fine)) .few)
+    let a = c .before .before .before .before .before .before .before .before .args in
+    omega (arith, (lines-fine (lines (a .start-x .now) (a .start-y .now) (a .end-x .now) (a .end-y .now)) (c .before .before .before .before .before .before .before .before .pre .fine)) .few)
 
 loop-holds : tie.Need-loop-holds Inv-loop μ-loop
 loop-holds c =
-    let a = c .before .before .before .before .before .before .before .args in
-    globals-run (lines (a .start-x .now) (a .start-y .now) (a .end-x .now) (a .end-y .now)) (a .count) (a .globals .now) (a .p) (a .q) (a .k) (a .first .now) (a .second .now) (a .hits) (c .before .before .before .before .before .before .before .pre)
+    let a = c .before .before .before .before .before .before .before .before .args in
+    globals-run (lines (a .start-x .now) (a .start-y .now) (a .end-x .now) (a .end-y .now)) (a .cells) (a .count) (a .globals .now) (a .p) (a .q) (a .k) (a .first .now) (a .second .now) (a .places .now) (a .hits) (c .before .before .before .before .before .before .before .before .pre)
 
 settle-global-requires : tie.Need-settle-global-requires Inv-loop μ-loop
-settle-global-requires c κs = record { table = c .before .before .before .before .before .before .before .before .before .pre .place .table; place = c .before .loop .inv .place }
+settle-global-requires c κs = record { table = c .before .before .before .before .before .before .before .before .before .before .pre .place .table; place = c .before .loop .inv .place }
 
 enum-known-a : tie.Need-enum-known-a Inv-loop μ-loop
 enum-known-a c = search needs
@@ -57,107 +58,140 @@ enum-told c = search needs
 
 mul-row-of : tie.Need-mul-row-of Inv-loop μ-loop
 mul-row-of c =
-    let a = c .before .before .before .before .before .before .before .before .before .before .before .before .before .args in
+    let a = c .before .before .before .before .before .before .before .before .before .before .before .before .before .before .args in
     let l = c .before .before .before .before .before .loop in
     let f = c .before .a .given .0 in
     let ls = lines (a .start-x .now) (a .start-y .now) (a .end-x .now) (a .end-y .now) in
-    omega (arith, global-in ls (a .count) (a .globals .now) (a .p) (a .q) (a .k) (a .first .now) (a .second .now) (a .hits) (c .before .before .before .before .before .before .before .before .before .before .before .before .before .pre) (l .first) (l .second) (l .p) (l .q) (l .k) (l .tests) (l .hits) (l .inv) (f .0) (f .1 .0) (f .1 .1 .0) (f .1 .1 .1 .0) (found (c .before)), c .before .before .before .before .before .before .before .before .before .before .before .before .before .good .0)
+    omega (arith, global-in ls (a .cells) (a .count) (a .globals .now) (a .p) (a .q) (a .k) (a .first .now) (a .second .now) (a .places .now) (a .hits) (c .before .before .before .before .before .before .before .before .before .before .before .before .before .before .pre) (l .first) (l .second) (l .places) (l .p) (l .q) (l .k) (l .tests) (l .hits) (l .inv) (f .0) (f .1 .0) (f .1 .1 .0) (f .1 .1 .1 .0) (found (c .before)), c .before .before .before .before .before .before .before .before .before .before .before .before .before .before .good .0)
 
 shared-slice-read-row-of : tie.Need-shared-slice-read-row-of Inv-loop μ-loop
 shared-slice-read-row-of c =
-    let a = c .before .before .before .before .before .before .before .before .before .before .before .before .before .before .args in
+    let a = c .before .before .before .before .before .before .before .before .before .before .before .before .before .before .before .args in
     let l = c .before .before .before .before .before .before .loop in
     let f = c .before .before .a .given .0 in
     let ls = lines (a .start-x .now) (a .start-y .now) (a .end-x .now) (a .end-y .now) in
-    global-in ls (a .count) (a .globals .now) (a .p) (a .q) (a .k) (a .first .now) (a .second .now) (a .hits) (c .before .before .before .before .before .before .before .before .before .before .before .before .before .before .pre) (l .first) (l .second) (l .p) (l .q) (l .k) (l .tests) (l .hits) (l .inv) (f .0) (f .1 .0) (f .1 .1 .0) (f .1 .1 .1 .0) (found (c .before .before))
+    global-in ls (a .cells) (a .count) (a .globals .now) (a .p) (a .q) (a .k) (a .first .now) (a .second .now) (a .places .now) (a .hits) (c .before .before .before .before .before .before .before .before .before .before .before .before .before .before .before .pre) (l .first) (l .second) (l .places) (l .p) (l .q) (l .k) (l .tests) (l .hits) (l .inv) (f .0) (f .1 .0) (f .1 .1 .0) (f .1 .1 .1 .0) (found (c .before .before))
 
 row-of-requires : tie.Need-row-of-requires Inv-loop μ-loop
 row-of-requires c κs =
-    let a = c .before .before .before .before .before .before .before .before .before .before .before .before .before .before .args in
+    let a = c .before .before .before .before .before .before .before .before .before .before .before .before .before .before .before .args in
     let l = c .before .before .before .before .before .before .loop in
     let f = c .before .before .a .given .0 in
     let ls = lines (a .start-x .now) (a .start-y .now) (a .end-x .now) (a .end-y .now) in
-    global-asks ls (a .count) (a .globals .now) (a .p) (a .q) (a .k) (a .first .now) (a .second .now) (a .hits) (c .before .before .before .before .before .before .before .before .before .before .before .before .before .before .pre) (l .first) (l .second) (l .p) (l .q) (l .k) (l .tests) (l .hits) (l .inv) (f .0) (f .1 .0) (f .1 .1 .0) (f .1 .1 .1 .0) (found (c .before .before))
+    global-asks ls (a .cells) (a .count) (a .globals .now) (a .p) (a .q) (a .k) (a .first .now) (a .second .now) (a .places .now) (a .hits) (c .before .before .before .before .before .before .before .before .before .before .before .before .before .before .before .pre) (l .first) (l .second) (l .places) (l .p) (l .q) (l .k) (l .tests) (l .hits) (l .inv) (f .0) (f .1 .0) (f .1 .1 .0) (f .1 .1 .1 .0) (found (c .before .before))
 
 scan-lines-requires : tie.Need-scan-lines-requires Inv-loop μ-loop
 scan-lines-requires c κs =
-    let a = c .before .before .before .before .before .before .before .before .before .before .before .before .before .before .before .before .before .args in
+    let a = c .before .before .before .before .before .before .before .before .before .before .before .before .before .before .before .before .before .before .args in
     let l = c .before .before .before .before .before .before .before .before .before .loop in
     let f = c .before .before .before .before .before .a .given .0 in
     let ls = lines (a .start-x .now) (a .start-y .now) (a .end-x .now) (a .end-y .now) in
-    lines-asks ls (a .count) (a .globals .now) (a .p) (a .q) (a .k) (a .first .now) (a .second .now) (a .hits) (c .before .before .before .before .before .before .before .before .before .before .before .before .before .before .before .before .before .pre) (l .first) (l .second) (l .p) (l .q) (l .k) (l .tests) (l .hits) (l .inv) (f .0) (f .1 .0) (f .1 .1 .0) (f .1 .1 .1 .0) (found (c .before .before .before .before .before)) _ (c .before .before .row-of .ensures) (c .before .before .before .before .before .before .before .before .loop-test .taken)
+    lines-asks ls (a .cells) (a .count) (a .globals .now) (a .p) (a .q) (a .k) (a .first .now) (a .second .now) (a .places .now) (a .hits) (c .before .before .before .before .before .before .before .before .before .before .before .before .before .before .before .before .before .before .pre) (l .first) (l .second) (l .places) (l .p) (l .q) (l .k) (l .tests) (l .hits) (l .inv) (f .0) (f .1 .0) (f .1 .1 .0) (f .1 .1 .1 .0) (found (c .before .before .before .before .before)) _ (c .before .before .row-of .ensures) (c .before .before .before .before .before .before .before .before .loop-test .taken)
+
+add-put-places : tie.Need-add-put-places Inv-loop μ-loop
+add-put-places c =
+    let a = c .before .before .before .before .before .before .before .before .before .before .before .before .before .before .before .before .before .before .before .before .before .before .before .before .args in
+    let l = c .before .before .before .before .before .before .before .before .before .before .before .before .before .before .before .loop in
+    let f = c .before .before .before .before .before .before .before .before .before .before .before .a .given .0 in
+    let ls = lines (a .start-x .now) (a .start-y .now) (a .end-x .now) (a .end-y .now) in
+    omega (arith, global-few ls (a .cells) (a .count) (a .globals .now) (a .p) (a .q) (a .k) (a .first .now) (a .second .now) (a .places .now) (a .hits) (c .before .before .before .before .before .before .before .before .before .before .before .before .before .before .before .before .before .before .before .before .before .before .before .before .pre) (l .first) (l .second) (l .places) (l .p) (l .q) (l .k) (l .tests) (l .hits) (l .inv) (f .0) (f .1 .0) (f .1 .1 .0) (f .1 .1 .1 .0) (found (c .before .before .before .before .before .before .before .before .before .before .before)))
+
+cast-put-places : tie.Need-cast-put-places Inv-loop μ-loop
+cast-put-places c =
+    let a = c .before .before .before .before .before .before .before .before .before .before .before .before .before .before .before .before .before .before .before .before .before .before .before .before .args in
+    let l = c .before .before .before .before .before .before .before .before .before .before .before .before .before .before .before .loop in
+    let f = c .before .before .before .before .before .before .before .before .before .before .before .a .given .0 in
+    let ls = lines (a .start-x .now) (a .start-y .now) (a .end-x .now) (a .end-y .now) in
+    omega (arith, global-few ls (a .cells) (a .count) (a .globals .now) (a .p) (a .q) (a .k) (a .first .now) (a .second .now) (a .places .now) (a .hits) (c .before .before .before .before .before .before .before .before .before .before .before .before .before .before .before .before .before .before .before .before .before .before .before .before .pre) (l .first) (l .second) (l .places) (l .p) (l .q) (l .k) (l .tests) (l .hits) (l .inv) (f .0) (f .1 .0) (f .1 .1 .0) (f .1 .1 .1 .0) (found (c .before .before .before .before .before .before .before .before .before .before .before)))
+
+put-places-requires : tie.Need-put-places-requires Inv-loop μ-loop
+put-places-requires c κs = tt
 
 sub-tests : tie.Need-sub-tests Inv-loop μ-loop
-sub-tests c = c .before .before .before .before .before .scan-lines .ensures .from
+sub-tests c = c .before .before .before .before .before .before .before .before .before .scan-lines .ensures .from
 
 cast-tests : tie.Need-cast-tests Inv-loop μ-loop
-cast-tests c = omega (arith, c .before .before .before .before .before .scan-lines .ensures .to)
+cast-tests c = omega (arith, c .before .before .before .before .before .before .before .before .before .scan-lines .ensures .to)
 
 add-tests : tie.Need-add-tests Inv-loop μ-loop
 add-tests c =
-    let a = c .before .before .before .before .before .before .before .before .before .before .before .before .before .before .before .before .before .before .before .before .before .before .before .args in
-    let l = c .before .before .before .before .before .before .before .before .before .before .before .before .before .before .before .loop in
-    let f = c .before .before .before .before .before .before .before .before .before .before .before .a .given .0 in
+    let a = c .before .before .before .before .before .before .before .before .before .before .before .before .before .before .before .before .before .before .before .before .before .before .before .before .before .before .before .before .args in
+    let l = c .before .before .before .before .before .before .before .before .before .before .before .before .before .before .before .before .before .before .before .loop in
+    let f = c .before .before .before .before .before .before .before .before .before .before .before .before .before .before .before .a .given .0 in
     let ls = lines (a .start-x .now) (a .start-y .now) (a .end-x .now) (a .end-y .now) in
-    record { fits = globals-small ls (a .count) (a .globals .now) (a .p) (a .q) (a .k) (a .first .now) (a .second .now) (a .hits) (c .before .before .before .before .before .before .before .before .before .before .before .before .before .before .before .before .before .before .before .before .before .before .before .pre) (l .first) (l .second) (l .p) (l .q) (l .k) (l .tests) (l .hits) (l .inv) (f .0) (f .1 .0) (f .1 .1 .0) (f .1 .1 .1 .0) (found (c .before .before .before .before .before .before .before .before .before .before .before)) _ (c .before .before .before .before .before .before .before .before .row-of .ensures) _ _ (c .before .before .before .before .before .scan-lines .result) (c .before .before .before .before .before .scan-lines .ensures) }
+    record { fits = globals-small ls (a .cells) (a .count) (a .globals .now) (a .p) (a .q) (a .k) (a .first .now) (a .second .now) (a .places .now) (a .hits) (c .before .before .before .before .before .before .before .before .before .before .before .before .before .before .before .before .before .before .before .before .before .before .before .before .before .before .before .before .pre) (l .first) (l .second) (l .places) (l .p) (l .q) (l .k) (l .tests) (l .hits) (l .inv) (f .0) (f .1 .0) (f .1 .1 .0) (f .1 .1 .1 .0) (found (c .before .before .before .before .before .before .before .before .before .before .before .before .before .before .before)) _ (c .before .before .before .before .before .before .before .before .before .before .before .before .row-of .ensures) _ _ (c .before .before .before .before .before .before .before .before .before .scan-lines .result) (c .before .before .before .before .before .before .before .before .before .scan-lines .ensures) }
 
 loop-less : tie.Need-loop-less Inv-loop μ-loop
 loop-less c =
-    let a = c .before .before .before .before .before .before .before .before .before .before .before .before .before .before .before .before .before .before .before .before .before .before .before .args in
-    let l = c .before .before .before .before .before .before .before .before .before .before .before .before .before .before .before .loop in
-    let f = c .before .before .before .before .before .before .before .before .before .before .before .a .given .0 in
+    let a = c .before .before .before .before .before .before .before .before .before .before .before .before .before .before .before .before .before .before .before .before .before .before .before .before .before .before .before .before .args in
+    let l = c .before .before .before .before .before .before .before .before .before .before .before .before .before .before .before .before .before .before .before .loop in
+    let f = c .before .before .before .before .before .before .before .before .before .before .before .before .before .before .before .a .given .0 in
     let ls = lines (a .start-x .now) (a .start-y .now) (a .end-x .now) (a .end-y .now) in
-    globals-less ls (a .count) (a .globals .now) (a .p) (a .q) (a .k) (a .first .now) (a .second .now) (a .hits) (c .before .before .before .before .before .before .before .before .before .before .before .before .before .before .before .before .before .before .before .before .before .before .before .pre) (l .first) (l .second) (l .p) (l .q) (l .k) (l .tests) (l .hits) (l .inv) (f .0) (f .1 .0) (f .1 .1 .0) (f .1 .1 .1 .0) (found (c .before .before .before .before .before .before .before .before .before .before .before)) _ (c .before .before .before .before .before .before .before .before .row-of .ensures) _ _ (c .before .before .before .before .before .scan-lines .result) (c .before .before .before .before .before .scan-lines .ensures) (c .before .before .before .before .before .before .before .before .before .before .before .before .before .before .loop-test .taken)
+    globals-less ls (a .cells) (a .count) (a .globals .now) (a .p) (a .q) (a .k) (a .first .now) (a .second .now) (a .places .now) (a .hits) (c .before .before .before .before .before .before .before .before .before .before .before .before .before .before .before .before .before .before .before .before .before .before .before .before .before .before .before .before .pre) (l .first) (l .second) (l .places) (l .p) (l .q) (l .k) (l .tests) (l .hits) (l .inv) (f .0) (f .1 .0) (f .1 .1 .0) (f .1 .1 .1 .0) (found (c .before .before .before .before .before .before .before .before .before .before .before .before .before .before .before)) _ (c .before .before .before .before .before .before .before .before .before .before .before .before .row-of .ensures) _ _ (c .before .before .before .before .before .before .before .before .before .scan-lines .result) (c .before .before .before .before .before .before .before .before .before .scan-lines .ensures) (c .before .before .before .before .before .before .before .before .before .before .before .before .before .before .before .before .before .before .loop-test .taken)
 
 loop-again : tie.Need-loop-again Inv-loop μ-loop
 loop-again c =
-    let a = c .before .before .before .before .before .before .before .before .before .before .before .before .before .before .before .before .before .before .before .before .before .before .before .args in
-    let l = c .before .before .before .before .before .before .before .before .before .before .before .before .before .before .before .loop in
-    let f = c .before .before .before .before .before .before .before .before .before .before .before .a .given .0 in
+    let a = c .before .before .before .before .before .before .before .before .before .before .before .before .before .before .before .before .before .before .before .before .before .before .before .before .before .before .before .before .args in
+    let l = c .before .before .before .before .before .before .before .before .before .before .before .before .before .before .before .before .before .before .before .loop in
+    let f = c .before .before .before .before .before .before .before .before .before .before .before .before .before .before .before .a .given .0 in
     let ls = lines (a .start-x .now) (a .start-y .now) (a .end-x .now) (a .end-y .now) in
-    globals-turn ls (a .count) (a .globals .now) (a .p) (a .q) (a .k) (a .first .now) (a .second .now) (a .hits) (c .before .before .before .before .before .before .before .before .before .before .before .before .before .before .before .before .before .before .before .before .before .before .before .pre) (l .first) (l .second) (l .p) (l .q) (l .k) (l .tests) (l .hits) (l .inv) (f .0) (f .1 .0) (f .1 .1 .0) (f .1 .1 .1 .0) (found (c .before .before .before .before .before .before .before .before .before .before .before)) _ (c .before .before .before .before .before .before .before .before .row-of .ensures) _ _ (c .before .before .before .before .before .scan-lines .result) (c .before .before .before .before .before .scan-lines .ensures)
+    globals-turn ls (a .cells) (a .count) (a .globals .now) (a .p) (a .q) (a .k) (a .first .now) (a .second .now) (a .places .now) (a .hits) (c .before .before .before .before .before .before .before .before .before .before .before .before .before .before .before .before .before .before .before .before .before .before .before .before .before .before .before .before .pre) (l .first) (l .second) (l .places) (l .p) (l .q) (l .k) (l .tests) (l .hits) (l .inv) (f .0) (f .1 .0) (f .1 .1 .0) (f .1 .1 .1 .0) (found (c .before .before .before .before .before .before .before .before .before .before .before .before .before .before .before)) _ (c .before .before .before .before .before .before .before .before .before .before .before .before .row-of .ensures) _ _ (c .before .before .before .before .before .before .before .before .before .scan-lines .result) (c .before .before .before .before .before .before .before .before .before .scan-lines .ensures) _ (c .before .before .before .put-places .ensures)
 
 same-length : tie.Need-same-length Inv-loop μ-loop
 same-length c =
-    let a = c .before .before .before .before .before .before .before .before .before .args in
+    let a = c .before .before .before .before .before .before .before .before .before .before .args in
     let l = c .before .loop in
     let ls = lines (a .start-x .now) (a .start-y .now) (a .end-x .now) (a .end-y .now) in
-    globals-long ls (a .count) (a .globals .now) (a .p) (a .q) (a .k) (a .first .now) (a .second .now) (a .hits) (c .before .before .before .before .before .before .before .before .before .pre) (l .first) (l .second) (l .p) (l .q) (l .k) (l .tests) (l .hits) (l .inv)
+    globals-long ls (a .cells) (a .count) (a .globals .now) (a .p) (a .q) (a .k) (a .first .now) (a .second .now) (a .places .now) (a .hits) (c .before .before .before .before .before .before .before .before .before .before .pre) (l .first) (l .second) (l .places) (l .p) (l .q) (l .k) (l .tests) (l .hits) (l .inv)
 
 same-length-2 : tie.Need-same-length-2 Inv-loop μ-loop
 same-length-2 c =
-    let a = c .before .before .before .before .before .before .before .before .before .args in
+    let a = c .before .before .before .before .before .before .before .before .before .before .args in
     let l = c .before .loop in
     let ls = lines (a .start-x .now) (a .start-y .now) (a .end-x .now) (a .end-y .now) in
-    globals-long-2 ls (a .count) (a .globals .now) (a .p) (a .q) (a .k) (a .first .now) (a .second .now) (a .hits) (c .before .before .before .before .before .before .before .before .before .pre) (l .first) (l .second) (l .p) (l .q) (l .k) (l .tests) (l .hits) (l .inv)
-
-returns : tie.Need-returns Inv-loop μ-loop
-returns c =
-    let a = c .before .before .before .before .before .before .before .before .before .args in
-    let l = c .before .loop in
-    let ls = lines (a .start-x .now) (a .start-y .now) (a .end-x .now) (a .end-y .now) in
-    globals-full ls (a .count) (a .globals .now) (a .p) (a .q) (a .k) (a .first .now) (a .second .now) (a .hits) (c .before .before .before .before .before .before .before .before .before .pre) (l .first) (l .second) (l .p) (l .q) (l .k) (l .tests) (l .hits) (l .inv) (omega (arith, globals-long ls (a .count) (a .globals .now) (a .p) (a .q) (a .k) (a .first .now) (a .second .now) (a .hits) (c .before .before .before .before .before .before .before .before .before .pre) (l .first) (l .second) (l .p) (l .q) (l .k) (l .tests) (l .hits) (l .inv), c .loop-test .left))
+    globals-long-2 ls (a .cells) (a .count) (a .globals .now) (a .p) (a .q) (a .k) (a .first .now) (a .second .now) (a .places .now) (a .hits) (c .before .before .before .before .before .before .before .before .before .before .pre) (l .first) (l .second) (l .places) (l .p) (l .q) (l .k) (l .tests) (l .hits) (l .inv)
 
 same-length-3 : tie.Need-same-length-3 Inv-loop μ-loop
 same-length-3 c =
-    let a = c .before .before .before .before .before .before .before .before .before .before .before .before .args in
-    let l = c .before .before .before .before .loop in
+    let a = c .before .before .before .before .before .before .before .before .before .before .args in
+    let l = c .before .loop in
     let ls = lines (a .start-x .now) (a .start-y .now) (a .end-x .now) (a .end-y .now) in
-    globals-long ls (a .count) (a .globals .now) (a .p) (a .q) (a .k) (a .first .now) (a .second .now) (a .hits) (c .before .before .before .before .before .before .before .before .before .before .before .before .pre) (l .first) (l .second) (l .p) (l .q) (l .k) (l .tests) (l .hits) (l .inv)
+    globals-long-3 ls (a .cells) (a .count) (a .globals .now) (a .p) (a .q) (a .k) (a .first .now) (a .second .now) (a .places .now) (a .hits) (c .before .before .before .before .before .before .before .before .before .before .pre) (l .first) (l .second) (l .places) (l .p) (l .q) (l .k) (l .tests) (l .hits) (l .inv)
+
+returns : tie.Need-returns Inv-loop μ-loop
+returns c =
+    let a = c .before .before .before .before .before .before .before .before .before .before .args in
+    let l = c .before .loop in
+    let ls = lines (a .start-x .now) (a .start-y .now) (a .end-x .now) (a .end-y .now) in
+    globals-full ls (a .cells) (a .count) (a .globals .now) (a .p) (a .q) (a .k) (a .first .now) (a .second .now) (a .places .now) (a .hits) (c .before .before .before .before .before .before .before .before .before .before .pre) (l .first) (l .second) (l .places) (l .p) (l .q) (l .k) (l .tests) (l .hits) (l .inv) (omega (arith, globals-long ls (a .cells) (a .count) (a .globals .now) (a .p) (a .q) (a .k) (a .first .now) (a .second .now) (a .places .now) (a .hits) (c .before .before .before .before .before .before .before .before .before .before .pre) (l .first) (l .second) (l .places) (l .p) (l .q) (l .k) (l .tests) (l .hits) (l .inv), c .loop-test .left))
 
 same-length-4 : tie.Need-same-length-4 Inv-loop μ-loop
 same-length-4 c =
-    let a = c .before .before .before .before .before .before .before .before .before .before .before .before .args in
+    let a = c .before .before .before .before .before .before .before .before .before .before .before .before .before .args in
     let l = c .before .before .before .before .loop in
     let ls = lines (a .start-x .now) (a .start-y .now) (a .end-x .now) (a .end-y .now) in
-    globals-long-2 ls (a .count) (a .globals .now) (a .p) (a .q) (a .k) (a .first .now) (a .second .now) (a .hits) (c .before .before .before .before .before .before .before .before .before .before .before .before .pre) (l .first) (l .second) (l .p) (l .q) (l .k) (l .tests) (l .hits) (l .inv)
+    globals-long ls (a .cells) (a .count) (a .globals .now) (a .p) (a .q) (a .k) (a .first .now) (a .second .now) (a .places .now) (a .hits) (c .before .before .before .before .before .before .before .before .before .before .before .before .before .pre) (l .first) (l .second) (l .places) (l .p) (l .q) (l .k) (l .tests) (l .hits) (l .inv)
+
+same-length-5 : tie.Need-same-length-5 Inv-loop μ-loop
+same-length-5 c =
+    let a = c .before .before .before .before .before .before .before .before .before .before .before .before .before .args in
+    let l = c .before .before .before .before .loop in
+    let ls = lines (a .start-x .now) (a .start-y .now) (a .end-x .now) (a .end-y .now) in
+    globals-long-2 ls (a .cells) (a .count) (a .globals .now) (a .p) (a .q) (a .k) (a .first .now) (a .second .now) (a .places .now) (a .hits) (c .before .before .before .before .before .before .before .before .before .before .before .before .before .pre) (l .first) (l .second) (l .places) (l .p) (l .q) (l .k) (l .tests) (l .hits) (l .inv)
+
+same-length-6 : tie.Need-same-length-6 Inv-loop μ-loop
+same-length-6 c =
+    let a = c .before .before .before .before .before .before .before .before .before .before .before .before .before .args in
+    let l = c .before .before .before .before .loop in
+    let ls = lines (a .start-x .now) (a .start-y .now) (a .end-x .now) (a .end-y .now) in
+    globals-long-3 ls (a .cells) (a .count) (a .globals .now) (a .p) (a .q) (a .k) (a .first .now) (a .second .now) (a .places .now) (a .hits) (c .before .before .before .before .before .before .before .before .before .before .before .before .before .pre) (l .first) (l .second) (l .places) (l .p) (l .q) (l .k) (l .tests) (l .hits) (l .inv)
 
 returns-2 : tie.Need-returns-2 Inv-loop μ-loop
 returns-2 c =
-    let a = c .before .before .before .before .before .before .before .before .before .before .before .before .args in
+    let a = c .before .before .before .before .before .before .before .before .before .before .before .before .before .args in
     let l = c .before .before .before .before .loop in
     let ls = lines (a .start-x .now) (a .start-y .now) (a .end-x .now) (a .end-y .now) in
-    globals-over ls (a .count) (a .globals .now) (a .p) (a .q) (a .k) (a .first .now) (a .second .now) (a .hits) (c .before .before .before .before .before .before .before .before .before .before .before .before .pre) (l .first) (l .second) (l .p) (l .q) (l .k) (l .tests) (l .hits) (l .inv) (global-past (length (a .start-x .now)) (a .count) (a .globals .now) (l .p) (l .q) (l .k) _ (c .before .before .settle-global .ensures) (c .enum-told .given .1))
+    globals-over ls (a .cells) (a .count) (a .globals .now) (a .p) (a .q) (a .k) (a .first .now) (a .second .now) (a .places .now) (a .hits) (c .before .before .before .before .before .before .before .before .before .before .before .before .before .pre) (l .first) (l .second) (l .places) (l .p) (l .q) (l .k) (l .tests) (l .hits) (l .inv) (global-past (length (a .start-x .now)) (a .count) (a .globals .now) (l .p) (l .q) (l .k) _ (c .before .before .settle-global .ensures) (c .enum-told .given .1))
 
 pub run-globals-spec : {M : Type 1} → statement M
 run-globals-spec =
@@ -174,6 +208,9 @@ run-globals-spec =
     shared-slice-read-row-of
     row-of-requires
     scan-lines-requires
+    add-put-places
+    cast-put-places
+    put-places-requires
     sub-tests
     cast-tests
     add-tests
@@ -181,7 +218,9 @@ run-globals-spec =
     loop-again
     same-length
     same-length-2
-    returns
     same-length-3
+    returns
     same-length-4
+    same-length-5
+    same-length-6
     returns-2)

@@ -1,0 +1,2 @@
+-- The definitions that the contracts of `capi_places` cite.
+pub mod Lent

@@ -128,7 +128,7 @@ pub record Standing (W : ℕ → List ℕ) (m n : ℕ) (starts listing : List �
   pub counted : Counted (linesAt W c) counts
 
 module _ {W : ℕ → List ℕ} {m n : ℕ} {starts listing : List ℕ} {c : ℕ} {counts : List ℕ} (s : Standing W m n starts listing c counts) where
-  front-lines : (i : ℕ) → i < n → frontOf i starts listing counts ≡ linesAt W c i
+  pub front-lines : (i : ℕ) → i < n → frontOf i starts listing counts ≡ linesAt W c i
   front-lines i h =
       let f = lines-front W i c m (s .at-most) in
       let l : length (linesAt W m i) ≡ length (linesAt W c i) + length (f .0) = ap length (f .1) ∙ length-append (linesAt W c i) (f .0) in

@@ -3,3 +3,5 @@ pub mod Turns
 pub mod Room
 pub mod Fronts
 pub mod Common
+pub mod Bits
+pub mod Shared

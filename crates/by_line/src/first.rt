@@ -29,7 +29,7 @@ pub fn meet(xs: &[u32], ys: &[u32]) -> bool
 }
 
 // The first so many cells of a line, of lists by line. What is no part of them is empty.
-fn front<'a>(line: u32, starts: &[u32], listing: &'a [u32], counts: &[u32]) -> &'a [u32]
+pub(crate) fn front<'a>(line: u32, starts: &[u32], listing: &'a [u32], counts: &[u32]) -> &'a [u32]
     ensures { λ r. ⌜ now r ≡ frontOf line (now (starts .entry)) (now (listing .entry)) (now (counts .entry)) ⌝ }
 {
     let i = line as usize;

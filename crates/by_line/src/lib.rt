@@ -9,6 +9,7 @@ ghost use Rattle.by_line.specs.ByLine.{roomCheck, ByLineIs};
 ghost use Rattle.by_line.specs.Inside.{MakeAsks, Made};
 
 pub mod first;
+pub mod marks;
 mod passes;
 mod sums;
 

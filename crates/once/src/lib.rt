@@ -52,6 +52,7 @@ fn run(
     let cells = (grid.rows as usize) * (grid.cols as usize);
     let hits = cells::scan_cells(
         cells,
+        grid.cols,
         offsets,
         items,
         start_x,

@@ -11,6 +11,8 @@ use std::hint::black_box;
 
 const BAR: Option<f64> = Some(1.0);
 const MEMORY_BAR: Option<f64> = Some(0.5);
+/// Of a visit that hands out each pair once, by a plain one.
+const ONCE_BAR: Option<f64> = Some(1.07);
 
 /// Outputs of so many pairs. The bar of a visit speaks of the last, that of the memory of the first.
 const ROOMS: [usize; 3] = [4096, 65536, 1 << 20];
@@ -214,9 +216,11 @@ pub fn once(clock: &Clock, years: &[Year], seed: u64) {
             &mut || assert_eq!(port_visit(y, &mut plain), y.overlaps),
         ]);
         let of_a_test = |party: usize| times.of(party) * 1e9 / y.tests as f64;
+        let ratio = times.ratio(0, 1);
         println!(
-            "  {:<64} once {:>7.2}  plain {:>7.2} ns a test  once/plain {:.3}",
-            format!("{} lines: {} tests, {} overlaps, {} pairs", y.n, y.tests, y.overlaps, out[0]), of_a_test(0), of_a_test(1), times.ratio(0, 1),
+            "  {:<64} once {:>7.2}  plain {:>7.2} ns a test  once/plain {ratio:.3}{}",
+            format!("{} lines: {} tests, {} overlaps, {} pairs", y.n, y.tests, y.overlaps, out[0]), of_a_test(0), of_a_test(1),
+            clock.held(ratio, ONCE_BAR),
         );
     }
 }

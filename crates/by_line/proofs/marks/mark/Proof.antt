@@ -1,0 +1,70 @@
+-- `by_line::marks::mark` meets its contract. Assumes nothing.
+use native.Mathlib.Omega.{arith}
+use Rattle.by_line.proofs.Shared.{mark-is, Marking, marking-begin, marking-over, marking-stop, marking-more}
+use borrow.Author.Needs.{needs}
+use Rattle.by_line.proofs.marks.mark.Statement.{statement}
+use Rattle.by_line.proofs.marks.mark.Tie as tie
+use Rattle.by_line.proofs.marks.mark.Reads as reads
+use Rattle.by_line.proofs.marks.mark.Lts as lts
+use Rattle.by_line.proofs.first.front.Reads as front-reads
+use Rattle.by_line.proofs.marks.bit_of.Reads as bit-of-reads
+
+abbrev Inv-loop : tie.InvT-loop
+Inv-loop line before low starts listing counts cells m₀ i₀ m i = Marking cells before low m i
+
+abbrev μ-loop : tie.MeasureT-loop
+μ-loop line before low starts listing counts cells m₀ i₀ m i = i
+
+front-requires : tie.Need-front-requires Inv-loop μ-loop
+front-requires c κs = search needs
+
+loop-holds : tie.Need-loop-holds Inv-loop μ-loop
+loop-holds c = marking-begin _ _ _
+
+sub-i : tie.Need-sub-i Inv-loop μ-loop
+sub-i c = omega arith
+
+mul-cell : tie.Need-mul-cell Inv-loop μ-loop
+mul-cell c = omega arith
+
+shared-slice-read-cell : tie.Need-shared-slice-read-cell Inv-loop μ-loop
+shared-slice-read-cell c = omega arith
+
+returns : tie.Need-returns Inv-loop μ-loop
+returns c =
+    let a = c .before .before .before .before .before .before .before .before .args in
+    mark-is (a .line) (a .before) (a .low) (a .starts .now) (a .listing .now) (a .counts .now) (c .before .before .before .before .front .ensures)
+    (marking-stop (c .before .before .before .loop .inv) (c .before .before .loop-test .taken) (c .if1 .taken))
+
+bit-of-requires : tie.Need-bit-of-requires Inv-loop μ-loop
+bit-of-requires c κs = omega arith
+
+loop-less : tie.Need-loop-less Inv-loop μ-loop
+loop-less c = omega arith
+
+loop-again : tie.Need-loop-again Inv-loop μ-loop
+loop-again c =
+    marking-more (c .before .before .before .before .loop .inv) (c .before .before .before .loop-test .taken) (c .before .if1 .left) (c .bit-of .ensures)
+
+returns-2 : tie.Need-returns-2 Inv-loop μ-loop
+returns-2 c =
+    let a = c .before .before .before .before .before .before .args in
+    mark-is (a .line) (a .before) (a .low) (a .starts .now) (a .listing .now) (a .counts .now) (c .before .before .front .ensures)
+    (marking-over (c .before .loop .inv) (c .loop-test .left))
+
+pub mark-spec : {M : Type 1} → statement M
+mark-spec =
+    tie.close
+    (tie.spec
+    Inv-loop
+    μ-loop
+    front-requires
+    loop-holds
+    sub-i
+    mul-cell
+    shared-slice-read-cell
+    returns
+    bit-of-requires
+    loop-less
+    loop-again
+    returns-2)

@@ -1,0 +1,28 @@
+-- The mark of a line: a number whose bits say which of a few cells are among the first cells of the line. Definitions only.
+use Prim.Native.Nat.{ℕ, zero, suc, _+_, _-_, _/_, _%_, _^_, _<_}
+use mathlib.Core.Path.{_≡_}
+use mathlib.Core.Bool.{cond}
+use mathlib.Core.List.{List}
+use lib.Dec.{leb, ltb, eqb}
+use lib.ListN.{length, getD}
+use lib.Bits.{bitOr}
+use Rattle.by_line.specs.First.{frontOf}
+
+-- the bit of a cell: bit 0 is that of the cell `before`, bit k that of the cell low + k, below bit 32
+unfoldable pub bitOf : ℕ → ℕ → ℕ → ℕ
+bitOf before low cell = cond (eqb cell before) 1 (cond (ltb (cell - low) 32) (2 ^ (cell - low)) 0)
+
+-- the bits of the first i of a list, from the last back to one that is not above `low`, and those of m
+unfoldable pub bitsBack : List ℕ → ℕ → ℕ → ℕ → ℕ → ℕ
+bitsBack cells before low zero m = m
+bitsBack cells before low (suc i) m = cond (leb (getD cells i 0) low) m (bitsBack cells before low i (bitOr m (bitOf before low (getD cells i 0))))
+
+-- THE MARK OF A LINE, of lists by line and how many of each list's cells were visited
+unfoldable pub markOf : ℕ → ℕ → ℕ → List ℕ → List ℕ → List ℕ → ℕ
+markOf line before low starts listing counts = let cells = frontOf line starts listing counts in bitsBack cells before low (length cells) 0
+
+-- the marks before and after: the mark of each line of a list stands at its position, as far as there is room; what is beyond the list is as it was
+pub record MarksAre (list : List ℕ) (before low : ℕ) (starts listing counts marks marks′ : List ℕ) : Type 0 where
+  pub long : length marks′ ≡ length marks
+  pub marked : (j : ℕ) → j < length list → j < length marks → getD marks′ j 0 ≡ markOf (getD list j 0) before low starts listing counts
+  pub rest : (j : ℕ) → (j < length list → ⊥) → getD marks′ j 0 ≡ getD marks j 0

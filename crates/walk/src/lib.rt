@@ -17,6 +17,7 @@ ghost use mathlib.Core.Bool.{false};
 ghost use Prim.Native.Nat.{_≤_, _<_};
 ghost use lib.ListN.{length};
 ghost use Rattle.refusals.specs.Refusals.{gives, _then_};
+ghost use Rattle.grid.specs.Domain.{segmentBy};
 ghost use Rattle.grid.proofs.Shapes.{Shape};
 ghost use Rattle.cover.specs.Covering.{coveringOf, everywhere};
 ghost use Rattle.walk.specs.Segment.{byTurns, turnsOf, turning, everywhereIn, entryCheck, offIn, entryOf, reachOf, Walked, Entered};
@@ -168,16 +169,48 @@ fn is_turning(mode: Mode) -> bool
     }
 }
 
+// The walk between two points: by turns, or the covering walk. The ends are handed over as numbers, in registers: a segment that is written to memory
+// number by number and read back in pairs makes a processor wait, for a sixth of a short walk.
+fn cells_between(
+    mode: Mode,
+    grid: Grid,
+    start_x: f64,
+    start_y: f64,
+    end_x: f64,
+    end_y: f64,
+    scratch: &mut [u32],
+) -> Reached
+    ensures { λ r. let line = segmentBy «start_x» «start_y» «end_x» «end_y» in
+        let o = reachOf mode (length (now (scratch .entry))) grid line in
+        ⌜ Walked (everywhereIn mode grid line) o (now (scratch .entry)) r (now (scratch .exit)) ⌝ }
+{
+    let line = Segment {
+        start_x,
+        start_y,
+        end_x,
+        end_y,
+    };
+    if is_turning(mode) {
+        return turned(mode, grid, line, scratch);
+    }
+    covered(grid, line, scratch)
+}
+
 // The walk of one line inside a larger call: its cells, increasing, none twice, at the start of the scratch. What is beyond them there is not zeroed.
 // Refusals 3, 1, 8 and 7.
 pub fn segment_cells(mode: Mode, grid: Grid, line: Segment, scratch: &mut [u32]) -> Reached
     ensures { λ r. let o = reachOf mode (length (now (scratch .entry))) grid line in
         ⌜ Walked (everywhereIn mode grid line) o (now (scratch .entry)) r (now (scratch .exit)) ⌝ }
 {
-    if is_turning(mode) {
-        return turned(mode, grid, line, scratch);
-    }
-    covered(grid, line, scratch)
+    cells_between(
+        mode,
+        grid,
+        line.start_x,
+        line.start_y,
+        line.end_x,
+        line.end_y,
+        scratch,
+    )
 }
 
 // Whether an end of the line is off the grid of the covering walk.
@@ -204,7 +237,15 @@ pub fn cells_of_segment(mode: Mode, grid: Grid, line: Segment, scratch: &mut [u3
             value: 0,
         });
     }
-    let r = segment_cells(mode, grid, line, scratch);
+    let r = cells_between(
+        mode,
+        grid,
+        line.start_x,
+        line.start_y,
+        line.end_x,
+        line.end_y,
+        scratch,
+    );
     match r {
         Reached::Found(n) => {
             slices::clear_from(scratch, n);

@@ -20,15 +20,15 @@ returns-2 c = off-entry _ _ _ (checked (c .before .before)) (sym (c .before .is-
 
 returns-3 : tie.Need-returns-3
 returns-3 c =
-    found-entry _ _ _ (checked (c .before .before .before .before .before .before .before .before .before .before .before .before .before)) (sym (c .before .before .before .before .before .before .before .before .before .before .before .before .is-off .ensures) ∙ c .before .before .before .before .before .before .before .before .before .before .before .if1 .left) (c .before .before .before .before .before .before .before .before .before .segment-cells .ensures) _ _ (c .before .before .before .before .before .r .given .1) (c .before .before .clear-from .ensures)
+    found-entry _ _ _ (checked (c .before .before .before .before .before .before .before .before .before .before .before .before .before)) (sym (c .before .before .before .before .before .before .before .before .before .before .before .before .is-off .ensures) ∙ c .before .before .before .before .before .before .before .before .before .before .before .if1 .left) (c .before .before .before .before .before .before .before .before .before .cells-between .ensures) _ _ (c .before .before .before .before .before .r .given .1) (c .before .before .clear-from .ensures)
 
 returns-4 : tie.Need-returns-4
 returns-4 c =
-    everywhere-entry _ _ _ (checked (c .before .before .before .before .before .before .before .before)) (sym (c .before .before .before .before .before .before .before .is-off .ensures) ∙ c .before .before .before .before .before .before .if1 .left) (c .before .before .before .before .segment-cells .ensures) _ (c .enum-told2 .given .1)
+    everywhere-entry _ _ _ (checked (c .before .before .before .before .before .before .before .before)) (sym (c .before .before .before .before .before .before .before .is-off .ensures) ∙ c .before .before .before .before .before .before .if1 .left) (c .before .before .before .before .cells-between .ensures) _ (c .enum-told2 .given .1)
 
 returns-5 : tie.Need-returns-5
 returns-5 c =
-    refused-entry _ _ _ (checked (c .before .before .before .before .before .before .before .before .before)) (sym (c .before .before .before .before .before .before .before .before .is-off .ensures) ∙ c .before .before .before .before .before .before .before .if1 .left) (c .before .before .before .before .before .segment-cells .ensures) _ (c .before .r2 .given .1)
+    refused-entry _ _ _ (checked (c .before .before .before .before .before .before .before .before .before)) (sym (c .before .before .before .before .before .before .before .before .is-off .ensures) ∙ c .before .before .before .before .before .before .before .if1 .left) (c .before .before .before .before .before .cells-between .ensures) _ (c .before .r2 .given .1)
 
 pub cells-of-segment-spec : {M : Type 1} → statement M
 cells-of-segment-spec =

@@ -1,9 +1,9 @@
--- `walk::segment_cells` meets its contract: by turns, or the covering walk. Assumes nothing.
+-- `walk::cells_between` meets its contract: by turns, or the covering walk. Assumes nothing.
 use mathlib.Core.Path.{sym, _∙_}
 use borrow.Author.Needs.{needs}
 use Rattle.walk.proofs.Reaching.{reached-turns, reached-covers}
-use Rattle.walk.proofs.segment_cells.Statement.{statement}
-use Rattle.walk.proofs.segment_cells.Tie as tie
+use Rattle.walk.proofs.cells_between.Statement.{statement}
+use Rattle.walk.proofs.cells_between.Tie as tie
 
 returns : tie.Need-returns
 returns c = reached-turns _ _ _ _ (sym (c .before .before .before .before .before .is-turning .ensures) ∙ c .before .before .before .before .if1 .taken) (c .before .before .turned .ensures)
@@ -11,8 +11,8 @@ returns c = reached-turns _ _ _ _ (sym (c .before .before .before .before .befor
 returns-2 : tie.Need-returns-2
 returns-2 c = reached-covers _ _ _ _ (sym (c .before .before .before .before .before .is-turning .ensures) ∙ c .before .before .before .before .if1 .left) (c .before .before .covered .ensures)
 
-pub segment-cells-spec : {M : Type 1} → statement M
-segment-cells-spec =
+pub cells-between-spec : {M : Type 1} → statement M
+cells-between-spec =
     tie.close
     (tie.spec
     (λ c κs. search needs)

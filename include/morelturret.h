@@ -242,9 +242,9 @@ uint32_t mt_add_line(const uint64_t *grid, size_t grid_len, uint32_t mode, doubl
 
 /* ---- standing tables ---- */
 
-/* Whether every call below that is lent the tables takes them: at most 65,536 lines, a grid record that is fit, and tables that fit. Tables fit
- * if offsets has at least cells + 1 entries, the first is 0, they never fall over those entries and the last is within items; each list and the
- * first global_count globals strictly increase below the number of lines; global_count is within globals.
+/* Whether every call below that is lent the tables takes them, save mt_next_unchecked, which asks nothing of them: at most 65,536 lines, a grid record
+ * that is fit, and tables that fit. Tables fit if offsets has at least cells + 1 entries, the first is 0, they never fall over those entries and the last
+ * is within items; each list and the first global_count globals strictly increase below the number of lines; global_count is within globals.
  * out (1 word): written only on a refusal.
  * Refuses by 2, 8, 10. */
 uint32_t mt_check_tables(const uint64_t *grid, size_t grid_len, size_t lines, const uint32_t *offsets, size_t offsets_len,
@@ -320,6 +320,30 @@ uint32_t mt_batch_places(const uint64_t *grid, size_t grid_len, const double *st
                          const uint32_t *items, size_t items_len, const uint32_t *globals, size_t globals_len, uint64_t global_count,
                          uint64_t bookmark, uint32_t *first, size_t first_len, uint32_t *second, size_t second_len,
                          uint32_t *places, size_t places_len, uint64_t *out, size_t out_len);
+
+/* A visit that pays for its checks once. mt_batch checks lines and tables whole at every call, as it must. mt_start checks them once, as a batch
+ * does, and answers the cursor of a bookmark, 0 for a whole visit; mt_next_unchecked goes on from a cursor.
+ * out (3 words): the cursor, which is three numbers.
+ * Refuses by 3, 2, 1, 8, 10, 9. */
+uint32_t mt_start(const uint64_t *grid, size_t grid_len, const double *start_x, size_t start_x_len,
+                  const double *start_y, size_t start_y_len, const double *end_x, size_t end_x_len, const double *end_y, size_t end_y_len,
+                  const uint32_t *offsets, size_t offsets_len, const uint32_t *items, size_t items_len,
+                  const uint32_t *globals, size_t globals_len, uint64_t global_count, uint64_t bookmark, uint64_t *out, size_t out_len);
+
+/* The tests from a cursor on, as mt_batch makes them from a bookmark, with the same pairs in first and second. The cursor is the three numbers place, i
+ * and j that mt_start or the last call answered. The visit is over when a call leaves an output unfilled.
+ * It checks nothing of grid and tables, and of the lines their lengths and their count alone: call it with what mt_start took, and change none of it
+ * between the calls. Then each call is the batch that stands there, bit for bit, and takes time by its tests alone. That it checks nothing is sound: no
+ * words, lines, tables or numbers of a cursor make it read or write outside what it is lent. A list that is no part of the items, or does not
+ * strictly increase below the number of lines, counts as empty, and so do the globals; a cursor past the end is the end.
+ * out (5 words): the tests made, the pairs handed out, and the cursor of the tests that are left.
+ * Refuses by 3, 2. */
+uint32_t mt_next_unchecked(const uint64_t *grid, size_t grid_len, const double *start_x, size_t start_x_len,
+                           const double *start_y, size_t start_y_len, const double *end_x, size_t end_x_len,
+                           const double *end_y, size_t end_y_len, const uint32_t *offsets, size_t offsets_len,
+                           const uint32_t *items, size_t items_len, const uint32_t *globals, size_t globals_len, uint64_t global_count,
+                           uint64_t place, uint64_t i, uint64_t j, uint32_t *first, size_t first_len, uint32_t *second, size_t second_len,
+                           uint64_t *out, size_t out_len);
 
 /* Each pair once: a full visit that hands out two lines whose boxes overlap at their first test alone, in the order of the visit and with the lines
  * in that test's order. Pair k is (first[k], second[k]); first and second are of one length, and zeroed beyond the pairs. starts, listing and counts

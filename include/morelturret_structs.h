@@ -518,6 +518,50 @@ static inline mt_refusal mt_tables_pairs(const mt_tables *tables, const mt_lines
     return mt_refused(number, out[0]);
 }
 
+/* Where a visit stands: what mt_tables_start answered, or mt_tables_next left. */
+typedef struct {
+    uint64_t place, i, j;
+} mt_cursor;
+
+/* Checks lines and tables whole, as mt_start does, and answers the cursor of a bookmark, 0 for a whole visit.
+ * Refuses by 3, 2, 1, 8, 10, 9. */
+static inline mt_refusal mt_tables_start(const mt_tables *tables, const mt_lines *lines, uint64_t bookmark, mt_cursor *cursor) {
+    uint64_t grid[6], out[3] = {0, 0, 0};
+    size_t n = lines->count;
+    uint32_t number;
+    mt_grid_words(&tables->grid, grid);
+    number = mt_start(grid, 6, lines->start_x, n, lines->start_y, n, lines->end_x, n, lines->end_y, n, tables->offsets, tables->offset_room,
+                      tables->items, tables->item_room, tables->globals, tables->global_room, tables->global_count, bookmark, out, 3);
+    if (number == MT_OK) {
+        cursor->place = out[0];
+        cursor->i = out[1];
+        cursor->j = out[2];
+    }
+    return mt_refused(number, out[0]);
+}
+
+/* The pairs of the tests from *cursor on, until the room is full of them or the end comes, as mt_next_unchecked hands them out; *cursor is moved on,
+ * and *tests, where there is one, grows by the tests made. Where pairs->count is below pairs->room afterwards, the visit is over. It checks no tables:
+ * lines and tables are those that mt_tables_start took, and are not changed between the calls.
+ * Refuses by 3, 2. */
+static inline mt_refusal mt_tables_next(const mt_tables *tables, const mt_lines *lines, mt_cursor *cursor, mt_pairs_room *pairs, uint64_t *tests) {
+    uint64_t grid[6], out[5] = {0, 0, 0, 0, 0};
+    size_t n = lines->count;
+    uint32_t number;
+    mt_grid_words(&tables->grid, grid);
+    number = mt_next_unchecked(grid, 6, lines->start_x, n, lines->start_y, n, lines->end_x, n, lines->end_y, n, tables->offsets, tables->offset_room,
+                               tables->items, tables->item_room, tables->globals, tables->global_room, tables->global_count, cursor->place, cursor->i,
+                               cursor->j, pairs->first, pairs->room, pairs->second, pairs->room, out, 5);
+    if (number == MT_OK) {
+        pairs->count = (size_t)out[1];
+        cursor->place = out[2];
+        cursor->i = out[3];
+        cursor->j = out[4];
+        if (tests) *tests += out[0];
+    }
+    return mt_refused(number, out[0]);
+}
+
 /* The pairs of mt_tables_pairs, and beside each the number of the place where it was tested, as mt_batch_places says it; places has pairs->room entries.
  * Refuses by 3, 2, 1, 8, 10, 9. */
 static inline mt_refusal mt_tables_pairs_places(const mt_tables *tables, const mt_lines *lines, uint64_t *bookmark, mt_pairs_room *pairs,

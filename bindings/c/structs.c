@@ -83,6 +83,33 @@ static void visit_places(const mt_tables *tables, const mt_lines *lines, const u
     same(number == MT_BEYOND_END && beyond == bookmark + 1 && pairs.count == count, "what a batch with places beyond the end leaves", path);
 }
 
+/* the visit that is checked once, beside the flat functions and beside the batches of the same room; and from a bookmark beyond the end */
+static void visit_from(const mt_tables *tables, const mt_lines *lines, const uint64_t *grid, const char *path) {
+    const size_t n = lines->count;
+    const double *sx = lines->start_x, *sy = lines->start_y, *ex = lines->end_x, *ey = lines->end_y;
+    uint64_t out[5], tests = 0, bookmark = 0;
+    mt_cursor cursor = {0, 0, 0}, flat;
+    mt_pairs_room pairs = {first, second, ROOM, 0};
+    uint32_t number = mt_start(grid, 8, sx, n, sy, n, ex, n, ey, n, flat_offsets, MT_MAX_OFFSETS, flat_items, ITEMS, flat_globals, LINES, grid[7], 0, out, 3);
+    if (!alike(mt_tables_start(tables, lines, 0, &cursor), number, out[0], "a start", path)) return;
+    same(cursor.place == out[0] && cursor.i == out[1] && cursor.j == out[2], "the cursor of a start", path);
+    do {
+        flat = cursor;
+        number = mt_next_unchecked(grid, 8, sx, n, sy, n, ex, n, ey, n, flat_offsets, MT_MAX_OFFSETS, flat_items, ITEMS, flat_globals, LINES, grid[7], flat.place, flat.i, flat.j, flat_first, ROOM, flat_second, ROOM, out, 5);
+        if (!alike(mt_tables_next(tables, lines, &cursor, &pairs, &tests), number, out[0], "a part of a visit", path)) return;
+        same(cursor.place == out[2] && cursor.i == out[3] && cursor.j == out[4] && pairs.count == out[1], "the cursor of a part", path);
+        same(!memcmp(first, flat_first, sizeof first) && !memcmp(second, flat_second, sizeof second), "the pairs of a part", path);
+        number = mt_batch(grid, 8, sx, n, sy, n, ex, n, ey, n, flat_offsets, MT_MAX_OFFSETS, flat_items, ITEMS, flat_globals, LINES, grid[7], bookmark, flat_first, ROOM, flat_second, ROOM, out, 3);
+        bookmark = out[2];
+        same(number == MT_OK && bookmark == tests && pairs.count == out[1], "a part and a batch", path);
+        same(!memcmp(first, flat_first, sizeof first) && !memcmp(second, flat_second, sizeof second), "the pairs of a part and a batch", path);
+    } while (pairs.count == pairs.room);
+    flat = cursor;
+    number = mt_start(grid, 8, sx, n, sy, n, ex, n, ey, n, flat_offsets, MT_MAX_OFFSETS, flat_items, ITEMS, flat_globals, LINES, grid[7], tests + 1, out, 3);
+    alike(mt_tables_start(tables, lines, tests + 1, &cursor), number, out[0], "a start beyond the end", path);
+    same(number == MT_BEYOND_END && cursor.place == flat.place && cursor.i == flat.i && cursor.j == flat.j, "what a start beyond the end leaves", path);
+}
+
 /* each pair once; with room, with too little for one pair, and with a scratch that is short by one */
 static void visit_once(const mt_tables *tables, const mt_lines *lines, const uint64_t *grid, const char *path) {
     const size_t n = lines->count, needed = ITEMS + 2 * n + 1;
@@ -340,6 +367,7 @@ static void build(const mt_lines *lines, const mt_points *points, uint32_t sizin
     visit(&tables, lines, built, path);
     ask(&tables, lines, built, path);
     visit_places(&tables, lines, built, path);
+    visit_from(&tables, lines, built, path);
     visit_once(&tables, lines, built, path);
     cross(&tables, lines, built, path);
     on_grid(&tables, points, built, path);

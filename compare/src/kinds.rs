@@ -1,6 +1,6 @@
 //! One comparison for each kind of question. Each asks the Rust, the model and the port.
 //! What the Rust cannot be asked (refusals, walks past the budget, the reader, cells sized by axis, the sided
-//! mode of walk, several benches, lines added to standing tables) is asked of the model and the port. Kinds that
+//! mode of walk, several benches, lines added to standing tables, tables as they are) is asked of the model and the port. Kinds that
 //! turn on the sizes of cells are asked twice: `AXES` says that width and height are kept apart.
 
 use crate::random::Random;
@@ -24,6 +24,7 @@ pub mod own;
 pub mod owners;
 pub mod pairs;
 pub mod places;
+pub mod resume;
 pub mod seams;
 pub mod covering;
 pub mod sided;

@@ -1181,6 +1181,84 @@ pub fn batch_places(s: &Standing, tests: &[Test], bookmark: u64, outputs: [&mut 
     0
 }
 
+/// Where a test stands: the number of its place, which is a cell or, from the number of cells that are looked at on, a global by its position; then, in
+/// a cell, where its two lines stand in the list, or 0 and the line that a global is tested with.
+pub type Cursor = [u64; 3];
+
+/// Every test of tables as they are, with nothing checked, each beside its cursor, in order; and the cursor of the end. A list that does not strictly
+/// increase below the number of lines, or is no part of the items, is empty.
+pub fn as_they_are(s: &Standing) -> (Vec<(Cursor, Test)>, Cursor) {
+    let n = s.lines.start_x.len() as u32;
+    let increases = |list: &[u32]| list.windows(2).all(|w| w[0] < w[1]) && list.iter().all(|&i| i < n);
+    let part = |slice: &[u32], from: usize, to: usize| slice.get(from..to).filter(|list| increases(list)).map_or(Vec::new(), |list| list.to_vec());
+    let told = s.offsets.len().saturating_sub(1) as u64;
+    let reach = (s.grid.cols as u64 * s.grid.rows as u64).min(told).min(1_002_001);
+    let mut tests = Vec::new();
+    let mut put = |cursor: Cursor, cell: bool, row_or_position: u32, col: u32, first: u32, second: u32| {
+        tests.push((cursor, Test { cell, row_or_position, col, first, second, overlap: s.overlap(first, second) }));
+    };
+    for cell in 0..reach as usize {
+        let list = part(s.items, s.offsets[cell] as usize, s.offsets[cell + 1] as usize);
+        for i in 0..list.len() {
+            for j in i + 1..list.len() {
+                put([cell as u64, i as u64, j as u64], true, cell as u32 / s.grid.cols, cell as u32 % s.grid.cols, list[i], list[j]);
+            }
+        }
+    }
+    let globals = usize::try_from(s.global_count).map_or(Vec::new(), |count| part(s.globals, 0, count));
+    for (position, &first) in globals.iter().enumerate() {
+        for second in (0..n).filter(|second| !globals[..=position].contains(second)) {
+            put([reach + position as u64, 0, second as u64], false, position as u32, 0, first, second);
+        }
+    }
+    (tests, [reach + globals.len() as u64, 0, 0])
+}
+
+/// `stood` is what `as_they_are` says of the tables. out: the cursor of the tests that are left at a bookmark.
+pub fn start(s: &Standing, stood: &(Vec<(Cursor, Test)>, Cursor), bookmark: u64, out: &mut [u64]) -> u32 {
+    if out.len() < 3 {
+        return SHORT;
+    }
+    if let Some((number, value)) = s.refusal(false, bookmark) {
+        out[0] = value;
+        return number;
+    }
+    out[..3].copy_from_slice(&stood.0.get(bookmark as usize).map_or(stood.1, |at| at.0));
+    0
+}
+
+/// The tests at or after a cursor, whatever its numbers are. At a global its second number says nothing.
+/// out: the tests made, the pairs, and the cursor of the tests that are left.
+pub fn next(
+    s: &Standing, stood: &(Vec<(Cursor, Test)>, Cursor), at: Cursor, first: &mut [u32], second: &mut [u32], out: &mut [u64],
+) -> u32 {
+    if out.len() < 5 {
+        return SHORT;
+    }
+    let n = s.lines.start_x.len();
+    let refusal = (first.len() != second.len() || s.lines.uneven()).then_some((3, 0)).or((n > MOST_LINES).then_some((2, n as u64)));
+    if let Some((number, value)) = refusal {
+        out[0] = value;
+        return number;
+    }
+    first.fill(0);
+    second.fill(0);
+    let (tests, end) = stood;
+    let from = tests.partition_point(|(cursor, test)| if test.cell { *cursor < at } else { (cursor[0], cursor[2]) < (at[0], at[2]) });
+    let (mut to, mut written) = (from, 0);
+    while written < first.len() && to < tests.len() {
+        let t = tests[to].1;
+        to += 1;
+        if t.overlap {
+            (first[written], second[written]) = (t.first, t.second);
+            written += 1;
+        }
+    }
+    let left = tests.get(to).map_or(*end, |at| at.0);
+    out[..5].copy_from_slice(&[(to - from) as u64, written as u64, left[0], left[1], left[2]]);
+    0
+}
+
 /// The five slices that a visit is lent that hands out each pair once.
 #[derive(Clone)]
 pub struct OnceLent {

@@ -5,7 +5,7 @@
 #![allow(clippy::too_many_arguments)]
 
 use crate::inner;
-use crate::model::{Coordinates, Lists, OnceLent, Standing};
+use crate::model::{Coordinates, Cursor, Lists, OnceLent, Standing};
 use crate::{Grid, Line};
 use morelturret::sys;
 
@@ -133,6 +133,22 @@ pub fn batch(s: &Standing, bookmark: u64, first: &mut [u32], second: &mut [u32],
     let l = &s.lines;
     sys::batch(
         &s.grid.words(), l.start_x, l.start_y, l.end_x, l.end_y, s.offsets, s.items, s.globals, s.global_count, bookmark, first, second, out,
+    )
+}
+
+/// out: the cursor of a bookmark.
+#[inline]
+pub fn start(s: &Standing, bookmark: u64, out: &mut [u64]) -> u32 {
+    let l = &s.lines;
+    sys::start(&s.grid.words(), l.start_x, l.start_y, l.end_x, l.end_y, s.offsets, s.items, s.globals, s.global_count, bookmark, out)
+}
+
+/// out: tests, overlaps, the new cursor.
+#[inline]
+pub fn next(s: &Standing, at: Cursor, first: &mut [u32], second: &mut [u32], out: &mut [u64]) -> u32 {
+    let (l, [place, i, j]) = (&s.lines, at);
+    sys::next_unchecked(
+        &s.grid.words(), l.start_x, l.start_y, l.end_x, l.end_y, s.offsets, s.items, s.globals, s.global_count, place, i, j, first, second, out,
     )
 }
 

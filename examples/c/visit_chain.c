@@ -118,13 +118,16 @@ int main(int argc, char **argv) {
     printf("items %zu\n", tables.item_count);
     printf("globals %zu\n", tables.global_count);
 
-    /* 5. The visit, in batches of pairs. The bookmark, the number of tests made so far, is where the next batch starts. A batch that leaves room came
-     * to the end. */
+    /* 5. The visit, in batches of pairs. Lines and tables are checked once, at its start; the cursor is where the next batch starts. A batch that leaves
+     * room came to the end. */
     mt_pairs_room pairs = {first, second, BATCH, 0};
-    uint64_t bookmark = 0, overlaps = 0;
+    mt_cursor cursor;
+    uint64_t tests = 0, overlaps = 0;
     uint32_t shown[SHOWN][2];
+    refusal = mt_tables_start(&tables, &lines, 0, &cursor);
+    if (refusal.number != MT_OK) return refused(refusal);
     do {
-        refusal = mt_tables_pairs(&tables, &lines, &bookmark, &pairs);
+        refusal = mt_tables_next(&tables, &lines, &cursor, &pairs, &tests);
         if (refusal.number != MT_OK) return refused(refusal);
         /* This is where a program would work on its pairs. Here the first few are kept, to be printed. */
         for (size_t k = 0; k < pairs.count; k++) {
@@ -136,7 +139,7 @@ int main(int argc, char **argv) {
         overlaps += pairs.count;
     } while (pairs.count == pairs.room);
 
-    printf("tests %" PRIu64 "\n", bookmark);
+    printf("tests %" PRIu64 "\n", tests);
     printf("overlaps %" PRIu64 "\n", overlaps);
     for (uint64_t k = 0; k < overlaps && k < SHOWN; k++) printf("pair %" PRIu32 " %" PRIu32 "\n", shown[k][0], shown[k][1]);
     return ended(0);

@@ -58,15 +58,18 @@ int main(int argc, char **argv) {
     printf("grid %" PRIu32 " columns, %" PRIu32 " rows\n", tables.grid.cols, tables.grid.rows);
     printf("items %zu\nglobals %zu\n", tables.item_count, tables.global_count);
 
-    /* 4. The visit, batch by batch. A batch that leaves room in its outputs came to the end. */
+    /* 4. The visit, batch by batch, with one check of lines and tables at its start. A batch that leaves room in its outputs came to the end. */
     mt_pairs_room pairs = {first, second, BATCH, 0};
-    uint64_t bookmark = 0, overlaps = 0;
+    mt_cursor cursor;
+    uint64_t tests = 0, overlaps = 0;
+    refusal = mt_tables_start(&tables, &lines, 0, &cursor);
+    if (refusal.number != MT_OK) return refused(refusal);
     do {
-        refusal = mt_tables_pairs(&tables, &lines, &bookmark, &pairs);
+        refusal = mt_tables_next(&tables, &lines, &cursor, &pairs, &tests);
         if (refusal.number != MT_OK) return refused(refusal);
         overlaps += pairs.count;
     } while (pairs.count == pairs.room);
-    printf("tests %" PRIu64 "\noverlaps %" PRIu64 "\n", bookmark, overlaps);
+    printf("tests %" PRIu64 "\noverlaps %" PRIu64 "\n", tests, overlaps);
 
     /* 5. The members written again, in the little order throughout. */
     size_t need = 9 + 9 * members.member_count + 16 * members.point_count, written = 0;

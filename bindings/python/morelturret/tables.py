@@ -12,7 +12,7 @@ MOST_SAMPLE = 1 << 29  # above it refusal 15
 OFFSETS = 1_002_002  # enough for every build
 MOST_CELLS = 2_048  # the most that list a line; a line of more is global
 SHORT_ITEMS, SHORT_GLOBALS = 5, 6
-BATCH = 1 << 22  # pairs; every batch checks the tables once more, so few large ones are quicker than many small ones
+BATCH = 1 << 20  # pairs at a time
 
 
 def build(lines, sizing="square", walk=DEFAULT_WALK, grid=None):
@@ -96,16 +96,20 @@ class Tables:
 
     def batches(self, size=BATCH):
         """A full visit: pairs of lines whose boxes overlap, as two arrays of at most `size` entries at a time, with the tests made up to there. A pair
-        comes once for each cell that lists both, or, where one is global, once.
+        comes once for each cell that lists both, or, where one is global, once. Lines and tables are checked once, at its start.
 
         >>> tables = build(Lines.chain([0, 2, 2, 0, 0], [0, 0, 2, 2, 0]), walk="rust")
         >>> [(len(first), tests) for first, second, tests in tables.batches(size=5)]
         [(5, 5), (4, 9)]
         """
-        bookmark, total = 0, self.tests
-        while bookmark < total:
+        lent, bookmark, pairs = self.beside_lines, 0, size
+        place, i, j, *_ = answer("mt_start", *lent, bookmark)
+        while pairs == size:  # a batch that leaves room came to the end
             first, second = np.empty(size, np.uint32), np.empty(size, np.uint32)
-            _, pairs, bookmark, *_ = answer("mt_batch", *self.beside_lines, bookmark, first, second)
+            tests, pairs, place, i, j, *_ = answer("mt_next_unchecked", *lent, place, i, j, first, second)
+            if not tests:
+                return
+            bookmark += tests
             yield first[:pairs], second[:pairs], bookmark
 
     def batches_with_places(self, size=BATCH):

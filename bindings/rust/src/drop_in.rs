@@ -34,7 +34,7 @@
 //! # Ok::<(), ()>(())
 //! ```
 
-use crate::{Grid, LineVec, Lines, Refusal, Standing, Tables};
+use crate::{Grid, LineVec, Lines, Pairs, Refusal, Standing, Tables};
 
 /// A line, by the x and y of its ends.
 pub trait Segment {
@@ -184,7 +184,7 @@ impl UniformGrid {
         let places: Vec<u32> = (0..count as u32).collect();
         let offsets = [0, count as u32];
         let standing = Standing { grid: ONE_CELL, line_count: count, offsets: &offsets, items: &places, globals: &[], global_count: 0 };
-        let mut overlapping = Overlapping::new(standing, gathered.lines(), ROOM.min(count * (count - 1) / 2));
+        let mut overlapping = overlapping(standing, gathered.lines(), ROOM.min(count * (count - 1) / 2));
         let line = |place: u32| cell_indices[place as usize] as usize;
         match tracker.as_deref_mut() {
             None => overlapping.try_for_each(|(i, j)| visit(CandidatePair { first: line(i), second: line(j) })),
@@ -226,7 +226,7 @@ impl UniformGrid {
         // As the only global line, it is tested with every other.
         let global = [g_idx as u32];
         let standing = Standing { grid: ONE_CELL, line_count: soa.len(), offsets: &[0, 0], items: &[], globals: &global, global_count: 1 };
-        let mut overlapping = Overlapping::new(standing, soa.lines.lines(), ROOM.min(soa.len()));
+        let mut overlapping = overlapping(standing, soa.lines.lines(), ROOM.min(soa.len()));
         let lower = |target: usize| target < g_idx && self.global_lines.binary_search(&target).is_ok();
         match tracker.as_deref_mut() {
             None => overlapping
@@ -254,43 +254,7 @@ impl UniformGrid {
     }
 }
 
-/// The pairs of a visit, batch by batch.
-struct Overlapping<'a> {
-    standing: Standing<'a>,
-    lines: Lines<'a>,
-    first: Vec<u32>,
-    second: Vec<u32>,
-    bookmark: u64,
-    count: usize,
-    handed: usize,
-    over: bool,
-}
-
-impl<'a> Overlapping<'a> {
-    fn new(standing: Standing<'a>, lines: Lines<'a>, room: usize) -> Overlapping<'a> {
-        let room = room.max(1);
-        Overlapping { standing, lines, first: vec![0; room], second: vec![0; room], bookmark: 0, count: 0, handed: 0, over: false }
-    }
-}
-
-impl Iterator for Overlapping<'_> {
-    type Item = (u32, u32);
-
-    fn next(&mut self) -> Option<(u32, u32)> {
-        if self.handed == self.count {
-            if self.over {
-                return None;
-            }
-            let batch =
-                self.standing.batch(self.lines, self.bookmark, &mut self.first, &mut self.second).unwrap_or_else(|refusal| panic!("{refusal}"));
-            (self.bookmark, self.count, self.handed) = (batch.bookmark, batch.overlaps, 0);
-            // a batch that leaves room came to the end of the visit
-            self.over = batch.overlaps < self.first.len();
-            if batch.overlaps == 0 {
-                return None;
-            }
-        }
-        self.handed += 1;
-        Some((self.first[self.handed - 1], self.second[self.handed - 1]))
-    }
+/// The pairs of a visit.
+fn overlapping<'a>(standing: Standing<'a>, lines: Lines<'a>, room: usize) -> Pairs<'a> {
+    standing.pairs(lines, room).unwrap_or_else(|refusal| panic!("{refusal}"))
 }

@@ -72,7 +72,7 @@ pub use read::{read_line_string, read_points};
 pub use refusal::{Reason, Refusal};
 pub use samples::Samples;
 pub use sizing::Sizing;
-pub use tables::{build, Batch, Built, Cost, Pairs, Place, Room, Standing, Tables, Test, Window};
+pub use tables::{build, Batch, Built, Cost, Pairs, Place, Room, Standing, Tables, Test, Visit, Window};
 pub use walk::segment_cells;
 
 /// The most lines that a build or a visit takes: above it refusal 2. [`Parts`] takes any number.

@@ -73,6 +73,15 @@ extern "C" {
         items: *const u32, items_len: usize, globals: *const u32, globals_len: usize, global_count: u64, bookmark: u64,
         first: *mut u32, first_len: usize, second: *mut u32, second_len: usize, places: *mut u32, places_len: usize,
         out: *mut u64, out_len: usize) -> u32;
+    fn mt_start(grid: *const u64, grid_len: usize, start_x: *const f64, start_x_len: usize, start_y: *const f64, start_y_len: usize,
+        end_x: *const f64, end_x_len: usize, end_y: *const f64, end_y_len: usize, offsets: *const u32, offsets_len: usize,
+        items: *const u32, items_len: usize, globals: *const u32, globals_len: usize, global_count: u64, bookmark: u64,
+        out: *mut u64, out_len: usize) -> u32;
+    fn mt_next_unchecked(grid: *const u64, grid_len: usize, start_x: *const f64, start_x_len: usize,
+        start_y: *const f64, start_y_len: usize, end_x: *const f64, end_x_len: usize, end_y: *const f64, end_y_len: usize,
+        offsets: *const u32, offsets_len: usize, items: *const u32, items_len: usize, globals: *const u32, globals_len: usize,
+        global_count: u64, place: u64, i: u64, j: u64, first: *mut u32, first_len: usize, second: *mut u32, second_len: usize,
+        out: *mut u64, out_len: usize) -> u32;
     fn mt_pairs_once(grid: *const u64, grid_len: usize, start_x: *const f64, start_x_len: usize, start_y: *const f64, start_y_len: usize,
         end_x: *const f64, end_x_len: usize, end_y: *const f64, end_y_len: usize, offsets: *const u32, offsets_len: usize,
         items: *const u32, items_len: usize, globals: *const u32, globals_len: usize, global_count: u64, first: *mut u32, first_len: usize,
@@ -346,6 +355,27 @@ pub fn batch_places(grid: &[u64], start_x: &[f64], start_y: &[f64], end_x: &[f64
         end_x.as_ptr(), end_x.len(), end_y.as_ptr(), end_y.len(), offsets.as_ptr(), offsets.len(), items.as_ptr(), items.len(),
         globals.as_ptr(), globals.len(), global_count, bookmark, first.as_mut_ptr(), first.len(), second.as_mut_ptr(), second.len(),
         places.as_mut_ptr(), places.len(), out.as_mut_ptr(), out.len()) }
+}
+
+/// `mt_start` of the header.
+#[inline]
+pub fn start(grid: &[u64], start_x: &[f64], start_y: &[f64], end_x: &[f64], end_y: &[f64], offsets: &[u32], items: &[u32], globals: &[u32],
+    global_count: u64, bookmark: u64, out: &mut [u64]) -> u32 {
+    // SAFETY: numbers by value, and Rust slices that are lent for this call.
+    unsafe { mt_start(grid.as_ptr(), grid.len(), start_x.as_ptr(), start_x.len(), start_y.as_ptr(), start_y.len(),
+        end_x.as_ptr(), end_x.len(), end_y.as_ptr(), end_y.len(), offsets.as_ptr(), offsets.len(), items.as_ptr(), items.len(),
+        globals.as_ptr(), globals.len(), global_count, bookmark, out.as_mut_ptr(), out.len()) }
+}
+
+/// `mt_next_unchecked` of the header.
+#[inline]
+pub fn next_unchecked(grid: &[u64], start_x: &[f64], start_y: &[f64], end_x: &[f64], end_y: &[f64], offsets: &[u32], items: &[u32],
+    globals: &[u32], global_count: u64, place: u64, i: u64, j: u64, first: &mut [u32], second: &mut [u32], out: &mut [u64]) -> u32 {
+    // SAFETY: numbers by value, and Rust slices that are lent for this call.
+    unsafe { mt_next_unchecked(grid.as_ptr(), grid.len(), start_x.as_ptr(), start_x.len(), start_y.as_ptr(), start_y.len(),
+        end_x.as_ptr(), end_x.len(), end_y.as_ptr(), end_y.len(), offsets.as_ptr(), offsets.len(), items.as_ptr(), items.len(),
+        globals.as_ptr(), globals.len(), global_count, place, i, j, first.as_mut_ptr(), first.len(), second.as_mut_ptr(), second.len(),
+        out.as_mut_ptr(), out.len()) }
 }
 
 /// `mt_pairs_once` of the header.

@@ -347,6 +347,13 @@ impl Tables {
         self.standing().batch_places(lines, bookmark, first, second, places)
     }
 
+    /// A visit that pays for its checks once: [`Standing::start`]. The lines are those that were built.
+    ///
+    /// Refuses by 3 (lengths), 2 (too many lines), 1 (a coordinate), 10 (fewer lines than were built), 9 (the bookmark).
+    pub fn start<'a>(&'a self, lines: Lines<'a>, bookmark: u64) -> Result<Visit<'a>, Refusal> {
+        self.standing().start(lines, bookmark)
+    }
+
     /// The lines that may enter a window: [`Standing::window`]. The lines are those that were built.
     ///
     /// Refuses by 3 (lengths), 2 (too many lines), 1 (a coordinate; 0 for the window), 10 (fewer lines than were built).
@@ -369,7 +376,8 @@ impl Tables {
     }
 }
 
-/// Tables that stand in lent slices, wherever they come from. Every call checks them, so each takes time in proportion to their length.
+/// Tables that stand in lent slices, wherever they come from. Every call checks them, so each takes time in proportion to their length;
+/// [`Standing::start`] checks them once for a whole visit.
 ///
 /// They fit if `offsets` has at least cells + 1 entries, the first is 0, they never fall over those entries and the last is within `items`; each
 /// list and the first `global_count` globals strictly increase below the number of lines; and `global_count` is within `globals`. Tables that do
@@ -552,6 +560,38 @@ impl<'a> Standing<'a> {
         Ok(Batch { tests, overlaps: overlaps as usize, bookmark })
     }
 
+    /// A visit that pays for its checks once. [`Standing::batch`] checks lines and tables whole at every call; this does so once, and the [`Visit`] that it
+    /// answers goes on from call to call with no check, from a bookmark on, 0 for a whole visit. It borrows lines and tables, so nothing but what was
+    /// checked can be visited.
+    ///
+    /// Refuses by 3 (lengths), 2 (too many lines), 1 (a coordinate), 8 (the grid), 10 (the tables), 9 (the bookmark).
+    ///
+    /// ```
+    /// use morelturret::{Lines, Tables};
+    ///
+    /// let lines = Lines::chain(&[0.0, 2.0, 2.0, 0.0, 0.0], &[0.0, 0.0, 2.0, 2.0, 0.0]);
+    /// let tables = Tables::of(lines)?;
+    /// let (mut first, mut second) = ([0; 4], [0; 4]);
+    /// let mut visit = tables.standing().start(lines, 0)?;
+    /// let mut overlaps = 0;
+    /// loop {
+    ///     let batch = visit.next(&mut first, &mut second)?;
+    ///     overlaps += batch.overlaps; // first[..batch.overlaps] and second[..batch.overlaps] have the pairs
+    ///     if batch.overlaps < first.len() {
+    ///         break;
+    ///     }
+    /// }
+    /// assert_eq!((visit.bookmark(), overlaps), (9, 9));
+    /// # Ok::<(), morelturret::Refusal>(())
+    /// ```
+    pub fn start(&self, lines: Lines<'a>, bookmark: u64) -> Result<Visit<'a>, Refusal> {
+        let Standing { grid, offsets, items, globals, global_count, .. } = *self;
+        let Lines { start_x, start_y, end_x, end_y } = lines;
+        let cursor =
+            answer(|out| sys::start(&grid.words(), start_x, start_y, end_x, end_y, offsets, items, globals, global_count, bookmark, out))?;
+        Ok(Visit { standing: *self, lines, cursor, bookmark })
+    }
+
     /// The lines that may enter a window, each once, increasing: those whose own boxes overlap it, where equality counts, and which are global, or
     /// listed in a cell of the block from the cell of its lower corner to that of its upper corner. A window with a corner out of order matches nothing.
     ///
@@ -628,18 +668,17 @@ impl<'a> Standing<'a> {
     }
 
     /// All pairs whose boxes overlap, in the order of the visit, found in batches of `room` pairs (0 is taken as 1). A pair comes once for each
-    /// test of it: in each cell that both lines visit, and once for a global line.
-    ///
-    /// Every batch checks lines and tables once more, so small batches of large tables take long: 256 suits some thousand items, and about
-    /// as many as there are items suits larger tables.
+    /// test of it: in each cell that both lines visit, and once for a global line. Lines and tables are checked once, by [`Standing::start`]; some
+    /// thousand pairs suit any tables.
     ///
     /// Refuses by 3 (lengths), 2 (too many lines), 1 (a coordinate), 8 (the grid), 10 (the tables). All of that shows at once: the pairs
     /// themselves are not refused.
     pub fn pairs(&self, lines: Lines<'a>, room: usize) -> Result<Pairs<'a>, Refusal> {
         let room = room.max(1);
         let (mut first, mut second) = (vec![0; room], vec![0; room]);
-        let batch = self.batch(lines, 0, &mut first, &mut second)?;
-        Ok(Pairs { standing: *self, lines, first, second, batch, handed: 0 })
+        let mut visit = self.start(lines, 0)?;
+        let batch = visit.next(&mut first, &mut second)?;
+        Ok(Pairs { visit, first, second, count: batch.overlaps, handed: 0 })
     }
 }
 
@@ -737,22 +776,56 @@ pub struct Batch {
     pub bookmark: u64,
 }
 
+/// A visit of lines and tables that were checked: see [`Standing::start`]. Only that makes one, and it borrows both, so what it visits is what was checked.
+#[derive(Clone, PartialEq, Debug)]
+pub struct Visit<'a> {
+    standing: Standing<'a>,
+    lines: Lines<'a>,
+    cursor: [u64; 3],
+    bookmark: u64,
+}
+
+impl Visit<'_> {
+    /// The tests from where the visit stands, until `first` and `second`, which are of one length, are full of pairs or the end comes: what
+    /// [`Standing::batch`] from [`Visit::bookmark`] makes, hands out and answers, without its checks. The visit is over when an output is left
+    /// unfilled.
+    ///
+    /// Refuses by 3 where `first` and `second` differ, and then stands where it stood.
+    pub fn next(&mut self, first: &mut [u32], second: &mut [u32]) -> Result<Batch, Refusal> {
+        let Standing { grid, offsets, items, globals, global_count, .. } = self.standing;
+        let Lines { start_x, start_y, end_x, end_y } = self.lines;
+        let [place, i, j] = self.cursor;
+        let [tests, overlaps, cursor @ ..] = answer::<5>(|out| {
+            sys::next_unchecked(
+                &grid.words(), start_x, start_y, end_x, end_y, offsets, items, globals, global_count, place, i, j, first, second, out,
+            )
+        })?;
+        self.cursor = cursor;
+        self.bookmark += tests;
+        Ok(Batch { tests, overlaps: overlaps as usize, bookmark: self.bookmark })
+    }
+
+    /// The bookmark where the visit stands: the number of tests before it.
+    pub fn bookmark(&self) -> u64 {
+        self.bookmark
+    }
+}
+
 /// The pairs of a visit: see [`Standing::pairs`].
 #[derive(Clone, Debug)]
 pub struct Pairs<'a> {
-    standing: Standing<'a>,
-    lines: Lines<'a>,
+    visit: Visit<'a>,
     first: Vec<u32>,
     second: Vec<u32>,
-    batch: Batch,
-    /// How many pairs of the batch are handed on already.
+    /// How many pairs stand in the outputs, and how many of them are handed on already.
+    count: usize,
     handed: usize,
 }
 
 impl Pairs<'_> {
     /// The tests made so far, by whole batches. Once the pairs have come to their end, it is the number of all tests of the visit.
     pub fn bookmark(&self) -> u64 {
-        self.batch.bookmark
+        self.visit.bookmark()
     }
 }
 
@@ -760,16 +833,14 @@ impl Iterator for Pairs<'_> {
     type Item = (u32, u32);
 
     fn next(&mut self) -> Option<(u32, u32)> {
-        if self.handed == self.batch.overlaps {
+        if self.handed == self.count {
             // a batch that did not fill its outputs came to the end of the visit
-            if self.batch.overlaps < self.first.len() {
+            if self.count < self.first.len() {
                 return None;
             }
-            let next = self.standing.batch(self.lines, self.batch.bookmark, &mut self.first, &mut self.second);
-            // the first batch checked the same tables and lines, which are lent since, and a bookmark that came back is never beyond the end
-            self.batch = next.expect("what was taken once is taken again");
-            self.handed = 0;
-            if self.batch.overlaps == 0 {
+            let batch = self.visit.next(&mut self.first, &mut self.second).expect("outputs of one length are not refused");
+            (self.count, self.handed) = (batch.overlaps, 0);
+            if self.count == 0 {
                 return None;
             }
         }

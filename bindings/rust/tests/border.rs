@@ -10,7 +10,7 @@ const FOUR: Grid = Grid { min_x: 0.0, min_y: 0.0, cell_width: 1.0, cell_height: 
 type Asked = (&'static str, fn(&[u64], &mut [u64]) -> u32, usize);
 
 /// Every function that takes a grid, each with arguments that it answers, on a grid of no lines but for the points.
-const TAKEN: [Asked; 16] = [
+const TAKEN: [Asked; 18] = [
     ("point_owned", |grid, out| sys::point_owned(grid, 0, 0, 0.5, 0.5, out), 1),
     ("overlap_owned", |grid, out| sys::overlap_owned(grid, 0, 0, 0.5, 0.5, 0.0, Strategy::Grid as u32, out), 1),
     ("owner", |grid, out| sys::owner(grid, 0.5, 0.5, out), 3),
@@ -31,6 +31,8 @@ const TAKEN: [Asked; 16] = [
     ("tables_on", |grid, out| sys::tables_on(&[], &[], &[], &[], grid, 0, &mut [7; 17], &mut [], &mut [], &mut vec![7; SCRATCH], out), 2),
     ("add_line", |grid, out| sys::add_line(grid, 0, 0.5, 0.5, 0.5, 0.5, 0, &mut [0; 17], &mut [7], &mut [], 0, &mut vec![7; SCRATCH], out), 3),
     ("batch", |grid, out| sys::batch(grid, &[], &[], &[], &[], &[0; 17], &[], &[], 0, 0, &mut [7], &mut [7], out), 3),
+    ("start", |grid, out| sys::start(grid, &[], &[], &[], &[], &[0; 17], &[], &[], 0, 0, out), 3),
+    ("next_unchecked", |grid, out| sys::next_unchecked(grid, &[], &[], &[], &[], &[0; 17], &[], &[], 0, 0, 0, 0, &mut [7], &mut [7], out), 5),
 ];
 
 #[test]
@@ -82,7 +84,9 @@ fn counts_beyond_32_bits_are_unfit() {
             words[at] = count;
             for (name, ask, needed) in TAKEN {
                 let mut out = [JUNK; 6];
-                assert_eq!((ask(&words, &mut out[..needed]), out[0]), (8, 0), "{name} with {count} in word {at}");
+                // the one that checks no grid makes no test
+                let number = if name == "next_unchecked" { 0 } else { 8 };
+                assert_eq!((ask(&words, &mut out[..needed]), out[0]), (number, 0), "{name} with {count} in word {at}");
             }
         }
     }

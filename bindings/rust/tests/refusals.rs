@@ -91,6 +91,7 @@ fn two_too_many_lines() {
     assert_eq!(starts, [7; 65_538]);
     assert_eq!(of(too_many.global_list(0)), (2, 65_537));
     assert_eq!(of(tables.batch(lines(MAX_LINES + 1), 0, &mut [0], &mut [0])), (2, 65_537));
+    assert_eq!(of(tables.start(lines(MAX_LINES + 1), 0)), (2, 65_537));
     assert_eq!(of(tables.pairs_once(lines(MAX_LINES + 1))), (2, 65_537));
 }
 
@@ -246,6 +247,7 @@ fn nine_beyond_the_end() {
     assert_eq!(tables.test_at(lines, 9), Ok(None), "the end mark stands at the total");
     assert_eq!(of(tables.test_at(lines, 10)), (9, 10));
     assert_eq!(of(tables.batch(lines, u64::MAX, &mut [0], &mut [0])), (9, u64::MAX));
+    assert_eq!(of(tables.start(lines, u64::MAX)), (9, u64::MAX));
     let owned = with_globals();
     let tables = Tables::of(owned.lines()).unwrap();
     assert_eq!(tables.standing().global_list(0).unwrap(), [511, 512]);
@@ -292,6 +294,7 @@ fn ten_tables_that_do_not_fit() {
         assert_eq!(of(standing.test_at(lines, 0)), (10, 0), "damage {i}");
         assert_eq!(of(standing.pairs(lines, 4)), (10, 0), "damage {i}");
         assert_eq!(of(standing.pairs_once(lines)), (10, 0), "damage {i}");
+        assert_eq!(of(standing.start(lines, 0)), (10, 0), "damage {i}");
         let (mut first, mut second) = ([JUNK; 4], [JUNK; 4]);
         assert_eq!(of(standing.batch(lines, 0, &mut first, &mut second)), (10, 0), "damage {i}");
         assert_eq!((first, second), ([JUNK; 4], [JUNK; 4]));

@@ -104,6 +104,23 @@ fn batches_end_to_end_are_the_visit() {
                 }
             }
             assert!(joined == wanted, "{name} {sizing:?}: batches of {room} joined");
+            // a visit that was checked once makes the same batches
+            let (mut visit, mut of_visit) = (tables.start(lines, 0).unwrap(), Vec::new());
+            loop {
+                let (mut first, mut second) = (vec![u32::MAX; room], vec![u32::MAX; room]);
+                let (mut first_of, mut second_of) = (first.clone(), second.clone());
+                let wanted = tables.batch(lines, visit.bookmark(), &mut first_of, &mut second_of);
+                let batch = visit.next(&mut first, &mut second);
+                assert_eq!((&batch, &first, &second), (&wanted, &first_of, &second_of), "{name} {room}");
+                let batch = batch.unwrap();
+                // one that starts at the bookmark stands where this one does
+                assert_eq!(tables.start(lines, visit.bookmark()).as_ref(), Ok(&visit), "{name} {room} at {}", visit.bookmark());
+                of_visit.extend(first.into_iter().zip(second).take(batch.overlaps));
+                if batch.overlaps < room {
+                    break;
+                }
+            }
+            assert!(of_visit == wanted, "{name} {sizing:?}: a visit in batches of {room}");
             assert_eq!(made, tests.len() as u64, "{name} {room}");
             let mut pairs = tables.pairs(lines, room).unwrap();
             assert!(pairs.by_ref().eq(wanted.iter().copied()), "{name}: pairs in batches of {room}");
@@ -168,6 +185,19 @@ fn outputs_of_length_0_make_no_test() {
     let (_, owned) = samples().remove(0);
     let tables = Tables::of(owned.lines()).unwrap();
     assert_eq!(tables.batch(owned.lines(), 5, &mut [], &mut []), Ok(Batch { tests: 0, overlaps: 0, bookmark: 5 }));
+    let mut visit = tables.start(owned.lines(), 5).unwrap();
+    assert_eq!(visit.next(&mut [], &mut []), Ok(Batch { tests: 0, overlaps: 0, bookmark: 5 }));
+}
+
+#[test]
+fn outputs_of_two_lengths_leave_a_visit_where_it_stood() {
+    let (_, owned) = samples().remove(0);
+    let tables = Tables::of(owned.lines()).unwrap();
+    let mut visit = tables.start(owned.lines(), 5).unwrap();
+    let before = visit.clone();
+    let (mut first, mut second) = ([7; 3], [7; 4]);
+    assert_eq!(visit.next(&mut first, &mut second), Err(Refusal { number: Refusal::BAD_LENGTHS, value: 0 }));
+    assert_eq!((visit, first, second), (before, [7; 3], [7; 4]));
 }
 
 #[test]

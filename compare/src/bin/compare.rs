@@ -4,10 +4,10 @@
 //! The port takes part in every kind: --port may be said, and changes nothing.
 //! Ends with status 1 at the first difference.
 
-use compare::kinds::{self, added, blocks, build, clean, clean_program, counts, cover, covering, crossings, drop_in, lists, multi, numbers, once, own, owners, pairs, places, seams, sided, snap, straight, strategies, visit, walk, window, wkb};
+use compare::kinds::{self, added, blocks, build, clean, clean_program, counts, cover, covering, crossings, drop_in, lists, multi, numbers, once, own, owners, pairs, places, resume, seams, sided, snap, straight, strategies, visit, walk, window, wkb};
 
 /// The kinds, with the cases of a full run.
-const KINDS: [(&str, u64); 37] = [
+const KINDS: [(&str, u64); 38] = [
     ("sample", 1),
     ("numbers", 10_000_000),
     ("walk", 1_000_000),
@@ -40,6 +40,7 @@ const KINDS: [(&str, u64); 37] = [
     ("pairs", 20_000),
     ("once", 4_000),
     ("places", 4_000),
+    ("resume", 2_000),
     ("drop-in", 1_000),
     ("counts", 2_700),
     ("added", 1_000),
@@ -105,6 +106,7 @@ fn main() {
             "pairs" => kinds::run::<pairs::Pairs>(seed, n, vec![]),
             "once" => kinds::run::<once::Once>(seed, n, vec![]),
             "places" => kinds::run::<places::Places>(seed, n, vec![]),
+            "resume" => kinds::run::<resume::Resume>(seed, n, vec![]),
             "crossings" => kinds::run::<crossings::Crossings>(seed, n, crossings::fixed()),
             _ => kinds::run::<counts::Counts>(seed, n, counts::fixed()),
         };

@@ -64,6 +64,9 @@ fn main() {
             year::memory(clock, &years[2]);
         }
     }
+    if wanted("resume") {
+        year::resumed(clock, seed);
+    }
     if wanted("points") {
         points::owners(clock, r);
         points::snaps(clock, r);
@@ -89,8 +92,8 @@ fn main() {
     clock.end();
 }
 
-const STAGES: [&str; 14] =
-    ["numbers", "walks", "covers", "orderings", "builds", "visits", "memory", "points", "sizings", "members", "added", "blocks", "window", "crossings"];
+const STAGES: [&str; 15] =
+    ["numbers", "walks", "covers", "orderings", "builds", "visits", "memory", "points", "sizings", "members", "added", "blocks", "window", "crossings", "resume"];
 
 fn stop() -> ! {
     eprintln!("bench [--seed S] [--rounds R] [STAGE..], with STAGE one of {}", STAGES.join(" "));

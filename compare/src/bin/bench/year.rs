@@ -2,6 +2,7 @@
 
 use super::clock::Clock;
 use super::heap;
+use super::legs::LEGS;
 use compare::kinds::build::Columns;
 use compare::model::{OnceLent, Standing, SCRATCH};
 use compare::oracle::{self, Built, Lines};
@@ -222,6 +223,46 @@ pub fn once(clock: &Clock, years: &[Year], seed: u64) {
             format!("{} lines: {} tests, {} overlaps, {} pairs", y.n, y.tests, y.overlaps, out[0]), of_a_test(0), of_a_test(1),
             clock.held(ratio, ONCE_BAR),
         );
+    }
+}
+
+/// A visit of the port that is checked once, from its start to the end. Answers the overlaps.
+fn port_resumed(y: &Year, pairs: &mut Pairs) -> u64 {
+    let standing = y.standing();
+    let (mut at, mut overlaps, mut out) = ([0u64; 3], 0, [0u64; 5]);
+    assert_eq!(port::start(&standing, 0, &mut at), 0);
+    loop {
+        assert_eq!(port::next(&standing, at, &mut pairs.first, &mut pairs.second, &mut out), 0);
+        black_box(&*pairs);
+        overlaps += out[1];
+        at = [out[2], out[3], out[4]];
+        if out[1] < pairs.first.len() as u64 {
+            return overlaps;
+        }
+    }
+}
+
+/// A visit that pays for its checks once, in outputs of either length, beside the Rust's callback that only counts.
+pub fn resumed(clock: &Clock, seed: u64) {
+    clock.head(
+        "A visit that pays for its checks once: one start, and then call after call, each with zero beyond its pairs. The Rust makes its boxes once, checks \
+         nothing, and only counts.",
+    );
+    for legs in LEGS {
+        let y = &Year::of(&cases::orbits(&mut Random::new(seed), 65536, legs));
+        println!("  {} lines, {legs} legs an orbit: {} items, {} tests, {} overlaps", y.n, y.items.len(), y.tests, y.overlaps);
+        let [mut few, mut many] = [ROOMS[0], ROOMS[2]].map(Pairs::new);
+        let times = clock.turns(&mut [
+            &mut || assert_eq!(port_resumed(y, &mut many), y.overlaps),
+            &mut || { black_box(rust_counted(y)); },
+            &mut || assert_eq!(port_resumed(y, &mut few), y.overlaps),
+        ]);
+        let of_a_test = |party: usize| times.of(party) * 1e9 / y.tests as f64;
+        for (party, room) in [(0, ROOMS[2]), (2, ROOMS[0])] {
+            let ratio = times.ratio(party, 1);
+            let name = format!("{legs} legs an orbit, output of {room}");
+            println!("  {name:<44} port {:>9.2}  Rust {:>9.2} ns a test   port/Rust {ratio:.3}{}", of_a_test(party), of_a_test(1), clock.held(ratio, BAR));
+        }
     }
 }
 

@@ -1,0 +1,65 @@
+-- A cursor: the number of a place, which is a cell or, from the number of cells on, a global by its position; in a cell two entries of its list,
+-- at a global 0 and a line. The tests that are left from a cursor, whatever its numbers are, and the cursor of the first of some tests. Definitions only.
+use Prim.Native.Nat.{ℕ, zero, suc, _+_, _-_, _*_}
+use mathlib.Core.Bool.{Bool, true, false, cond}
+use mathlib.Core.List.{List, [], _∷_, _++_}
+use lib.ListN.{length}
+use lib.Dec.{ltb, eqb}
+use Rattle.tables.specs.Tables.{Tables}
+use Rattle.visit.specs.declared.Place.{Place}
+use Rattle.visit.specs.declared.Place.the-variants.{Cell, Global}
+use Rattle.visit.specs.Tests.{Pair, pairs, placeOf}
+use Rattle.visit.specs.Inside.{restIn, globalsRest}
+use Rattle.resume.specs.declared.Cursor.{Cursor}
+use Rattle.resume.specs.AsTheyAre.{reach, listAs, globalsAs}
+
+abbrev pub cursor : ℕ → ℕ → ℕ → Cursor
+cursor place i j = record { place = place; i = i; j = j }
+
+-- ---- the tests that are left
+
+-- of a list: entry i with each from j on, but only with later ones, and the later rows
+unfoldable pub listFrom : Place → List ℕ → ℕ → ℕ → List Pair
+listFrom pl xs i j = restIn pl xs i (cond (ltb i j) j (suc i))
+
+-- the lists L of `left` cells from cell c on
+unfoldable pub cellsOf : ℕ → (ℕ → List ℕ) → ℕ → ℕ → List Pair
+cellsOf cols L zero c = []
+cellsOf cols L (suc left) c = pairs (placeOf cols c) (L c) ++ cellsOf cols L left (suc c)
+
+-- of `left` cells from c on: of the list of c, and of the later cells
+unfoldable pub cellsFrom : ℕ → (ℕ → List ℕ) → ℕ → ℕ → ℕ → ℕ → List Pair
+cellsFrom cols L zero c i j = []
+cellsFrom cols L (suc left) c i j = listFrom (placeOf cols c) (L c) i j ++ cellsOf cols L left (suc c)
+
+-- of the globals: from line k of the one at position p on
+abbrev pub globalsFrom : ℕ → List ℕ → ℕ → ℕ → List Pair
+globalsFrom n globals p k = globalsRest n globals (length globals - p) p k
+
+-- THE TESTS that are left from a cursor, on tables as they are: beyond the last none is
+unfoldable pub leftFrom : Tables → Cursor → List Pair
+leftFrom t c =
+    cellsFrom (t .cols) (listAs t) (reach t - c .place) (c .place) (c .i) (c .j)
+    ++ globalsFrom (t .lines) (globalsAs t) (c .place - reach t) (cond (ltb (c .place) (reach t)) 0 (c .j))
+
+-- ---- the cursor of some tests
+
+-- where a value stands in a list first
+unfoldable pub countOn : Bool → ℕ → ℕ
+countOn true n = 0
+countOn false n = suc n
+
+unfoldable pub indexOf : ℕ → List ℕ → ℕ
+indexOf v [] = 0
+indexOf v (x ∷ xs) = countOn (eqb v x) (indexOf v xs)
+
+-- where the test of lines a and b stands
+unfoldable pub spotOf : Tables → Place → ℕ → ℕ → Cursor
+spotOf t (Cell row col) a b =
+    cursor (row * t .cols + col) (indexOf a (listAs t (row * t .cols + col))) (indexOf b (listAs t (row * t .cols + col)))
+spotOf t (Global p) a b = cursor (reach t + p) 0 b
+
+-- THE CURSOR of some tests: where the first of them stands, or the end
+unfoldable pub cursorOf : Tables → List Pair → Cursor
+cursorOf t [] = cursor (reach t + length (globalsAs t)) 0 0
+cursorOf t (p ∷ ps) = spotOf t (p .place) (p .first) (p .second)

@@ -1,0 +1,61 @@
+// Lists as they are, and how many cells are looked at.
+use slices::least;
+ghost use mathlib.Core.Path.{_≡_};
+ghost use Prim.Native.Nat.{_-_};
+ghost use Rattle.resume.specs.AsTheyAre.{reachOf, listBy, globalsBy};
+
+pub(crate) fn wide(x: u32) -> usize
+    ensures { λ r. ⌜ r ≡ x ⌝ }
+{
+    x as usize
+}
+
+fn less_one(n: usize) -> usize
+    ensures { λ r. ⌜ r ≡ n - 1 ⌝ }
+{
+    if n == 0 {
+        return 0;
+    }
+    n - 1
+}
+
+// How many cells of a grid are looked at, where there are so many offsets.
+pub(crate) fn reach(cells: usize, told: usize) -> usize
+    ensures { λ r. ⌜ r ≡ reachOf cells told ⌝ }
+{
+    least(least(cells, less_one(told)), 1002001)
+}
+
+// The list of a cell: empty where the offsets do not tell of it, it is no part of the items, or does not increase below the number of lines.
+pub(crate) fn list_of<'a>(lines: usize, offsets: &[u32], items: &'a [u32], cell: usize) -> &'a [u32]
+    ensures { λ r. ⌜ now r ≡ listBy lines (now (offsets .entry)) (now (items .entry)) cell ⌝ }
+{
+    if less_one(offsets.len()) <= cell {
+        return &items[0..0];
+    }
+    let from = wide(offsets[cell]);
+    let to = wide(offsets[cell + 1]);
+    if to < from {
+        return &items[0..0];
+    }
+    if items.len() < to {
+        return &items[0..0];
+    }
+    if tables::is_increasing(lines, &items[from..to]) {
+        return &items[from..to];
+    }
+    &items[0..0]
+}
+
+// The globals: none where the count is beyond their slice, or they do not increase below the number of lines.
+pub(crate) fn globals_of<'a>(lines: usize, globals: &'a [u32], count: usize) -> &'a [u32]
+    ensures { λ r. ⌜ now r ≡ globalsBy lines (now (globals .entry)) count ⌝ }
+{
+    if globals.len() < count {
+        return &globals[0..0];
+    }
+    if tables::is_increasing(lines, &globals[..count]) {
+        return &globals[..count];
+    }
+    &globals[0..0]
+}

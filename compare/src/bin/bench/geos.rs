@@ -110,6 +110,26 @@ impl Tree<'_> {
         unsafe { (self.geos.query)(self.geos.handle, self.tree, window, put, (found as *mut Vec<u32>).cast()) };
     }
 
+    /// How many pairs of lines have boxes that overlap: each line is asked for, and those of a higher number are counted.
+    pub fn overlaps(&self) -> u64 {
+        struct Asked {
+            line: usize,
+            count: u64,
+        }
+        unsafe extern "C" fn count(item: Pointer, asked: Pointer) {
+            // SAFETY: what `query` is handed below.
+            let asked = unsafe { &mut *asked.cast::<Asked>() };
+            asked.count += (asked.line < item as usize) as u64;
+        }
+        let mut asked = Asked { line: 0, count: 0 };
+        for (line, &segment) in self.segments.iter().enumerate() {
+            asked.line = line;
+            // SAFETY: what is asked lives through the call.
+            unsafe { (self.geos.query)(self.geos.handle, self.tree, segment, count, (&mut asked as *mut Asked).cast()) };
+        }
+        asked.count
+    }
+
     /// The pairs of lines that GEOS calls intersecting, the lower number first: each line is prepared, and tested with the lines of a higher number whose
     /// boxes overlap its own. Answers how many were tested.
     pub fn crossings(&self, pairs: &mut Vec<(u32, u32)>) -> usize {

@@ -11,7 +11,7 @@ use std::hint::black_box;
 
 /// How many legs an orbit is in.
 pub const LEGS: [f64; 3] = [12.0, 60.0, 400.0];
-const LINES: [usize; 3] = [1023, 8192, 65536];
+pub const LINES: [usize; 3] = [1023, 8192, 65536];
 
 const BAR: Option<f64> = Some(0.5);
 const COVERING_BAR: Option<f64> = Some(0.35);

@@ -67,6 +67,9 @@ fn main() {
     if wanted("resume") {
         year::resumed(clock, seed);
     }
+    if wanted("trees") {
+        year::trees(clock, seed);
+    }
     if wanted("points") {
         points::owners(clock, r);
         points::snaps(clock, r);
@@ -92,8 +95,8 @@ fn main() {
     clock.end();
 }
 
-const STAGES: [&str; 15] =
-    ["numbers", "walks", "covers", "orderings", "builds", "visits", "memory", "points", "sizings", "members", "added", "blocks", "window", "crossings", "resume"];
+const STAGES: [&str; 16] =
+    ["numbers", "walks", "covers", "orderings", "builds", "visits", "memory", "points", "sizings", "members", "added", "blocks", "window", "crossings", "resume", "trees"];
 
 fn stop() -> ! {
     eprintln!("bench [--seed S] [--rounds R] [STAGE..], with STAGE one of {}", STAGES.join(" "));

@@ -2,7 +2,8 @@
 
 use super::clock::Clock;
 use super::heap;
-use super::legs::LEGS;
+use super::geos::Geos;
+use super::legs::{LEGS, LINES};
 use compare::kinds::build::Columns;
 use compare::model::{OnceLent, Standing, SCRATCH};
 use compare::oracle::{self, Built, Lines};
@@ -12,11 +13,19 @@ use std::hint::black_box;
 
 const BAR: Option<f64> = Some(1.0);
 const MEMORY_BAR: Option<f64> = Some(0.5);
-/// Of a visit that hands out each pair once, by a plain one.
-const ONCE_BAR: Option<f64> = Some(1.07);
+/// Of a visit that hands out each pair once, by a Rust that takes the repeats out of what it is handed.
+const ONCE_BAR: Option<f64> = Some(1.0);
+
+/// Of a visit that pays for its checks once, by the Rust's callback.
+const VISIT_BAR: Option<f64> = Some(0.6);
 
 /// Outputs of so many pairs. The bar of a visit speaks of the last, that of the memory of the first.
 const ROOMS: [usize; 3] = [4096, 65536, 1 << 20];
+
+/// Each number of legs an orbit with each number of lines.
+fn points() -> impl Iterator<Item = (f64, usize)> {
+    LEGS.into_iter().flat_map(|legs| LINES.map(|n| (legs, n)))
+}
 
 /// The same lines for both sides, and the tables that stand after a build.
 pub struct Year {
@@ -196,11 +205,21 @@ pub fn visits(clock: &Clock, years: &[Year]) {
     }
 }
 
-/// A visit that hands out each pair once, beside the plain one in one batch. Both outputs just hold the pairs, so there is nothing to clear in them.
+/// The pairs of a visit of the Rust, the lower line first, each once: collected, sorted, and repeats taken out. Answers how many.
+fn rust_once(y: &Year) -> usize {
+    let mut pairs = Vec::new();
+    y.built.visit_each(&y.rust_lines, |i, j| pairs.push((i.min(j) as u64) << 32 | i.max(j) as u64));
+    pairs.sort_unstable();
+    pairs.dedup();
+    black_box(&pairs).len()
+}
+
+/// A visit that hands out each pair once, beside a Rust that takes the repeats out of what it is handed, and beside the plain visit in one batch. The port's
+/// outputs just hold the pairs, so there is nothing to clear in them. Where the Rust would hold more than 2^24 pairs it is left out.
 pub fn once(clock: &Clock, years: &[Year], seed: u64) {
     clock.head(
-        "Each pair once: lists by line, the visit, and zero in the scratch, beside one batch of the port that hands out every test's pair. The last \
-         two: 12 legs an orbit.",
+        "Each pair once: lists by line, the visit, and zero in the scratch, beside one batch of the port that hands out every test's pair, and beside the Rust's \
+         visit,\n  whose pairs are collected, sorted and rid of repeats. The last two: 12 legs an orbit.",
     );
     let long = [8192, 65536].map(|n| Year::of(&cases::orbits(&mut Random::new(seed), n, 12.0)));
     for y in years.iter().chain(&long) {
@@ -212,17 +231,22 @@ pub fn once(clock: &Clock, years: &[Year], seed: u64) {
         // with no room the refusal says how many pairs there are
         port::pairs_once(&standing, &mut lent(0), &mut out);
         let (mut each, mut plain) = (lent(out[0] as usize), Pairs::new(y.overlaps as usize));
-        let times = clock.turns(&mut [
-            &mut || assert_eq!(port::pairs_once(&standing, &mut each, &mut [0]), 0),
-            &mut || assert_eq!(port_visit(y, &mut plain), y.overlaps),
-        ]);
+        let mut once = || assert_eq!(port::pairs_once(&standing, &mut each, &mut [0]), 0);
+        let mut visit = || assert_eq!(port_visit(y, &mut plain), y.overlaps);
+        let mut rust = || assert_eq!(rust_once(y) as u64, out[0]);
+        let held = y.overlaps <= 1 << 24;
+        let parties: &mut [&mut dyn FnMut()] = if held { &mut [&mut once, &mut visit, &mut rust] } else { &mut [&mut once, &mut visit] };
+        let times = clock.turns(parties);
         let of_a_test = |party: usize| times.of(party) * 1e9 / y.tests as f64;
-        let ratio = times.ratio(0, 1);
-        println!(
-            "  {:<64} once {:>7.2}  plain {:>7.2} ns a test  once/plain {ratio:.3}{}",
-            format!("{} lines: {} tests, {} overlaps, {} pairs", y.n, y.tests, y.overlaps, out[0]), of_a_test(0), of_a_test(1),
-            clock.held(ratio, ONCE_BAR),
+        print!(
+            "  {:<64} once {:>7.2}  plain {:>7.2} ns a test  once/plain {:.3}", format!("{} lines: {} tests, {} overlaps, {} pairs", y.n, y.tests, y.overlaps, out[0]),
+            of_a_test(0), of_a_test(1), times.ratio(0, 1),
         );
+        if held {
+            let ratio = times.ratio(0, 2);
+            print!("  Rust {:>7.2}  once/Rust {ratio:.3}{}", of_a_test(2), clock.held(ratio, ONCE_BAR));
+        }
+        println!();
     }
 }
 
@@ -242,27 +266,56 @@ fn port_resumed(y: &Year, pairs: &mut Pairs) -> u64 {
     }
 }
 
-/// A visit that pays for its checks once, in outputs of either length, beside the Rust's callback that only counts.
+/// A visit that pays for its checks once, in outputs of 4,096 pairs and at the most lines also of 2^20, beside the Rust's callback that only counts.
 pub fn resumed(clock: &Clock, seed: u64) {
     clock.head(
         "A visit that pays for its checks once: one start, and then call after call, each with zero beyond its pairs. The Rust makes its boxes once, checks \
          nothing, and only counts.",
     );
-    for legs in LEGS {
-        let y = &Year::of(&cases::orbits(&mut Random::new(seed), 65536, legs));
-        println!("  {} lines, {legs} legs an orbit: {} items, {} tests, {} overlaps", y.n, y.items.len(), y.tests, y.overlaps);
-        let [mut few, mut many] = [ROOMS[0], ROOMS[2]].map(Pairs::new);
-        let times = clock.turns(&mut [
-            &mut || assert_eq!(port_resumed(y, &mut many), y.overlaps),
-            &mut || { black_box(rust_counted(y)); },
-            &mut || assert_eq!(port_resumed(y, &mut few), y.overlaps),
-        ]);
+    for (legs, n) in points() {
+        let y = &Year::of(&cases::orbits(&mut Random::new(seed), n, legs));
+        println!("  {n} lines, {legs} legs an orbit: {} items, {} tests, {} overlaps", y.items.len(), y.tests, y.overlaps);
+        let most = n == LINES[2];
+        let [mut few, mut many] = [ROOMS[0], ROOMS[2]].map(|room| Pairs::new(room));
+        let mut resumed = || assert_eq!(port_resumed(y, &mut few), y.overlaps);
+        let mut counted = || assert_eq!(black_box(rust_counted(y)), y.overlaps);
+        let mut wide = || assert_eq!(port_resumed(y, &mut many), y.overlaps);
+        let parties: &mut [&mut dyn FnMut()] = if most { &mut [&mut resumed, &mut counted, &mut wide] } else { &mut [&mut resumed, &mut counted] };
+        let times = clock.turns(parties);
         let of_a_test = |party: usize| times.of(party) * 1e9 / y.tests as f64;
-        for (party, room) in [(0, ROOMS[2]), (2, ROOMS[0])] {
+        let outputs: &[(usize, usize)] = if most { &[(0, ROOMS[0]), (2, ROOMS[2])] } else { &[(0, ROOMS[0])] };
+        for &(party, room) in outputs {
             let ratio = times.ratio(party, 1);
             let name = format!("{legs} legs an orbit, output of {room}");
-            println!("  {name:<44} port {:>9.2}  Rust {:>9.2} ns a test   port/Rust {ratio:.3}{}", of_a_test(party), of_a_test(1), clock.held(ratio, BAR));
+            println!("  {name:<44} port {:>9.2}  Rust {:>9.2} ns a test   port/Rust {ratio:.3}{}", of_a_test(party), of_a_test(1), clock.held(ratio, VISIT_BAR));
         }
+    }
+}
+
+/// A build and a visit of all its pairs beside GEOS's STRtree, built and asked for the lines over each line.
+pub fn trees(clock: &Clock, seed: u64) {
+    clock.head(
+        "A build and a visit that is checked once, in outputs of 4,096 pairs, beside GEOS's STRtree: the tree of all lines, and a query for each line, whose \
+         answers of a higher number are counted.",
+    );
+    let Some(geos) = Geos::load() else { return };
+    for (legs, n) in points() {
+        let lines = cases::orbits(&mut Random::new(seed), n, legs);
+        let y = &Year::of(&lines);
+        let (mut lent, mut pairs) = (Lent::new(y), Pairs::new(ROOMS[0]));
+        let mut found = 0;
+        let times = clock.turns(&mut [
+            &mut || {
+                port_build(y, &mut lent);
+                assert_eq!(port_resumed(y, &mut pairs), y.overlaps);
+            },
+            &mut || found = geos.tree(black_box(&lines)).overlaps(),
+        ]);
+        let ratio = times.ratio(0, 1);
+        println!(
+            "  {:<32} port {:>9.2} ms, {:>9} pairs   GEOS {:>9.2} ms, {found:>9} pairs   port/GEOS {ratio:.3}{}",
+            format!("{n} lines, {legs} legs an orbit"), times.of(0) * 1e3, y.overlaps, times.of(1) * 1e3, clock.held(ratio, BAR),
+        );
     }
 }
 

@@ -6,8 +6,8 @@ use crate::answer;
 use crate::lines;
 use crate::numbers_of;
 use crate::points;
-use crate::records;
 use crate::visits;
+use records::files;
 
 // Asks the exported function of a kind, and answers how many words its answer has: 0 where there is no such kind, or no room for what is lent.
 fn ask(kind: u64, question: &[u64], answer: &mut [u64]) -> usize
@@ -82,7 +82,7 @@ pub(crate) fn make(file: &[u64], made: &mut [u64]) -> usize
 {
     let mut at = 0;
     while at < file.len() {
-        let size = records::size_at(file, at);
+        let size = files::size_at(file, at);
         if size == 0 {
             return at;
         }

@@ -6,6 +6,8 @@ ghost use Prim.Native.Nat.{_*_};
 ghost use lib.ListN.{length};
 use libc::STDIN_FILENO;
 use libc::STDOUT_FILENO;
+use records::files;
+use records::words;
 
 mod answer;
 mod asking;
@@ -13,9 +15,7 @@ mod lines;
 mod numbers_of;
 mod points;
 mod question;
-mod records;
 mod visits;
-mod words;
 
 // A name and a number.
 fn say(name: &[u8], n: u64) {
@@ -27,17 +27,17 @@ fn say(name: &[u8], n: u64) {
 
 // How many of the records are of each kind.
 fn say_kinds(w: &[u64]) {
-    say(b"numbers", records::count(w, 1));
-    say(b"walks", records::count(w, 2));
-    say(b"builds", records::count(w, 3));
-    say(b"batches", records::count(w, 4));
-    say(b"tests", records::count(w, 5));
-    say(b"points owned", records::count(w, 6));
-    say(b"overlaps owned", records::count(w, 7));
-    say(b"owners", records::count(w, 8));
-    say(b"snaps", records::count(w, 9));
-    say(b"strategies", records::count(w, 10));
-    say(b"owners of many", records::count(w, 11));
+    say(b"numbers", files::count(w, 1));
+    say(b"walks", files::count(w, 2));
+    say(b"builds", files::count(w, 3));
+    say(b"batches", files::count(w, 4));
+    say(b"tests", files::count(w, 5));
+    say(b"points owned", files::count(w, 6));
+    say(b"overlaps owned", files::count(w, 7));
+    say(b"owners", files::count(w, 8));
+    say(b"snaps", files::count(w, 9));
+    say(b"strategies", files::count(w, 10));
+    say(b"owners of many", files::count(w, 11));
 }
 
 // The records up to the first word that differs, and that word, if there is one.

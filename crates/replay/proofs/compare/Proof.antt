@@ -5,8 +5,8 @@ use Prim.Native.Nat.{ℕ, _≤_}
 use lib.ListN.{length, take}
 use lib.Seq.{length-take-le}
 use borrow.Author.Needs.{needs}
-use Rattle.replay.specs.Words.{sameTo}
-use Rattle.replay.proofs.Sameness.{same-within}
+use Rattle.records.specs.Words.{sameTo}
+use Rattle.records.proofs.Sameness.{same-within}
 use Rattle.replay.proofs.compare.Statement.{statement}
 use Rattle.replay.proofs.compare.Tie as tie
 

@@ -1,16 +1,18 @@
 // Records one after another: how long each is, and how many are of a kind.
 ghost use mathlib.Core.Path.{_≡_};
 ghost use mathlib.Core.Bool.{cond};
-ghost use Prim.Native.Nat.{_+_, _≤_};
+ghost use Prim.Native.Nat.{_-_, _≤_};
 ghost use lib.ListN.{length, drop};
-ghost use Rattle.replay.specs.Files.{countOf};
-ghost use Rattle.replay.specs.Inside.{sizeOf};
+ghost use Rattle.records.specs.Files.{countOf};
+ghost use Rattle.records.specs.Files.{sizeOf};
 
 // How many words the record has that begins at a place; 0 where none stands whole there.
-pub(crate) fn size_at(w: &[u64], at: usize) -> usize
-    requires { ⌜ at ≤ length (now w) ⌝ }
-    ensures { λ r. ⌜ (r ≡ sizeOf (drop at (now (w .entry)))) × (at + r ≤ length (now (w .entry))) ⌝ }
+pub fn size_at(w: &[u64], at: usize) -> usize
+    ensures { λ r. ⌜ (r ≡ sizeOf (drop at (now (w .entry)))) × (r ≤ length (now (w .entry)) - at) ⌝ }
 {
+    if w.len() <= at {
+        return 0;
+    }
     if w.len() - at < 3 {
         return 0;
     }
@@ -36,7 +38,7 @@ fn one_if(b: bool) -> u64
 }
 
 // How many of the records that stand whole in w, from the first on, are of a kind.
-pub(crate) fn count(w: &[u64], kind: u64) -> u64
+pub fn count(w: &[u64], kind: u64) -> u64
     ensures { λ r. ⌜ r ≡ countOf kind (now (w .entry)) ⌝ }
 {
     let mut counted = 0;

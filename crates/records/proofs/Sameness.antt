@@ -9,9 +9,9 @@ use mathlib.Core.Logic.{_↔_}
 use borrow.Author.Tests.{eq-eqb, ne-eqb}
 use lib.ListN.{length, take, drop, getD, drop-of-length-le}
 use lib.Seq.{drop-cons}
-use Rattle.replay.specs.Words.{sameTo}
-use Rattle.replay.specs.Files.{Record, recordsOf}
-use Rattle.replay.proofs.Rows.{ends-within, first-records}
+use Rattle.records.specs.Words.{sameTo}
+use Rattle.records.specs.Files.{Record, recordsOf}
+use Rattle.records.proofs.Rows.{ends-within, first-records}
 
 -- ---- the words up to the first that differs
 

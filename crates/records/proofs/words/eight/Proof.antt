@@ -1,8 +1,8 @@
--- `replay::words::eight` meets its contract. Assumes nothing.
+-- `records::words::eight` meets its contract. Assumes nothing.
 use native.Mathlib.Omega.{arith}
-use Rattle.replay.proofs.Bytes.{little-eight}
-use Rattle.replay.proofs.words.eight.Statement.{statement}
-use Rattle.replay.proofs.words.eight.Tie as tie
+use Rattle.records.proofs.Bytes.{little-eight}
+use Rattle.records.proofs.words.eight.Statement.{statement}
+use Rattle.records.proofs.words.eight.Tie as tie
 
 pub eight-spec : {M : Type 1} → statement M
 eight-spec =

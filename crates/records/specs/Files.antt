@@ -32,3 +32,10 @@ ofKind k (r ∷ rs) = cond (eqb (r .kind) k) 1 0 + ofKind k rs
 
 unfoldable pub countOf : ℕ → List ℕ → ℕ
 countOf k w = ofKind k (recordsOf w)
+
+-- how many words the record has that w begins with; 0 where none stands whole there
+unfoldable pub sizeOf : List ℕ → ℕ
+sizeOf [] = 0
+sizeOf (kind ∷ []) = 0
+sizeOf (kind ∷ q ∷ []) = 0
+sizeOf (kind ∷ q ∷ a ∷ w) = cond (leb (q + a) (length w)) (3 + (q + a)) 0

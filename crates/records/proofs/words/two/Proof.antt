@@ -1,8 +1,8 @@
--- `replay::words::two` meets its contract. Assumes nothing.
+-- `records::words::two` meets its contract. Assumes nothing.
 use native.Mathlib.Omega.{arith}
-use Rattle.replay.proofs.Bytes.{little-two}
-use Rattle.replay.proofs.words.two.Statement.{statement}
-use Rattle.replay.proofs.words.two.Tie as tie
+use Rattle.records.proofs.Bytes.{little-two}
+use Rattle.records.proofs.words.two.Statement.{statement}
+use Rattle.records.proofs.words.two.Tie as tie
 
 pub two-spec : {M : Type 1} → statement M
 two-spec =

@@ -12,8 +12,8 @@ use borrow.Author.Tests.{le-leb, lt-leb}
 use lib.Dec.{leb}
 use lib.ListN.{length, take, drop, getD, length-take, length-drop}
 use lib.Seq.{take-nil, getD-drop, drop-drop}
-use Rattle.replay.specs.Files.{Record, recordsFrom}
-use Rattle.replay.specs.Inside.{sizeOf}
+use Rattle.records.specs.Files.{Record, recordsFrom}
+use Rattle.records.specs.Files.{sizeOf}
 
 -- ---- the size of a record
 

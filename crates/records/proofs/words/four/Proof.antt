@@ -1,8 +1,8 @@
--- `replay::words::four` meets its contract. Assumes nothing.
+-- `records::words::four` meets its contract. Assumes nothing.
 use native.Mathlib.Omega.{arith}
-use Rattle.replay.proofs.Bytes.{little-four}
-use Rattle.replay.proofs.words.four.Statement.{statement}
-use Rattle.replay.proofs.words.four.Tie as tie
+use Rattle.records.proofs.Bytes.{little-four}
+use Rattle.records.proofs.words.four.Statement.{statement}
+use Rattle.records.proofs.words.four.Tie as tie
 
 pub four-spec : {M : Type 1} → statement M
 four-spec =

@@ -1,4 +1,4 @@
--- `replay::words::same_to` meets its contract. The invariant: the words up to i are the same, so i and what is the same from there on make up
+-- `records::words::same_to` meets its contract. The invariant: the words up to i are the same, so i and what is the same from there on make up
 -- the whole. Assumes nothing.
 use mathlib.Core.Path.{_≡_, refl, sym, _∙_}
 use mathlib.Core.List.{List}
@@ -6,10 +6,10 @@ use Prim.Native.Nat.{ℕ, _+_, _-_, _≤_, _<_}
 use native.Mathlib.Omega.{arith}
 use native.Mathlib.Numerals.{add-one}
 use lib.ListN.{length, drop, getD, drop-of-length-le}
-use Rattle.replay.specs.Words.{sameTo}
-use Rattle.replay.proofs.Sameness.{same-next, same-end, past-first, past-second}
-use Rattle.replay.proofs.words.same_to.Statement.{statement}
-use Rattle.replay.proofs.words.same_to.Tie as tie
+use Rattle.records.specs.Words.{sameTo}
+use Rattle.records.proofs.Sameness.{same-next, same-end, past-first, past-second}
+use Rattle.records.proofs.words.same_to.Statement.{statement}
+use Rattle.records.proofs.words.same_to.Tie as tie
 
 record Same (a b : List ℕ) (i : ℕ) : Type 0 where
   in-a : i ≤ length a

@@ -1,8 +1,9 @@
 // Words of 64 bits: those that stand in bytes, and how far two rows of them are the same.
 ghost use mathlib.Core.Path.{_≡_};
-ghost use Prim.Native.Nat.{_+_, _*_, _^_, _<_};
-ghost use lib.ListN.{length};
-ghost use Rattle.replay.specs.Words.{littleAt, wordsOf, sameTo};
+ghost use mathlib.Core.List.{_++_};
+ghost use Prim.Native.Nat.{_+_, _*_, _/_, _^_, _<_, min};
+ghost use lib.ListN.{length, drop};
+ghost use Rattle.records.specs.Words.{littleAt, wordsOf, sameTo};
 
 fn wide(b: u8) -> u64
     ensures { λ r. ⌜ (r ≡ b) × (r < 256) ⌝ }
@@ -32,20 +33,21 @@ fn eight(bytes: &[u8], at: usize) -> u64
     four(bytes, at) + 4294967296 * four(bytes, at + 4)
 }
 
-// The words that stand in bytes.
-pub(crate) fn words_of(bytes: &[u8], out: &mut [u64])
-    requires { ⌜ length (now bytes) ≡ 8 * length (now out) ⌝ }
-    ensures { λ _. ⌜ now (out .exit) ≡ wordsOf (length (now (out .entry))) (now (bytes .entry)) ⌝ }
+// The words that stand whole in bytes, as many as there is room for. What is beyond them stays.
+pub fn words_of(bytes: &[u8], out: &mut [u64])
+    ensures { λ _. let n = min (length (now (bytes .entry)) / 8) (length (now (out .entry))) in
+        ⌜ now (out .exit) ≡ wordsOf n (now (bytes .entry)) ++ drop n (now (out .entry)) ⌝ }
 {
+    let n = slices::least(bytes.len() / 8, out.len());
     let mut i = 0;
-    while i < out.len() {
+    while i < n {
         out[i] = eight(bytes, 8 * i);
         i += 1;
     }
 }
 
 // How many words, from the first on, are the same in both.
-pub(crate) fn same_to(a: &[u64], b: &[u64]) -> usize
+pub fn same_to(a: &[u64], b: &[u64]) -> usize
     ensures { λ r. ⌜ r ≡ sameTo (now (a .entry)) (now (b .entry)) ⌝ }
 {
     let mut i = 0;

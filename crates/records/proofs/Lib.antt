@@ -1,4 +1,4 @@
 -- `Bytes`: laws of words in bytes. `Rows`: laws of the records of a file. `Sameness`: how far two files are the same, and which records agree.
 mod Bytes
 mod Rows
-mod Sameness
+pub mod Sameness

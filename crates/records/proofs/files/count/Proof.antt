@@ -1,4 +1,4 @@
--- `replay::records::count` meets its contract. The invariant: what is counted, and the count of what follows, make up the whole. Assumes nothing.
+-- `records::files::count` meets its contract. The invariant: what is counted, and the count of what follows, make up the whole. Assumes nothing.
 use mathlib.Core.Path.{_≡_, refl, sym, ap, _∙_}
 use mathlib.Core.Bool.{cond}
 use mathlib.Core.List.{List}
@@ -7,11 +7,11 @@ use native.Mathlib.Omega.{arith}
 use lib.Dec.{eqb}
 use lib.ListN.{length, drop, getD}
 use lib.Seq.{getD-drop, drop-drop}
-use Rattle.replay.specs.Files.{recordsFrom, recordsOf, ofKind, countOf}
-use Rattle.replay.specs.Inside.{sizeOf}
-use Rattle.replay.proofs.Rows.{short-at, next-at, last-at}
-use Rattle.replay.proofs.records.count.Statement.{statement}
-use Rattle.replay.proofs.records.count.Tie as tie
+use Rattle.records.specs.Files.{recordsFrom, recordsOf, ofKind, countOf}
+use Rattle.records.specs.Files.{sizeOf}
+use Rattle.records.proofs.Rows.{short-at, next-at, last-at}
+use Rattle.records.proofs.files.count.Statement.{statement}
+use Rattle.records.proofs.files.count.Tie as tie
 
 record Counts (w : List ℕ) (k n at : ℕ) : Type 0 where
   within : at ≤ length w
@@ -60,5 +60,6 @@ count-spec =
     (λ c.
     let e = c .before .before .before .size-at .ensures in
     let o = c .one-if .ensures in
-    more (c .before .before .before .before .before .loop .inv) (e .0) (e .1) (c .before .before .if1 .left) (o .0) (o .1))
+    let inv = c .before .before .before .before .before .loop .inv in
+    more inv (e .0) (omega (arith, e .1, inv .within)) (c .before .before .if1 .left) (o .0) (o .1))
     (λ c. ended (c .before .loop .inv) (short-at (c .before .loop .at) (c .before .before .before .args .w .now) (omega arith))))

@@ -17,6 +17,7 @@ use lib.Ieee.Fits.{down-pos}
 use lib.Ieee.Scale.{finite, grid}
 use lib.Ieee.Positive.{num, den, positive}
 use Rattle.slices.proofs.Laws.{le-or}
+use Rattle.numbers.specs.Floor.{clampedFloor}
 use Rattle.numbers.proofs.Tests.{holds}
 use Rattle.numbers.proofs.Rounding.{under-by}
 use Rattle.numbers.proofs.FloatQuotient.{num-pos}
@@ -155,41 +156,20 @@ known-of f d (fin s n e) (fin t n' e') p q h k = tt
 
 -- ---- the cut: 0 for what is not above zero; and of what is above zero and below the limit, what the cut of the code asks
 
-pub cut-none : (v : Float) → lt (fin false 0 (pos 0)) v ≡ false → toUnsigned 64 v ≡ 0
-unfolding lt toUnsigned
-cut-none nan p = refl
-cut-none (inf true) p = refl
-cut-none (inf false) p = absurd (true≢false p)
-cut-none (fin true m e) p = refl
-cut-none (fin false m e) p = none-left (m * up e) (down e) (nltb→le (0 * down e) (m * up e * 1) (subst (λ (b : Bool). T (not b)) (sym p) tt))
+-- such a quotient has 32 bits: the clamped floor does not clamp it
+pub cut-clamped : (v : Float) → T (lt v limit) → clampedFloor v 4294967295 ≡ toUnsigned 64 v
+unfolding lt toUnsigned clampedFloor
+cut-clamped nan p = absurd p
+cut-clamped (inf true) p = refl
+cut-clamped (inf false) p = absurd p
+cut-clamped (fin true m e) p = refl
+cut-clamped (fin false m e) p = go (m * up e) (down e) (down-pos e) (ltb→lt (m * up e * 1) (4095 * 1048576 * down e) p)
   where
-    none-left : (x d : ℕ) → x * 1 ≤ 0 * d → min (x / d) (2 ^ 64 - 1) ≡ 0
-    none-left x d h = let e : x ≡ 0 = omega arith in rw (e, zero-div)
+    less-than : (x d : ℕ) → x * 1 < 4095 * 1048576 * d → x < 4293918720 * d
+    less-than x d h = omega arith
 
-pub above-minus-one : (v : Float) → lt (fin false 0 (pos 0)) v ≡ true → T (lt (fin true 1 (pos 0)) v)
-unfolding lt
-above-minus-one nan p = absurd (true≢false (sym p))
-above-minus-one (inf false) p = tt
-above-minus-one (inf true) p = absurd (true≢false (sym p))
-above-minus-one (fin true m e) p = absurd (true≢false (sym p))
-above-minus-one (fin false m e) p = lt→ltb 0 (1 * down e + m * up e * 1) (some (down e) (m * up e * 1) (down-pos e))
-  where
-    some : (x y : ℕ) → 0 < x → 0 < 1 * x + y
-    some x y h = omega arith
-
-pub below-top : (v : Float) → T (lt v limit) → T (lt v (fin false 1 (pos 64)))
-unfolding lt
-below-top nan p = absurd p
-below-top (inf true) p = tt
-below-top (inf false) p = absurd p
-below-top (fin true m e) p = lt→ltb 0 (m * up e * 1 + 1 * 2 ^ 64 * down e) (some (m * up e * 1) (down e) (down-pos e))
-  where
-    some : (x d : ℕ) → 0 < d → 0 < x + 1 * 18446744073709551616 * d
-    some x d h = omega arith
-below-top (fin false m e) p = lt→ltb (m * up e * 1) (1 * 2 ^ 64 * down e) (more (m * up e * 1) (down e) (ltb→lt (m * up e * 1) (4095 * 1048576 * down e) p))
-  where
-    more : (x d : ℕ) → x < 4095 * 1048576 * d → x < 1 * 18446744073709551616 * d
-    more x d h = omega arith
+    go : (x d : ℕ) → 0 < d → x * 1 < 4095 * 1048576 * d → min (x / d) (4294967295 - 1) ≡ min (x / d) (2 ^ 64 - 1)
+    go x d D h = let k : x / d < 4293918720 = div-lt-iff-lt-mul D .1 (less-than x d h) in omega arith
 
 cut-below : (v : Float) → T (lt v limit) → toUnsigned 64 v < 4294967296
 unfolding lt toUnsigned

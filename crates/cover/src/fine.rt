@@ -23,15 +23,12 @@ fn near(axis: Axis, v: f64) -> bool
     false
 }
 
+// A quotient that passes the guard has 32 bits, so the cut is the clamped floor's, which has no shift by the exponent.
 fn fine(axis: Axis, v: f64) -> u64
     requires { ⌜ nearOn axis v ≡ true ⌝ }
     ensures { λ r. ⌜ r ≡ fineOn axis v ⌝ }
 {
-    let u = units(axis, v);
-    if 0.0 < u {
-        return std::num::truncating_f64_to_u64(u);
-    }
-    0
+    numbers::floor::clamped_floor(units(axis, v), 4294967295) as u64
 }
 
 fn end_passes(grid: Grid, x: f64, y: f64) -> bool

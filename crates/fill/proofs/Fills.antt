@@ -1,11 +1,12 @@
 -- From the counts on a grid to its tables, or to refusal 5 or 6. Assumes nothing.
 use mathlib.Core.Path.{_≡_, refl, sym, ap, _∙_, fun-ext}
 use mathlib.Core.Bool.{Bool, true, false, cond}
-use mathlib.Core.List.{List, _++_}
-use Prim.Native.Nat.{ℕ, suc, _+_, _-_, _≤_, _<_, _^_}
+use mathlib.Core.List.{List, [], _∷_, _++_}
+use Prim.Native.Nat.{ℕ, zero, suc, _+_, _-_, _≤_, _<_, _^_}
 use native.Mathlib.Omega.{arith}
 use borrow.Author.Tests.{le-leb, lt-leb}
-use lib.ListN.{length, getD, replicate}
+use lib.ListN.{length, getD, replicate, take}
+use Rattle.slices.specs.Slices.{clearedFrom}
 use Rattle.refusals.specs.declared.Refusal.{Refusal}
 use Rattle.refusals.specs.declared.Check.{Check}
 use Rattle.refusals.specs.declared.Check.the-variants.{Fine, Refused}
@@ -14,8 +15,8 @@ use Rattle.refusals.proofs.Leaving.{numbers-clear, left-alike}
 use Rattle.grid.specs.declared.Grid.{Grid}
 use Rattle.grid.specs.Domain.{Lines, count}
 use Rattle.walk.specs.declared.Mode.{Mode}
-use Rattle.tables.specs.Lists.{linesAt, sum, start, itemsOf, offsetsOf}
-use Rattle.tables.specs.States.{Placed, Table}
+use Rattle.tables.specs.Lists.{Walks, linesAt, sum, start, itemsOf, offsetsOf}
+use Rattle.tables.specs.States.{Counted, Placed, Table}
 use Rattle.tables.proofs.Laws.{counts-sum, placed-none, table-of}
 use Rattle.fill.specs.declared.Filled.{Filled}
 use Rattle.fill.specs.declared.Filled.the-variants as filled
@@ -26,6 +27,27 @@ use Rattle.fill.specs.Inside.{localOn, PlaceAsks, AllPlaced, Summed, Shi
 use Rattle.fill.proofs.Walks.{all-walks}
 use Rattle.fill.proofs.Lines.{total-small}
 use Rattle.fill.proofs.Counts.{zeros-at}
+
+-- ---- where the second pass begins
+
+-- beyond where it is cleared from, a list is zero
+cleared-at : (n : ℕ) (xs : List ℕ) (p : ℕ) → n ≤ p → getD (clearedFrom n xs) p 0 ≡ 0
+unfolding clearedFrom
+cleared-at zero xs p l = zeros-at (length xs - 0) p
+cleared-at (suc n) [] p l = zeros-at (0 - suc n) p
+cleared-at (suc n) (x ∷ xs) zero l = absurd (omega arith)
+cleared-at (suc n) (x ∷ xs) (suc p) l =
+    let e : suc (length xs) - suc n ≡ length xs - n = omega arith in
+    rw e (cleared-at n xs p (omega arith))
+
+-- as `placed-none`, where the items are zero beyond the lists
+placed-cleared : {W : ℕ → List ℕ} {n cells : ℕ} {o₀ o t : List ℕ} → Walks W n cells → Counted (linesAt W n) o₀
+    → ((k : ℕ) → k ≤ cells → getD o k 0 ≡ sum (λ k. getD o₀ k 0) k) → ((k : ℕ) → cells < k → getD o k 0 ≡ getD o₀ k 0)
+    → ((p : ℕ) → start (linesAt W n) cells ≤ p → getD t p 0 ≡ 0) → Placed (linesAt W n) cells (linesAt W 0) o t
+unfolding linesAt
+placed-cleared {W} {n} {cells} {o₀} {o} w h low high rest =
+    let z : Placed (linesAt W n) cells (linesAt W 0) o [] = placed-none w h low high (λ p. refl) in
+    record { ptr = z .ptr; put = λ c k l. absurd (omega arith); rest = rest }
 
 -- ---- 5, then 6
 
@@ -65,10 +87,14 @@ module _ {mode : Mode} {g : Grid} {ls : Lines} {found : ℕ} {o s : List ℕ} (a
       pub lay-total : all ≡ total mode g ls
       lay-total = k .total ∙ sums-to
 
-      pub lay-place : {t gs : List ℕ} {items globals : ℕ} → length o₁ ≡ length o → t ≡ replicate items 0 → length t ≡ items → gs ≡ replicate globals 0 → length gs ≡ globals
+      lay-start : all ≡ start (linesAt (localOn mode g ls) (count ls)) (cells g)
+      unfolding total listOn
+      lay-start = lay-total
+
+      pub lay-place : (t₀ : List ℕ) {t gs : List ℕ} {items globals : ℕ} → length o₁ ≡ length o → t ≡ clearedFrom all t₀ → length t ≡ items → gs ≡ replicate globals 0 → length gs ≡ globals
           → all ≤ items → found ≤ globals → PlaceAsks mode g ls o₁ t gs s
       unfolding listOn
-      lay-place {t} {items = items} b z x y w l m =
+      lay-place t₀ b z x y w l m =
           record {
             walkable = a .walkable;
             turns = a .turns;
@@ -76,8 +102,8 @@ module _ {mode : Mode} {g : Grid} {ls : Lines} {found : ℕ} {o s : List ℕ} (a
               room = omega (arith, a .all .counted .room);
               space = omega (arith, lay-total);
               placed =
-                  placed-none (all-walks mode g ls (a .walkable .fits)) (a .all .counted .counts) (rw e at (k .sums)) (rw e at (k .beyond))
-                  (λ p. rw z (zeros-at items p));
+                  placed-cleared (all-walks mode g ls (a .walkable .fits)) (a .all .counted .counts) (rw e at (k .sums)) (rw e at (k .beyond))
+                  (λ p h. rw z (cleared-at all t₀ p (omega (arith, lay-start))));
             };
             clear = y ∙ ap (λ (n : ℕ). replicate {A = ℕ} n 0) (sym w);
             fits = omega (arith, a .all .found);

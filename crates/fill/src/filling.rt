@@ -19,7 +19,7 @@ use grid::Grid;
 use refusals::Refusal;
 use walk::Mode;
 
-// 5 and 6 are decided before an item is written.
+// 5 and 6 are decided before an item is written. Each item below the total is written by the placing, so only those beyond it are cleared.
 fn lay_out(
     mode: Mode,
     start_x: &[f64],
@@ -69,7 +69,7 @@ fn lay_out(
             scratch,
         );
     }
-    slices::clear(items);
+    slices::clear_from(items, total);
     slices::clear(globals);
     place_lines(
         mode,

@@ -36,18 +36,24 @@ pub fn segment_cells(g: &Grid, line: &Line, mode: u32, scratch: &mut [u32], out:
     sys::segment_cells(&g.words(), x0, y0, x1, y1, mode, scratch, out)
 }
 
+/// The sizes of a grid, as the inner walks take them: its minima, and the width and the height of its cells.
+#[inline]
+pub fn sizes(g: &Grid) -> [f64; 4] {
+    [g.min_x, g.min_y, g.cell_width, g.cell_height]
+}
+
 /// The walk that a build takes, in the Rust's mode: it leaves the scratch beyond the cells as it comes. out: the number of cells.
 #[inline]
 pub fn inner_walk(g: &Grid, line: &Line, scratch: &mut [u32], out: &mut [u64]) -> u32 {
     let [x0, y0, x1, y1] = *line;
-    inner::inner_walk(&g.words(), x0, y0, x1, y1, scratch, out)
+    inner::inner_walk(&sizes(g), g.cols, g.rows, x0, y0, x1, y1, scratch, out)
 }
 
 /// The covering walk. out: the number of cells. It answers 16 where the line is in every cell of a grid of more than 2,048.
 #[inline]
 pub fn inner_cover(g: &Grid, line: &Line, scratch: &mut [u32], out: &mut [u64]) -> u32 {
     let [x0, y0, x1, y1] = *line;
-    inner::inner_cover(&g.words(), x0, y0, x1, y1, scratch, out)
+    inner::inner_cover(&sizes(g), g.cols, g.rows, x0, y0, x1, y1, scratch, out)
 }
 
 /// The ordering of a walk's cells.

@@ -2,13 +2,33 @@
 use Prim.Native.Nat.{ℕ}
 use mathlib.Core.Path.{_≡_}
 use mathlib.Core.List.{List}
-use lib.ListN.{length, set}
+use mathlib.Core.Bool.{false, cond}
+use lib.IntN.{pos}
+use lib.Dec.{ltb}
+use lib.Ieee.{Float, nan, fin}
+use lib.ListN.{length, getD, set}
 use Rattle.grid.specs.declared.Grid.{Grid}
 use Rattle.grid.specs.declared.Segment.{Segment}
 use Rattle.walk.specs.declared.Mode.{Mode}
 use Rattle.walk.specs.declared.Reached.{Reached}
 use Rattle.walk.specs.declared.Reached.the-variants.{Found, Everywhere, Refused}
 use Rattle.walk.specs.Segment.{everywhereIn, reachOf, reachedOf, Walked}
+
+abbrev none : Float
+none = fin false 0 (pos 0)
+
+-- a grid by its minima and the width and the height of its cells, and its counts; where fewer than four are there, each is 0, which no fit grid has
+unfoldable pub gridOf : List Float → ℕ → ℕ → Grid
+gridOf sizes cols rows = cond (ltb (length sizes) 4)
+    (record { «min_x» = none; «min_y» = none; «cell_width» = none; «cell_height» = none; cols = cols; rows = rows })
+    (record {
+      «min_x» = getD sizes 0 nan;
+      «min_y» = getD sizes 1 nan;
+      «cell_width» = getD sizes 2 nan;
+      «cell_height» = getD sizes 3 nan;
+      cols = cols;
+      rows = rows;
+    })
 
 -- 0, 16 where the line is everywhere, or the refusal's number
 unfoldable pub reachNumber : Reached → ℕ

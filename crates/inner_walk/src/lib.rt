@@ -1,16 +1,14 @@
 // The walk of one line as a build takes it, the ordering of its cells, and the covering walk, for whoever times or compares them. They are no part of the
 // library.
-use grid::Segment;
-use grid::words::grid_by;
+use grid::Grid;
 use walk::Mode;
 use walk::Reached;
 ghost use mathlib.Core.Path.{_≡_};
 ghost use lib.ListN.{length, set};
 ghost use Rattle.grid.specs.Domain.{segmentBy};
-ghost use Rattle.grid.specs.Words.{gridBy};
 ghost use Rattle.slices.specs.Slices.{sorted};
 ghost use Rattle.walk.specs.declared.Mode.the-variants.{Rust, Covering};
-ghost use Rattle.inner_walk.specs.Replies.{reachNumber, reachValue, WalkReplies};
+ghost use Rattle.inner_walk.specs.Replies.{gridOf, reachNumber, reachValue, WalkReplies};
 
 // Writes the first entry, where there is one.
 fn put(value: u64, out: &mut [u64])
@@ -51,10 +49,37 @@ fn answer(r: Reached, out: &mut [u64]) -> u32
     }
 }
 
-// The Rust's walk. The grid is said by its words. The cells stand at the start of the scratch; what is beyond them there is open.
+// The grid of its sizes, which are its minima and the width and the height of its cells, and of its counts. A build has it as a value, so no words are
+// read. The sizes are looked at once, and not one by one: so they are copied in pairs, as the walk reads them.
+fn grid_of(sizes: &[f64], cols: u32, rows: u32) -> Grid
+    ensures { λ r. ⌜ r ≡ gridOf (now (sizes .entry)) cols rows ⌝ }
+{
+    if sizes.len() < 4 {
+        return Grid {
+            min_x: 0.0,
+            min_y: 0.0,
+            cell_width: 0.0,
+            cell_height: 0.0,
+            cols,
+            rows,
+        };
+    }
+    Grid {
+        min_x: sizes[0],
+        min_y: sizes[1],
+        cell_width: sizes[2],
+        cell_height: sizes[3],
+        cols,
+        rows,
+    }
+}
+
+// The Rust's walk. The grid is said by its sizes and its counts. The cells stand at the start of the scratch; what is beyond them there is open.
 #[no_mangle]
 pub extern "C" fn mt_inner_walk(
-    grid: &[u64],
+    sizes: &[f64],
+    cols: u32,
+    rows: u32,
     start_x: f64,
     start_y: f64,
     end_x: f64,
@@ -62,26 +87,28 @@ pub extern "C" fn mt_inner_walk(
     scratch: &mut [u32],
     out: &mut [u64],
 ) -> u32
-    ensures { λ r. let g = gridBy (now (grid .entry)) in
+    ensures { λ r. let g = gridOf (now (sizes .entry)) cols rows in
         let line = segmentBy «start_x» «start_y» «end_x» «end_y» in
         ⌜ WalkReplies Rust g line (now (scratch .entry)) (now (out .entry)) r (now (scratch .exit)) (now (out .exit)) ⌝ }
 {
-    let line = Segment {
+    let r = walk::cells_between(
+        Mode::Rust,
+        grid_of(sizes, cols, rows),
         start_x,
         start_y,
         end_x,
         end_y,
-    };
-    answer(
-        walk::segment_cells(Mode::Rust, grid_by(grid), line, scratch),
-        out,
-    )
+        scratch,
+    );
+    answer(r, out)
 }
 
 // The covering walk, in the same words.
 #[no_mangle]
 pub extern "C" fn mt_inner_cover(
-    grid: &[u64],
+    sizes: &[f64],
+    cols: u32,
+    rows: u32,
     start_x: f64,
     start_y: f64,
     end_x: f64,
@@ -89,18 +116,18 @@ pub extern "C" fn mt_inner_cover(
     scratch: &mut [u32],
     out: &mut [u64],
 ) -> u32
-    ensures { λ r. let g = gridBy (now (grid .entry)) in
+    ensures { λ r. let g = gridOf (now (sizes .entry)) cols rows in
         let line = segmentBy «start_x» «start_y» «end_x» «end_y» in
         ⌜ WalkReplies Covering g line (now (scratch .entry)) (now (out .entry)) r (now (scratch .exit)) (now (out .exit)) ⌝ }
 {
-    let line = Segment {
+    let r = walk::cells_between(
+        Mode::Covering,
+        grid_of(sizes, cols, rows),
         start_x,
         start_y,
         end_x,
         end_y,
-    };
-    answer(
-        walk::segment_cells(Mode::Covering, grid_by(grid), line, scratch),
-        out,
-    )
+        scratch,
+    );
+    answer(r, out)
 }

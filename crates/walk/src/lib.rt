@@ -171,7 +171,7 @@ fn is_turning(mode: Mode) -> bool
 
 // The walk between two points: by turns, or the covering walk. The ends are handed over as numbers, in registers: a segment that is written to memory
 // number by number and read back in pairs makes a processor wait, for a sixth of a short walk.
-fn cells_between(
+pub fn cells_between(
     mode: Mode,
     grid: Grid,
     start_x: f64,

@@ -5,7 +5,7 @@ use super::legs::LEGS;
 use compare::model::SCRATCH;
 use compare::oracle::{self, Lines};
 use compare::random::Random;
-use compare::{cases, inner};
+use compare::{cases, inner, port};
 use std::hint::black_box;
 
 const BAR: Option<f64> = Some(0.25);
@@ -23,10 +23,10 @@ pub fn times(clock: &Clock, r: &mut Random) {
         let lines = cases::orbits(r, 65536, legs);
         let rust_lines = Lines::new(&lines);
         let grid = &black_box(oracle::build(&rust_lines).grid());
-        let words = grid.words();
+        let (sizes, cols, rows) = (black_box(port::sizes(grid)), grid.cols, grid.rows);
         let (mut cells, mut more, mut less) = (0, 0, 0);
         for (i, &[x0, y0, x1, y1]) in lines.iter().enumerate() {
-            assert_eq!(inner::inner_cover(&words, x0, y0, x1, y1, &mut scratch, &mut out), 0);
+            assert_eq!(inner::inner_cover(&sizes, cols, rows, x0, y0, x1, y1, &mut scratch, &mut out), 0);
             let covered = &scratch[..out[0] as usize];
             let walked: Vec<u32> = rust_lines.cells(i, grid).iter().map(|&c| c as u32).collect();
             cells += covered.len();
@@ -41,7 +41,7 @@ pub fn times(clock: &Clock, r: &mut Random) {
             BAR,
             &mut || {
                 for &[x0, y0, x1, y1] in &lines {
-                    black_box(inner::inner_cover(&words, x0, y0, x1, y1, &mut scratch, &mut out));
+                    black_box(inner::inner_cover(&sizes, cols, rows, x0, y0, x1, y1, &mut scratch, &mut out));
                     black_box(&scratch);
                 }
             },

@@ -4,7 +4,7 @@ use super::clock::Clock;
 use compare::model::SCRATCH;
 use compare::oracle::Lines;
 use compare::random::Random;
-use compare::{inner, Grid, Line, Mode};
+use compare::{inner, port, Grid, Line, Mode};
 use morelturret::sys;
 use std::hint::black_box;
 
@@ -37,15 +37,23 @@ fn lines(r: &mut Random, least: f64, most: f64, n: usize, left: bool, down: bool
         .collect()
 }
 
-/// A walk on the grid that words say.
-type Walk = fn(&[u64], f64, f64, f64, f64, &mut [u32], &mut [u64]) -> u32;
+/// A grid as the entry for one segment takes it, and as the inner walks do.
+struct Said {
+    words: [u64; 6],
+    sizes: [f64; 4],
+    cols: u32,
+    rows: u32,
+}
+
+/// A walk on a grid.
+type Walk = fn(&Said, f64, f64, f64, f64, &mut [u32], &mut [u64]) -> u32;
 
 /// One walk of the port against the Rust's, each length in each direction. The bar speaks of the slowest direction. The cells are the Rust's, or cover them.
 fn compared(clock: &Clock, r: &mut Random, walk: Walk, covers: bool, bar: Option<f64>) {
     let mut scratch = vec![0u32; SCRATCH];
     // neither side knows the grid beforehand
     let grid = &black_box(GRID);
-    let words = grid.words();
+    let said = black_box(Said { words: grid.words(), sizes: port::sizes(grid), cols: grid.cols, rows: grid.rows });
     for (name, least, most, n) in LENGTHS {
         let (mut cells, mut port, mut rust, mut ratios) = (0, 0.0, 0.0, Vec::new());
         for (direction, left, down) in DIRECTIONS {
@@ -54,7 +62,7 @@ fn compared(clock: &Clock, r: &mut Random, walk: Walk, covers: bool, bar: Option
             let mut out = [0u64; 8];
             for (i, line) in lines.iter().enumerate() {
                 let [x0, y0, x1, y1] = *line;
-                assert_eq!(walk(&words, x0, y0, x1, y1, &mut scratch, &mut out), 0);
+                assert_eq!(walk(&said, x0, y0, x1, y1, &mut scratch, &mut out), 0);
                 let walked = &scratch[..out[0] as usize];
                 let rust: Vec<u32> = rust_lines.cells(i, grid).iter().map(|&c| c as u32).collect();
                 let right = if covers { rust.iter().all(|c| walked.binary_search(c).is_ok()) } else { rust == walked };
@@ -64,7 +72,7 @@ fn compared(clock: &Clock, r: &mut Random, walk: Walk, covers: bool, bar: Option
             let times = clock.turns(&mut [
                 &mut || {
                     for &[x0, y0, x1, y1] in &lines {
-                        black_box(walk(&words, x0, y0, x1, y1, &mut scratch, &mut out));
+                        black_box(walk(&said, x0, y0, x1, y1, &mut scratch, &mut out));
                         black_box(&scratch);
                     }
                 },
@@ -93,9 +101,9 @@ pub fn times(clock: &Clock, r: &mut Random) {
         "Walk, as a build takes it (mt_inner_walk): the port also checks the segment and the grid, and neither side clears anything. In brackets the \
          cells of a line on average.",
     );
-    compared(clock, r, inner::inner_walk, false, BAR);
+    compared(clock, r, |g, x0, y0, x1, y1, scratch, out| inner::inner_walk(&g.sizes, g.cols, g.rows, x0, y0, x1, y1, scratch, out), false, BAR);
     clock.head("Walk of one segment (mt_segment_cells): the port also clears 16,384 entries of scratch.");
-    compared(clock, r, |g, x0, y0, x1, y1, scratch, out| sys::segment_cells(g, x0, y0, x1, y1, Mode::Rust as u32, scratch, out), false, None);
+    compared(clock, r, |g, x0, y0, x1, y1, scratch, out| sys::segment_cells(&g.words, x0, y0, x1, y1, Mode::Rust as u32, scratch, out), false, None);
     clock.head("The covering walk (mt_inner_cover), beside the Rust's walk.");
-    compared(clock, r, inner::inner_cover, true, Some(0.4));
+    compared(clock, r, |g, x0, y0, x1, y1, scratch, out| inner::inner_cover(&g.sizes, g.cols, g.rows, x0, y0, x1, y1, scratch, out), true, Some(0.4));
 }

@@ -47,6 +47,14 @@ max-digit x y = go (digit x) (digit y)
     go (inr e) (inl q) = rw (q, max-zero) (mod-lt x (zero-lt-suc 1))
     go (inr e) (inr q) = rw (e, q) (lit< tt)
 
+min-digit : (x y : ℕ) → min (x % 2) (y % 2) < 2
+min-digit x y = go (digit x) (digit y)
+  where
+    go : (x % 2 ≡ 0) ⊎ (x % 2 ≡ 1) → (y % 2 ≡ 0) ⊎ (y % 2 ≡ 1) → min (x % 2) (y % 2) < 2
+    go (inl e) q = rw (e, zero-min) (lit< tt)
+    go (inr e) (inl q) = rw (q, min-zero) (lit< tt)
+    go (inr e) (inr q) = rw (e, q) (lit< tt)
+
 -- ---- a bit of both
 
 pub record Common (a b : ℕ) : Type 0 where
@@ -65,6 +73,24 @@ common-bit = bin-ind (λ a. (b : ℕ) → (bitAnd a b ≡ 0 → ⊥) → Common 
         go (yes e) = let r = ih (b / 2) (λ z. d (and-step a b ∙ rw (z, e))) in record { k = suc (r .k); left = r .left; right = r .right }
         go (no n) = let r = both-odd a b n in record { k = zero; left = r .0; right = r .1 }
 
+-- two numbers that have more than their lowest bits in common have a higher one
+pub record High (a b : ℕ) : Type 0 where
+  pub k : ℕ
+  pub left : bitAt (suc k) a ≡ 1
+  pub right : bitAt (suc k) b ≡ 1
+
+pub common-high : (a b : ℕ) → 1 < bitAnd a b → High a b
+unfolding bitAt
+common-high a b l =
+    let r = common-bit (a / 2) (b / 2) (λ z. absurd (omega (arith, l, z, and-step a b, min-digit a b))) in
+    record { k = r .k; left = r .left; right = r .right }
+
+-- and numbers with no bit in common have none at one place
+pub common-none : (k a b : ℕ) → bitAt k a ≡ 1 → bitAt k b ≡ 1 → bitAnd a b ≡ 0 → ⊥
+unfolding bitAt
+common-none zero a b x y e = let q : min (a % 2) (b % 2) ≡ 1 = rw (x, y) in omega (arith, e, and-step a b, q)
+common-none (suc k) a b x y e = common-none k (a / 2) (b / 2) x y (omega (arith, e, and-step a b))
+
 -- ---- a bit of one or the other
 
 or-half : (a b : ℕ) → bitOr a b / 2 ≡ bitOr (a / 2) (b / 2)
@@ -77,6 +103,30 @@ pub or-bit : (k a b : ℕ) → bitAt k (bitOr a b) ≡ 1 → (bitAt k a ≡ 1) �
 unfolding bitAt
 or-bit zero a b h = one-odd a b (sym (or-digit a b) ∙ h)
 or-bit (suc k) a b h = or-bit k (a / 2) (b / 2) (rw (or-half a b) at h)
+
+max-left : (x y : ℕ) → x % 2 ≡ 1 → max (x % 2) (y % 2) ≡ 1
+max-left x y e = go (digit y)
+  where
+    go : (y % 2 ≡ 0) ⊎ (y % 2 ≡ 1) → max (x % 2) (y % 2) ≡ 1
+    go (inl q) = rw (e, q)
+    go (inr q) = rw (e, q)
+
+max-right : (x y : ℕ) → y % 2 ≡ 1 → max (x % 2) (y % 2) ≡ 1
+max-right x y e = go (digit x)
+  where
+    go : (x % 2 ≡ 0) ⊎ (x % 2 ≡ 1) → max (x % 2) (y % 2) ≡ 1
+    go (inl q) = rw (e, q)
+    go (inr q) = rw (e, q)
+
+pub or-left : (k a b : ℕ) → bitAt k a ≡ 1 → bitAt k (bitOr a b) ≡ 1
+unfolding bitAt
+or-left zero a b h = or-digit a b ∙ max-left a b h
+or-left (suc k) a b h = rw (or-half a b) (or-left k (a / 2) (b / 2) h)
+
+pub or-right : (k a b : ℕ) → bitAt k b ≡ 1 → bitAt k (bitOr a b) ≡ 1
+unfolding bitAt
+or-right zero a b h = or-digit a b ∙ max-right a b h
+or-right (suc k) a b h = rw (or-half a b) (or-right k (a / 2) (b / 2) h)
 
 -- ---- of nothing, and of a power of two
 
@@ -97,6 +147,11 @@ power-bit zero zero h = refl
 power-bit zero (suc j) h = absurd (even (2 ^ j) (rw (pow-suc 2 j) at h))
 power-bit (suc k) zero h = absurd (zero-bit k h)
 power-bit (suc k) (suc j) h = ap suc (power-bit k j (rw (pow-suc 2 j, half) at h))
+
+pub bit-power : (k : ℕ) → bitAt k (2 ^ k) ≡ 1
+unfolding bitAt
+bit-power zero = refl
+bit-power (suc k) = rw (pow-suc 2 k, half) (bit-power k)
 
 -- one, shifted at 32 bits
 pub one-shifted : (k : ℕ) → k < 32 → (1 * 2 ^ k) % 2 ^ 32 ≡ 2 ^ k

@@ -72,31 +72,49 @@ module _ (line : ℕ) (starts listing counts : List ℕ) where
 
 -- ---- the loop
 
-pub record Meeting (xs ys : List ℕ) (i j : ℕ) : Type 0 where
+module _ (xs ys : List ℕ) where
+  pub none-left : length xs ≡ 0 → false ≡ meets xs ys (length xs) (length ys)
+  none-left e = sym (rw e (meets-none xs ys (length ys)))
+
+  pub none-right : length ys ≡ 0 → false ≡ meets xs ys (length xs) (length ys)
+  none-right e = sym (meets-empty xs ys (length xs) (length ys) e)
+
+-- the last entries that are left, and what is still to be found
+pub record Comparing (xs ys : List ℕ) (i j x y : ℕ) : Type 0 where
   pub in-xs : i ≤ length xs
   pub in-ys : j ≤ length ys
+  pub some-x : 0 < i
+  pub some-y : 0 < j
+  pub x-is : x ≡ getD xs (i - 1) 0
+  pub y-is : y ≡ getD ys (j - 1) 0
   pub same : meets xs ys (length xs) (length ys) ≡ meets xs ys i j
 
-pub meeting-none : (xs ys : List ℕ) → Meeting xs ys (length xs) (length ys)
-meeting-none xs ys = record { in-xs = omega arith; in-ys = omega arith; same = refl }
+module _ {xs ys : List ℕ} {i j x y : ℕ} (s : Comparing xs ys i j x y) where
+  pub comparing-found : x ≡ y → true ≡ meets xs ys (length xs) (length ys)
+  comparing-found e = sym (s .same ∙ meets-same xs ys i j (s .some-x) (s .some-y) (sym (s .x-is) ∙ e ∙ s .y-is))
 
-module _ {xs ys : List ℕ} {i j : ℕ} (s : Meeting xs ys i j) where
-  pub meeting-over : i ≤ 0 → false ≡ meets xs ys (length xs) (length ys)
-  meeting-over h = let e : i ≡ 0 = omega arith in sym (s .same ∙ rw e (meets-none xs ys j))
+  module _ (n : x ≡ y → ⊥) where
+    apart : getD xs (i - 1) 0 ≡ getD ys (j - 1) 0 → ⊥
+    apart e = n (s .x-is ∙ e ∙ sym (s .y-is))
 
-  pub meeting-empty : j ≡ 0 → false ≡ meets xs ys (length xs) (length ys)
-  meeting-empty e = sym (s .same ∙ meets-empty xs ys i j e)
+    module _ (l : x < y) where
+      left : meets xs ys (length xs) (length ys) ≡ meets xs ys i (j - 1)
+      left = s .same ∙ meets-left xs ys i j (s .some-x) (s .some-y) apart (rw (← s .x-is, ← s .y-is) l)
 
-  module _ (a : 0 < i) (b : j ≡ 0 → ⊥) where
-    some : 0 < j
-    some = omega (arith, b)
+      pub comparing-left-over : j - 1 ≡ 0 → false ≡ meets xs ys (length xs) (length ys)
+      comparing-left-over e = sym (left ∙ meets-empty xs ys i (j - 1) e)
 
-    pub meeting-found : getD xs (i - 1) 0 ≡ getD ys (j - 1) 0 → true ≡ meets xs ys (length xs) (length ys)
-    meeting-found e = sym (s .same ∙ meets-same xs ys i j a some e)
+      pub comparing-left : (j - 1 ≡ 0 → ⊥) → Comparing xs ys i (j - 1) x (getD ys ((j - 1) - 1) 0)
+      comparing-left d =
+          record { in-xs = s .in-xs; in-ys = omega (arith, s .in-ys); some-x = s .some-x; some-y = omega (arith, d); x-is = s .x-is; y-is = refl; same = left }
 
-    module _ (n : getD xs (i - 1) 0 ≡ getD ys (j - 1) 0 → ⊥) where
-      pub meeting-left : getD xs (i - 1) 0 < getD ys (j - 1) 0 → Meeting xs ys i (j - 1)
-      meeting-left l = record { in-xs = s .in-xs; in-ys = omega (arith, s .in-ys); same = s .same ∙ meets-left xs ys i j a some n l }
+    module _ (l : y ≤ x) where
+      right : meets xs ys (length xs) (length ys) ≡ meets xs ys (i - 1) j
+      right = s .same ∙ meets-right xs ys i j (s .some-x) (s .some-y) apart (rw (← s .x-is, ← s .y-is) l)
 
-      pub meeting-right : getD ys (j - 1) 0 ≤ getD xs (i - 1) 0 → Meeting xs ys (i - 1) j
-      meeting-right l = record { in-xs = omega (arith, s .in-xs); in-ys = s .in-ys; same = s .same ∙ meets-right xs ys i j a some n l }
+      pub comparing-right-over : i - 1 ≡ 0 → false ≡ meets xs ys (length xs) (length ys)
+      comparing-right-over e = sym (right ∙ rw e (meets-none xs ys j))
+
+      pub comparing-right : (i - 1 ≡ 0 → ⊥) → Comparing xs ys (i - 1) j (getD xs ((i - 1) - 1) 0) y
+      comparing-right d =
+          record { in-xs = omega (arith, s .in-xs); in-ys = s .in-ys; some-x = omega (arith, d); some-y = s .some-y; x-is = refl; y-is = s .y-is; same = right }

@@ -8,14 +8,19 @@ use lib.ListN.{length, getD}
 use lib.Bits.{bitOr}
 use Rattle.by_line.specs.First.{frontOf}
 
--- the bit of a cell: bit 0 is that of the cell `before`, bit k that of the cell low + k, below bit 32
+-- the place of a cell's bit: 31 is that of the cell `before`, k that of the cell low + k, below 31; 0 is that of all others
+unfoldable pub placeOf : ℕ → ℕ → ℕ → ℕ
+placeOf before low cell = cond (leb cell low) 0 (cond (eqb cell before) 31 (cond (ltb (cell - low) 31) (cell - low) 0))
+
+-- the bit of a cell
 unfoldable pub bitOf : ℕ → ℕ → ℕ → ℕ
-bitOf before low cell = cond (eqb cell before) 1 (cond (ltb (cell - low) 32) (2 ^ (cell - low)) 0)
+bitOf before low cell = 2 ^ placeOf before low cell
 
 -- the bits of the first i of a list, from the last back to one that is not above `low`, and those of m
 unfoldable pub bitsBack : List ℕ → ℕ → ℕ → ℕ → ℕ → ℕ
 bitsBack cells before low zero m = m
-bitsBack cells before low (suc i) m = cond (leb (getD cells i 0) low) m (bitsBack cells before low i (bitOr m (bitOf before low (getD cells i 0))))
+bitsBack cells before low (suc i) m =
+    let m′ = bitOr m (bitOf before low (getD cells i 0)) in cond (leb (getD cells i 0) low) m′ (bitsBack cells before low i m′)
 
 -- THE MARK OF A LINE, of lists by line and how many of each list's cells were visited
 unfoldable pub markOf : ℕ → ℕ → ℕ → List ℕ → List ℕ → List ℕ → ℕ

@@ -10,22 +10,30 @@ pub fn meet(xs: &[u32], ys: &[u32]) -> bool
 {
     let mut i = xs.len();
     let mut j = ys.len();
-    while 0 < i {
-        if j == 0 {
-            return false;
-        }
-        let x = xs[i - 1];
-        let y = ys[j - 1];
-        if x == y {
-            return true;
-        }
+    if i == 0 {
+        return false;
+    }
+    if j == 0 {
+        return false;
+    }
+    let mut x = xs[i - 1];
+    let mut y = ys[j - 1];
+    while x != y {
         if x < y {
             j = j - 1;
+            if j == 0 {
+                return false;
+            }
+            y = ys[j - 1];
         } else {
             i = i - 1;
+            if i == 0 {
+                return false;
+            }
+            x = xs[i - 1];
         }
     }
-    false
+    true
 }
 
 // The first so many cells of a line, of lists by line. What is no part of them is empty.

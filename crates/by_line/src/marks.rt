@@ -1,23 +1,25 @@
-// Marks: which of a few cells near one place list a line and were visited, a bit for each. Two lines with a bit in common met before, and one
-// operation on two numbers tells. Most pairs that met before met in the cell before, or in one of those beside the cell one row back.
+// Marks: which of a few cells near one place list a line and were visited, a bit for each, and one bit for all other cells. Two lines with a cell's
+// bit in common met before, those with no bit in common did not, and one operation on two numbers tells. Most pairs that met before met in the cell
+// before, or in one of those beside the cell one row back.
 use crate::first;
 ghost use mathlib.Core.Path.{_≡_};
-ghost use Prim.Native.Nat.{_<_};
 ghost use Rattle.by_line.specs.Marks.{bitOf, markOf, MarksAre};
 
-// The bit of a cell: the lowest for the cell `before`, the next for those after `low`, as far as there are bits.
+// The bit of a cell: the highest for the cell `before`, the others for those after `low`, as far as there are bits, and the lowest for all other cells.
 fn bit_of(cell: u32, before: u32, low: u32) -> u32
-    requires { ⌜ low < cell ⌝ }
     ensures { λ r. ⌜ r ≡ bitOf before low cell ⌝ }
 {
-    if cell == before {
+    if cell <= low {
         return 1;
     }
+    if cell == before {
+        return 2147483648;
+    }
     let k = cell - low;
-    if k < 32 {
+    if k < 31 {
         return 1u32 << k;
     }
-    0
+    1
 }
 
 // The bits of the first cells of a line, as many as are counted for it, from the last back to `low`.
@@ -37,10 +39,10 @@ pub fn mark(
     while 0 < i {
         i = i - 1;
         let cell = cells[i];
+        m = m | bit_of(cell, before, low);
         if cell <= low {
             return m;
         }
-        m = m | bit_of(cell, before, low);
     }
     m
 }

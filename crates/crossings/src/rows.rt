@@ -2,12 +2,12 @@
 use samples::Raised;
 ghost use mathlib.Core.Path.{_≡_};
 ghost use lib.ListN.{set};
-ghost use Prim.Native.Nat.{_-_};
+ghost use Prim.Native.Nat.{_-_, _<_};
 ghost use Rattle.samples.specs.Samples.{samples, count};
 ghost use Rattle.visit.specs.Inside.{numbers};
 ghost use Rattle.samples.specs.Sharing.{shares};
 ghost use Rattle.once.specs.Scan.{keepAt, PlaceAsks, PairAsks, RowGrown, ScanAsks};
-ghost use Rattle.once.specs.Marked.{MarkedRow};
+ghost use Rattle.once.specs.Marked.{MarkedPair, MarkedRow};
 ghost use Rattle.crossings.specs.Inside.{rowOf, Held};
 
 // The first line of a row, raised.
@@ -39,6 +39,23 @@ fn put(s: &mut [u32], at: usize, v: u32)
     s[at] = v;
 }
 
+// Whether a row's line and another share a point.
+fn shares_point(
+    row: Row,
+    b: u32,
+    start_x: &[i32],
+    start_y: &[i32],
+    end_x: &[i32],
+    end_y: &[i32],
+) -> bool
+    requires { let ss = samples (now «start_x») (now «start_y») (now «end_x») (now «end_y») in ⌜ Held ss row (b < count ss) ⌝ }
+    ensures { λ r. let ss = samples (now («start_x» .entry)) (now («start_y» .entry)) (now («end_x» .entry)) (now («end_y» .entry)) in ⌜ r ≡ shares ss (row .first) b ⌝ }
+{
+    let other = samples::line_at(start_x, start_y, end_x, end_y, b as usize);
+    let line = row.line;
+    samples::share_point(line, other)
+}
+
 // Whether the pair of a test is handed out: the two lines share a point, and no cell that is behind lists both lines.
 fn keeps_pair(
     row: Row,
@@ -56,13 +73,49 @@ fn keeps_pair(
     ensures { λ r. let ss = samples (now («start_x» .entry)) (now («start_y» .entry)) (now («end_x» .entry)) (now («end_y» .entry)) in
         ⌜ ((h : PlaceAsks (count ss) (now (starts .entry)) (now (listing .entry)) (now (counts .entry))) → r ≡ keepAt (shares ss) (h .W) (h .c) (row .first) b) ⌝ }
 {
-    let other = samples::line_at(start_x, start_y, end_x, end_y, b as usize);
-    let line = row.line;
-    if samples::share_point(line, other) {
+    if shares_point(row, b, start_x, start_y, end_x, end_y) {
         if by_line::first::met_before(row.first, b, starts, listing, counts) {
             return false;
         }
         return true;
+    }
+    false
+}
+
+// The same, by the bits that the marks of both lines have in common. With more than the lowest the test is not the first; with none it is, and with
+// the lowest alone it is looked up.
+fn keeps_marked(
+    row: Row,
+    common: u32,
+    b: u32,
+    start_x: &[i32],
+    start_y: &[i32],
+    end_x: &[i32],
+    end_y: &[i32],
+    starts: &[u32],
+    listing: &[u32],
+    counts: &[u32],
+) -> bool
+    requires { let ss = samples (now «start_x») (now «start_y») (now «end_x») (now «end_y») in
+        ⌜ Held ss row (MarkedPair (count ss) (row .first) b common (now starts) (now listing) (now counts)) ⌝ }
+    ensures { λ r. let ss = samples (now («start_x» .entry)) (now («start_y» .entry)) (now («end_x» .entry)) (now («end_y» .entry)) in
+        ⌜ ((h : PlaceAsks (count ss) (now (starts .entry)) (now (listing .entry)) (now (counts .entry))) → r ≡ keepAt (shares ss) (h .W) (h .c) (row .first) b) ⌝ }
+{
+    if common == 0 {
+        return shares_point(row, b, start_x, start_y, end_x, end_y);
+    }
+    if common == 1 {
+        return keeps_pair(
+            row,
+            b,
+            start_x,
+            start_y,
+            end_x,
+            end_y,
+            starts,
+            listing,
+            counts,
+        );
     }
     false
 }
@@ -112,7 +165,7 @@ pub(crate) fn scan_list(
     hits
 }
 
-// The row with each line of a list, by marks: a line whose mark has a bit in common with that of the row's line met it before, and is passed over.
+// The row with each line of a list, by marks: a line whose mark has a bit above the lowest in common with that of the row's line is passed over.
 pub(crate) fn scan_marked(
     row: Row,
     mark: u32,
@@ -138,25 +191,24 @@ pub(crate) fn scan_marked(
     let mut hits = hits;
     let mut j = 0;
     while j < list.len() {
-        let other = marks[j];
+        let common = mark & marks[j];
         let b = list[j];
         j = j + 1;
-        if (mark & other) == 0 {
-            if keeps_pair(
-                row,
-                b,
-                start_x,
-                start_y,
-                end_x,
-                end_y,
-                starts,
-                listing,
-                counts,
-            ) {
-                put(first, hits, row.first);
-                put(second, hits, b);
-                hits = hits + 1;
-            }
+        if keeps_marked(
+            row,
+            common,
+            b,
+            start_x,
+            start_y,
+            end_x,
+            end_y,
+            starts,
+            listing,
+            counts,
+        ) {
+            put(first, hits, row.first);
+            put(second, hits, b);
+            hits = hits + 1;
         }
     }
     hits

@@ -1,7 +1,6 @@
 -- A row's line with its box, and the boxes of two lines. Assumes nothing.
-use mathlib.Core.Path.{_≡_, sym, _∙_}
+use mathlib.Core.Path.{_≡_, _∙_}
 use mathlib.Core.Bool.{Bool}
-use mathlib.Core.List.{List}
 use Prim.Native.Nat.{ℕ, _<_}
 use Rattle.refusals.specs.declared.Check.the-variants.{Fine}
 use Rattle.grid.specs.declared.Box.{Box}
@@ -10,7 +9,6 @@ use Rattle.grid.specs.Boxes.{boxOf, overlaps}
 use Rattle.visit.specs.Overlap.{overlap}
 use Rattle.visit.specs.Inside.{LineAsks}
 use Rattle.once.specs.declared.rows.Row.{Row}
-use Rattle.once.specs.Scan.{PairAsks}
 use Rattle.once.specs.Inside.{rowOf, Held}
 
 pub row-first : {row other : Row} → row ≡ other → row .first ≡ other .first
@@ -22,7 +20,10 @@ row-held e f x = record { fine = f; held = rw e; asks = x }
 pub line-asks : {ls : Lines} {a : ℕ} → linesCheck ls ≡ Fine → a < count ls → LineAsks ls a
 line-asks f l = record { fine = f; one = l }
 
-module _ {ls : Lines} {row : Row} {b : ℕ} {starts listing counts : List ℕ} (a : Held ls row (PairAsks (count ls) (row .first) b starts listing counts)) where
-  pub overlap-is : {other : Box} → other ≡ boxOf (segmentAt ls b) → {r : Bool} → r ≡ overlaps (row .bounds) other → overlap ls (row .first) b ≡ r
+pub held-other : {ls : Lines} {row : Row} {A B : Type 0} → Held ls row A → B → Held ls row B
+held-other h x = record { fine = h .fine; held = h .held; asks = x }
+
+module _ {ls : Lines} {row : Row} {b : ℕ} (a : Held ls row (b < count ls)) where
+  pub overlap-is : {other : Box} → other ≡ boxOf (segmentAt ls b) → {r : Bool} → r ≡ overlaps (row .bounds) other → r ≡ overlap ls (row .first) b
   unfolding overlap
-  overlap-is e q = sym (q ∙ rw (a .held, e))
+  overlap-is e q = q ∙ rw (a .held, e)

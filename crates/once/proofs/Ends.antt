@@ -23,7 +23,7 @@ use Rattle.by_line.specs.ByLine.{roomCheck}
 use Rattle.once.specs.declared.OnceAnswer.{OnceAnswer}
 use Rattle.once.specs.declared.OnceAnswer.the-variants as answer
 use Rattle.once.specs.Once.{lentCheck, pairsCheck, PairsAre, endOf, endLeft, EndIs}
-use Rattle.once.specs.Scan.{putAt}
+use Rattle.once.specs.Scan.{putAt, Alike}
 use Rattle.once.proofs.Writes.{length-put}
 
 -- ---- the lengths of what is lent
@@ -72,11 +72,11 @@ put-take s at (x ∷ xs) l =
     ∙ rw (take-suc (set s at x) at 0 (rw length-set (omega arith)), take-set-le at s at x (omega arith), getD-set-same s at x 0 (omega arith), append-assoc))
 
 -- an output that holds some numbers from its start on, cleared beyond them
-cleared : (s xs s′ s″ : List ℕ) (n : ℕ) → s′ ≡ putAt s 0 xs → n ≡ length xs → n ≤ length s → s″ ≡ clearedFrom n s′ → s″ ≡ zeroBeyond 0 (length s) xs
+cleared : (s xs s′ s″ : List ℕ) (n : ℕ) → Alike n s′ (putAt s 0 xs) → n ≡ length xs → n ≤ length s → s″ ≡ clearedFrom n s′ → s″ ≡ zeroBeyond 0 (length s) xs
 unfolding clearedFrom zeroBeyond
 cleared s xs s′ s″ n p e l c =
     let w : take (length xs) (putAt s 0 xs) ≡ xs = rw zero-add at (put-take s 0 xs (rw zero-add (omega arith))) in
-    c ∙ rw (p, e, w, length-put)
+    c ∙ rw (p .same, p .long, e, w, length-put)
 
 -- ---- the end
 
@@ -117,15 +117,15 @@ zeros e q = rw q at e
 
 -- all checks but 5 are passed, and the pairs ps were written
 module _ (ps : List Pair) (first second starts listing counts : List ℕ) {first₁ second₁ starts₁ listing₁ counts₁ first₂ second₂ starts₂ listing₂ counts₂ : List ℕ} {hits : ℕ} {r : OnceAnswer}
-    (n : hits ≡ length ps) (f : first₁ ≡ putAt first 0 (firsts ps)) (g : second₁ ≡ putAt second 0 (seconds ps))
+    (n : hits ≡ length ps) (f : Alike hits first₁ (putAt first 0 (firsts ps))) (g : Alike hits second₁ (putAt second 0 (seconds ps)))
     (q : length first ≡ length second) (qs : length starts₁ ≡ length starts) (ql : length listing₁ ≡ length listing) (qc : length counts₁ ≡ length counts)
     (e : EndIs hits first₁ second₁ starts₁ listing₁ counts₁ r first₂ second₂ starts₂ listing₂ counts₂)
     {end : Answer (List Pair)} (d : end ≡ (pairsCheck (length ps) (length first) then gives ps)) where
   first-long : length first₁ ≡ length first
-  first-long = rw f (length-put first 0 (firsts ps))
+  first-long = f .long ∙ length-put first 0 (firsts ps)
 
   second-long : length second₁ ≡ length second
-  second-long = rw g (length-put second 0 (seconds ps))
+  second-long = g .long ∙ length-put second 0 (seconds ps)
 
   with-room : length ps ≤ length first → PairsAre end first second starts listing counts r first₂ second₂ starts₂ listing₂ counts₂
   unfolding endOf endLeft pairsCheck unless _then_ answerBy leftIn

@@ -1,19 +1,23 @@
--- The scans by marks: a test whose two marks have a bit in common is passed over, and is not the first of its pair. Assumes nothing.
+-- The scans by marks: what the bits that two marks have in common decide of a test. Assumes nothing.
 use mathlib.Core.Path.{_≡_, refl, sym, ap, _∙_}
-use mathlib.Core.Bool.{Bool, true, false, _&&_}
+use mathlib.Core.Bool.{Bool, true, false, not, _&&_}
 use mathlib.Core.List.{List}
 use Prim.Native.Nat.{ℕ, _+_, _-_, _≤_, _<_}
+use native.Mathlib.Decide.{ℕ-discrete}
 use native.Mathlib.Omega.{arith}
+use borrow.Author.Tests.{eq-eqb, ne-eqb}
+use lib.Dec.{eqb}
 use lib.Bits.{bitAnd}
 use lib.ListN.{length, getD, drop, set, length-drop}
 use lib.Seq.{getD-drop}
 use Rattle.slices.proofs.Members.{below-at}
 use Rattle.by_line.specs.First.{metBelow}
 use Rattle.by_line.specs.Marks.{markOf, MarksAre}
-use Rattle.by_line.proofs.Shared.{shared-met}
+use Rattle.by_line.proofs.Common.{Standing}
+use Rattle.by_line.proofs.Shared.{shared-met, apart-first}
 use Rattle.once.specs.Scan.{keepAt, PlaceAsks, RowGrown, RowsAsk, RowsDone}
-use Rattle.once.specs.Marked.{MarkedRow, MarkedRows}
-use Rattle.once.proofs.Scans.{ListScan, list-begin, list-yes, list-no}
+use Rattle.once.specs.Marked.{Says, MarkedPair, MarkedRow, MarkedRows}
+use Rattle.once.proofs.Scans.{ListScan, list-begin, list-pair, list-over, list-yes, list-no}
 use Rattle.once.proofs.Lists.{Rows, rows-begin, row-scan, rows-next}
 
 -- ---- a row
@@ -27,6 +31,32 @@ keep-met : (chosen : ℕ → ℕ → Bool) (W : ℕ → List ℕ) (c a b : ℕ) 
 unfolding keepAt
 keep-met chosen W c a b e = rw e (sym (and-false (chosen a b)))
 
+and-true : (b : Bool) → (b && true) ≡ b
+and-true true = refl
+and-true false = refl
+
+-- two that did not are handed out where the decision is yes
+keep-apart : (chosen : ℕ → ℕ → Bool) (W : ℕ → List ℕ) (c a b : ℕ) → metBelow W c a b ≡ false → chosen a b ≡ keepAt chosen W c a b
+unfolding keepAt
+keep-apart chosen W c a b e = rw e (sym (and-true (chosen a b)))
+
+module _ {N head b common : ℕ} {starts listing counts : List ℕ} (a : MarkedPair N head b common starts listing counts) (h : PlaceAsks N starts listing counts) (chosen : ℕ → ℕ → Bool) where
+  -- no bit in common
+  pub marked-apart : common ≡ 0 → {r : Bool} → r ≡ chosen head b → r ≡ keepAt chosen (h .W) (h .c) head b
+  marked-apart e q = q ∙ keep-apart chosen (h .W) (h .c) head b (a .says .apart e h)
+
+  -- one above the lowest
+  pub marked-met : (common ≡ 0 → ⊥) → (common ≡ 1 → ⊥) → false ≡ keepAt chosen (h .W) (h .c) head b
+  marked-met n o = keep-met chosen (h .W) (h .c) head b (a .says .met (omega (arith, n, o)) h)
+
+  -- either
+  pub marked-either : (common ≡ 1 → ⊥) → {r : Bool} → r ≡ chosen head b → (r && eqb common 0) ≡ keepAt chosen (h .W) (h .c) head b
+  marked-either o {r} q = go (ℕ-discrete common 0)
+    where
+      go : Dec (common ≡ 0) → (r && eqb common 0) ≡ keepAt chosen (h .W) (h .c) head b
+      go (yes e) = rw (eq-eqb common 0 e) (and-true r ∙ marked-apart e q)
+      go (no n) = rw (ne-eqb common 0 n) (and-false r ∙ marked-met n o)
+
 pub record MarkScan (chosen : ℕ → ℕ → Bool) (N head mark : ℕ) (bs marks starts listing counts : List ℕ) (fs₀ ss₀ : List ℕ) (hits₀ : ℕ) (fs ss : List ℕ) (hits j : ℕ) : Type 0 where
   pub asks : MarkedRow N head mark bs marks starts listing counts hits₀
   pub list : ListScan chosen N head bs starts listing counts fs₀ ss₀ hits₀ fs ss hits j
@@ -37,10 +67,8 @@ marked-begin a = record { asks = a; list = list-begin (a .scan) }
 
 module _ {chosen : ℕ → ℕ → Bool} {N head mark : ℕ} {bs marks starts listing counts : List ℕ} {fs₀ ss₀ : List ℕ} {hits₀ : ℕ} {fs ss : List ℕ} {hits j : ℕ}
     (s : MarkScan chosen N head mark bs marks starts listing counts fs₀ ss₀ hits₀ fs ss hits j) (l : j < length bs) where
-  -- a bit in common: passed over
-  pub marked-past : (bitAnd mark (getD marks j 0) ≡ 0 → ⊥) → MarkScan chosen N head mark bs marks starts listing counts fs₀ ss₀ hits₀ fs ss hits (j + 1)
-  marked-past d =
-      record { asks = s .asks; list = list-no (s .list) l (λ h. keep-met chosen (h .W) (h .c) head (getD bs j 0) (s .asks .says j l d h)) refl }
+  pub marked-pair : MarkedPair N head (getD bs j 0) (bitAnd mark (getD marks j 0)) starts listing counts
+  marked-pair = record { pair = list-pair (s .list) l; says = s .asks .says j l }
 
   module _ {r : Bool} (e : (h : PlaceAsks N starts listing counts) → r ≡ keepAt chosen (h .W) (h .c) head (getD bs j 0)) where
     pub marked-yes : r ≡ true → {fs′ ss′ : List ℕ} → fs′ ≡ set fs hits head → ss′ ≡ set ss hits (getD bs j 0)
@@ -49,6 +77,11 @@ module _ {chosen : ℕ → ℕ → Bool} {N head mark : ℕ} {bs marks starts li
 
     pub marked-no : r ≡ false → MarkScan chosen N head mark bs marks starts listing counts fs₀ ss₀ hits₀ fs ss hits (j + 1)
     marked-no q = record { asks = s .asks; list = list-no (s .list) l e q }
+
+    -- written, and written over
+    pub marked-over : r ≡ false → {fs′ ss′ : List ℕ} → fs′ ≡ set fs hits head → ss′ ≡ set ss hits (getD bs j 0)
+        → MarkScan chosen N head mark bs marks starts listing counts fs₀ ss₀ hits₀ fs′ ss′ hits (j + 1)
+    marked-over q f g = record { asks = s .asks; list = list-over (list-no (s .list) l e q) head (getD bs j 0) f g }
 
 -- ---- the rows of a list
 
@@ -68,9 +101,8 @@ module _ {chosen : ℕ → ℕ → Bool} {N : ℕ} {xs marks starts listing coun
       (record {
         scan = row-scan (s .rows) l e refl;
         long = rw (length-drop (i + 1) xs, length-drop (i + 1) marks) (omega (arith, s .asks .long));
-        says = λ j k d h.
-            rw (e, getD-drop (i + 1) xs j 0)
-            (s .asks .says i ((i + 1) + j) l (omega (arith, k, length-drop (i + 1) xs)) (λ z. d (rw (em, getD-drop (i + 1) marks j 0) z)) h);
+        says = λ j k.
+            rw (em, e, getD-drop (i + 1) xs j 0, getD-drop (i + 1) marks j 0) (s .asks .says i ((i + 1) + j) l (omega (arith, k, length-drop (i + 1) xs)));
       })
 
   pub marks-next : {bs fs′ ss′ : List ℕ} {hits′ : ℕ} → bs ≡ drop (i + 1) xs → RowGrown chosen N head starts listing counts bs fs ss hits fs′ ss′ hits′
@@ -85,16 +117,23 @@ pub record Beside (room : ℕ) (marks : List ℕ) (A : Type 0) : Type 0 where
 
 -- ---- the marks of a list say so
 
+standing : {N : ℕ} {starts listing counts : List ℕ} (h : PlaceAsks N starts listing counts) → Standing (h .W) (h .m) N starts listing (h .c) counts
+standing h =
+    let t = h .listed in
+    record { table = t .table; starts-long = t .starts-long; listing-long = t .listing-long; at-most = t .at-most; counts-long = t .counts-long; counted = t .counted }
+
 pub cell-marked : {N : ℕ} {xs starts listing counts : List ℕ} {hits before low : ℕ} {marks marks′ : List ℕ} → RowsAsk N xs starts listing counts hits
     → MarksAre xs before low starts listing counts marks marks′ → length xs ≤ length marks → MarkedRows N xs marks′ starts listing counts hits
 cell-marked {N} {xs} {starts} {listing} {counts} {hits} {before} {low} {marks} {marks′} a m l =
     record {
       rows = a;
       long = omega (arith, m .long);
-      says = λ i j p q d h.
-          let t = h .listed in
+      says = λ i j p q.
           let ei : getD marks′ i 0 ≡ markOf (getD xs i 0) before low starts listing counts = m .marked i p (omega (arith, p)) in
           let ej : getD marks′ j 0 ≡ markOf (getD xs j 0) before low starts listing counts = m .marked j q (omega (arith, q)) in
-          shared-met (record { table = t .table; starts-long = t .starts-long; listing-long = t .listing-long; at-most = t .at-most; counts-long = t .counts-long; counted = t .counted })
-          before low (getD xs i 0) (getD xs j 0) (below-at N xs i (a .below) p) (below-at N xs j (a .below) q) (λ z. d (rw (ei, ej) z));
+          rw (ei, ej)
+          (record {
+            met = λ d h. shared-met (standing h) before low (getD xs i 0) (getD xs j 0) (below-at N xs i (a .below) p) (below-at N xs j (a .below) q) d;
+            apart = λ d h. apart-first (standing h) before low (getD xs i 0) (getD xs j 0) (below-at N xs i (a .below) p) (below-at N xs j (a .below) q) d;
+          });
     }

@@ -17,7 +17,7 @@ use Rattle.visit.proofs.OtherLines.{length-numbers}
 use Rattle.by_line.specs.First.{metBelow, meetBefore}
 use Rattle.by_line.proofs.Common.{met-is}
 use Rattle.once.specs.Scan.{keepAt, PlaceAsks, PairAsks, RowGrown, ScanAsks}
-use Rattle.once.proofs.Writes.{grown-none, grown-then, grown-yes, grown-no}
+use Rattle.once.proofs.Writes.{grown-none, grown-then, grown-over, grown-yes, grown-no}
 
 -- ---- one test
 
@@ -80,6 +80,19 @@ module _ {chosen : ℕ → ℕ → Bool} {N head : ℕ} {bs starts listing count
         second-long = s .second-long;
       }
 
+-- what is written beyond the pairs is written over
+pub scan-over : {chosen : ℕ → ℕ → Bool} {N head : ℕ} {bs starts listing counts : List ℕ} {fs₀ ss₀ : List ℕ} {hits₀ : ℕ} {ys fs ss : List ℕ} {hits : ℕ}
+    → Scan chosen N head bs starts listing counts fs₀ ss₀ hits₀ ys fs ss hits → (x y : ℕ)
+    → Scan chosen N head bs starts listing counts fs₀ ss₀ hits₀ ys (set fs hits x) (set ss hits y) hits
+scan-over s x y =
+    record {
+      asks = s .asks;
+      made = λ h pl keep k. grown-over x y (s .made h pl keep k);
+      few = s .few;
+      first-long = simp length-set (s .first-long);
+      second-long = simp length-set (s .second-long);
+    }
+
 -- ---- along a list
 
 pub record ListScan (chosen : ℕ → ℕ → Bool) (N head : ℕ) (bs starts listing counts : List ℕ) (fs₀ ss₀ : List ℕ) (hits₀ : ℕ) (fs ss : List ℕ) (hits j : ℕ) : Type 0 where
@@ -95,6 +108,9 @@ module _ {chosen : ℕ → ℕ → Bool} {N head : ℕ} {bs starts listing count
     (s : ListScan chosen N head bs starts listing counts fs₀ ss₀ hits₀ fs ss hits j) where
   pub list-done : length bs ≤ j → RowGrown chosen N head starts listing counts bs fs₀ ss₀ hits₀ fs ss hits
   list-done l h pl keep k = let e : j ≡ length bs = omega (arith, s .at) in rw (e, take-length) at (s .scan .made h pl keep k)
+
+  pub list-over : (x y : ℕ) {fs′ ss′ : List ℕ} → fs′ ≡ set fs hits x → ss′ ≡ set ss hits y → ListScan chosen N head bs starts listing counts fs₀ ss₀ hits₀ fs′ ss′ hits j
+  list-over x y f g = rw (f, g) (record { at = s .at; scan = scan-over (s .scan) x y; few = s .few })
 
   module _ (l : j < length bs) where
     pub list-pair : PairAsks N head (getD bs j 0) starts listing counts

@@ -2,14 +2,16 @@
 use mathlib.Core.Path.{_≡_, refl, sym, ap, _∙_}
 use mathlib.Core.Bool.{Bool, true, false}
 use mathlib.Core.List.{List, [], _∷_, _++_, map}
-use Prim.Native.Nat.{ℕ, suc, _+_, _-_, _≤_}
+use Prim.Native.Nat.{ℕ, suc, _+_, _-_, _≤_, _<_}
 use native.Mathlib.Nat.{add-zero}
+use native.Mathlib.Decide.{decLt}
 use native.Mathlib.Omega.{arith}
-use lib.ListN.{length, set, length-append, length-set, length-map}
+use lib.ListN.{length, take, set, length-append, length-set, length-map}
+use lib.Seq.{set-out, take-all, take-set-le, take-suc-set}
 use Rattle.visit.specs.Tests.{Pair}
 use Rattle.visit.specs.Batches.{keepIf}
 use Rattle.once.specs.Once.{keptBy}
-use Rattle.once.specs.Scan.{putAt, Grown}
+use Rattle.once.specs.Scan.{putAt, Alike, Grown}
 
 -- ---- which tests pass
 
@@ -55,12 +57,55 @@ map-append : (f : Pair → ℕ) (ps qs : List Pair) → map f (ps ++ qs) ≡ map
 map-append f [] qs = refl
 map-append f (p ∷ ps) qs = ap (λ (l : List ℕ). f p ∷ l) (map-append f ps qs)
 
+-- ---- slices that are the same up to an entry
+
+pub alike-same : (n : ℕ) (s : List ℕ) → Alike n s s
+alike-same n s = record { long = refl; same = refl }
+
+pub alike-trans : {n : ℕ} {s t u : List ℕ} → Alike n s t → Alike n t u → Alike n s u
+alike-trans a b = record { long = a .long ∙ b .long; same = a .same ∙ b .same }
+
+-- what is written at the entry where they begin to differ is the same in both
+alike-set : {n : ℕ} {s t : List ℕ} (x : ℕ) → Alike n s t → Alike (suc n) (set s n x) (set t n x)
+alike-set {n} {s} {t} x a =
+    record { long = length-set s n x ∙ a .long ∙ sym (length-set t n x); same = go (decLt n (length s)) }
+  where
+    go : Dec (n < length s) → take (suc n) (set s n x) ≡ take (suc n) (set t n x)
+    go (yes l) = take-suc-set s n x l ∙ ap (λ (l : List ℕ). l ++ (x ∷ [])) (a .same) ∙ sym (take-suc-set t n x (omega (arith, l, a .long)))
+    go (no l) =
+        let p : length s ≤ n = omega (arith, l) in
+        let q : length t ≤ n = omega (arith, l, a .long) in
+        let e : s ≡ t = sym (take-all n s p) ∙ a .same ∙ take-all n t q in
+        rw e
+
+pub alike-put : {n : ℕ} {s t : List ℕ} (xs : List ℕ) → Alike n s t → Alike (n + length xs) (putAt s n xs) (putAt t n xs)
+unfolding putAt
+alike-put {n} [] a = rw (add-zero n) a
+alike-put {n} {s} {t} (x ∷ xs) a = let e : n + suc (length xs) ≡ suc n + length xs = omega arith in rw e (alike-put xs (alike-set x a))
+
+-- what is written at it or beyond leaves the entries before as they are
+alike-over : {n : ℕ} {s t : List ℕ} (x : ℕ) → Alike n s t → Alike n (set s n x) t
+alike-over {n} {s} x a = record { long = length-set s n x ∙ a .long; same = take-set-le n s n x (omega arith) ∙ a .same }
+
 -- ---- the outputs
+
+-- an output after some tests, and after others
+both : (keep : Pair → Bool) (f : Pair → ℕ) (ps qs : List Pair) (s : List ℕ) (hits : ℕ) {s′ s″ : List ℕ} {hits′ hits″ : ℕ} → hits′ ≡ hits + length (keptBy keep ps) → hits″ ≡ hits′ + length (keptBy keep qs)
+    → Alike hits′ s′ (putAt s hits (map f (keptBy keep ps))) → Alike hits″ s″ (putAt s′ hits′ (map f (keptBy keep qs)))
+    → Alike hits″ s″ (putAt s hits (map f (keptBy keep (ps ++ qs))))
+both keep f ps qs s hits {s′} {s″} {hits′} {hits″} e e′ a b =
+    let k : keptBy keep (ps ++ qs) ≡ keptBy keep ps ++ keptBy keep qs = kept-append keep ps qs in
+    let n : hits′ + length (map f (keptBy keep qs)) ≡ hits″ = rw length-map (sym e′) in
+    let c : Alike hits″ (putAt s′ hits′ (map f (keptBy keep qs))) (putAt (putAt s hits (map f (keptBy keep ps))) hits′ (map f (keptBy keep qs))) =
+    rw n at (alike-put (map f (keptBy keep qs)) a) in
+    let w : putAt (putAt s hits (map f (keptBy keep ps))) hits′ (map f (keptBy keep qs)) ≡ putAt s hits (map f (keptBy keep (ps ++ qs))) =
+    rw (k, map-append f (keptBy keep ps) (keptBy keep qs), put-append s hits, length-map, e) in
+    alike-trans b (rw w at c)
 
 module _ {keep : Pair → Bool} where
   pub grown-none : {fs ss : List ℕ} {hits : ℕ} → Grown keep [] fs ss hits fs ss hits
   unfolding keptBy putAt
-  grown-none {hits = hits} = record { hits-are = sym (add-zero hits); first-is = refl; second-is = refl }
+  grown-none {fs} {ss} {hits = hits} = record { hits-are = sym (add-zero hits); first-is = alike-same hits fs; second-is = alike-same hits ss }
 
   pub grown-then : {ps qs : List Pair} {fs ss : List ℕ} {hits : ℕ} {fs′ ss′ : List ℕ} {hits′ : ℕ} {fs″ ss″ : List ℕ} {hits″ : ℕ}
       → Grown keep ps fs ss hits fs′ ss′ hits′ → Grown keep qs fs′ ss′ hits′ fs″ ss″ hits″ → Grown keep (ps ++ qs) fs ss hits fs″ ss″ hits″
@@ -68,19 +113,20 @@ module _ {keep : Pair → Bool} where
       let e : keptBy keep (ps ++ qs) ≡ keptBy keep ps ++ keptBy keep qs = kept-append keep ps qs in
       record {
         hits-are = rw (e, length-append) (omega (arith, g .hits-are, h .hits-are));
-        first-is =
-            h .first-is
-            ∙ rw (g .first-is, g .hits-are, e, map-append (λ (p : Pair). p .first) (keptBy keep ps) (keptBy keep qs), put-append fs hits, length-map);
-        second-is =
-            h .second-is
-            ∙ rw (g .second-is, g .hits-are, e, map-append (λ (p : Pair). p .second) (keptBy keep ps) (keptBy keep qs), put-append ss hits, length-map);
+        first-is = both keep (λ (p : Pair). p .first) ps qs fs hits (g .hits-are) (h .hits-are) (g .first-is) (h .first-is);
+        second-is = both keep (λ (p : Pair). p .second) ps qs ss hits (g .hits-are) (h .hits-are) (g .second-is) (h .second-is);
       }
+
+  -- a pair that is written and not counted
+  pub grown-over : {ps : List Pair} {fs ss : List ℕ} {hits : ℕ} {fs′ ss′ : List ℕ} {hits′ : ℕ} (x y : ℕ) → Grown keep ps fs ss hits fs′ ss′ hits′
+      → Grown keep ps fs ss hits (set fs′ hits′ x) (set ss′ hits′ y) hits′
+  grown-over x y g = record { hits-are = g .hits-are; first-is = alike-over x (g .first-is); second-is = alike-over y (g .second-is) }
 
   module _ (p : Pair) {fs ss : List ℕ} {hits : ℕ} where
     pub grown-yes : keep p ≡ true → Grown keep (p ∷ []) fs ss hits (set fs hits (p .first)) (set ss hits (p .second)) (hits + 1)
     unfolding putAt
-    grown-yes e = let k = kept-yes keep p e in record { hits-are = rw k; first-is = rw k; second-is = rw k }
+    grown-yes e = let k = kept-yes keep p e in record { hits-are = rw k; first-is = rw k (alike-same _ _); second-is = rw k (alike-same _ _) }
 
     pub grown-no : keep p ≡ false → Grown keep (p ∷ []) fs ss hits fs ss hits
     unfolding putAt
-    grown-no e = let k = kept-no keep p e in record { hits-are = rw k (sym (add-zero hits)); first-is = rw k; second-is = rw k }
+    grown-no e = let k = kept-no keep p e in record { hits-are = rw k (sym (add-zero hits)); first-is = rw k (alike-same _ _); second-is = rw k (alike-same _ _) }

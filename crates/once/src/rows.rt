@@ -3,12 +3,12 @@ use crate::boxes;
 use grid::Box;
 ghost use mathlib.Core.Path.{_≡_};
 ghost use lib.ListN.{set};
-ghost use Prim.Native.Nat.{_-_};
+ghost use Prim.Native.Nat.{_-_, _<_};
 ghost use Rattle.grid.specs.Domain.{lines, count};
 ghost use Rattle.visit.specs.Inside.{LineAsks, numbers};
 ghost use Rattle.visit.specs.Overlap.{overlap};
 ghost use Rattle.once.specs.Scan.{keepAt, PlaceAsks, PairAsks, RowGrown, ScanAsks};
-ghost use Rattle.once.specs.Marked.{MarkedRow};
+ghost use Rattle.once.specs.Marked.{MarkedPair, MarkedRow};
 ghost use Rattle.once.specs.Inside.{rowOf, Held};
 
 // The first line of a row, with its box.
@@ -41,6 +41,23 @@ fn put(s: &mut [u32], at: usize, v: u32)
     s[at] = v;
 }
 
+// Whether the boxes of a row's line and of another overlap.
+fn overlaps_line(
+    row: Row,
+    b: u32,
+    start_x: &[f64],
+    start_y: &[f64],
+    end_x: &[f64],
+    end_y: &[f64],
+) -> bool
+    requires { let ls = lines (now «start_x») (now «start_y») (now «end_x») (now «end_y») in ⌜ Held ls row (b < count ls) ⌝ }
+    ensures { λ r. let ls = lines (now («start_x» .entry)) (now («start_y» .entry)) (now («end_x» .entry)) (now («end_y» .entry)) in ⌜ r ≡ overlap ls (row .first) b ⌝ }
+{
+    let other = boxes::box_at(start_x, start_y, end_x, end_y, b);
+    let bounds = row.bounds;
+    bounds.overlaps_with(other)
+}
+
 // Whether the pair of a test is handed out: the boxes overlap, and no cell that is behind lists both lines.
 fn keeps_pair(
     row: Row,
@@ -58,15 +75,86 @@ fn keeps_pair(
     ensures { λ r. let ls = lines (now («start_x» .entry)) (now («start_y» .entry)) (now («end_x» .entry)) (now («end_y» .entry)) in
         ⌜ ((h : PlaceAsks (count ls) (now (starts .entry)) (now (listing .entry)) (now (counts .entry))) → r ≡ keepAt (overlap ls) (h .W) (h .c) (row .first) b) ⌝ }
 {
-    let other = boxes::box_at(start_x, start_y, end_x, end_y, b);
-    let bounds = row.bounds;
-    if bounds.overlaps_with(other) {
+    if overlaps_line(row, b, start_x, start_y, end_x, end_y) {
         if by_line::first::met_before(row.first, b, starts, listing, counts) {
             return false;
         }
         return true;
     }
     false
+}
+
+// The same, by the bits that the marks of both lines have in common. With none the test is the first, with more than the lowest it is not; with
+// the lowest alone it is looked up.
+fn keeps_marked(
+    row: Row,
+    common: u32,
+    b: u32,
+    start_x: &[f64],
+    start_y: &[f64],
+    end_x: &[f64],
+    end_y: &[f64],
+    starts: &[u32],
+    listing: &[u32],
+    counts: &[u32],
+) -> bool
+    requires { let ls = lines (now «start_x») (now «start_y») (now «end_x») (now «end_y») in
+        ⌜ Held ls row (MarkedPair (count ls) (row .first) b common (now starts) (now listing) (now counts)) ⌝ }
+    ensures { λ r. let ls = lines (now («start_x» .entry)) (now («start_y» .entry)) (now («end_x» .entry)) (now («end_y» .entry)) in
+        ⌜ ((h : PlaceAsks (count ls) (now (starts .entry)) (now (listing .entry)) (now (counts .entry))) → r ≡ keepAt (overlap ls) (h .W) (h .c) (row .first) b) ⌝ }
+{
+    if common == 0 {
+        return overlaps_line(row, b, start_x, start_y, end_x, end_y);
+    }
+    if common == 1 {
+        return keeps_pair(
+            row,
+            b,
+            start_x,
+            start_y,
+            end_x,
+            end_y,
+            starts,
+            listing,
+            counts,
+        );
+    }
+    false
+}
+
+// The same, with the boxes first: where rows are short, no branch goes by what cannot be foreseen.
+fn keeps_brief(
+    row: Row,
+    common: u32,
+    b: u32,
+    start_x: &[f64],
+    start_y: &[f64],
+    end_x: &[f64],
+    end_y: &[f64],
+    starts: &[u32],
+    listing: &[u32],
+    counts: &[u32],
+) -> bool
+    requires { let ls = lines (now «start_x») (now «start_y») (now «end_x») (now «end_y») in
+        ⌜ Held ls row (MarkedPair (count ls) (row .first) b common (now starts) (now listing) (now counts)) ⌝ }
+    ensures { λ r. let ls = lines (now («start_x» .entry)) (now («start_y» .entry)) (now («end_x» .entry)) (now («end_y» .entry)) in
+        ⌜ ((h : PlaceAsks (count ls) (now (starts .entry)) (now (listing .entry)) (now (counts .entry))) → r ≡ keepAt (overlap ls) (h .W) (h .c) (row .first) b) ⌝ }
+{
+    let near = overlaps_line(row, b, start_x, start_y, end_x, end_y);
+    if common == 1 {
+        return keeps_pair(
+            row,
+            b,
+            start_x,
+            start_y,
+            end_x,
+            end_y,
+            starts,
+            listing,
+            counts,
+        );
+    }
+    near & (common == 0)
 }
 
 // The row with each line of a list.
@@ -114,8 +202,8 @@ pub(crate) fn scan_list(
     hits
 }
 
-// The row with each line of a list, by marks: a line whose mark has a bit in common with that of the row's line met it before, and is passed over.
-pub(crate) fn scan_marked(
+// The row with each line of a short list, by marks. Each pair is written; one that is not handed out is written over.
+fn scan_brief(
     row: Row,
     mark: u32,
     list: &[u32],
@@ -140,28 +228,135 @@ pub(crate) fn scan_marked(
     let mut hits = hits;
     let mut j = 0;
     while j < list.len() {
-        let other = marks[j];
+        let common = mark & marks[j];
         let b = list[j];
         j = j + 1;
-        if (mark & other) == 0 {
-            if keeps_pair(
-                row,
-                b,
-                start_x,
-                start_y,
-                end_x,
-                end_y,
-                starts,
-                listing,
-                counts,
-            ) {
-                put(first, hits, row.first);
-                put(second, hits, b);
-                hits = hits + 1;
-            }
+        put(first, hits, row.first);
+        put(second, hits, b);
+        if keeps_brief(
+            row,
+            common,
+            b,
+            start_x,
+            start_y,
+            end_x,
+            end_y,
+            starts,
+            listing,
+            counts,
+        ) {
+            hits = hits + 1;
         }
     }
     hits
+}
+
+// The row with each line of a list, by marks: a line whose mark has a bit above the lowest in common with that of the row's line is passed over.
+fn scan_long(
+    row: Row,
+    mark: u32,
+    list: &[u32],
+    marks: &[u32],
+    start_x: &[f64],
+    start_y: &[f64],
+    end_x: &[f64],
+    end_y: &[f64],
+    starts: &[u32],
+    listing: &[u32],
+    counts: &[u32],
+    first: &mut [u32],
+    second: &mut [u32],
+    hits: usize,
+) -> usize
+    requires { let ls = lines (now «start_x») (now «start_y») (now «end_x») (now «end_y») in
+        ⌜ Held ls row (MarkedRow (count ls) (row .first) mark (now list) (now marks) (now starts) (now listing) (now counts) hits) ⌝ }
+    ensures { λ r. let ls = lines (now («start_x» .entry)) (now («start_y» .entry)) (now («end_x» .entry)) (now («end_y» .entry)) in
+        ⌜ RowGrown (overlap ls) (count ls) (row .first) (now (starts .entry)) (now (listing .entry)) (now (counts .entry)) (now (list .entry))
+        (now (first .entry)) (now (second .entry)) hits (now (first .exit)) (now (second .exit)) r ⌝ }
+{
+    let mut hits = hits;
+    let mut j = 0;
+    while j < list.len() {
+        let common = mark & marks[j];
+        let b = list[j];
+        j = j + 1;
+        if keeps_marked(
+            row,
+            common,
+            b,
+            start_x,
+            start_y,
+            end_x,
+            end_y,
+            starts,
+            listing,
+            counts,
+        ) {
+            put(first, hits, row.first);
+            put(second, hits, b);
+            hits = hits + 1;
+        }
+    }
+    hits
+}
+
+// The row with each line of a list, by marks.
+pub(crate) fn scan_marked(
+    row: Row,
+    mark: u32,
+    list: &[u32],
+    marks: &[u32],
+    start_x: &[f64],
+    start_y: &[f64],
+    end_x: &[f64],
+    end_y: &[f64],
+    starts: &[u32],
+    listing: &[u32],
+    counts: &[u32],
+    first: &mut [u32],
+    second: &mut [u32],
+    hits: usize,
+) -> usize
+    requires { let ls = lines (now «start_x») (now «start_y») (now «end_x») (now «end_y») in
+        ⌜ Held ls row (MarkedRow (count ls) (row .first) mark (now list) (now marks) (now starts) (now listing) (now counts) hits) ⌝ }
+    ensures { λ r. let ls = lines (now («start_x» .entry)) (now («start_y» .entry)) (now («end_x» .entry)) (now («end_y» .entry)) in
+        ⌜ RowGrown (overlap ls) (count ls) (row .first) (now (starts .entry)) (now (listing .entry)) (now (counts .entry)) (now (list .entry))
+        (now (first .entry)) (now (second .entry)) hits (now (first .exit)) (now (second .exit)) r ⌝ }
+{
+    if list.len() < 16 {
+        return scan_brief(
+            row,
+            mark,
+            list,
+            marks,
+            start_x,
+            start_y,
+            end_x,
+            end_y,
+            starts,
+            listing,
+            counts,
+            first,
+            second,
+            hits,
+        );
+    }
+    scan_long(
+        row,
+        mark,
+        list,
+        marks,
+        start_x,
+        start_y,
+        end_x,
+        end_y,
+        starts,
+        listing,
+        counts,
+        first,
+        second,
+        hits,
+    )
 }
 
 // The row with each line from k to before `stop`.

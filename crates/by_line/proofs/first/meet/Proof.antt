@@ -1,24 +1,24 @@
 -- `by_line::first::meet` meets its contract. Assumes nothing.
-use mathlib.Core.Path.{_≡_, refl, sym, ap, _∙_}
-use Prim.Native.Nat.{ℕ, _+_}
+use mathlib.Core.Path.{refl}
+use Prim.Native.Nat.{_+_}
 use native.Mathlib.Omega.{arith}
-use Rattle.by_line.proofs.Fronts.{Meeting, meeting-none, meeting-over, meeting-empty, meeting-found, meeting-left, meeting-right}
+use Rattle.by_line.proofs.Fronts.{none-left, none-right, Comparing, comparing-found, comparing-left-over, comparing-left, comparing-right-over, comparing-right}
 use Rattle.by_line.proofs.first.meet.Statement.{statement}
 use Rattle.by_line.proofs.first.meet.Tie as tie
 use Rattle.by_line.proofs.first.meet.Reads as reads
 use Rattle.by_line.proofs.first.meet.Lts as lts
 
 abbrev Inv-loop : tie.InvT-loop
-Inv-loop xs ys i₀ j₀ i j = Meeting xs ys i j
+Inv-loop xs ys i₀ j₀ x₀ y₀ i j x y = Comparing xs ys i j x y
 
 abbrev μ-loop : tie.MeasureT-loop
-μ-loop xs ys i₀ j₀ i j = i + j
-
-loop-holds : tie.Need-loop-holds Inv-loop μ-loop
-loop-holds c = meeting-none _ _
+μ-loop xs ys i₀ j₀ x₀ y₀ i j x y = i + j
 
 returns : tie.Need-returns Inv-loop μ-loop
-returns c = meeting-empty (c .before .before .loop .inv) (c .if1 .taken)
+returns c = none-left _ _ (c .if1 .taken)
+
+returns-2 : tie.Need-returns-2 Inv-loop μ-loop
+returns-2 c = none-right _ _ (c .if2 .taken)
 
 sub-x : tie.Need-sub-x Inv-loop μ-loop
 sub-x c = omega arith
@@ -38,29 +38,53 @@ mul-y c = omega arith
 shared-slice-read-y : tie.Need-shared-slice-read-y Inv-loop μ-loop
 shared-slice-read-y c = omega arith
 
-returns-2 : tie.Need-returns-2 Inv-loop μ-loop
-returns-2 c = meeting-found (c .before .before .before .before .before .loop .inv) (c .before .before .before .before .loop-test .taken) (c .before .before .before .if1 .left) (c .if2 .taken)
+loop-holds : tie.Need-loop-holds Inv-loop μ-loop
+loop-holds c = record { in-xs = omega arith; in-ys = omega arith; some-x = omega arith; some-y = omega arith; x-is = refl; y-is = refl; same = refl }
 
 sub-j : tie.Need-sub-j Inv-loop μ-loop
 sub-j c = omega arith
+
+returns-3 : tie.Need-returns-3 Inv-loop μ-loop
+returns-3 c = comparing-left-over (c .before .before .before .loop .inv) (c .before .before .loop-test .taken) (c .before .if3 .taken) (c .if4 .taken)
+
+sub-y-2 : tie.Need-sub-y-2 Inv-loop μ-loop
+sub-y-2 c = omega arith
+
+mul-y-2 : tie.Need-mul-y-2 Inv-loop μ-loop
+mul-y-2 c = omega arith
+
+shared-slice-read-y-2 : tie.Need-shared-slice-read-y-2 Inv-loop μ-loop
+shared-slice-read-y-2 c = omega arith
 
 loop-less : tie.Need-loop-less Inv-loop μ-loop
 loop-less c = omega arith
 
 loop-again : tie.Need-loop-again Inv-loop μ-loop
-loop-again c = meeting-left (c .before .before .before .before .before .before .loop .inv) (c .before .before .before .before .before .loop-test .taken) (c .before .before .before .before .if1 .left) (c .before .if2 .left) (c .if3 .taken)
+loop-again c = comparing-left (c .before .before .before .before .loop .inv) (c .before .before .before .loop-test .taken) (c .before .before .if3 .taken) (c .before .if4 .left)
 
 sub-i : tie.Need-sub-i Inv-loop μ-loop
 sub-i c = omega arith
+
+returns-4 : tie.Need-returns-4 Inv-loop μ-loop
+returns-4 c = comparing-right-over (c .before .before .before .loop .inv) (c .before .before .loop-test .taken) (c .before .if3 .left) (c .if5 .taken)
+
+sub-x-2 : tie.Need-sub-x-2 Inv-loop μ-loop
+sub-x-2 c = omega arith
+
+mul-x-2 : tie.Need-mul-x-2 Inv-loop μ-loop
+mul-x-2 c = omega arith
+
+shared-slice-read-x-2 : tie.Need-shared-slice-read-x-2 Inv-loop μ-loop
+shared-slice-read-x-2 c = omega arith
 
 loop-less-2 : tie.Need-loop-less-2 Inv-loop μ-loop
 loop-less-2 c = omega arith
 
 loop-again-2 : tie.Need-loop-again-2 Inv-loop μ-loop
-loop-again-2 c = meeting-right (c .before .before .before .before .before .before .loop .inv) (c .before .before .before .before .before .loop-test .taken) (c .before .before .before .before .if1 .left) (c .before .if2 .left) (c .if3 .left)
+loop-again-2 c = comparing-right (c .before .before .before .before .loop .inv) (c .before .before .before .loop-test .taken) (c .before .before .if3 .left) (c .before .if5 .left)
 
-returns-3 : tie.Need-returns-3 Inv-loop μ-loop
-returns-3 c = meeting-over (c .before .loop .inv) (c .loop-test .left)
+returns-5 : tie.Need-returns-5 Inv-loop μ-loop
+returns-5 c = comparing-found (c .before .loop .inv) (c .loop-test .left)
 
 pub meet-spec : {M : Type 1} → statement M
 meet-spec =
@@ -68,19 +92,27 @@ meet-spec =
     (tie.spec
     Inv-loop
     μ-loop
-    loop-holds
     returns
+    returns-2
     sub-x
     mul-x
     shared-slice-read-x
     sub-y
     mul-y
     shared-slice-read-y
-    returns-2
+    loop-holds
     sub-j
+    returns-3
+    sub-y-2
+    mul-y-2
+    shared-slice-read-y-2
     loop-less
     loop-again
     sub-i
+    returns-4
+    sub-x-2
+    mul-x-2
+    shared-slice-read-x-2
     loop-less-2
     loop-again-2
-    returns-3)
+    returns-5)

@@ -30,21 +30,21 @@ mul-cell c = omega arith
 shared-slice-read-cell : tie.Need-shared-slice-read-cell Inv-loop μ-loop
 shared-slice-read-cell c = omega arith
 
+bit-of-requires : tie.Need-bit-of-requires Inv-loop μ-loop
+bit-of-requires c κs = search needs
+
 returns : tie.Need-returns Inv-loop μ-loop
 returns c =
-    let a = c .before .before .before .before .before .before .before .before .args in
-    mark-is (a .line) (a .before) (a .low) (a .starts .now) (a .listing .now) (a .counts .now) (c .before .before .before .before .front .ensures)
-    (marking-stop (c .before .before .before .loop .inv) (c .before .before .loop-test .taken) (c .if1 .taken))
-
-bit-of-requires : tie.Need-bit-of-requires Inv-loop μ-loop
-bit-of-requires c κs = omega arith
+    let a = c .before .before .before .before .before .before .before .before .before .args in
+    mark-is (a .line) (a .before) (a .low) (a .starts .now) (a .listing .now) (a .counts .now) (c .before .before .before .before .before .front .ensures)
+    (marking-stop (c .before .before .before .before .loop .inv) (c .before .before .before .loop-test .taken) (c .before .bit-of .ensures) (c .if1 .taken))
 
 loop-less : tie.Need-loop-less Inv-loop μ-loop
 loop-less c = omega arith
 
 loop-again : tie.Need-loop-again Inv-loop μ-loop
 loop-again c =
-    marking-more (c .before .before .before .before .loop .inv) (c .before .before .before .loop-test .taken) (c .before .if1 .left) (c .bit-of .ensures)
+    marking-more (c .before .before .before .before .loop .inv) (c .before .before .before .loop-test .taken) (c .if1 .left) (c .before .bit-of .ensures)
 
 returns-2 : tie.Need-returns-2 Inv-loop μ-loop
 returns-2 c =
@@ -63,8 +63,8 @@ mark-spec =
     sub-i
     mul-cell
     shared-slice-read-cell
-    returns
     bit-of-requires
+    returns
     loop-less
     loop-again
     returns-2)

@@ -5,14 +5,15 @@ use lib.ListN.{length}
 use Rattle.samples.specs.Samples.{samples, count}
 use Rattle.samples.specs.Sharing.{shares}
 use Rattle.crossings.specs.Inside.{Held}
-use Rattle.once.proofs.Scans.{list-done, list-pair, list-fits}
-use Rattle.once.proofs.Passing.{MarkScan, marked-begin, marked-past, marked-yes, marked-no}
+use Rattle.crossings.proofs.RowLaws.{held-other}
+use Rattle.once.proofs.Scans.{list-done, list-fits}
+use Rattle.once.proofs.Passing.{MarkScan, marked-begin, marked-pair, marked-yes, marked-no}
 use borrow.Author.Needs.{needs}
 use Rattle.crossings.proofs.rows.scan_marked.Statement.{statement}
 use Rattle.crossings.proofs.rows.scan_marked.Tie as tie
 use Rattle.crossings.proofs.rows.scan_marked.Reads as reads
 use Rattle.crossings.proofs.rows.scan_marked.Lts as lts
-use Rattle.crossings.proofs.rows.keeps_pair.Reads as keeps-pair-reads
+use Rattle.crossings.proofs.rows.keeps_marked.Reads as keeps-marked-reads
 use Rattle.crossings.proofs.rows.put.Reads as put-reads
 
 abbrev Inv-loop : tie.InvT-loop
@@ -25,13 +26,13 @@ abbrev μ-loop : tie.MeasureT-loop
     length list - j
 
 loop-holds : tie.Need-loop-holds Inv-loop μ-loop
-loop-holds c = let h = c .before .before .before .before .before .before .before .pre in record { held = h .held; asks = marked-begin (h .asks) }
+loop-holds c = let h = c .before .before .before .before .before .before .before .pre in held-other h (marked-begin (h .asks))
 
-mul-other : tie.Need-mul-other Inv-loop μ-loop
-mul-other c = omega arith
+mul-common : tie.Need-mul-common Inv-loop μ-loop
+mul-common c = omega arith
 
-shared-slice-read-other : tie.Need-shared-slice-read-other Inv-loop μ-loop
-shared-slice-read-other c = omega (arith, c .before .before .loop .inv .asks .asks .long)
+shared-slice-read-common : tie.Need-shared-slice-read-common Inv-loop μ-loop
+shared-slice-read-common c = omega (arith, c .before .before .loop .inv .asks .asks .long)
 
 mul-b : tie.Need-mul-b Inv-loop μ-loop
 mul-b c = omega arith
@@ -42,8 +43,8 @@ shared-slice-read-b c = omega arith
 add-j : tie.Need-add-j Inv-loop μ-loop
 add-j c = omega arith
 
-keeps-pair-requires : tie.Need-keeps-pair-requires Inv-loop μ-loop
-keeps-pair-requires c κs = let h = c .before .before .before .before .loop .inv in record { held = h .held; asks = list-pair (h .asks .list) (c .before .before .before .loop-test .taken) }
+keeps-marked-requires : tie.Need-keeps-marked-requires Inv-loop μ-loop
+keeps-marked-requires c κs = let h = c .before .before .before .loop .inv in held-other h (marked-pair (h .asks) (c .before .before .loop-test .taken))
 
 put-requires : tie.Need-put-requires Inv-loop μ-loop
 put-requires c κs = search needs
@@ -52,25 +53,19 @@ put-requires-2 : tie.Need-put-requires-2 Inv-loop μ-loop
 put-requires-2 c κs = search needs
 
 add-hits : tie.Need-add-hits Inv-loop μ-loop
-add-hits c = record { fits = list-fits (c .before .before .before .before .before .before .before .before .before .before .before .before .before .before .loop .inv .asks .list) (c .before .before .before .before .before .before .before .before .before .before .before .before .before .loop-test .taken) }
+add-hits c = record { fits = list-fits (c .before .before .before .before .before .before .before .before .before .before .before .before .before .loop .inv .asks .list) (c .before .before .before .before .before .before .before .before .before .before .before .before .loop-test .taken) }
 
 loop-less : tie.Need-loop-less Inv-loop μ-loop
 loop-less c = omega arith
 
 loop-again : tie.Need-loop-again Inv-loop μ-loop
-loop-again c = let h = c .before .before .before .before .before .before .before .before .before .before .before .before .before .before .loop .inv in record { held = h .held; asks = marked-yes (h .asks) (c .before .before .before .before .before .before .before .before .before .before .before .before .before .loop-test .taken) (c .before .before .before .before .before .before .before .before .before .keeps-pair .ensures) (c .before .before .before .before .before .before .before .before .if2 .taken) (c .before .before .before .before .before .before .put .ensures) (c .before .before .put2 .ensures) }
+loop-again c = let h = c .before .before .before .before .before .before .before .before .before .before .before .before .before .loop .inv in held-other h (marked-yes (h .asks) (c .before .before .before .before .before .before .before .before .before .before .before .before .loop-test .taken) (c .before .before .before .before .before .before .before .before .before .keeps-marked .ensures) (c .before .before .before .before .before .before .before .before .if1 .taken) (c .before .before .before .before .before .before .put .ensures) (c .before .before .put2 .ensures))
 
 loop-less-2 : tie.Need-loop-less-2 Inv-loop μ-loop
 loop-less-2 c = omega arith
 
 loop-again-2 : tie.Need-loop-again-2 Inv-loop μ-loop
-loop-again-2 c = let h = c .before .before .before .before .before .before .loop .inv in record { held = h .held; asks = marked-no (h .asks) (c .before .before .before .before .before .loop-test .taken) (c .before .keeps-pair .ensures) (c .if2 .left) }
-
-loop-less-3 : tie.Need-loop-less-3 Inv-loop μ-loop
-loop-less-3 c = omega arith
-
-loop-again-3 : tie.Need-loop-again-3 Inv-loop μ-loop
-loop-again-3 c = let h = c .before .before .before .before .loop .inv in record { held = h .held; asks = marked-past (h .asks) (c .before .before .before .loop-test .taken) (c .if1 .left) }
+loop-again-2 c = let h = c .before .before .before .before .before .loop .inv in held-other h (marked-no (h .asks) (c .before .before .before .before .loop-test .taken) (c .before .keeps-marked .ensures) (c .if1 .left))
 
 same-length : tie.Need-same-length Inv-loop μ-loop
 same-length c = c .before .loop .inv .asks .list .scan .first-long
@@ -88,12 +83,12 @@ scan-marked-spec =
     Inv-loop
     μ-loop
     loop-holds
-    mul-other
-    shared-slice-read-other
+    mul-common
+    shared-slice-read-common
     mul-b
     shared-slice-read-b
     add-j
-    keeps-pair-requires
+    keeps-marked-requires
     put-requires
     put-requires-2
     add-hits
@@ -101,8 +96,6 @@ scan-marked-spec =
     loop-again
     loop-less-2
     loop-again-2
-    loop-less-3
-    loop-again-3
     same-length
     same-length-2
     returns)

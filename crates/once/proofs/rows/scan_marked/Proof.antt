@@ -1,108 +1,45 @@
 -- `once::rows::scan_marked` meets its contract. Assumes nothing.
-use Prim.Native.Nat.{_-_}
-use native.Mathlib.Omega.{arith}
-use lib.ListN.{length}
-use Rattle.grid.specs.Domain.{lines, count}
-use Rattle.visit.specs.Overlap.{overlap}
-use Rattle.once.specs.Inside.{Held}
-use Rattle.once.proofs.Scans.{list-done, list-pair, list-fits}
-use Rattle.once.proofs.Passing.{MarkScan, marked-begin, marked-past, marked-yes, marked-no}
 use borrow.Author.Needs.{needs}
 use Rattle.once.proofs.rows.scan_marked.Statement.{statement}
 use Rattle.once.proofs.rows.scan_marked.Tie as tie
 use Rattle.once.proofs.rows.scan_marked.Reads as reads
 use Rattle.once.proofs.rows.scan_marked.Lts as lts
-use Rattle.once.proofs.rows.keeps_pair.Reads as keeps-pair-reads
-use Rattle.once.proofs.rows.put.Reads as put-reads
+use Rattle.once.proofs.rows.scan_brief.Reads as scan-brief-reads
+use Rattle.once.proofs.rows.scan_long.Reads as scan-long-reads
 
-abbrev Inv-loop : tie.InvT-loop
-Inv-loop row mark list marks start-x start-y end-x end-y starts listing counts first₀ second₀ hits hits₀ j₀ first second hits' j =
-    let ls = lines start-x start-y end-x end-y in
-    Held ls row (MarkScan (overlap ls) (count ls) (row .first) mark list marks starts listing counts first₀ second₀ hits first second hits' j)
+scan-brief-requires : tie.Need-scan-brief-requires
+scan-brief-requires c κs = search needs
 
-abbrev μ-loop : tie.MeasureT-loop
-μ-loop row mark list marks start-x start-y end-x end-y starts listing counts first₀ second₀ hits hits₀ j₀ first second hits' j =
-    length list - j
+same-length : tie.Need-same-length
+same-length c = search needs
 
-loop-holds : tie.Need-loop-holds Inv-loop μ-loop
-loop-holds c = let h = c .before .before .before .before .before .before .before .before .before .before .before .pre in record { fine = h .fine; held = h .held; asks = marked-begin (h .asks) }
+same-length-2 : tie.Need-same-length-2
+same-length-2 c = search needs
 
-mul-other : tie.Need-mul-other Inv-loop μ-loop
-mul-other c = omega arith
+returns : tie.Need-returns
+returns c = search needs
 
-shared-slice-read-other : tie.Need-shared-slice-read-other Inv-loop μ-loop
-shared-slice-read-other c = omega (arith, c .before .before .loop .inv .asks .asks .long)
+scan-long-requires : tie.Need-scan-long-requires
+scan-long-requires c κs = search needs
 
-mul-b : tie.Need-mul-b Inv-loop μ-loop
-mul-b c = omega arith
+same-length-3 : tie.Need-same-length-3
+same-length-3 c = search needs
 
-shared-slice-read-b : tie.Need-shared-slice-read-b Inv-loop μ-loop
-shared-slice-read-b c = omega arith
+same-length-4 : tie.Need-same-length-4
+same-length-4 c = search needs
 
-add-j : tie.Need-add-j Inv-loop μ-loop
-add-j c = omega arith
-
-keeps-pair-requires : tie.Need-keeps-pair-requires Inv-loop μ-loop
-keeps-pair-requires c κs = let h = c .before .before .before .before .loop .inv in record { fine = h .fine; held = h .held; asks = list-pair (h .asks .list) (c .before .before .before .loop-test .taken) }
-
-put-requires : tie.Need-put-requires Inv-loop μ-loop
-put-requires c κs = search needs
-
-put-requires-2 : tie.Need-put-requires-2 Inv-loop μ-loop
-put-requires-2 c κs = search needs
-
-add-hits : tie.Need-add-hits Inv-loop μ-loop
-add-hits c = record { fits = list-fits (c .before .before .before .before .before .before .before .before .before .before .before .before .before .before .loop .inv .asks .list) (c .before .before .before .before .before .before .before .before .before .before .before .before .before .loop-test .taken) }
-
-loop-less : tie.Need-loop-less Inv-loop μ-loop
-loop-less c = omega arith
-
-loop-again : tie.Need-loop-again Inv-loop μ-loop
-loop-again c = let h = c .before .before .before .before .before .before .before .before .before .before .before .before .before .before .loop .inv in record { fine = h .fine; held = h .held; asks = marked-yes (h .asks) (c .before .before .before .before .before .before .before .before .before .before .before .before .before .loop-test .taken) (c .before .before .before .before .before .before .before .before .before .keeps-pair .ensures) (c .before .before .before .before .before .before .before .before .if2 .taken) (c .before .before .before .before .before .before .put .ensures) (c .before .before .put2 .ensures) }
-
-loop-less-2 : tie.Need-loop-less-2 Inv-loop μ-loop
-loop-less-2 c = omega arith
-
-loop-again-2 : tie.Need-loop-again-2 Inv-loop μ-loop
-loop-again-2 c = let h = c .before .before .before .before .before .before .loop .inv in record { fine = h .fine; held = h .held; asks = marked-no (h .asks) (c .before .before .before .before .before .loop-test .taken) (c .before .keeps-pair .ensures) (c .if2 .left) }
-
-loop-less-3 : tie.Need-loop-less-3 Inv-loop μ-loop
-loop-less-3 c = omega arith
-
-loop-again-3 : tie.Need-loop-again-3 Inv-loop μ-loop
-loop-again-3 c = let h = c .before .before .before .before .loop .inv in record { fine = h .fine; held = h .held; asks = marked-past (h .asks) (c .before .before .before .loop-test .taken) (c .if1 .left) }
-
-same-length : tie.Need-same-length Inv-loop μ-loop
-same-length c = c .before .loop .inv .asks .list .scan .first-long
-
-same-length-2 : tie.Need-same-length-2 Inv-loop μ-loop
-same-length-2 c = c .before .loop .inv .asks .list .scan .second-long
-
-returns : tie.Need-returns Inv-loop μ-loop
-returns c = list-done (c .before .loop .inv .asks .list) (c .loop-test .left)
+returns-2 : tie.Need-returns-2
+returns-2 c = search needs
 
 pub scan-marked-spec : {M : Type 1} → statement M
 scan-marked-spec =
     tie.close
     (tie.spec
-    Inv-loop
-    μ-loop
-    loop-holds
-    mul-other
-    shared-slice-read-other
-    mul-b
-    shared-slice-read-b
-    add-j
-    keeps-pair-requires
-    put-requires
-    put-requires-2
-    add-hits
-    loop-less
-    loop-again
-    loop-less-2
-    loop-again-2
-    loop-less-3
-    loop-again-3
+    scan-brief-requires
     same-length
     same-length-2
-    returns)
+    returns
+    scan-long-requires
+    same-length-3
+    same-length-4
+    returns-2)

@@ -1,0 +1,101 @@
+-- `once::rows::scan_brief` meets its contract. Assumes nothing.
+use Prim.Native.Nat.{_-_}
+use native.Mathlib.Omega.{arith}
+use lib.ListN.{length}
+use Rattle.grid.specs.Domain.{lines, count}
+use Rattle.visit.specs.Overlap.{overlap}
+use Rattle.once.specs.Inside.{Held}
+use Rattle.once.proofs.Boxed.{held-other}
+use Rattle.once.proofs.Scans.{list-done, list-fits}
+use Rattle.once.proofs.Passing.{MarkScan, marked-begin, marked-pair, marked-yes, marked-over}
+use borrow.Author.Needs.{needs}
+use Rattle.once.proofs.rows.scan_brief.Statement.{statement}
+use Rattle.once.proofs.rows.scan_brief.Tie as tie
+use Rattle.once.proofs.rows.scan_brief.Reads as reads
+use Rattle.once.proofs.rows.scan_brief.Lts as lts
+use Rattle.once.proofs.rows.keeps_brief.Reads as keeps-brief-reads
+use Rattle.once.proofs.rows.put.Reads as put-reads
+
+abbrev Inv-loop : tie.InvT-loop
+Inv-loop row mark list marks start-x start-y end-x end-y starts listing counts first₀ second₀ hits hits₀ j₀ first second hits' j =
+    let ls = lines start-x start-y end-x end-y in
+    Held ls row (MarkScan (overlap ls) (count ls) (row .first) mark list marks starts listing counts first₀ second₀ hits first second hits' j)
+
+abbrev μ-loop : tie.MeasureT-loop
+μ-loop row mark list marks start-x start-y end-x end-y starts listing counts first₀ second₀ hits hits₀ j₀ first second hits' j =
+    length list - j
+
+loop-holds : tie.Need-loop-holds Inv-loop μ-loop
+loop-holds c = let h = c .before .before .before .before .before .before .before .before .before .before .before .pre in held-other h (marked-begin (h .asks))
+
+mul-common : tie.Need-mul-common Inv-loop μ-loop
+mul-common c = omega arith
+
+shared-slice-read-common : tie.Need-shared-slice-read-common Inv-loop μ-loop
+shared-slice-read-common c = omega (arith, c .before .before .loop .inv .asks .asks .long)
+
+mul-b : tie.Need-mul-b Inv-loop μ-loop
+mul-b c = omega arith
+
+shared-slice-read-b : tie.Need-shared-slice-read-b Inv-loop μ-loop
+shared-slice-read-b c = omega arith
+
+add-j : tie.Need-add-j Inv-loop μ-loop
+add-j c = omega arith
+
+put-requires : tie.Need-put-requires Inv-loop μ-loop
+put-requires c κs = search needs
+
+put-requires-2 : tie.Need-put-requires-2 Inv-loop μ-loop
+put-requires-2 c κs = search needs
+
+keeps-brief-requires : tie.Need-keeps-brief-requires Inv-loop μ-loop
+keeps-brief-requires c κs = let h = c .before .before .before .before .before .before .before .before .before .before .before .loop .inv in held-other h (marked-pair (h .asks) (c .before .before .before .before .before .before .before .before .before .before .loop-test .taken))
+
+add-hits : tie.Need-add-hits Inv-loop μ-loop
+add-hits c = record { fits = list-fits (c .before .before .before .before .before .before .before .before .before .before .before .before .before .loop .inv .asks .list) (c .before .before .before .before .before .before .before .before .before .before .before .before .loop-test .taken) }
+
+loop-less : tie.Need-loop-less Inv-loop μ-loop
+loop-less c = omega arith
+
+loop-again : tie.Need-loop-again Inv-loop μ-loop
+loop-again c = let h = c .before .before .before .before .before .before .before .before .before .before .before .before .before .loop .inv in held-other h (marked-yes (h .asks) (c .before .before .before .before .before .before .before .before .before .before .before .before .loop-test .taken) (c .before .keeps-brief .ensures) (c .if1 .taken) (c .before .before .before .before .before .before .before .before .put .ensures) (c .before .before .before .before .put2 .ensures))
+
+loop-less-2 : tie.Need-loop-less-2 Inv-loop μ-loop
+loop-less-2 c = omega arith
+
+loop-again-2 : tie.Need-loop-again-2 Inv-loop μ-loop
+loop-again-2 c = let h = c .before .before .before .before .before .before .before .before .before .before .before .before .before .loop .inv in held-other h (marked-over (h .asks) (c .before .before .before .before .before .before .before .before .before .before .before .before .loop-test .taken) (c .before .keeps-brief .ensures) (c .if1 .left) (c .before .before .before .before .before .before .before .before .put .ensures) (c .before .before .before .before .put2 .ensures))
+
+same-length : tie.Need-same-length Inv-loop μ-loop
+same-length c = c .before .loop .inv .asks .list .scan .first-long
+
+same-length-2 : tie.Need-same-length-2 Inv-loop μ-loop
+same-length-2 c = c .before .loop .inv .asks .list .scan .second-long
+
+returns : tie.Need-returns Inv-loop μ-loop
+returns c = list-done (c .before .loop .inv .asks .list) (c .loop-test .left)
+
+pub scan-brief-spec : {M : Type 1} → statement M
+scan-brief-spec =
+    tie.close
+    (tie.spec
+    Inv-loop
+    μ-loop
+    loop-holds
+    mul-common
+    shared-slice-read-common
+    mul-b
+    shared-slice-read-b
+    add-j
+    put-requires
+    put-requires-2
+    keeps-brief-requires
+    add-hits
+    loop-less
+    loop-again
+    loop-less-2
+    loop-again-2
+    same-length
+    same-length-2
+    returns)

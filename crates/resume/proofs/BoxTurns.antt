@@ -1,19 +1,23 @@
--- The box of a line as the code makes it, and the turns of the gathering. Assumes nothing.
+-- The box of a line as the code makes it, the turns of the gathering, and the box within all that are gathered. Assumes nothing.
 use mathlib.Core.Path.{_≡_, refl, sym, ap, _∙_}
+use mathlib.Core.Bool.{Bool, true, false, _&&_, true≢false}
 use mathlib.Core.List.{List, [], _∷_}
 use Prim.Native.Nat.{ℕ, zero, suc, _+_, _-_, _≤_, _<_, min}
 use native.Mathlib.Decide.{ℕ-discrete}
 use native.Mathlib.Omega.{arith}
 use lib.ListN.{length, getD, take, drop, set, length-set}
 use lib.Seq.{getD-set-same, getD-set-other}
-use lib.Ieee.{Float, nan}
+use lib.Dec.{T}
+use lib.Ieee.{Float, nan, le}
+use lib.Ieee.Fits.{and-l, and-r, and-i}
 use Rattle.numbers.specs.Order.{leastOf, greatestOf}
+use Rattle.numbers.proofs.FloatOrder.{float-le-trans}
 use Rattle.slices.specs.Lists.{Below}
 use Rattle.slices.proofs.Members.{below-at}
 use Rattle.grid.specs.declared.Box.{Box}
 use Rattle.grid.specs.Domain.{Lines, count, Alike, segmentAt}
-use Rattle.grid.specs.Boxes.{boxOf}
-use Rattle.resume.specs.Inside.{LineAsks, boxIn, Room, Long, GatherAsks, Gathered}
+use Rattle.grid.specs.Boxes.{boxOf, overlaps}
+use Rattle.resume.specs.Inside.{LineAsks, boxIn, Room, Long, GatherAsks, Filled, Gathered, nowhere, Inner}
 
 module _ (ls : Lines) (i : ℕ) (h : LineAsks ls i) where
   pub in-start-y : i < length (ls .«start_y»)
@@ -39,7 +43,7 @@ box-is ls i a b d e p q s t = rw (p, q, s, t)
 pub record Gathering (ls : Lines) (xs : List ℕ) (lx ly hx hy : List Float) (u : ℕ) (lx′ ly′ hx′ hy′ : List Float) : Type 0 where
   pub asks : GatherAsks ls xs lx ly hx hy
   pub to : u ≤ length xs
-  pub done : Gathered ls xs u lx ly hx hy lx′ ly′ hx′ hy′
+  pub done : Filled ls xs u lx ly hx hy lx′ ly′ hx′ hy′
 
 pub gather-start : (ls : Lines) (xs : List ℕ) (lx ly hx hy : List Float) → GatherAsks ls xs lx ly hx hy → Gathering ls xs lx ly hx hy 0 lx ly hx hy
 gather-start ls xs lx ly hx hy a =
@@ -50,7 +54,7 @@ gather-start ls xs lx ly hx hy a =
     }
 
 module _ (ls : Lines) (xs : List ℕ) (lx ly hx hy : List Float) (u : ℕ) (lx′ ly′ hx′ hy′ : List Float) (g : Gathering ls xs lx ly hx hy u lx′ ly′ hx′ hy′) where
-  pub gather-end : length xs ≤ u → Gathered ls xs (length xs) lx ly hx hy lx′ ly′ hx′ hy′
+  pub gather-end : length xs ≤ u → Filled ls xs (length xs) lx ly hx hy lx′ ly′ hx′ hy′
   gather-end h = let e : u ≡ length xs = omega (arith, g .to) in rw e at (g .done)
 
   module _ (h : u < length xs) where
@@ -58,16 +62,16 @@ module _ (ls : Lines) (xs : List ℕ) (lx ly hx hy : List Float) (u : ℕ) (lx�
     gather-asks = record { alike = g .asks .alike; one = below-at (count ls) xs u (g .asks .below) h }
 
     in-lx : u < length lx′
-    in-lx = omega (arith, g .done .long .lx-long, g .asks .room .in-lx)
+    in-lx = omega (arith, g .asks .most, g .done .long .lx-long, g .asks .room .in-lx)
 
     in-ly : u < length ly′
-    in-ly = omega (arith, g .done .long .ly-long, g .asks .room .in-ly)
+    in-ly = omega (arith, g .asks .most, g .done .long .ly-long, g .asks .room .in-ly)
 
     in-hx : u < length hx′
-    in-hx = omega (arith, g .done .long .hx-long, g .asks .room .in-hx)
+    in-hx = omega (arith, g .asks .most, g .done .long .hx-long, g .asks .room .in-hx)
 
     in-hy : u < length hy′
-    in-hy = omega (arith, g .done .long .hy-long, g .asks .room .in-hy)
+    in-hy = omega (arith, g .asks .most, g .done .long .hy-long, g .asks .room .in-hy)
 
     module _ (b : Box) (e : b ≡ boxOf (segmentAt ls (getD xs u 0))) where
       same : boxIn (set lx′ u (b .«min_x»)) (set ly′ u (b .«min_y»)) (set hx′ u (b .«max_x»)) (set hy′ u (b .«max_y»)) u ≡ boxOf (segmentAt ls (getD xs u 0))
@@ -97,3 +101,131 @@ module _ (ls : Lines) (xs : List ℕ) (lx ly hx hy : List Float) (u : ℕ) (lx�
               };
             };
           }
+
+-- ---- the box within all
+
+so : (b : Bool) → b ≡ true → T b
+so true e = tt
+so false e = absurd (true≢false (sym e))
+
+said : (b : Bool) → T b → b ≡ true
+said true h = refl
+said false h = absurd h
+
+each-of : (a b d e a′ b′ d′ e′ : Bool) → (T a → T a′) → (T b → T b′) → (T d → T d′) → (T e → T e′)
+    → (a && (b && (d && e))) ≡ true → (a′ && (b′ && (d′ && e′))) ≡ true
+each-of a b d e a′ b′ d′ e′ p q s t h =
+    let k = so (a && (b && (d && e))) h in
+    let l = and-r a (b && (d && e)) k in
+    let m = and-r b (d && e) l in
+    said (a′ && (b′ && (d′ && e′)))
+    (and-i a′ (b′ && (d′ && e′)) (p (and-l a (b && (d && e)) k))
+    (and-i b′ (d′ && e′) (q (and-l b (d && e) l)) (and-i d′ e′ (s (and-l d e m)) (t (and-r d e m)))))
+
+pub within-one : (b inner other : Box)
+    → (le (other .«min_x») (inner .«min_x») && (le (inner .«max_x») (other .«max_x») && (le (other .«min_y») (inner .«min_y») && le (inner .«max_y») (other .«max_y»)))) ≡ true
+    → overlaps b inner ≡ true → overlaps b other ≡ true
+unfolding overlaps
+within-one b inner other h =
+    let x = le (other .«min_x») (inner .«min_x») in
+    let y = le (inner .«max_x») (other .«max_x») in
+    let z = le (other .«min_y») (inner .«min_y») in
+    let w = le (inner .«max_y») (other .«max_y») in
+    let k = so (x && (y && (z && w))) h in
+    let l = and-r x (y && (z && w)) k in
+    let m = and-r y (z && w) l in
+    each-of (le (inner .«min_x») (b .«max_x»)) (le (b .«min_x») (inner .«max_x»)) (le (inner .«min_y») (b .«max_y»)) (le (b .«min_y») (inner .«max_y»))
+    (le (other .«min_x») (b .«max_x»)) (le (b .«min_x») (other .«max_x»)) (le (other .«min_y») (b .«max_y»)) (le (b .«min_y») (other .«max_y»))
+    (λ t. float-le-trans (other .«min_x») (inner .«min_x») (b .«max_x») (and-l x (y && (z && w)) k) t)
+    (λ t. float-le-trans (b .«min_x») (inner .«max_x») (other .«max_x») t (and-l y (z && w) l))
+    (λ t. float-le-trans (other .«min_y») (inner .«min_y») (b .«max_y») (and-l z w m) t)
+    (λ t. float-le-trans (b .«min_y») (inner .«max_y») (other .«max_y») t (and-r z w m))
+
+pub inner-none : (m : ℕ) (lx ly hx hy : List Float) (r : Box) → r ≡ nowhere → Inner m lx ly hx hy r
+unfolding overlaps le
+inner-none m lx ly hx hy r e = rw e (record { each = λ u h b k. absurd (true≢false (sym k)) })
+
+pub record Narrowing (inner : Box) (many : ℕ) (lx ly hx hy : List Float) (ax ay bx by : Float) (all : Bool) (u : ℕ) : Type 0 where
+  pub room : Room many lx ly hx hy
+  pub ax-is : ax ≡ inner .«min_x»
+  pub ay-is : ay ≡ inner .«min_y»
+  pub bx-is : bx ≡ inner .«max_x»
+  pub by-is : by ≡ inner .«max_y»
+  pub to : u ≤ many
+  pub so-far : all ≡ true → Inner u lx ly hx hy inner
+
+pub inner-start : (inner : Box) (many : ℕ) (lx ly hx hy : List Float) → Room many lx ly hx hy
+    → Narrowing inner many lx ly hx hy (inner .«min_x») (inner .«min_y») (inner .«max_x») (inner .«max_y») true 0
+inner-start inner many lx ly hx hy r =
+    record { room = r; ax-is = refl; ay-is = refl; bx-is = refl; by-is = refl; to = omega arith; so-far = λ e. record { each = λ u h. absurd (omega arith) } }
+
+module _ (inner : Box) (many : ℕ) (lx ly hx hy : List Float) (ax ay bx by : Float) (all : Bool) (u : ℕ) (n : Narrowing inner many lx ly hx hy ax ay bx by all u) where
+  pub inner-end : many ≤ u → all ≡ true → Inner many lx ly hx hy inner
+  inner-end h e = let q : u ≡ many = omega (arith, n .to) in rw q at (n .so-far e)
+
+  pub inner-more : u < many
+      → Narrowing inner many lx ly hx hy ax ay bx by (all && (le (getD lx u nan) ax && (le bx (getD hx u nan) && (le (getD ly u nan) ay && le by (getD hy u nan))))) (u + 1)
+  inner-more h =
+      record {
+        room = n .room;
+        ax-is = n .ax-is;
+        ay-is = n .ay-is;
+        bx-is = n .bx-is;
+        by-is = n .by-is;
+        to = omega arith;
+        so-far = λ e. record { each = λ t q. go e t q (ℕ-discrete t u) };
+      }
+    where
+      here : Bool
+      here = le (getD lx u nan) ax && (le bx (getD hx u nan) && (le (getD ly u nan) ay && le by (getD hy u nan)))
+
+      go : (all && here) ≡ true → (t : ℕ) → t < u + 1 → Dec (t ≡ u) → (b : Box) → overlaps b inner ≡ true → overlaps b (boxIn lx ly hx hy t) ≡ true
+      go e t q (yes r) = rw r (λ b. within-one b inner (boxIn lx ly hx hy u) (rw (n .ax-is, n .ay-is, n .bx-is, n .by-is) at (said here (and-r all here (so (all && here) e)))))
+      go e t q (no r) = n .so-far (said all (and-l all here (so (all && here) e))) .each t (omega arith)
+
+-- ---- entry 512
+
+module _ (ls : Lines) (xs : List ℕ) (lx ly hx hy lx′ ly′ hx′ hy′ : List Float) (a : GatherAsks ls xs lx ly hx hy) (f : Filled ls xs (length xs) lx ly hx hy lx′ ly′ hx′ hy′) where
+  pub gathered-room : Room (length xs) lx′ ly′ hx′ hy′
+  gathered-room =
+      record {
+        in-lx = omega (arith, a .most, f .long .lx-long, a .room .in-lx);
+        in-ly = omega (arith, a .most, f .long .ly-long, a .room .in-ly);
+        in-hx = omega (arith, a .most, f .long .hx-long, a .room .in-hx);
+        in-hy = omega (arith, a .most, f .long .hy-long, a .room .in-hy);
+      }
+
+  pub last-lx : 512 < length lx′
+  last-lx = omega (arith, f .long .lx-long, a .room .in-lx)
+
+  pub last-ly : 512 < length ly′
+  last-ly = omega (arith, f .long .ly-long, a .room .in-ly)
+
+  pub last-hx : 512 < length hx′
+  last-hx = omega (arith, f .long .hx-long, a .room .in-hx)
+
+  pub last-hy : 512 < length hy′
+  last-hy = omega (arith, f .long .hy-long, a .room .in-hy)
+
+  module _ (b : Box) (n : Inner (length xs) lx′ ly′ hx′ hy′ b) where
+    last-is : boxIn (set lx′ 512 (b .«min_x»)) (set ly′ 512 (b .«min_y»)) (set hx′ 512 (b .«max_x»)) (set hy′ 512 (b .«max_y»)) 512 ≡ b
+    last-is = rw (getD-set-same lx′ 512 (b .«min_x») nan last-lx, getD-set-same ly′ 512 (b .«min_y») nan last-ly, getD-set-same hx′ 512 (b .«max_x») nan last-hx, getD-set-same hy′ 512 (b .«max_y») nan last-hy)
+
+    others-are : (t : ℕ) → t < length xs
+        → boxIn (set lx′ 512 (b .«min_x»)) (set ly′ 512 (b .«min_y»)) (set hx′ 512 (b .«max_x»)) (set hy′ 512 (b .«max_y»)) t ≡ boxIn lx′ ly′ hx′ hy′ t
+    others-are t h =
+        let q : t ≡ 512 → ⊥ = λ e. omega (arith, a .most) in
+        rw (getD-set-other lx′ 512 t (b .«min_x») nan q, getD-set-other ly′ 512 t (b .«min_y») nan q, getD-set-other hx′ 512 t (b .«max_x») nan q, getD-set-other hy′ 512 t (b .«max_y») nan q)
+
+    pub gathered : Gathered ls xs (length xs) lx ly hx hy (set lx′ 512 (b .«min_x»)) (set ly′ 512 (b .«min_y»)) (set hx′ 512 (b .«max_x»)) (set hy′ 512 (b .«max_y»))
+    gathered =
+        record {
+          each = λ t h. others-are t h ∙ f .each t h;
+          long = record {
+            lx-long = length-set lx′ 512 (b .«min_x») ∙ f .long .lx-long;
+            ly-long = length-set ly′ 512 (b .«min_y») ∙ f .long .ly-long;
+            hx-long = length-set hx′ 512 (b .«max_x») ∙ f .long .hx-long;
+            hy-long = length-set hy′ 512 (b .«max_y») ∙ f .long .hy-long;
+          };
+          says = record { each = λ t h o k. ap (overlaps o) (others-are t h) ∙ n .each t h o (sym (ap (overlaps o) last-is) ∙ k) };
+        }

@@ -63,7 +63,8 @@ module _ (ls : Lines) (xs : List ℕ) (at from held : ℕ) (lx ly hx hy : List F
         record {
           alike = a .alike;
           below = part-below (count ls) xs at many (a .below);
-          room = record { in-lx = omega (arith, l, most, a .room .in-lx); in-ly = omega (arith, l, most, a .room .in-ly); in-hx = omega (arith, l, most, a .room .in-hx); in-hy = omega (arith, l, most, a .room .in-hy) };
+          most = omega (arith, l, most);
+          room = a .room;
         }
 
     pub window-moves : (lx′ ly′ hx′ hy′ : List Float) → Gathered ls (take many (drop at xs)) (length (take many (drop at xs))) lx ly hx hy lx′ ly′ hx′ hy′
@@ -80,6 +81,7 @@ module _ (ls : Lines) (xs : List ℕ) (at from held : ℕ) (lx ly hx hy : List F
               in-hx = omega (arith, most, g .long .hx-long, a .room .in-hx);
               in-hy = omega (arith, most, g .long .hy-long, a .room .in-hy);
             };
+            says = record { each = λ u h. g .says .each u (omega arith) };
           };
           from = omega arith;
           to = omega (arith, a .inside);
@@ -118,7 +120,7 @@ list-run ls xs i j lx ly hx hy marks fs ss hits a =
     record {
       asks = a;
       goes = λ pl later. goes-none ls (length fs) (listFrom pl xs i j ++ later) fs ss hits (a .lent .in-room);
-      holds = record { each = λ u h. absurd (omega arith); within = omega arith; room = record { in-lx = omega arith; in-ly = omega arith; in-hx = omega arith; in-hy = omega arith } };
+      holds = record { each = λ u h. absurd (omega arith); within = omega arith; room = record { in-lx = omega arith; in-ly = omega arith; in-hx = omega arith; in-hy = omega arith }; says = record { each = λ u h. absurd (omega arith) } };
       same = record { boxes = record { lx-long = refl; ly-long = refl; hx-long = refl; hy-long = refl }; bytes = refl };
     }
 
@@ -234,6 +236,13 @@ module _ (ls : Lines) (xs : List ℕ) (i j from held : ℕ) (lx ly hx hy : List 
           in-hx = omega (arith, w .holds .room .in-hx);
           in-hy = omega (arith, w .holds .room .in-hy);
         };
+        inner = record {
+          in-lx = omega (arith, w .long .lx-long, a .window .room .in-lx);
+          in-ly = omega (arith, w .long .ly-long, a .window .room .in-ly);
+          in-hx = omega (arith, w .long .hx-long, a .window .room .in-hx);
+          in-hy = omega (arith, w .long .hy-long, a .window .room .in-hy);
+        };
+        says = λ u v. let v₁ : u < many = omega arith in w .holds .says .each ((j - r .from) + u) (omega arith);
         in-marks = omega arith;
         room = record { same = a .same; room = omega arith };
       }

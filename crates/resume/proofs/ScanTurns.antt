@@ -237,9 +237,40 @@ module _ (line : ℕ) (xs fs ss : List ℕ) (hits : ℕ) (fs′ ss′ : List ℕ
 
 -- ---- a part of a list
 
+abbrev ones : List ℕ → List ℕ
+ones [] = []
+ones (x ∷ xs) = 1 ∷ ones xs
+
+ones-at : (xs : List ℕ) (u : ℕ) → u < length xs → getD (ones xs) u 0 ≡ 1
+ones-at [] u h = absurd (omega arith)
+ones-at (x ∷ xs) zero h = refl
+ones-at (x ∷ xs) (suc u) h = ones-at xs u (omega arith)
+
 module _ (ls : Lines) (line : ℕ) (xs : List ℕ) (lx ly hx hy : List Float) (at : ℕ) (marks fs ss : List ℕ) (hits : ℕ) (a : ScanAsks ls line xs lx ly hx hy at marks fs ss hits) where
   pub scan-marks : MarkAsks lx ly hx hy at (length xs) marks
   scan-marks = record { room = a .held; in-marks = a .in-marks }
+
+  -- a line whose box overlaps the inner one
+  module _ (bounds : Box) (e : bounds ≡ boxOf (segmentAt ls line)) (inner : Box) (k : inner ≡ boxIn lx ly hx hy 512) (o : overlaps bounds inner ≡ true) where
+    all-answer : Answers ls line xs (ones xs)
+    unfolding overlap
+    all-answer =
+        record {
+          each = λ u h.
+              let w : overlaps (boxOf (segmentAt ls line)) (boxOf (segmentAt ls (getD xs u 0))) ≡ true = rw (e, a .boxes u h) at (a .says u h bounds (sym (ap (overlaps bounds) k) ∙ o)) in
+              ones-at xs u h ∙ sym (ap markOf w ∙ mark-true);
+        }
+
+    pub scanned-whole : (fs′ ss′ : List ℕ) (hits′ : ℕ) → PutWhole line xs (length xs) fs ss hits fs′ ss′ hits′ → Scanned ls line xs marks fs ss hits marks fs′ ss′ hits′
+    scanned-whole fs′ ss′ hits′ p =
+        record {
+          moved = λ pl later.
+              rw (drop-of-length-le xs {i = length xs} (omega arith), with-nil)
+              at (p .put (ones xs) (record { each = λ u h. ones-at xs u h }) .moved ls pl later all-answer);
+          marks-long = refl;
+          first-long = p .first-long;
+          second-long = p .second-long;
+        }
 
   module _ (bounds : Box) (e : bounds ≡ boxOf (segmentAt ls line)) (marks′ : List ℕ) (m : Marked bounds lx ly hx hy at (length xs) marks marks′) where
     pub scan-puts : PutAsks xs marks′ fs ss hits

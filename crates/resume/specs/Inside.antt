@@ -65,24 +65,40 @@ pub record Long (lx ly hx hy lx′ ly′ hx′ hy′ : List Float) : Type 0 wher
 pub record GatherAsks (ls : Lines) (xs : List ℕ) (lx ly hx hy : List Float) : Type 0 where
   pub alike : Alike ls
   pub below : Below (count ls) xs
-  pub room : Room (length xs) lx ly hx hy
+  pub most : length xs ≤ 512
+  pub room : Room 513 lx ly hx hy
+
+-- the box that no box overlaps
+abbrev pub nowhere : Box
+nowhere = record { «min_x» = nan; «min_y» = nan; «max_x» = nan; «max_y» = nan }
+
+-- what overlaps `inner` overlaps each of the first m boxes
+pub record Inner (m : ℕ) (lx ly hx hy : List Float) (inner : Box) : Type 0 where
+  pub each : (u : ℕ) → u < m → (b : Box) → overlaps b inner ≡ true → overlaps b (boxIn lx ly hx hy u) ≡ true
 
 -- the boxes of the first m entries
+pub record Filled (ls : Lines) (xs : List ℕ) (m : ℕ) (lx ly hx hy lx′ ly′ hx′ hy′ : List Float) : Type 0 where
+  pub each : (u : ℕ) → u < m → boxIn lx′ ly′ hx′ hy′ u ≡ boxOf (segmentAt ls (getD xs u 0))
+  pub long : Long lx ly hx hy lx′ ly′ hx′ hy′
+
+-- and entry 512 is within all of them
 pub record Gathered (ls : Lines) (xs : List ℕ) (m : ℕ) (lx ly hx hy lx′ ly′ hx′ hy′ : List Float) : Type 0 where
   pub each : (u : ℕ) → u < m → boxIn lx′ ly′ hx′ hy′ u ≡ boxOf (segmentAt ls (getD xs u 0))
   pub long : Long lx ly hx hy lx′ ly′ hx′ hy′
+  pub says : Inner m lx′ ly′ hx′ hy′ (boxIn lx′ ly′ hx′ hy′ 512)
 
 -- the boxes of `held` entries from `from` on
 pub record Holds (ls : Lines) (xs : List ℕ) (from held : ℕ) (lx ly hx hy : List Float) : Type 0 where
   pub each : (u : ℕ) → u < held → boxIn lx ly hx hy u ≡ boxOf (segmentAt ls (getD xs (from + u) 0))
   pub within : from + held ≤ length xs
   pub room : Room held lx ly hx hy
+  pub says : Inner held lx ly hx hy (boxIn lx ly hx hy 512)
 
 pub record WindowAsks (ls : Lines) (xs : List ℕ) (at from held : ℕ) (lx ly hx hy : List Float) : Type 0 where
   pub alike : Alike ls
   pub below : Below (count ls) xs
   pub inside : at < length xs
-  pub room : Room 512 lx ly hx hy
+  pub room : Room 513 lx ly hx hy
   pub holds : Holds ls xs from held lx ly hx hy
 
 pub record WindowIs (ls : Lines) (xs : List ℕ) (at : ℕ) (lx ly hx hy lx′ ly′ hx′ hy′ : List Float) (r : Window) : Type 0 where
@@ -145,6 +161,8 @@ pub record ScanAsks (ls : Lines) (line : ℕ) (xs : List ℕ) (lx ly hx hy : Lis
   pub one : line < count ls
   pub boxes : (u : ℕ) → u < length xs → boxIn lx ly hx hy (at + u) ≡ boxOf (segmentAt ls (getD xs u 0))
   pub held : Room (at + length xs) lx ly hx hy
+  pub inner : Room 513 lx ly hx hy
+  pub says : (u : ℕ) → u < length xs → (b : Box) → overlaps b (boxIn lx ly hx hy 512) ≡ true → overlaps b (boxIn lx ly hx hy (at + u)) ≡ true
   pub in-marks : length xs ≤ length marks
   pub room : RoomFor xs fs ss hits
 
@@ -186,7 +204,7 @@ pub record Lent (ls : Lines) (fs ss : List ℕ) (hits : ℕ) : Type 0 where
 
 -- and the room for boxes and bytes
 pub record Scratch (lx ly hx hy : List Float) (marks : List ℕ) : Type 0 where
-  pub boxes : Room 512 lx ly hx hy
+  pub boxes : Room 513 lx ly hx hy
   pub bytes : 512 ≤ length marks
 
 pub record SameScratch (lx ly hx hy : List Float) (marks : List ℕ) (lx′ ly′ hx′ hy′ : List Float) (marks′ : List ℕ) : Type 0 where

@@ -94,10 +94,10 @@ fn cells_from(
         ⌜ CellsRanIs ls cols reach (now (offsets .entry)) (now (items .entry)) (cursor .place) (cursor .i) (cursor .j) (now (first .entry)) (now (second .entry))
         (now (first .exit)) (now (second .exit)) r ⌝ }
 {
-    let mut low_x = [0.0; 512];
-    let mut low_y = [0.0; 512];
-    let mut high_x = [0.0; 512];
-    let mut high_y = [0.0; 512];
+    let mut low_x = [0.0; 513];
+    let mut low_y = [0.0; 513];
+    let mut high_x = [0.0; 513];
+    let mut high_y = [0.0; 513];
     let mut marks = [0u8; 512];
     rows::run_cells(
         cols,

@@ -124,7 +124,8 @@ fn put(
     put_some(line, list, marks, first, second, hits)
 }
 
-// The pairs of a line with each of a list, whose boxes stand ready from `at` on, and for which there is room.
+// The pairs of a line with each of a list, whose boxes stand ready from `at` on, and for which there is room. A line
+// that overlaps the box within all of them overlaps each: then no other is asked.
 pub(crate) fn scan(
     line: u32,
     list: &[u32],
@@ -148,6 +149,10 @@ pub(crate) fn scan(
         ⌜ Scanned ls line (now (list .entry)) (now (marks .entry)) (now (first .entry)) (now (second .entry)) hits (now (marks .exit)) (now (first .exit)) (now (second .exit)) r ⌝ }
 {
     let bounds = boxes::box_at(start_x, start_y, end_x, end_y, line);
+    let inner = boxes::inner_in(low_x, low_y, high_x, high_y);
+    if bounds.overlaps_with(inner) {
+        return put_whole(line, list, first, second, hits);
+    }
     mark(bounds, low_x, low_y, high_x, high_y, at, list.len(), marks);
     put(line, list, marks, first, second, hits)
 }

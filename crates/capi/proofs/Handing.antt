@@ -6,7 +6,7 @@ use lib.ListN.{length}
 use borrow.Author.Tests.{le-leb, lt-leb}
 use Rattle.refusals.specs.declared.Check.{Check}
 use Rattle.refusals.specs.declared.Check.the-variants.{Fine, Refused}
-use Rattle.visit.proofs.PlaceLaws.{given, part-some, part-whole}
+use Rattle.seek.proofs.PlaceLaws.{given, part-some, part-whole}
 use Rattle.grid.specs.Words.{gridWords}
 use Rattle.replies.specs.Replies.{Reply, Replies}
 use Rattle.replies.specs.Answers.{ofPart}

@@ -5,14 +5,15 @@ use grid::words::WORDS;
 use grid::words::grid_by;
 use refusals::Check;
 use replies::SHORT;
-use visit::Place;
+use seek::Place;
 ghost use mathlib.Core.Path.{_≡_};
 ghost use Prim.Native.Nat.{suc, _+_, _*_};
 ghost use lib.ListN.{length, getD};
 ghost use Rattle.grid.specs.Domain.{lines};
 ghost use Rattle.tables.specs.Tables.{tables};
-ghost use Rattle.visit.specs.Places.{listCheck, listAt};
-ghost use Rattle.visit.specs.Entries.{beside, testAt};
+ghost use Rattle.seek.specs.Places.{listCheck, listAt};
+ghost use Rattle.seek.specs.Bookmarks.{beside};
+ghost use Rattle.visit.specs.Entries.{testAt};
 ghost use Rattle.grid.specs.Words.{gridBy};
 ghost use Rattle.replies.specs.Replies.{Replies};
 ghost use Rattle.replies.specs.Answers.{ofPart, ofTest};
@@ -53,13 +54,13 @@ fn listed<'a>(
     ensures { λ r. let t = tables grid lines (now (offsets .entry)) (now (items .entry)) (now (globals .entry)) «global_count» in
         ⌜ Replies 2 (ofPart (listCheck grid t place) from (from + length (listAt t place))) (now (out .entry)) r (now (out .exit)) ⌝ }
 {
-    let list = visit::lists::list_at(lines, grid, offsets, items, globals, global_count, place);
+    let list = seek::lists::list_at(lines, grid, offsets, items, globals, global_count, place);
     let len = list.len() as u64;
     if 0 < len {
         return replies::part(Check::Fine, from, len, out);
     }
     replies::part(
-        visit::lists::list_check(lines, grid, offsets, items, globals, global_count, place),
+        seek::lists::list_check(lines, grid, offsets, items, globals, global_count, place),
         from,
         len,
         out,

@@ -11,7 +11,7 @@ use Rattle.grid.specs.declared.Grid.{Grid}
 use Rattle.grid.specs.Words.{gridWords}
 use Rattle.tables.specs.Tables.{Tables}
 use Rattle.refusals.specs.Refusals.{Answer}
-use Rattle.visit.specs.Tests.{Pair}
+use Rattle.seek.specs.Tests.{Pair}
 use Rattle.once.specs.Once.{PairsAre}
 use Rattle.replies.proofs.Outcomes.{one-outcome}
 use Rattle.capi_pairs.specs.Lent.{ByLineReplies, onceAnswer, SameFive, OnceReplies}

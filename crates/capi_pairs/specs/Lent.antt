@@ -11,7 +11,7 @@ use Rattle.tables.specs.Tables.{Tables}
 use Rattle.by_line.specs.declared.ByLine.{ByLine}
 use Rattle.by_line.specs.declared.ByLine.the-variants as listed
 use Rattle.by_line.specs.ByLine.{byLine, ByLineIs}
-use Rattle.visit.specs.Tests.{Pair}
+use Rattle.seek.specs.Tests.{Pair}
 use Rattle.once.specs.declared.OnceAnswer.{OnceAnswer}
 use Rattle.once.specs.declared.OnceAnswer.the-variants as once
 use Rattle.once.specs.Once.{PairsAre}

@@ -22,10 +22,10 @@ use Rattle.build.proofs.Settled.{Made, made-says}
 use Rattle.tables.specs.Tables.{Tables, cells, listOf, globalsOf}
 use Rattle.tables.specs.Fit.{TablesFit}
 use Rattle.tables.proofs.Facts.{all-within}
-use Rattle.visit.specs.Entries.{visitCheck, beside}
-use Rattle.visit.specs.Tests.{Pair}
+use Rattle.seek.specs.Bookmarks.{visitCheck, beside}
+use Rattle.seek.specs.Tests.{Pair}
 use Rattle.visit.specs.Batches.{overlapping}
-use Rattle.visit.proofs.Standing.{stands}
+use Rattle.seek.proofs.Standing.{stands}
 use Rattle.wkb.specs.Bytes.{Point}
 use Rattle.wkb.specs.Reading.{found}
 use Rattle.report.specs.Lines.{gridLine, cellLine, globalLine, visitLine, refusedLine}

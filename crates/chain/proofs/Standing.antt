@@ -7,8 +7,8 @@ use Rattle.grid.specs.declared.Grid.{Grid}
 use Rattle.grid.specs.Domain.{Lines, count}
 use Rattle.tables.specs.Tables.{Tables, tables, cells}
 use Rattle.tables.proofs.Facts.{all-within}
-use Rattle.visit.specs.Entries.{visitCheck, beside}
-use Rattle.visit.proofs.Standing.{Stands, stands, has-columns, cells-few}
+use Rattle.seek.specs.Bookmarks.{visitCheck, beside}
+use Rattle.seek.proofs.Standing.{Stands, stands, has-columns, cells-few}
 use Rattle.chain.specs.Inside.{CellAsks, TablesAsk}
 
 module _ (ls : Lines) (g : Grid) (t : Tables) (fine : visitCheck ls g t ≡ Fine) where

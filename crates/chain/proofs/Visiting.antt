@@ -18,11 +18,12 @@ use Rattle.tables.specs.Tables.{Tables}
 use Rattle.visit.specs.declared.Tally.{Tally}
 use Rattle.visit.specs.declared.BatchAnswer.{BatchAnswer}
 use Rattle.visit.specs.declared.BatchAnswer.the-variants as batch
-use Rattle.visit.specs.Tests.{Pair, testsOf}
+use Rattle.seek.specs.Tests.{Pair, testsOf}
 use Rattle.visit.specs.Overlap.{overlap}
 use Rattle.visit.specs.Batches.{made, roomAfter, keepIf, overlapping, handed}
-use Rattle.visit.specs.Entries.{visitCheck, outputsCheck, testsFrom, tallyOf, batchTests, batchOf, batchAnswer, BatchIs}
-use Rattle.visit.proofs.EntryLaws.{book-in}
+use Rattle.seek.specs.Bookmarks.{visitCheck, testsFrom}
+use Rattle.visit.specs.Entries.{outputsCheck, tallyOf, batchTests, batchOf, batchAnswer, BatchIs}
+use Rattle.seek.proofs.FindLaws.{book-in}
 use Rattle.chain.specs.declared.Visited.{Visited}
 use Rattle.chain.specs.declared.Visited.the-variants as visited
 use Rattle.chain.specs.Printed.{allTests}

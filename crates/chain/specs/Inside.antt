@@ -8,7 +8,8 @@ use Rattle.grid.specs.declared.Grid.{Grid}
 use Rattle.grid.specs.Domain.{Lines}
 use Rattle.tables.specs.Tables.{Tables, cells}
 use Rattle.visit.specs.Batches.{overlapping}
-use Rattle.visit.specs.Entries.{testsFrom, batchOf}
+use Rattle.seek.specs.Bookmarks.{testsFrom}
+use Rattle.visit.specs.Entries.{batchOf}
 use Rattle.visit.specs.declared.BatchAnswer.{BatchAnswer}
 use Rattle.chain.specs.Printed.{allTests}
 use Rattle.chain.specs.declared.Visited.{Visited}

@@ -16,9 +16,9 @@ use Rattle.fill.specs.OnGrid.{listOn, globalsOn, total}
 use Rattle.build.specs.declared.Plan.{Plan}
 use Rattle.build.specs.Build.{endOf}
 use Rattle.tables.specs.Tables.{Tables, cells, listOf, globalsOf}
-use Rattle.visit.specs.Tests.{Pair, testsOf}
+use Rattle.seek.specs.Tests.{Pair, testsOf}
 use Rattle.visit.specs.Batches.{overlapping}
-use Rattle.visit.specs.Entries.{beside, visitCheck}
+use Rattle.seek.specs.Bookmarks.{beside, visitCheck}
 use Rattle.report.specs.Lines.{gridLine, cellLine, globalLine, visitLine, refusedLine}
 
 -- a refusal prints `refused` and the number

@@ -23,11 +23,11 @@ use Rattle.grid.proofs.Shapes.{Fit, fit-says}
 use Rattle.tables.specs.Tables.{Tables, tables, cells, listOf, globalsOf}
 use Rattle.tables.specs.Fit.{TablesFit, tablesCheck, standingCheck}
 use Rattle.tables.proofs.Facts.{check-facts}
-use Rattle.visit.specs.Inside.{tri, CellsFit}
-use Rattle.visit.specs.Tests.{testsOf}
-use Rattle.visit.proofs.Lengths.{tri-twice, tri-mono, length-increasing}
-use Rattle.visit.proofs.Standing.{cells-fit}
-use Rattle.visit.proofs.CellTurns.{length-list}
+use Rattle.seek.specs.Inside.{tri, CellsFit}
+use Rattle.seek.specs.Tests.{testsOf}
+use Rattle.seek.proofs.Lengths.{tri-twice, tri-mono, length-increasing}
+use Rattle.seek.proofs.Standing.{cells-fit}
+use Rattle.seek.proofs.CellRests.{length-list}
 use Rattle.visit_laws.specs.Words.{half, sumBelow}
 use Rattle.visit_laws.proofs.Number.{half-is, sum-zero, sum-suc, tests-number}
 use borrow.Author.Tests.{leb-true}

@@ -7,7 +7,7 @@ use Rattle.refusals.specs.Refusals.{gives, _then_, answerBy}
 use Rattle.grid.specs.declared.Grid.{Grid}
 use Rattle.tables.specs.Tables.{Tables, cells, listOf}
 use Rattle.tables.specs.Fit.{standingCheck}
-use Rattle.visit.specs.Tests.{testsOf}
+use Rattle.seek.specs.Tests.{testsOf}
 use Rattle.cost.specs.declared.Cost.{Cost}
 use Rattle.cost.specs.declared.CostAnswer.{CostAnswer}
 use Rattle.cost.specs.declared.CostAnswer.the-variants as answer

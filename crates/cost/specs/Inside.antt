@@ -3,7 +3,7 @@ use Prim.Native.Nat.{ℕ, suc, _-_, _≤_, _<_, _^_}
 use mathlib.Core.Path.{_≡_}
 use mathlib.Core.List.{List}
 use lib.ListN.{length, getD}
-use Rattle.visit.specs.Inside.{tri}
+use Rattle.seek.specs.Inside.{tri}
 use Rattle.visit_laws.specs.Words.{sumBelow}
 use Rattle.cost.specs.declared.Cost.{Cost}
 use Rattle.cost.specs.Cost.{greatest}

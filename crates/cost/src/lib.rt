@@ -8,7 +8,7 @@ ghost use mathlib.Core.Bool.{cond};
 ghost use Prim.Native.Nat.{_-_, _*_};
 ghost use lib.Dec.{leb};
 ghost use Rattle.tables.specs.Tables.{tables};
-ghost use Rattle.visit.specs.Inside.{tri};
+ghost use Rattle.seek.specs.Inside.{tri};
 ghost use Rattle.cost.specs.Cost.{costAnswer};
 ghost use Rattle.cost.specs.Inside.{OffsetsAsk, CellsCost, GlobalsAsk};
 

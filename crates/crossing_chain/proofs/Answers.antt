@@ -21,7 +21,7 @@ use Rattle.build.specs.declared.Standing.{Standing}
 use Rattle.build.specs.declared.Built.{Built}
 use Rattle.build.specs.declared.Built.the-variants as built
 use Rattle.build.specs.Build.{endOf, builtOn, answerOf, BuildIs}
-use Rattle.visit.specs.Tests.{Pair}
+use Rattle.seek.specs.Tests.{Pair}
 use Rattle.visit.specs.Batches.{firsts, seconds}
 use Rattle.once.specs.Once.{PairsAre}
 use Rattle.once.specs.declared.OnceAnswer.{OnceAnswer}

@@ -14,7 +14,7 @@ use Rattle.grid.specs.Domain.{Lines}
 use Rattle.tables.specs.Tables.{Tables}
 use Rattle.build.specs.declared.Plan.{Plan}
 use Rattle.build.specs.Build.{endOf}
-use Rattle.visit.specs.Tests.{Pair}
+use Rattle.seek.specs.Tests.{Pair}
 use Rattle.visit.specs.Batches.{firsts, seconds}
 use Rattle.wkb.specs.Bytes.{Point}
 use Rattle.wkb.specs.Reading.{found}

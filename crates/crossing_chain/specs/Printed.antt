@@ -14,7 +14,7 @@ use Rattle.tables.specs.Tables.{Tables}
 use Rattle.fill.specs.OnGrid.{listOn, globalsOn}
 use Rattle.build.specs.declared.Plan.{Plan}
 use Rattle.build.specs.Build.{endOf}
-use Rattle.visit.specs.Tests.{Pair}
+use Rattle.seek.specs.Tests.{Pair}
 use Rattle.visit.specs.Batches.{firsts, seconds}
 use Rattle.samples.specs.Samples.{Samples, sampleLinesCheck}
 use Rattle.crossings.specs.Crossings.{beside, crossingsBy}

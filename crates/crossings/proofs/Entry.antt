@@ -20,7 +20,7 @@ use Rattle.samples.specs.Sharing.{shares}
 use Rattle.samples.proofs.Checking.{samples-counted, samples-spare}
 use Rattle.tables.specs.Tables.{Tables}
 use Rattle.tables.specs.Fit.{standingCheck}
-use Rattle.visit.specs.Tests.{Pair, testsOf}
+use Rattle.seek.specs.Tests.{Pair, testsOf}
 use Rattle.by_line.specs.declared.ByLine.{ByLine}
 use Rattle.by_line.specs.declared.ByLine.the-variants as listed
 use Rattle.by_line.specs.ByLine.{roomCheck, ByLineIs}

@@ -10,7 +10,7 @@ use Rattle.grid.specs.declared.Grid.{Grid}
 use Rattle.grid.specs.Domain.{gridCheck}
 use Rattle.tables.specs.Tables.{Tables, tables}
 use Rattle.tables.specs.Fit.{tablesCheck}
-use Rattle.visit.specs.Tests.{Pair}
+use Rattle.seek.specs.Tests.{Pair}
 use Rattle.once.specs.Once.{firstTests, lentCheck, pairsCheck}
 use Rattle.samples.specs.Samples.{Samples, count, sampleLinesCheck}
 use Rattle.samples.specs.Sharing.{shares}

@@ -5,7 +5,7 @@ use grid::Grid;
 use once::OnceAnswer;
 use refusals::Check;
 ghost use mathlib.Core.Path.{_≡_};
-ghost use Rattle.visit.specs.Tests.{testsOf};
+ghost use Rattle.seek.specs.Tests.{testsOf};
 ghost use Rattle.once.specs.Once.{keeps, PairsAre};
 ghost use Rattle.once.specs.Scan.{Grown, RunAsks};
 ghost use Rattle.samples.specs.Samples.{samples};

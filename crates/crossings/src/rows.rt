@@ -4,7 +4,7 @@ ghost use mathlib.Core.Path.{_≡_};
 ghost use lib.ListN.{set};
 ghost use Prim.Native.Nat.{_-_, _<_};
 ghost use Rattle.samples.specs.Samples.{samples, count};
-ghost use Rattle.visit.specs.Inside.{numbers};
+ghost use Rattle.seek.specs.Inside.{numbers};
 ghost use Rattle.samples.specs.Sharing.{shares};
 ghost use Rattle.once.specs.Scan.{keepAt, PlaceAsks, PairAsks, RowGrown, ScanAsks};
 ghost use Rattle.once.specs.Marked.{MarkedPair, MarkedRow};

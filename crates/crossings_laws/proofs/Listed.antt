@@ -16,7 +16,7 @@ use Rattle.grid.specs.Points.{WholeShare}
 use Rattle.tables.specs.Tables.{Tables}
 use Rattle.tables.specs.Fit.{TablesFit}
 use Rattle.tables.proofs.Facts.{check-facts}
-use Rattle.visit.specs.Tests.{Pair, testsOf}
+use Rattle.seek.specs.Tests.{Pair, testsOf}
 use Rattle.visit.specs.Batches.{firsts, seconds}
 use Rattle.visit_laws.specs.Words.{one, times}
 use Rattle.visit_laws.proofs.Often.{one-true, one-false}

@@ -9,7 +9,7 @@ use Rattle.grid.specs.Domain.{Lines, segmentAt}
 use Rattle.grid.specs.Domain as domain
 use Rattle.grid.specs.Points.{WholeShare, InParts}
 use Rattle.tables.specs.Tables.{Tables}
-use Rattle.visit.specs.Tests.{testsOf}
+use Rattle.seek.specs.Tests.{testsOf}
 use Rattle.visit_laws.specs.Words.{times}
 use Rattle.once.specs.declared.OnceAnswer.the-variants.{Pairs}
 use Rattle.once.specs.Once.{PairsAre}

@@ -9,7 +9,7 @@ use Rattle.grid.specs.declared.Grid.{Grid}
 use Rattle.tables.specs.Tables.{Tables, cells, listOf, globalsOf}
 use Rattle.tables.specs.Stands.{Stands}
 use Rattle.tables.proofs.Standing.{lines-are}
-use Rattle.visit.specs.Tests.{testsOf}
+use Rattle.seek.specs.Tests.{testsOf}
 use Rattle.visit_laws.specs.Words.{half, sumBelow}
 use Rattle.visit_laws.proofs.Number.{tests-number}
 

@@ -13,7 +13,7 @@ use Rattle.grid.specs.Domain.{Lines, linesCheck}
 use Rattle.tables.specs.Tables.{Tables, cells, listOf, globalsOf}
 use Rattle.tables.specs.Stands.{Stands}
 use Rattle.visit.specs.declared.BatchAnswer.{BatchAnswer}
-use Rattle.visit.specs.Tests.{Pair, testsOf}
+use Rattle.seek.specs.Tests.{Pair, testsOf}
 use Rattle.visit.specs.Overlap.{overlap}
 use Rattle.visit.specs.Batches.{made, overlapping, firsts, seconds}
 use Rattle.visit.specs.Entries.{tallyOf, BatchIs}

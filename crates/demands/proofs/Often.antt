@@ -10,7 +10,7 @@ use Rattle.grid.specs.declared.Grid.{Grid}
 use Rattle.tables.specs.Tables.{Tables, cells, listOf}
 use Rattle.tables.specs.Stands.{Stands}
 use Rattle.tables.proofs.Standing.{lines-are}
-use Rattle.visit.specs.Tests.{testsOf}
+use Rattle.seek.specs.Tests.{testsOf}
 use Rattle.visit_laws.specs.Words.{one, countBelow, times, Different}
 use Rattle.visit_laws.proofs.Number.{sum-zero, sum-suc}
 use Rattle.visit_laws.proofs.Often.{tests-no-global, tests-global, tests-most}

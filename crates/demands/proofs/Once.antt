@@ -15,10 +15,10 @@ use Rattle.grid.specs.declared.Grid.{Grid}
 use Rattle.grid.specs.Domain.{Lines}
 use Rattle.tables.specs.Tables.{Tables}
 use Rattle.walk.specs.declared.Mode.the-variants.{Covering}
-use Rattle.visit.specs.Tests.{Pair, testsOf}
+use Rattle.seek.specs.Tests.{Pair, testsOf}
 use Rattle.visit.specs.Batches.{overlapping, firsts, seconds}
-use Rattle.visit.specs.Entries.{visitCheck}
-use Rattle.visit.proofs.Standing.{stands}
+use Rattle.seek.specs.Bookmarks.{visitCheck}
+use Rattle.seek.proofs.Standing.{stands}
 use Rattle.visit_laws.specs.Words.{one, times}
 use Rattle.visit_laws.proofs.Often.{one-true, handed-often}
 use Rattle.once.specs.declared.OnceAnswer.the-variants as answer

@@ -18,14 +18,15 @@ use Rattle.tables.specs.Fit.{tablesCheck, standingCheck}
 use Rattle.tables.specs.Stands.{Stands}
 use Rattle.tables.proofs.Facts.{facts-check}
 use Rattle.tables.proofs.Standing.{lines-are}
-use Rattle.visit.specs.declared.Place.{Place}
+use Rattle.seek.specs.declared.Place.{Place}
 use Rattle.visit.specs.declared.TestAnswer.the-variants as answer
 use Rattle.visit.specs.declared.BatchAnswer.{BatchAnswer}
 use Rattle.visit.specs.declared.BatchAnswer.the-variants as batch
-use Rattle.visit.specs.Tests.{Pair, testsOf}
-use Rattle.visit.specs.Entries.{beside, visitCheck, bookmarkCheck, outputsCheck, testOf, testsFrom, nextTest, testAt, batchTests, batchOf, batchAnswer, tallyOf, BatchIs}
-use Rattle.visit.proofs.EntryLaws.{book-in}
-use Rattle.visit.specs.Places.{placeCheck, listCheck}
+use Rattle.seek.specs.Tests.{Pair, testsOf}
+use Rattle.seek.specs.Bookmarks.{beside, visitCheck, bookmarkCheck, testsFrom}
+use Rattle.visit.specs.Entries.{outputsCheck, testOf, nextTest, testAt, batchTests, batchOf, batchAnswer, tallyOf, BatchIs}
+use Rattle.seek.proofs.FindLaws.{book-in}
+use Rattle.seek.specs.Places.{placeCheck, listCheck}
 
 alone : (c : Check) → andThen c (andThen Fine Fine) ≡ c
 unfolding andThen

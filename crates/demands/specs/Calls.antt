@@ -11,7 +11,7 @@ use Rattle.grid.specs.Domain.{Lines}
 use Rattle.tables.specs.Tables.{Tables}
 use Rattle.visit.specs.declared.Tally.{Tally}
 use Rattle.visit.specs.declared.BatchAnswer.the-variants as batch
-use Rattle.visit.specs.Tests.{testsOf}
+use Rattle.seek.specs.Tests.{testsOf}
 use Rattle.visit.specs.Entries.{BatchIs}
 use Rattle.visit_laws.specs.Words.{one}
 

@@ -18,7 +18,7 @@ use Rattle.build.specs.Build.{endOf, BuildIs}
 use Rattle.added.specs.declared.Added.{Added}
 use Rattle.added.specs.declared.Added.the-variants as added
 use Rattle.added.specs.Added.{addEnd, AddIs}
-use Rattle.visit.specs.Entries.{beside}
+use Rattle.seek.specs.Bookmarks.{beside}
 
 -- a build that succeeded, in some slices
 pub record FromBuild (mode : Mode) (g : Grid) (ls : Lines) (t : Tables) : Type 0 where

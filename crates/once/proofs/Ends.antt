@@ -17,7 +17,7 @@ use Rattle.refusals.specs.declared.Check.the-variants as check
 use Rattle.refusals.specs.Refusals.{refusal, unless, andThen, Answer, refused, gives, _then_, answerBy, clears, leftIn, zeroBeyond}
 use Rattle.refusals.proofs.Checks.{unless-fine, andThen-left, andThen-right}
 use Rattle.refusals.proofs.Leaving.{left-zero, left-same, Clearing, clearing-unless, clearing-then, numbers-clear}
-use Rattle.visit.specs.Tests.{Pair}
+use Rattle.seek.specs.Tests.{Pair}
 use Rattle.visit.specs.Batches.{firsts, seconds}
 use Rattle.by_line.specs.ByLine.{roomCheck}
 use Rattle.once.specs.declared.OnceAnswer.{OnceAnswer}

@@ -17,9 +17,9 @@ use Rattle.grid.specs.Domain.{Lines, count, linesCheck}
 use Rattle.grid.proofs.Fine.{lines-counted, lines-spare}
 use Rattle.tables.specs.Tables.{Tables}
 use Rattle.tables.specs.Fit.{standingCheck}
-use Rattle.visit.specs.Tests.{Pair, testsOf}
+use Rattle.seek.specs.Tests.{Pair, testsOf}
 use Rattle.visit.specs.Overlap.{overlap}
-use Rattle.visit.specs.Entries.{beside, visitCheck}
+use Rattle.seek.specs.Bookmarks.{beside, visitCheck}
 use Rattle.by_line.specs.declared.ByLine.{ByLine}
 use Rattle.by_line.specs.declared.ByLine.the-variants as listed
 use Rattle.by_line.specs.ByLine.{roomCheck, ByLineIs}

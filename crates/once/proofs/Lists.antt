@@ -13,12 +13,12 @@ use Rattle.slices.proofs.Members.{below-at}
 use Rattle.tables.specs.Tables.{listIn}
 use Rattle.tables.specs.Lists.{linesAt}
 use Rattle.tables.specs.States.{Counted, CanCount}
-use Rattle.visit.specs.declared.Place.{Place}
-use Rattle.visit.specs.declared.Place.the-variants.{Global}
-use Rattle.visit.specs.Tests.{Pair, pair, withEach, pairs, placeOf, cellTests}
-use Rattle.visit.specs.Inside.{tri}
-use Rattle.visit.proofs.Clauses.{length-with, pairs-nil, pairs-cons, cells-zero, cells-suc}
-use Rattle.visit.proofs.Lengths.{tri-suc, tri-mono, tri-twice}
+use Rattle.seek.specs.declared.Place.{Place}
+use Rattle.seek.specs.declared.Place.the-variants.{Global}
+use Rattle.seek.specs.Tests.{Pair, pair, withEach, pairs, placeOf, cellTests}
+use Rattle.seek.specs.Inside.{tri}
+use Rattle.seek.proofs.Clauses.{length-with, pairs-nil, pairs-cons, cells-zero, cells-suc}
+use Rattle.seek.proofs.Lengths.{tri-suc, tri-mono, tri-twice}
 use Rattle.by_line.proofs.Turns.{line-of}
 use Rattle.once.specs.Once.{keptBy}
 use Rattle.once.specs.Scan.{Grown, keepAt, Listed, RowGrown, ScanAsks, PlaceAsks, RowsAsk, RowsDone, CellsAsk, CellsDone}

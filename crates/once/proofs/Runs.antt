@@ -10,12 +10,13 @@ use lib.ListN.{length, getD, take}
 use lib.Seq.{getD-take, length-take-le}
 use Rattle.slices.specs.Lists.{elem, Below}
 use Rattle.slices.proofs.Members.{elem-at}
-use Rattle.visit.specs.declared.Place.the-variants.{Global}
-use Rattle.visit.specs.Tests.{Pair, pair, withEach, others, globalTests}
-use Rattle.visit.specs.Inside.{numbers, LineFits, stopOf}
-use Rattle.visit.proofs.Clauses.{with-nil, with-append, length-with, others-zero, others-in, others-out, numbers-zero, numbers-suc, globals-zero, globals-suc}
-use Rattle.visit.proofs.OtherLines.{length-numbers, others-run}
-use Rattle.visit.proofs.GlobalTurns.{stop-in, stop-out, k-most, free, line-further, pass-fits}
+use Rattle.seek.specs.declared.Place.the-variants.{Global}
+use Rattle.seek.specs.Tests.{Pair, pair, withEach, others, globalTests}
+use Rattle.seek.specs.Inside.{numbers, stopOf}
+use Rattle.seek.specs.Cursors.{LineFits}
+use Rattle.seek.proofs.Clauses.{with-nil, with-append, length-with, others-zero, others-in, others-out, numbers-zero, numbers-suc, globals-zero, globals-suc}
+use Rattle.seek.proofs.OtherLines.{length-numbers, others-run}
+use Rattle.seek.proofs.GlobalRests.{stop-in, stop-out, k-most, free, line-further, pass-fits}
 use Rattle.once.specs.Once.{keptBy}
 use Rattle.once.specs.Scan.{Grown, keepAt, RowGrown, ScanAsks, PlaceAsks, GlobalAsks, GlobalDone, GlobalsAsk, GlobalsDone}
 use Rattle.once.proofs.Writes.{grown-none, grown-then, kept-few}

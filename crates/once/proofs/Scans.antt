@@ -9,11 +9,11 @@ use native.Mathlib.Omega.{arith}
 use lib.ListN.{length, getD, take, set, length-set, length-append}
 use lib.Seq.{take-suc, take-length}
 use Rattle.slices.proofs.Members.{below-at}
-use Rattle.visit.specs.declared.Place.{Place}
-use Rattle.visit.specs.Tests.{pair, withEach}
-use Rattle.visit.specs.Inside.{numbers}
-use Rattle.visit.proofs.Clauses.{with-nil, with-cons, with-append, numbers-zero, numbers-suc}
-use Rattle.visit.proofs.OtherLines.{length-numbers}
+use Rattle.seek.specs.declared.Place.{Place}
+use Rattle.seek.specs.Tests.{pair, withEach}
+use Rattle.seek.specs.Inside.{numbers}
+use Rattle.seek.proofs.Clauses.{with-nil, with-cons, with-append, numbers-zero, numbers-suc}
+use Rattle.seek.proofs.OtherLines.{length-numbers}
 use Rattle.by_line.specs.First.{metBelow, meetBefore}
 use Rattle.by_line.proofs.Common.{met-is}
 use Rattle.once.specs.Scan.{keepAt, PlaceAsks, PairAsks, RowGrown, ScanAsks}

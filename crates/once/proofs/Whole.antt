@@ -9,10 +9,10 @@ use lib.ListN.{length}
 use lib.Seq.{length-take-le}
 use Rattle.grid.specs.declared.Grid.{Grid}
 use Rattle.tables.specs.Tables.{Tables, tables, cells, listOf, globalsOf}
-use Rattle.visit.specs.declared.Place.the-variants.{Global}
-use Rattle.visit.specs.Tests.{pair, placeOf, testsOf}
-use Rattle.visit.proofs.Lengths.{length-increasing}
-use Rattle.visit.proofs.Standing.{globals-fit, has-columns}
+use Rattle.seek.specs.declared.Place.the-variants.{Global}
+use Rattle.seek.specs.Tests.{pair, placeOf, testsOf}
+use Rattle.seek.proofs.Lengths.{length-increasing}
+use Rattle.seek.proofs.Standing.{globals-fit, has-columns}
 use Rattle.by_line.proofs.Turns.{counted-none}
 use Rattle.by_line.proofs.Room.{Passed, passed, list-asks, table-walks, by-line-total}
 use Rattle.once.specs.Once.{through, isFirst, keeps}

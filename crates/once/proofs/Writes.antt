@@ -8,7 +8,7 @@ use native.Mathlib.Decide.{decLt}
 use native.Mathlib.Omega.{arith}
 use lib.ListN.{length, take, set, length-append, length-set, length-map}
 use lib.Seq.{set-out, take-all, take-set-le, take-suc-set}
-use Rattle.visit.specs.Tests.{Pair}
+use Rattle.seek.specs.Tests.{Pair}
 use Rattle.visit.specs.Batches.{keepIf}
 use Rattle.once.specs.Once.{keptBy}
 use Rattle.once.specs.Scan.{putAt, Alike, Grown}

@@ -13,12 +13,12 @@ use Rattle.refusals.specs.Refusals.{unless, andThen, Answer, gives, _then_, ans
 use Rattle.grid.specs.declared.Grid.{Grid}
 use Rattle.grid.specs.Domain.{Lines}
 use Rattle.tables.specs.Tables.{Tables, cells, listOf}
-use Rattle.visit.specs.declared.Place.{Place}
-use Rattle.visit.specs.declared.Place.the-variants.{Cell, Global}
-use Rattle.visit.specs.Tests.{Pair, testsOf}
+use Rattle.seek.specs.declared.Place.{Place}
+use Rattle.seek.specs.declared.Place.the-variants.{Cell, Global}
+use Rattle.seek.specs.Tests.{Pair, testsOf}
 use Rattle.visit.specs.Overlap.{overlap}
 use Rattle.visit.specs.Batches.{keepIf, firsts, seconds}
-use Rattle.visit.specs.Entries.{visitCheck}
+use Rattle.seek.specs.Bookmarks.{visitCheck}
 use Rattle.by_line.specs.ByLine.{roomCheck}
 use Rattle.by_line.specs.First.{metBelow}
 use Rattle.once.specs.declared.OnceAnswer.{OnceAnswer}

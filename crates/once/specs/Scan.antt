@@ -12,11 +12,11 @@ use Rattle.tables.specs.Tables.{Tables, listIn}
 use Rattle.tables.specs.Fit.{standingCheck}
 use Rattle.tables.specs.Lists.{linesAt, start, offsetsOf, itemsOf}
 use Rattle.tables.specs.States.{Table, Counted}
-use Rattle.visit.specs.declared.Place.{Place}
-use Rattle.visit.specs.declared.Place.the-variants.{Global}
-use Rattle.visit.specs.Tests.{Pair, pair, withEach, pairs, placeOf, cellTests, others, globalTests}
+use Rattle.seek.specs.declared.Place.{Place}
+use Rattle.seek.specs.declared.Place.the-variants.{Global}
+use Rattle.seek.specs.Tests.{Pair, pair, withEach, pairs, placeOf, cellTests, others, globalTests}
 use Rattle.visit.specs.Batches.{firsts, seconds}
-use Rattle.visit.specs.Inside.{tri, GlobalsFit}
+use Rattle.seek.specs.Inside.{tri, GlobalsFit}
 use Rattle.by_line.specs.ByLine.{cellsOf}
 use Rattle.by_line.specs.Inside.{TableAsks}
 use Rattle.by_line.specs.First.{metBelow}

@@ -11,11 +11,11 @@ use lib.ListN.{take, getD}
 use Rattle.slices.specs.Lists.{elem}
 use Rattle.tables.specs.Tables.{Tables, cells, listOf}
 use Rattle.tables.specs.Fit.{TablesFit}
-use Rattle.visit.specs.declared.Place.{Place}
-use Rattle.visit.specs.declared.Place.the-variants.{Global}
-use Rattle.visit.specs.Tests.{Pair, withEach, pairs, placeOf, cellTests, others, globalTests, testsOf}
-use Rattle.visit.proofs.Clauses.{with-nil, with-cons, pairs-nil, pairs-cons, cells-zero, cells-suc, globals-zero, globals-suc}
-use Rattle.visit.proofs.Standing.{globals-fit, has-columns}
+use Rattle.seek.specs.declared.Place.{Place}
+use Rattle.seek.specs.declared.Place.the-variants.{Global}
+use Rattle.seek.specs.Tests.{Pair, withEach, pairs, placeOf, cellTests, others, globalTests, testsOf}
+use Rattle.seek.proofs.Clauses.{with-nil, with-cons, pairs-nil, pairs-cons, cells-zero, cells-suc, globals-zero, globals-suc}
+use Rattle.seek.proofs.Standing.{globals-fit, has-columns}
 use Rattle.visit_laws.specs.Words.{one, sumBelow, countBelow, testOfBoth, times, Different}
 use Rattle.visit_laws.proofs.Number.{sum-zero, sum-suc}
 use Rattle.visit_laws.proofs.Often.{one-true, one-false, times-cons, times-append, cell-times, cells-shared, globals-all}

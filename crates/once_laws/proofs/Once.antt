@@ -13,7 +13,7 @@ use Rattle.grid.specs.Domain.{Lines}
 use Rattle.grid.proofs.Bools.{and-left, and-right}
 use Rattle.tables.specs.Tables.{Tables}
 use Rattle.tables.specs.Fit.{TablesFit}
-use Rattle.visit.specs.Tests.{Pair, testsOf}
+use Rattle.seek.specs.Tests.{Pair, testsOf}
 use Rattle.visit.specs.Overlap.{overlap}
 use Rattle.visit.specs.Batches.{keepIf, overlapping}
 use Rattle.visit_laws.specs.Words.{one, testOfBoth, times, Different}

@@ -21,8 +21,8 @@ use Rattle.walk.specs.declared.Cells.{Cells}
 use Rattle.walk.specs.declared.Cells.the-variants as cells
 use Rattle.build.specs.declared.Built.{Built}
 use Rattle.build.specs.declared.Built.the-variants as built
-use Rattle.visit.specs.declared.Place.{Place}
-use Rattle.visit.specs.declared.Place.the-variants as place
+use Rattle.seek.specs.declared.Place.{Place}
+use Rattle.seek.specs.declared.Place.the-variants as place
 use Rattle.visit.specs.declared.TestAnswer.{TestAnswer}
 use Rattle.visit.specs.declared.TestAnswer.the-variants as answer
 use Rattle.visit.specs.declared.BatchAnswer.{BatchAnswer}

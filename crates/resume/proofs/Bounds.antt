@@ -11,13 +11,15 @@ use Rattle.slices.specs.Lists.{elem, Below, Rising}
 use Rattle.slices.proofs.Members.{below-at}
 use Rattle.slices.proofs.Distinct.{rising-at}
 use Rattle.tables.specs.Fit.{Increasing}
-use Rattle.visit.specs.declared.Place.{Place}
-use Rattle.visit.specs.declared.Place.the-variants.{Global}
-use Rattle.visit.specs.Tests.{Pair, withEach, pairs, placeOf, others, globalTests}
-use Rattle.visit.specs.Inside.{tri, restIn, globalsRest, GlobalsFit, LineFits, GlobalAsks}
-use Rattle.visit.proofs.Clauses.{length-with, others-zero, others-in, others-out, globals-zero, globals-suc, grest-zero, grest-suc, left-suc}
-use Rattle.visit.proofs.Lengths.{tri-twice, tri-mono, length-pairs, length-increasing}
-use Rattle.visit.proofs.GlobalTurns.{globals-done}
+use Rattle.seek.specs.declared.Place.{Place}
+use Rattle.seek.specs.declared.Place.the-variants.{Global}
+use Rattle.seek.specs.Tests.{Pair, withEach, pairs, placeOf, others, globalTests}
+use Rattle.seek.specs.Inside.{tri, GlobalsFit}
+use Rattle.seek.specs.Cursors.{restIn, globalsRest, LineFits}
+use Rattle.visit.specs.Inside.{GlobalAsks}
+use Rattle.seek.proofs.Clauses.{length-with, others-zero, others-in, others-out, globals-zero, globals-suc, grest-zero, grest-suc, left-suc}
+use Rattle.seek.proofs.Lengths.{tri-twice, tri-mono, length-pairs, length-increasing}
+use Rattle.seek.proofs.GlobalRests.{globals-done}
 use Rattle.resume.specs.AsTheyAre.{listBy}
 use Rattle.resume.specs.Cursors.{listFrom, cellsOf, cellsFrom, globalsFrom}
 use Rattle.resume.specs.Inside.{Passed}

@@ -8,10 +8,10 @@ use lib.ListN.{length, getD, length-append}
 use lib.Ieee.{Float}
 use Rattle.slices.specs.Lists.{Below}
 use Rattle.grid.specs.Domain.{Lines, count}
-use Rattle.visit.specs.declared.Place.{Place}
-use Rattle.visit.specs.declared.Place.the-variants.{Global}
-use Rattle.visit.specs.Tests.{Pair, pairs, placeOf}
-use Rattle.visit.proofs.Clauses.{left-suc}
+use Rattle.seek.specs.declared.Place.{Place}
+use Rattle.seek.specs.declared.Place.the-variants.{Global}
+use Rattle.seek.specs.Tests.{Pair, pairs, placeOf}
+use Rattle.seek.proofs.Clauses.{left-suc}
 use Rattle.resume.specs.declared.settle.CellAt.{CellAt}
 use Rattle.resume.specs.declared.settle.CellAt.the-variants as cellat
 use Rattle.resume.specs.declared.rows.ListRan.{ListRan}

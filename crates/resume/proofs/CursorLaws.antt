@@ -14,14 +14,16 @@ use borrow.Author.Tests.{eq-eqb, ne-eqb}
 use Rattle.slices.specs.Lists.{Rising}
 use Rattle.slices.proofs.Distinct.{rising-at}
 use Rattle.tables.specs.Tables.{Tables, cells}
-use Rattle.visit.specs.declared.Place.{Place}
-use Rattle.visit.specs.declared.Place.the-variants.{Cell, Global}
-use Rattle.visit.specs.Tests.{Pair, pair, withEach, placeOf, others, globalTests}
-use Rattle.visit.specs.Inside.{restIn, numbers, GlobalAsks, GlobalIs}
-use Rattle.visit.proofs.Clauses.{with-cons}
-use Rattle.visit.proofs.CellTurns.{pair-taken}
+use Rattle.seek.specs.declared.Place.{Place}
+use Rattle.seek.specs.declared.Place.the-variants.{Cell, Global}
+use Rattle.seek.specs.Tests.{Pair, pair, withEach, placeOf, others, globalTests}
+use Rattle.seek.specs.Cursors.{restIn}
+use Rattle.seek.specs.Inside.{numbers}
+use Rattle.visit.specs.Inside.{GlobalAsks, GlobalIs}
+use Rattle.seek.proofs.Clauses.{with-cons}
+use Rattle.seek.proofs.CellRests.{pair-taken}
 use Rattle.visit.proofs.RowTurns.{numbers-some}
-use Rattle.visit.proofs.GlobalTurns.{grest-run}
+use Rattle.seek.proofs.GlobalRests.{grest-run}
 use Rattle.resume.specs.declared.Cursor.{Cursor}
 use Rattle.resume.specs.declared.settle.CellAt.{CellAt}
 use Rattle.resume.specs.declared.settle.CellAt.the-variants as cellat

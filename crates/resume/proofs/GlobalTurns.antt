@@ -7,13 +7,15 @@ use native.Mathlib.Decide.{ℕ-discrete}
 use native.Mathlib.Omega.{arith}
 use lib.ListN.{length, getD, take, drop}
 use Rattle.grid.specs.Domain.{Lines, count}
-use Rattle.visit.specs.declared.Place.{Place}
-use Rattle.visit.specs.declared.Place.the-variants.{Global}
-use Rattle.visit.specs.Tests.{Pair, withEach, others, globalTests}
-use Rattle.visit.specs.Inside.{numbers, globalsRest, LineFits, GlobalAsks, GlobalIs}
-use Rattle.visit.proofs.Clauses.{with-nil, with-append, numbers-zero, numbers-suc}
-use Rattle.visit.proofs.OtherLines.{length-numbers}
-use Rattle.visit.proofs.GlobalTurns.{grest-run, stop-most, line-further}
+use Rattle.seek.specs.declared.Place.{Place}
+use Rattle.seek.specs.declared.Place.the-variants.{Global}
+use Rattle.seek.specs.Tests.{Pair, withEach, others, globalTests}
+use Rattle.seek.specs.Inside.{numbers}
+use Rattle.seek.specs.Cursors.{globalsRest, LineFits}
+use Rattle.visit.specs.Inside.{GlobalAsks, GlobalIs}
+use Rattle.seek.proofs.Clauses.{with-nil, with-append, numbers-zero, numbers-suc}
+use Rattle.seek.proofs.OtherLines.{length-numbers}
+use Rattle.seek.proofs.GlobalRests.{grest-run, stop-most, line-further}
 use Rattle.resume.specs.declared.settle.GlobalAt.{GlobalAt}
 use Rattle.resume.specs.declared.settle.GlobalAt.the-variants as globalat
 use Rattle.resume.specs.declared.globals.GlobalsRan.{GlobalsRan}

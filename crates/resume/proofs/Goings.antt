@@ -6,10 +6,10 @@ use native.Mathlib.Omega.{arith}
 use lib.ListN.{length, drop}
 use lib.Seq.{drop-drop, drop-append-seam}
 use Rattle.grid.specs.Domain.{Lines}
-use Rattle.visit.specs.declared.Place.{Place}
-use Rattle.visit.specs.Tests.{Pair, withEach}
+use Rattle.seek.specs.declared.Place.{Place}
+use Rattle.seek.specs.Tests.{Pair, withEach}
 use Rattle.visit.specs.Inside.{Moved}
-use Rattle.visit.proofs.Clauses.{length-with}
+use Rattle.seek.proofs.Clauses.{length-with}
 use Rattle.visit.proofs.Moves.{moved-none, moved-then}
 use Rattle.resume.specs.Inside.{Goes}
 

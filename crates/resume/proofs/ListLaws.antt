@@ -9,11 +9,11 @@ use lib.ListN.{length, getD, take, drop, length-append}
 use lib.Seq.{drop-drop}
 use lib.Dec.{ltb}
 use borrow.Author.Tests.{lt-ltb, le-ltb}
-use Rattle.visit.specs.declared.Place.{Place}
-use Rattle.visit.specs.Tests.{Pair, withEach, pairs}
-use Rattle.visit.specs.Inside.{restIn}
-use Rattle.visit.proofs.Clauses.{with-append, length-with, pairs-nil, pairs-cons}
-use Rattle.visit.proofs.CellTurns.{row-ends, list-ends, list-begins}
+use Rattle.seek.specs.declared.Place.{Place}
+use Rattle.seek.specs.Tests.{Pair, withEach, pairs}
+use Rattle.seek.specs.Cursors.{restIn}
+use Rattle.seek.proofs.Clauses.{with-append, length-with, pairs-nil, pairs-cons}
+use Rattle.seek.proofs.CellRests.{row-ends, list-ends, list-begins}
 use Rattle.resume.specs.Cursors.{listFrom}
 use Rattle.resume.specs.Inside.{RowIs}
 

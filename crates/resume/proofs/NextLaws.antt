@@ -17,10 +17,11 @@ use Rattle.refusals.specs.Refusals.{unless}
 use Rattle.refusals.proofs.Checks.{unless-fine, andThen-refused, andThen-fine, andThen-left, andThen-right}
 use Rattle.grid.specs.Domain.{Lines, count, Alike, lengthsCheck, countCheck}
 use Rattle.grid.proofs.Fine.{lengths-fine}
-use Rattle.visit.specs.Tests.{Pair}
+use Rattle.seek.specs.Tests.{Pair}
 use Rattle.visit.specs.Batches.{made, handed, firsts, seconds}
 use Rattle.visit.specs.Entries.{outputsCheck}
-use Rattle.visit.specs.Inside.{Moved, globalsRest}
+use Rattle.seek.specs.Cursors.{globalsRest}
+use Rattle.visit.specs.Inside.{Moved}
 use Rattle.visit.proofs.Clauses.{made-full, handed-full}
 use Rattle.visit.proofs.Moves.{none-made, none-handed}
 use Rattle.slices.specs.Slices.{clearedFrom}
@@ -29,7 +30,8 @@ use Rattle.refusals.specs.Refusals as refusals-words
 use Rattle.refusals.proofs.Leaving.{numbers-below, clearing-unless, clearing-then}
 use Rattle.grid.specs.declared.Grid.{Grid}
 use Rattle.tables.specs.Tables.{Tables}
-use Rattle.visit.specs.Entries.{beside, pairsLeft}
+use Rattle.seek.specs.Bookmarks.{beside}
+use Rattle.visit.specs.Entries.{pairsLeft}
 use Rattle.resume.specs.declared.Cursor.{Cursor}
 use Rattle.resume.specs.declared.Went.{Went}
 use Rattle.resume.specs.declared.nexts.Ran.{Ran}

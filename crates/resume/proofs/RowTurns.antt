@@ -10,9 +10,9 @@ use Rattle.slices.specs.Lists.{Below}
 use Rattle.slices.proofs.Members.{below-at}
 use Rattle.grid.specs.Domain.{Lines, count, Alike, segmentAt}
 use Rattle.grid.specs.Boxes.{boxOf}
-use Rattle.visit.specs.declared.Place.{Place}
-use Rattle.visit.specs.declared.Place.the-variants.{Global}
-use Rattle.visit.specs.Tests.{Pair, withEach}
+use Rattle.seek.specs.declared.Place.{Place}
+use Rattle.seek.specs.declared.Place.the-variants.{Global}
+use Rattle.seek.specs.Tests.{Pair, withEach}
 use Rattle.visit.specs.Inside.{Moved}
 use Rattle.resume.specs.declared.boxes.Window.{Window}
 use Rattle.resume.specs.declared.settle.RowAt.{RowAt}

@@ -15,11 +15,12 @@ use lib.Ieee.{Float, nan, le}
 use Rattle.grid.specs.declared.Box.{Box}
 use Rattle.grid.specs.Domain.{Lines, count, Alike, segmentAt}
 use Rattle.grid.specs.Boxes.{boxOf, overlaps}
-use Rattle.visit.specs.declared.Place.{Place}
-use Rattle.visit.specs.Tests.{Pair, pair, withEach}
+use Rattle.seek.specs.declared.Place.{Place}
+use Rattle.seek.specs.Tests.{Pair, pair, withEach}
 use Rattle.visit.specs.Overlap.{overlap}
-use Rattle.visit.specs.Inside.{Moved, numbers}
-use Rattle.visit.proofs.Clauses.{with-nil, with-cons, numbers-zero, numbers-suc}
+use Rattle.seek.specs.Inside.{numbers}
+use Rattle.visit.specs.Inside.{Moved}
+use Rattle.seek.proofs.Clauses.{with-nil, with-cons, numbers-zero, numbers-suc}
 use Rattle.visit.proofs.Moves.{moved-none, moved-then, moved-hit, moved-miss}
 use Rattle.resume.specs.Inside.{LineAsks, boxIn, Room, markOf, MarkAsks, Marked, Whole, RoomFor, PutAsks, Answers, Put, PutWhole, ScanAsks, Scanned, LinesAsk, LinesScanned}
 

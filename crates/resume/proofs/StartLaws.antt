@@ -18,16 +18,17 @@ use Rattle.grid.specs.declared.Grid.{Grid}
 use Rattle.grid.specs.Domain.{Lines, count}
 use Rattle.tables.specs.Tables.{Tables, cells, listIn, globalsOf}
 use Rattle.tables.specs.Fit.{TablesFit}
-use Rattle.visit.specs.declared.Place.{Place}
-use Rattle.visit.specs.declared.Place.the-variants.{Cell, Global}
+use Rattle.seek.specs.declared.Place.{Place}
+use Rattle.seek.specs.declared.Place.the-variants.{Cell, Global}
 use Rattle.visit.specs.declared.Test.{Test}
 use Rattle.visit.specs.declared.TestAnswer.{TestAnswer}
 use Rattle.visit.specs.declared.TestAnswer.the-variants as answer
-use Rattle.visit.specs.Tests.{Pair, pair, withEach, pairs, placeOf, cellTests, others, globalTests, testsOf}
-use Rattle.visit.specs.Entries.{visitCheck, bookmarkCheck, testsFrom, nextTest, testAt, testOf}
-use Rattle.visit.specs.Inside.{restIn, cellsRest, globalsRest}
-use Rattle.visit.proofs.Clauses.{drop-past, cells-zero, cells-suc, with-nil, with-cons, length-with, drop-with, pairs-nil, pairs-cons, globals-zero, globals-suc, others-zero, others-in, others-out}
-use Rattle.visit.proofs.Standing.{Stands, stands}
+use Rattle.seek.specs.Tests.{Pair, pair, withEach, pairs, placeOf, cellTests, others, globalTests, testsOf}
+use Rattle.seek.specs.Bookmarks.{visitCheck, bookmarkCheck, testsFrom}
+use Rattle.visit.specs.Entries.{nextTest, testAt, testOf}
+use Rattle.seek.specs.Cursors.{restIn, cellsRest, globalsRest}
+use Rattle.seek.proofs.Clauses.{drop-past, cells-zero, cells-suc, with-nil, with-cons, length-with, drop-with, pairs-nil, pairs-cons, globals-zero, globals-suc, others-zero, others-in, others-out}
+use Rattle.seek.proofs.Standing.{Stands, stands}
 use Rattle.resume.specs.declared.Cursor.{Cursor}
 use Rattle.resume.specs.declared.StartAnswer.{StartAnswer}
 use Rattle.resume.specs.declared.StartAnswer.the-variants as start

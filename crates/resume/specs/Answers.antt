@@ -8,9 +8,10 @@ use Rattle.refusals.specs.Refusals.{andThen, Answer, gives, _then_, answerBy}
 use Rattle.grid.specs.declared.Grid.{Grid}
 use Rattle.grid.specs.Domain.{Lines, count, lengthsCheck, countCheck}
 use Rattle.tables.specs.Tables.{Tables}
-use Rattle.visit.specs.Tests.{Pair}
+use Rattle.seek.specs.Tests.{Pair}
 use Rattle.visit.specs.Batches.{made, handed, firsts, seconds}
-use Rattle.visit.specs.Entries.{testsFrom, outputsCheck, pairsLeft}
+use Rattle.seek.specs.Bookmarks.{testsFrom}
+use Rattle.visit.specs.Entries.{outputsCheck, pairsLeft}
 use Rattle.resume.specs.declared.Cursor.{Cursor}
 use Rattle.resume.specs.declared.Went.{Went}
 use Rattle.resume.specs.declared.StartAnswer.{StartAnswer}

@@ -6,10 +6,10 @@ use mathlib.Core.List.{List, [], _∷_, _++_}
 use lib.ListN.{length}
 use lib.Dec.{ltb, eqb}
 use Rattle.tables.specs.Tables.{Tables}
-use Rattle.visit.specs.declared.Place.{Place}
-use Rattle.visit.specs.declared.Place.the-variants.{Cell, Global}
-use Rattle.visit.specs.Tests.{Pair, pairs, placeOf}
-use Rattle.visit.specs.Inside.{restIn, globalsRest}
+use Rattle.seek.specs.declared.Place.{Place}
+use Rattle.seek.specs.declared.Place.the-variants.{Cell, Global}
+use Rattle.seek.specs.Tests.{Pair, pairs, placeOf}
+use Rattle.seek.specs.Cursors.{restIn, globalsRest}
 use Rattle.resume.specs.declared.Cursor.{Cursor}
 use Rattle.resume.specs.AsTheyAre.{reach, listAs, globalsAs}
 

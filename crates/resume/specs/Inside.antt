@@ -10,11 +10,13 @@ use Rattle.slices.specs.Lists.{Below}
 use Rattle.grid.specs.declared.Box.{Box}
 use Rattle.grid.specs.Domain.{Lines, count, Alike, segmentAt}
 use Rattle.grid.specs.Boxes.{boxOf, overlaps}
-use Rattle.visit.specs.declared.Place.{Place}
-use Rattle.visit.specs.declared.Place.the-variants as place
-use Rattle.visit.specs.Tests.{Pair, withEach}
+use Rattle.seek.specs.declared.Place.{Place}
+use Rattle.seek.specs.declared.Place.the-variants as place
+use Rattle.seek.specs.Tests.{Pair, withEach}
 use Rattle.visit.specs.Overlap.{overlap}
-use Rattle.visit.specs.Inside.{Moved, GlobalsFit, LineFits, GlobalAsks, GlobalIs, globalsRest, numbers}
+use Rattle.seek.specs.Inside.{GlobalsFit, numbers}
+use Rattle.seek.specs.Cursors.{LineFits, globalsRest}
+use Rattle.visit.specs.Inside.{Moved, GlobalAsks, GlobalIs}
 use Rattle.resume.specs.declared.settle.RowAt.{RowAt}
 use Rattle.resume.specs.declared.settle.RowAt.the-variants as rowat
 use Rattle.resume.specs.declared.settle.CellAt.{CellAt}

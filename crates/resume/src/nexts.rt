@@ -16,7 +16,7 @@ ghost use mathlib.Core.Bool.{cond};
 ghost use Prim.Native.Nat.{_-_, min, _≤_};
 ghost use lib.Dec.{ltb};
 ghost use Rattle.grid.specs.Domain.{lines};
-ghost use Rattle.visit.specs.Entries.{beside};
+ghost use Rattle.seek.specs.Bookmarks.{beside};
 ghost use Rattle.resume.specs.Answers.{nextCheck, NextIs};
 ghost use Rattle.resume.specs.Inside.{FromAsks, CellsRanIs, RunAsks, RunIs, GoAsks, Gone};
 

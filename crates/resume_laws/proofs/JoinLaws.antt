@@ -15,21 +15,22 @@ use Rattle.slices.specs.Lists.{elem}
 use Rattle.tables.specs.Tables.{Tables, cells, listIn, globalsOf}
 use Rattle.tables.specs.Fit.{TablesFit, Increasing, increases}
 use Rattle.tables.proofs.Facts.{says-increases, all-within}
-use Rattle.visit.specs.declared.Place.{Place}
-use Rattle.visit.specs.declared.Place.the-variants.{Cell, Global}
-use Rattle.visit.specs.Tests.{Pair, pair, withEach, pairs, placeOf, cellTests, others, globalTests, testsOf}
-use Rattle.visit.specs.Inside.{restIn, globalsRest}
-use Rattle.visit.proofs.Clauses.{drop-past, with-nil, with-cons, length-with, drop-with, pairs-nil, pairs-cons, cells-zero, cells-suc, globals-zero, globals-suc, grest-suc, others-zero, others-in, others-out, left-suc}
+use Rattle.seek.specs.declared.Place.{Place}
+use Rattle.seek.specs.declared.Place.the-variants.{Cell, Global}
+use Rattle.seek.specs.Tests.{Pair, pair, withEach, pairs, placeOf, cellTests, others, globalTests, testsOf}
+use Rattle.seek.specs.Cursors.{restIn, globalsRest}
+use Rattle.seek.proofs.Clauses.{drop-past, with-nil, with-cons, length-with, drop-with, pairs-nil, pairs-cons, cells-zero, cells-suc, globals-zero, globals-suc, grest-suc, others-zero, others-in, others-out, left-suc}
 use Rattle.refusals.specs.declared.Check.{Check}
 use Rattle.refusals.specs.declared.Check.the-variants.{Fine, Refused}
 use Rattle.refusals.specs.Refusals.{unless, andThen, Answer, gives, _then_}
 use Rattle.refusals.proofs.Checks.{andThen-left, andThen-right, andThen-fine}
 use Rattle.grid.specs.declared.Grid.{Grid}
 use Rattle.grid.specs.Domain.{Lines, count, linesCheck, lengthsCheck, countCheck}
-use Rattle.visit.specs.Entries.{visitCheck, bookmarkCheck, outputsCheck, testsFrom, batchTests, pairsLeft, tallyOf}
+use Rattle.seek.specs.Bookmarks.{visitCheck, bookmarkCheck, testsFrom}
+use Rattle.visit.specs.Entries.{outputsCheck, batchTests, pairsLeft, tallyOf}
 use Rattle.visit.specs.Batches.{made, firsts, seconds}
-use Rattle.visit.proofs.Standing.{stands, cells-few}
-use Rattle.visit.proofs.GlobalTurns.{globals-begin, globals-done}
+use Rattle.seek.proofs.Standing.{stands, cells-few}
+use Rattle.seek.proofs.GlobalRests.{globals-begin, globals-done}
 use Rattle.resume.specs.Answers.{nextCheck, nextTests, NextIs}
 use Rattle.resume.specs.declared.NextAnswer.{NextAnswer}
 use Rattle.resume.specs.declared.Cursor.{Cursor}

@@ -2,7 +2,7 @@
 use Prim.Native.Nat.{ℕ}
 use lib.ListN.{drop}
 use Rattle.tables.specs.Tables.{Tables}
-use Rattle.visit.specs.Tests.{testsOf}
+use Rattle.seek.specs.Tests.{testsOf}
 use Rattle.resume.specs.declared.Cursor.{Cursor}
 use Rattle.resume.specs.Cursors.{cursorOf}
 

@@ -5,70 +5,36 @@ use mathlib.Core.List.{List, [], _∷_, _++_}
 use Prim.Native.Nat.{ℕ, _+_, _-_, _≤_, _<_, _^_}
 use native.Mathlib.Omega.{arith}
 use lib.ListN.{length, take, drop, replicate, length-drop, length-map}
-use lib.Dec.{leb, eqb}
-use borrow.Author.Tests.{eqb-true, le-leb, lt-leb}
+use borrow.Author.Tests.{eqb-true}
 use Rattle.slices.specs.Slices.{clearedFrom}
 use Rattle.refusals.specs.declared.Refusal.{Refusal}
-use Rattle.refusals.specs.declared.Check.{Check}
 use Rattle.refusals.specs.declared.Check.the-variants.{Fine, Refused}
-use Rattle.refusals.specs.Refusals.{refusal, unless, andThen, Answer, refused, gives, answerBy, clears, leftIn, zeroBeyond}
-use Rattle.refusals.proofs.Checks.{unless-fine, andThen-refused, andThen-fine}
-use Rattle.refusals.proofs.Answers.{then-refused, then-fine, then-passed, refused-by, past}
-use Rattle.refusals.proofs.Leaving.{left-same, Clearing, clearing-unless, clearing-then}
+use Rattle.refusals.specs.Refusals.{Answer, refused, gives, answerBy, clears, leftIn, zeroBeyond}
+use Rattle.refusals.proofs.Checks.{unless-fine}
+use Rattle.refusals.proofs.Answers.{then-refused, then-fine, then-passed}
+use Rattle.refusals.proofs.Leaving.{left-same, clearing-unless}
 use Rattle.grid.specs.declared.Grid.{Grid}
-use Rattle.grid.specs.Domain.{Lines, count, linesCheck, gridCheck}
-use Rattle.grid.proofs.Fine.{lines-counted, lines-spare, grid-spares}
+use Rattle.grid.specs.Domain.{Lines}
 use Rattle.tables.specs.Tables.{Tables}
-use Rattle.tables.specs.Fit.{tablesCheck, standingCheck}
 use Rattle.visit.specs.declared.Test.{Test}
 use Rattle.visit.specs.declared.TestAnswer.the-variants as answer
 use Rattle.visit.specs.declared.Tally.{Tally}
 use Rattle.visit.specs.declared.BatchAnswer.{BatchAnswer}
 use Rattle.visit.specs.declared.BatchAnswer.the-variants as batch
-use Rattle.visit.specs.declared.cursor.Cursor.{Cursor}
-use Rattle.visit.specs.declared.seek.Sought.{Sought}
-use Rattle.visit.specs.declared.seek.Sought.the-variants as sought
+use Rattle.seek.specs.declared.Cursor.{Cursor}
 use Rattle.visit.specs.declared.scan.Ran.{Ran}
 use Rattle.visit.specs.declared.scan.Step.{Step}
 use Rattle.visit.specs.declared.scan.Step.the-variants as step
-use Rattle.visit.specs.Tests.{Pair, testsOf}
+use Rattle.seek.specs.Tests.{Pair, testsOf}
 use Rattle.visit.specs.Batches.{made, handed, firsts, seconds, placeNumbers}
 use Rattle.visit.specs.Places.{numberOf}
-use Rattle.visit.specs.Entries.{beside, visitCheck, bookmarkCheck, outputsCheck, testsFrom, nextTest, testAt, tallyOf, batchTests, batchOf, batchAnswer, pairsLeft, BatchIs, placesCheck, placedTests, PlacedBatchIs}
-use Rattle.visit.specs.Inside.{nextStep, restOf, Ready, CursorIs, SeekIs, RunAsks, RanAll, BatchMade}
-use Rattle.visit.proofs.Lengths.{total-fits}
-use Rattle.visit.proofs.RunWhole.{here}
-
--- ---- the checks of a visit
-
-module _ (ls : Lines) (g : Grid) (t : Tables) where
-  pub visit-lines : (r : Refusal) → linesCheck ls ≡ Refused r → Refused r ≡ visitCheck ls g t
-  unfolding visitCheck
-  visit-lines r e = sym (andThen-refused (linesCheck ls) (andThen (gridCheck g) (tablesCheck t)) r e)
-
-  -- the lines have passed, 2 with them: what is left of the tables' check is 8 and 10
-  pub visit-tables : linesCheck ls ≡ Fine → t .lines ≡ count ls → standingCheck g t ≡ visitCheck ls g t
-  unfolding visitCheck standingCheck
-  visit-tables f e = andThen-fine _ _ (rw e (lines-counted ls f)) ∙ sym (andThen-fine _ _ f)
-
--- ---- a seek, taken apart by what it is
-
-module _ (ls : Lines) (g : Grid) (t : Tables) (b : ℕ) (s : Sought) (f : SeekIs ls g t b s) where
-  pub seek-at : (c : Cursor) → s ≡ sought.At c → CursorIs ls g t b c
-  seek-at c e = subst (SeekIs ls g t b) e f
-
-  pub seek-beyond : s ≡ sought.Beyond → length (testsOf t) < b
-  seek-beyond e = subst (SeekIs ls g t b) e f
-
--- ---- a bookmark within its end, and beyond
-
-pub book-in : (t : Tables) (b : ℕ) → b ≤ length (testsOf t) → bookmarkCheck t b ≡ Fine
-unfolding bookmarkCheck unless
-book-in t b h = rw (le-leb b (length (testsOf t)) h)
-
-book-out : (t : Tables) (b : ℕ) → length (testsOf t) < b → bookmarkCheck t b ≡ Refused (refusal 9 b)
-unfolding bookmarkCheck unless
-book-out t b h = rw (lt-leb b (length (testsOf t)) h)
+use Rattle.seek.specs.Bookmarks.{beside, visitCheck, bookmarkCheck, fromCheck, testsFrom}
+use Rattle.visit.specs.Entries.{outputsCheck, nextTest, testAt, tallyOf, batchTests, batchOf, batchAnswer, pairsLeft, BatchIs, placesCheck, placedTests, PlacedBatchIs}
+use Rattle.seek.specs.Cursors.{restOf, CursorIs}
+use Rattle.visit.specs.Inside.{nextStep, RunAsks, RanAll, BatchMade}
+use Rattle.seek.proofs.Lengths.{total-fits}
+use Rattle.seek.proofs.Passed.{here}
+use Rattle.seek.proofs.FindLaws.{from-none, from-cursor, from-spares}
 
 -- ---- one test
 
@@ -83,25 +49,20 @@ steps-end ls [] e = refl
 steps-end ls (p ∷ ps) e = let z : _≡_ {A = ℕ} 0 1 = cc in absurd (omega arith)
 
 module _ (ls : Lines) (g : Grid) (t : Tables) (b : ℕ) where
-  pub test-refused : (r : Refusal) → visitCheck ls g t ≡ Refused r → answer.Refused r ≡ testAt ls g t b
-  unfolding testAt testsFrom
-  test-refused r e = refused-by _ _ _ _ r e
+  pub test-refused : (r : Refusal) → fromCheck ls g t b ≡ Refused r → answer.Refused r ≡ testAt ls g t b
+  unfolding testAt answerBy
+  test-refused r e = rw (from-none ls g t b r e)
 
-  module _ (f : visitCheck ls g t ≡ Fine) where
-    pub test-beyond : length (testsOf t) < b → answer.Refused (refusal 9 b) ≡ testAt ls g t b
-    unfolding testAt testsFrom
-    test-beyond h = refused-by _ _ _ _ _ (book-out t b h) ∙ past _ _ _ _ f
+  module _ (c : Cursor) (k : CursorIs ls g t b c) where
+    test-is : nextTest ls (drop b (testsOf t)) ≡ testAt ls g t b
+    unfolding testAt answerBy
+    test-is = rw (from-cursor ls g t b c k)
 
-    module _ (c : Cursor) (k : CursorIs ls g t b c) where
-      test-is : nextTest ls (drop b (testsOf t)) ≡ testAt ls g t b
-      unfolding testAt testsFrom answerBy
-      test-is = past _ _ _ _ (book-in t b (k .at-most)) ∙ past _ _ _ _ f
+    pub test-made : (x : Test) → step.Made x ≡ nextStep ls (restOf t c) → answer.Made x ≡ testAt ls g t b
+    test-made x e = steps-same ls (drop b (testsOf t)) x (e ∙ ap (nextStep ls) (k .rest)) ∙ test-is
 
-      pub test-made : (x : Test) → step.Made x ≡ nextStep ls (restOf t c) → answer.Made x ≡ testAt ls g t b
-      test-made x e = steps-same ls (drop b (testsOf t)) x (e ∙ ap (nextStep ls) (k .rest)) ∙ test-is
-
-      pub test-end : step.End ≡ nextStep ls (restOf t c) → answer.End ≡ testAt ls g t b
-      test-end e = steps-end ls (drop b (testsOf t)) (e ∙ ap (nextStep ls) (k .rest)) ∙ test-is
+    pub test-end : step.End ≡ nextStep ls (restOf t c) → answer.End ≡ testAt ls g t b
+    test-end e = steps-end ls (drop b (testsOf t)) (e ∙ ap (nextStep ls) (k .rest)) ∙ test-is
 
 -- ---- a batch
 
@@ -130,11 +91,6 @@ module _ {ls : Lines} {g : Grid} {t : Tables} {b : ℕ} {fs ss fs′ ss′ : Lis
       same : {x y : Tally} → batch.Done x ≡ batch.Done y → x ≡ y
       same e = cc
 
--- no check of a visit refuses by 4 to 7
-visit-spares : (ls : Lines) (g : Grid) (t : Tables) → Clearing false (visitCheck ls g t)
-unfolding visitCheck tablesCheck clears
-visit-spares ls g t = clearing-then (lines-spare ls) (clearing-then (grid-spares g) (clearing-unless _ 10 0 refl))
-
 module _ (ls : Lines) (g : Grid) (t : Tables) (b : ℕ) (fs ss ps : List ℕ) where
   none : (r : Refusal) → batchTests ls g t b fs ss ≡ refused r → clears (r .number) ≡ false → BatchMade ls g t b fs ss ps fs ss ps (batch.Refused r)
   unfolding batchAnswer batchOf pairsLeft answerBy leftIn
@@ -153,61 +109,55 @@ module _ (ls : Lines) (g : Grid) (t : Tables) (b : ℕ) (fs ss ps : List ℕ) wh
     unfolding batchTests
     tests = then-fine _ _ same
 
-    pub batch-refused : (r : Refusal) → visitCheck ls g t ≡ Refused r → BatchMade ls g t b fs ss ps fs ss ps (batch.Refused r)
-    unfolding testsFrom
-    batch-refused r e = none r (tests ∙ then-refused _ _ r e) (visit-spares ls g t .says r e)
+    pub batch-refused : (r : Refusal) → fromCheck ls g t b ≡ Refused r → BatchMade ls g t b fs ss ps fs ss ps (batch.Refused r)
+    batch-refused r e = none r (tests ∙ from-none ls g t b r e) (from-spares ls g t b .says r e)
 
-    module _ (f : visitCheck ls g t ≡ Fine) where
-      pub batch-beyond : length (testsOf t) < b → BatchMade ls g t b fs ss ps fs ss ps (batch.Refused (refusal 9 b))
-      unfolding testsFrom clears
-      batch-beyond h = none (refusal 9 b) (tests ∙ then-fine _ _ f ∙ then-refused _ _ _ (book-out t b h)) refl
+    module _ (c : Cursor) (k : CursorIs ls g t b c) (fs₁ ss₁ ps₁ : List ℕ) (r : Ran) (w : RanAll ls t c fs ss ps fs₁ ss₁ ps₁ r) where
+      rest : List Pair
+      rest = drop b (testsOf t)
 
-      module _ (c : Cursor) (k : CursorIs ls g t b c) (fs₁ ss₁ ps₁ : List ℕ) (r : Ran) (w : RanAll ls t c fs ss ps fs₁ ss₁ ps₁ r) where
-        rest : List Pair
-        rest = drop b (testsOf t)
+      given : batchTests ls g t b fs ss ≡ gives rest
+      unfolding rest
+      given = tests ∙ from-cursor ls g t b c k
 
-        given : batchTests ls g t b fs ss ≡ gives rest
-        unfolding testsFrom rest
-        given = tests ∙ then-fine _ _ f ∙ then-fine _ _ (book-in t b (k .at-most))
+      tests-is : r .tests ≡ length (made ls rest (length fs))
+      unfolding rest
+      tests-is = w .tests ∙ rw (k .rest)
 
-        tests-is : r .tests ≡ length (made ls rest (length fs))
-        unfolding rest
-        tests-is = w .tests ∙ rw (k .rest)
+      hits-is : r .hits ≡ length (handed ls rest (length fs))
+      unfolding rest
+      hits-is = w .hits ∙ rw (k .rest)
 
-        hits-is : r .hits ≡ length (handed ls rest (length fs))
-        unfolding rest
-        hits-is = w .hits ∙ rw (k .rest)
+      first-is : take (r .hits) fs₁ ≡ firsts (handed ls rest (length fs))
+      unfolding rest
+      first-is = w .first-is ∙ rw (k .rest)
 
-        first-is : take (r .hits) fs₁ ≡ firsts (handed ls rest (length fs))
-        unfolding rest
-        first-is = w .first-is ∙ rw (k .rest)
+      second-is : take (r .hits) ss₁ ≡ seconds (handed ls rest (length fs))
+      unfolding rest
+      second-is = w .second-is ∙ rw (k .rest)
 
-        second-is : take (r .hits) ss₁ ≡ seconds (handed ls rest (length fs))
-        unfolding rest
-        second-is = w .second-is ∙ rw (k .rest)
+      places-is : length ps ≡ length fs → take (r .hits) ps₁ ≡ placeNumbers (numberOf t) (handed ls rest (length fs))
+      unfolding rest
+      places-is l = w .places-are l ∙ rw (k .rest)
 
-        places-is : length ps ≡ length fs → take (r .hits) ps₁ ≡ placeNumbers (numberOf t) (handed ls rest (length fs))
-        unfolding rest
-        places-is l = w .places-are l ∙ rw (k .rest)
+      -- an output that is cleared from the hits on holds what is written, and zero beyond
+      cleared : (xs ys out : List ℕ) (n : ℕ) → ys ≡ clearedFrom (r .hits) xs → take (r .hits) xs ≡ out → length xs ≡ n → length out ≡ r .hits
+          → ys ≡ zeroBeyond 0 n out
+      unfolding clearedFrom zeroBeyond
+      cleared xs ys out n e p l h = e ∙ rw (p, l, h)
 
-        -- an output that is cleared from the hits on holds what is written, and zero beyond
-        cleared : (xs ys out : List ℕ) (n : ℕ) → ys ≡ clearedFrom (r .hits) xs → take (r .hits) xs ≡ out → length xs ≡ n → length out ≡ r .hits
-            → ys ≡ zeroBeyond 0 n out
-        unfolding clearedFrom zeroBeyond
-        cleared xs ys out n e p l h = e ∙ rw (p, l, h)
-
-        pub batch-done : (fs₂ ss₂ ps₂ : List ℕ) → fs₂ ≡ clearedFrom (r .hits) fs₁ → ss₂ ≡ clearedFrom (r .hits) ss₁ → ps₂ ≡ clearedFrom (r .hits) ps₁
-            → BatchMade ls g t b fs ss ps fs₂ ss₂ ps₂ (batch.Done (record { tests = r .tests; overlaps = r .hits; bookmark = b + r .tests }))
-        unfolding batchAnswer batchOf pairsLeft answerBy leftIn rest
-        batch-done fs₂ ss₂ ps₂ p q o =
-            record {
-              is = record {
-                answers = rw (given, tests-is, hits-is);
-                first-is = rw given (cleared fs₁ fs₂ (firsts (handed ls rest (length fs))) (length fs) p first-is (w .first-long) (length-map (handed ls rest (length fs)) (λ (x : Pair). x .first) ∙ sym hits-is));
-                second-is = rw given (cleared ss₁ ss₂ (seconds (handed ls rest (length fs))) (length ss) q second-is (w .second-long) (length-map (handed ls rest (length fs)) (λ (x : Pair). x .second) ∙ sym hits-is));
-              };
-              places-are = λ l. rw given (cleared ps₁ ps₂ (placeNumbers (numberOf t) (handed ls rest (length fs))) (length ps) o (places-is l) (w .place-long) (length-map (handed ls rest (length fs)) (λ (x : Pair). numberOf t (x .place)) ∙ sym hits-is));
-            }
+      pub batch-done : (fs₂ ss₂ ps₂ : List ℕ) → fs₂ ≡ clearedFrom (r .hits) fs₁ → ss₂ ≡ clearedFrom (r .hits) ss₁ → ps₂ ≡ clearedFrom (r .hits) ps₁
+          → BatchMade ls g t b fs ss ps fs₂ ss₂ ps₂ (batch.Done (record { tests = r .tests; overlaps = r .hits; bookmark = b + r .tests }))
+      unfolding batchAnswer batchOf pairsLeft answerBy leftIn rest
+      batch-done fs₂ ss₂ ps₂ p q o =
+          record {
+            is = record {
+              answers = rw (given, tests-is, hits-is);
+              first-is = rw given (cleared fs₁ fs₂ (firsts (handed ls rest (length fs))) (length fs) p first-is (w .first-long) (length-map (handed ls rest (length fs)) (λ (x : Pair). x .first) ∙ sym hits-is));
+              second-is = rw given (cleared ss₁ ss₂ (seconds (handed ls rest (length fs))) (length ss) q second-is (w .second-long) (length-map (handed ls rest (length fs)) (λ (x : Pair). x .second) ∙ sym hits-is));
+            };
+            places-are = λ l. rw given (cleared ps₁ ps₂ (placeNumbers (numberOf t) (handed ls rest (length fs))) (length ps) o (places-is l) (w .place-long) (length-map (handed ls rest (length fs)) (λ (x : Pair). numberOf t (x .place)) ∙ sym hits-is));
+          }
 
   -- ---- a batch with places: 3 where their slice has another length, and else the batch that was made
 
@@ -225,10 +175,10 @@ module _ (ls : Lines) (g : Grid) (t : Tables) (b : ℕ) (fs ss ps : List ℕ) wh
       let l : length ps ≡ length fs = sym (eqb-true (length fs) (length ps) (unless-fine _ _ _ e)) in
       record { answers = rw x (m .is .answers); first-is = rw x (m .is .first-is); second-is = rw x (m .is .second-is); places-are = rw x (m .places-are l) }
 
-module _ (ls : Lines) (g : Grid) (offsets items globals : List ℕ) (m : ℕ) (f : visitCheck ls g (beside ls g offsets items globals m) ≡ Fine) (b : ℕ) (c : Cursor)
+module _ (ls : Lines) (g : Grid) (offsets items globals : List ℕ) (m : ℕ) (b : ℕ) (c : Cursor)
     (k : CursorIs ls g (beside ls g offsets items globals m) b c) (fs ss ps : List ℕ) where
   total : length (testsOf (beside ls g offsets items globals m)) < 2 ^ 64
-  total = total-fits ls g offsets items globals m (here ls g offsets items globals m f)
+  total = total-fits ls g offsets items globals m (here ls g offsets items globals m (k .ready .fine))
 
   left : length (restOf (beside ls g offsets items globals m) c) ≡ length (testsOf (beside ls g offsets items globals m)) - b
   left = ap length (k .rest) ∙ length-drop b (testsOf (beside ls g offsets items globals m))

@@ -3,17 +3,11 @@
 pub mod Clauses
 pub mod BoxLaws
 pub mod CellTurns
-pub mod OtherLines
 pub mod GlobalTurns
 pub mod Moves
 pub mod Placing
 pub mod RowTurns
 pub mod RunTurns
-pub mod Standing
-pub mod Lengths
-pub mod SeekTurns
 pub mod RunWhole
-pub mod Founds
 pub mod EntryLaws
-pub mod PlaceLaws
 pub mod Outcomes

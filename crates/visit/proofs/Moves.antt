@@ -10,11 +10,12 @@ use native.Mathlib.Omega.{arith}
 use lib.ListN.{length, take, drop, getD, set, length-set, length-map}
 use lib.Seq.{take-suc-set, take-set-le, length-take-le}
 use Rattle.grid.specs.Domain.{Lines}
-use Rattle.visit.specs.Tests.{Pair}
+use Rattle.seek.specs.Tests.{Pair}
 use Rattle.visit.specs.Overlap.{overlap}
 use Rattle.visit.specs.Batches.{made, handed, firsts, seconds}
 use Rattle.visit.specs.Inside.{Moved}
-use Rattle.visit.proofs.Clauses.{left-suc, made-none, made-full, made-hit, made-miss, handed-none, handed-full, handed-hit, handed-miss}
+use Rattle.seek.proofs.Clauses.{left-suc}
+use Rattle.visit.proofs.Clauses.{made-none, made-full, made-hit, made-miss, handed-none, handed-full, handed-hit, handed-miss}
 
 -- one more is written
 wrote : (xs : List ℕ) (i v : ℕ) (ys : List ℕ) → i < length xs → take i xs ++ (v ∷ ys) ≡ take (i + 1) (set xs i v) ++ ys

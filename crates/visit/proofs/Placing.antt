@@ -10,8 +10,8 @@ use native.Mathlib.Omega.{arith}
 use lib.ListN.{length, take, set, length-set, replicate, replicate-append-replicate}
 use lib.Seq.{take-suc-set}
 use Rattle.grid.specs.Domain.{Lines}
-use Rattle.visit.specs.declared.Place.{Place}
-use Rattle.visit.specs.Tests.{Pair, placeOf}
+use Rattle.seek.specs.declared.Place.{Place}
+use Rattle.seek.specs.Tests.{Pair, placeOf}
 use Rattle.visit.specs.Overlap.{overlap}
 use Rattle.visit.specs.Batches.{handed, placeNumbers}
 use Rattle.visit.specs.Places.{numberIn}

@@ -13,17 +13,18 @@ use Rattle.slices.proofs.Members.{below-at}
 use Rattle.grid.specs.declared.Box.{Box}
 use Rattle.grid.specs.Domain.{Lines, count, segmentAt}
 use Rattle.grid.specs.Boxes.{boxOf, overlaps}
-use Rattle.visit.specs.declared.Place.{Place}
+use Rattle.seek.specs.declared.Place.{Place}
 use Rattle.visit.specs.declared.Test.{Test}
 use Rattle.visit.specs.declared.scan.Step.{Step}
 use Rattle.visit.specs.declared.scan.Step.the-variants as step
 use Rattle.visit.specs.declared.scan.Row.{Row}
-use Rattle.visit.specs.Tests.{Pair, pair, withEach}
+use Rattle.seek.specs.Tests.{Pair, pair, withEach}
 use Rattle.visit.specs.Overlap.{overlap}
 use Rattle.visit.specs.Entries.{testOf}
-use Rattle.visit.specs.Inside.{nextStep, numbers, RowAsks, Moved, HandedAt, ListAsks, InList, LinesAsk, InLines}
-use Rattle.visit.proofs.Clauses.{left-suc, with-nil, with-cons, numbers-zero, numbers-suc}
-use Rattle.visit.proofs.OtherLines.{length-numbers}
+use Rattle.seek.specs.Inside.{numbers}
+use Rattle.visit.specs.Inside.{nextStep, RowAsks, Moved, HandedAt, ListAsks, InList, LinesAsk, InLines}
+use Rattle.seek.proofs.Clauses.{left-suc, with-nil, with-cons, numbers-zero, numbers-suc}
+use Rattle.seek.proofs.OtherLines.{length-numbers}
 use Rattle.visit.proofs.Moves.{moved-none, moved-then, moved-hit, moved-miss}
 use Rattle.visit.proofs.Placing.{at-none, at-then, at-hit, at-miss}
 

@@ -12,8 +12,8 @@ use Rattle.slices.specs.Lists.{Below}
 use Rattle.slices.proofs.Members.{below-at}
 use Rattle.tables.specs.Tables.{listIn}
 use Rattle.tables.proofs.Facts.{part-slice}
-use Rattle.visit.specs.declared.Place.{Place}
-use Rattle.visit.specs.declared.Place.the-variants.{Global}
+use Rattle.seek.specs.declared.Place.{Place}
+use Rattle.seek.specs.declared.Place.the-variants.{Global}
 use Rattle.visit.specs.declared.cursor.CellAt.{CellAt}
 use Rattle.visit.specs.declared.cursor.CellAt.the-variants as cellat
 use Rattle.visit.specs.declared.cursor.GlobalAt.{GlobalAt}
@@ -21,10 +21,13 @@ use Rattle.visit.specs.declared.cursor.GlobalAt.the-variants as globalat
 use Rattle.visit.specs.declared.scan.Row.{Row}
 use Rattle.visit.specs.declared.scan.ListEnd.{ListEnd}
 use Rattle.visit.specs.declared.scan.LinesEnd.{LinesEnd}
-use Rattle.visit.specs.Tests.{Pair, withEach, pairs, placeOf, cellTests, others, globalTests}
-use Rattle.visit.specs.Inside.{restIn, cellsRest, globalsRest, numbers, stopOf, rowOf, CellsFit, PlaceFits, CellAsks, CellIs, CellFound, GlobalsFit, LineFits, GlobalAsks, GlobalIs, GlobalFound, RowAsks, LineAsks, Moved, HandedAt, Placed, PutIs, OutputsAsk, ListAsks, InList, LinesAsk, InLines, CellsAsk, CellsRan, GlobalsAsk, GlobalsRan}
-use Rattle.visit.proofs.CellTurns.{length-list, rest-at}
-use Rattle.visit.proofs.GlobalTurns.{grest-at, grest-run, stop-most, line-further}
+use Rattle.seek.specs.Tests.{Pair, withEach, pairs, placeOf, cellTests, others, globalTests}
+use Rattle.seek.specs.Cursors.{restIn, cellsRest, globalsRest, PlaceFits, LineFits}
+use Rattle.seek.specs.Inside.{numbers, stopOf, CellsFit, GlobalsFit}
+use Rattle.visit.specs.Inside.{rowOf, CellAsks, CellIs, CellFound, GlobalAsks, GlobalIs, GlobalFound, RowAsks, LineAsks, Moved, HandedAt, Placed, PutIs, OutputsAsk, ListAsks, InList, LinesAsk, InLines, CellsAsk, CellsRan, GlobalsAsk, GlobalsRan}
+use Rattle.seek.proofs.Clauses.{regroup}
+use Rattle.seek.proofs.CellRests.{length-list, rest-at}
+use Rattle.seek.proofs.GlobalRests.{grest-at, grest-run, stop-most, line-further}
 use Rattle.visit.specs.Places.{numberIn}
 use Rattle.visit.proofs.Moves.{moved-none, moved-then}
 use Rattle.visit.proofs.Placing.{number-of-cell, placed-none, placed-then, placed-row}
@@ -82,9 +85,6 @@ pub row-is : (ls : Lines) (pl pl′ : Place) (xs ys : List ℕ) (b : ℕ) (row :
 row-is ls pl pl′ xs ys b row e p q = e ∙ rw (p, q)
 
 -- ---- the run through the cells
-
-pub regroup : (a b d e : List Pair) → ((a ++ b) ++ d) ++ e ≡ a ++ (b ++ (d ++ e))
-regroup a b d e = simp append-assoc
 
 pub record CellsRun (ls : Lines) (cols m : ℕ) (offsets items : List ℕ) (cell₀ i₀ j₀ : ℕ) (fs ss ps : List ℕ) (fs′ ss′ ps′ : List ℕ) (cell i j tests hits : ℕ) : Type 0 where
   pub place : PlaceFits m items cell i j

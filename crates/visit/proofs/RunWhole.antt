@@ -14,54 +14,28 @@ use Rattle.refusals.specs.declared.Check.the-variants.{Fine}
 use Rattle.grid.specs.declared.Grid.{Grid}
 use Rattle.grid.specs.Domain.{Lines, count}
 use Rattle.tables.specs.Tables.{Tables, cells, listIn}
-use Rattle.visit.specs.declared.Place.the-variants.{Global}
-use Rattle.visit.specs.declared.cursor.Cursor.{Cursor}
+use Rattle.seek.specs.declared.Place.the-variants.{Global}
+use Rattle.seek.specs.declared.Cursor.{Cursor}
 use Rattle.visit.specs.declared.scan.Row.{Row}
 use Rattle.visit.specs.declared.scan.Ran.{Ran}
 use Rattle.visit.specs.declared.scan.Step.{Step}
 use Rattle.visit.specs.declared.scan.Step.the-variants as step
-use Rattle.visit.specs.Tests.{Pair, withEach, placeOf, pairs, cellTests, others, globalTests}
+use Rattle.seek.specs.Tests.{Pair, withEach, placeOf, pairs, cellTests, others, globalTests}
 use Rattle.visit.specs.Batches.{made, handed, firsts, seconds, placeNumbers}
 use Rattle.visit.specs.Places.{numberIn}
-use Rattle.visit.specs.Entries.{beside, visitCheck}
-use Rattle.visit.specs.Inside.{cellsRest, globalsRest, restIn, restOf, numbers, rowOf, nextStep, CellsFit, CellAsks, CellIs, GlobalAsks, GlobalIs, Moved, Placed, Ready, RunAsks, CellsAsk, CellsRan, GlobalsAsk, GlobalsRan, RanAll, RowAsks, LineAsks, TestInAsks, TestBeforeAsks}
-use Rattle.visit.proofs.Clauses.{made-full, handed-full, with-cons}
-use Rattle.visit.proofs.CellTurns.{rest-at}
-use Rattle.visit.proofs.GlobalTurns.{grest-run, stop-most}
+use Rattle.seek.specs.Bookmarks.{beside, visitCheck}
+use Rattle.seek.specs.Cursors.{cellsRest, globalsRest, restIn, restOf, Ready}
+use Rattle.seek.specs.Inside.{numbers, CellsFit}
+use Rattle.visit.specs.Inside.{rowOf, nextStep, CellAsks, CellIs, GlobalAsks, GlobalIs, Moved, Placed, RunAsks, CellsAsk, CellsRan, GlobalsAsk, GlobalsRan, RanAll, RowAsks, LineAsks, TestInAsks, TestBeforeAsks}
+use Rattle.seek.proofs.Clauses.{with-cons}
+use Rattle.visit.proofs.Clauses.{made-full, handed-full}
+use Rattle.seek.proofs.CellRests.{rest-at}
+use Rattle.seek.proofs.GlobalRests.{grest-run, stop-most}
 use Rattle.visit.proofs.Moves.{none-made, none-handed}
 use Rattle.visit.proofs.RowTurns.{numbers-some}
-use Rattle.visit.proofs.RunTurns.{regroup}
-use Rattle.visit.proofs.Standing.{Stands, stands, cells-fit, lists-below, globals-fit, has-columns}
-use Rattle.visit.proofs.Lengths.{length-increasing}
-
--- what stands, for m cells as the code counts them
-module _ (ls : Lines) (g : Grid) (offsets items globals : List ℕ) (count-of : ℕ) (h : visitCheck ls g (beside ls g offsets items globals count-of) ≡ Fine) where
-  pub here : Stands ls g (beside ls g offsets items globals count-of)
-  here = stands ls g (beside ls g offsets items globals count-of) h
-
-  pub lines-few : count ls ≤ 65536
-  lines-few = here .lines .few
-
-  pub rows-cols : (a b : ℕ) → a ≡ g .rows → b ≡ g .cols → a * b < 2 ^ 64
-  rows-cols a b p q = rw (p, q) (omega (arith, here .grid .counts .cells))
-
-  module _ (m : ℕ) (e : m ≡ g .rows * g .cols) where
-    pub m-fits : CellsFit m offsets items
-    m-fits = rw e (cells-fit (beside ls g offsets items globals count-of) (here .tables))
-
-    pub m-below : (c : ℕ) → c < m → Below (count ls) (listIn offsets items c)
-    m-below c l = lists-below (beside ls g offsets items globals count-of) (here .tables) c (rw e at l)
-
-    pub m-wide : 0 < m → 0 < g .cols
-    m-wide l = has-columns (g .rows) (g .cols) (rw e at l)
-
-    pub m-few : m < 2 ^ 32
-    m-few = omega (arith, here .grid .counts .cells)
-
-    pub m-few-both : m + count-of < 2 ^ 32
-    m-few-both =
-        let k : length (take count-of globals) ≤ count ls = length-increasing (count ls) (take count-of globals) (here .tables .globals) in
-        omega (arith, here .grid .counts .cells, lines-few, length-take-le count-of globals (here .tables .counted))
+use Rattle.seek.proofs.Clauses.{regroup}
+use Rattle.seek.proofs.Standing.{globals-fit}
+use Rattle.seek.proofs.Passed.{here, m-fits, m-below, m-wide, m-few, m-few-both}
 
 -- ---- a run
 

@@ -4,8 +4,8 @@ use Prim.Native.Nat.{ℕ, zero, suc}
 use mathlib.Core.Bool.{Bool, true, false}
 use mathlib.Core.List.{List, [], _∷_, map}
 use Rattle.grid.specs.Domain.{Lines}
-use Rattle.visit.specs.declared.Place.{Place}
-use Rattle.visit.specs.Tests.{Pair}
+use Rattle.seek.specs.declared.Place.{Place}
+use Rattle.seek.specs.Tests.{Pair}
 use Rattle.visit.specs.Overlap.{overlap}
 
 -- the room that a test leaves of one more than `room`

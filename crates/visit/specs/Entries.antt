@@ -3,47 +3,30 @@
 use Prim.Native.Nat.{ℕ, _+_}
 use mathlib.Core.Path.{_≡_}
 use mathlib.Core.List.{List, [], _∷_}
-use lib.ListN.{length, drop}
-use lib.Dec.{leb, eqb}
+use lib.ListN.{length}
+use lib.Dec.{eqb}
 use Rattle.refusals.specs.declared.Check.{Check}
-use Rattle.refusals.specs.Refusals.{unless, andThen, Answer, gives, _then_, answerBy, leftIn, zeroBeyond}
+use Rattle.refusals.specs.Refusals.{unless, Answer, _then_, answerBy, leftIn, zeroBeyond}
 use Rattle.grid.specs.declared.Grid.{Grid}
-use Rattle.grid.specs.Domain.{Lines, count, linesCheck, gridCheck}
-use Rattle.tables.specs.Tables.{Tables, tables}
-use Rattle.tables.specs.Fit.{tablesCheck}
+use Rattle.grid.specs.Domain.{Lines}
+use Rattle.tables.specs.Tables.{Tables}
+use Rattle.seek.specs.Tests.{Pair}
+use Rattle.visit.specs.Places.{numberOf}
+use Rattle.seek.specs.Bookmarks.{testsFrom}
 use Rattle.visit.specs.declared.Test.{Test}
 use Rattle.visit.specs.declared.TestAnswer.{TestAnswer}
 use Rattle.visit.specs.declared.TestAnswer.the-variants as answer
 use Rattle.visit.specs.declared.Tally.{Tally}
 use Rattle.visit.specs.declared.BatchAnswer.{BatchAnswer}
 use Rattle.visit.specs.declared.BatchAnswer.the-variants as batch
-use Rattle.visit.specs.Tests.{Pair, testsOf}
 use Rattle.visit.specs.Overlap.{overlap}
 use Rattle.visit.specs.Batches.{made, handed, firsts, seconds, placeNumbers}
-use Rattle.visit.specs.Places.{numberOf}
 
 -- ---- the refusals
-
--- the tables that are lent beside lines
-abbrev pub beside : Lines → Grid → List ℕ → List ℕ → List ℕ → ℕ → Tables
-beside ls g offsets items globals n = tables g (count ls) offsets items globals n
-
--- 3, 2, 1 of the lines, 8 of the grid, 10 of the tables
-unfoldable pub visitCheck : Lines → Grid → Tables → Check
-visitCheck ls g t = andThen (linesCheck ls) (andThen (gridCheck g) (tablesCheck t))
-
--- 9: bookmark beyond its end, which is the number of tests
-unfoldable pub bookmarkCheck : Tables → ℕ → Check
-bookmarkCheck t b = unless (leb b (length (testsOf t))) 9 b
 
 -- 3: the two outputs differ in length
 unfoldable pub outputsCheck : List ℕ → List ℕ → Check
 outputsCheck first second = unless (eqb (length first) (length second)) 3 0
-
--- ---- the tests that are left at a bookmark
-
-unfoldable pub testsFrom : Lines → Grid → Tables → ℕ → Answer (List Pair)
-testsFrom ls g t b = visitCheck ls g t then bookmarkCheck t b then gives (drop b (testsOf t))
 
 -- ---- one test by bookmark
 

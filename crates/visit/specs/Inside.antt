@@ -1,21 +1,20 @@
--- What the private functions promise. A place in a visit means the tests that are left from there: what is left of the cells, and then what is
--- left of the globals. Definitions only.
-use Prim.Native.Nat.{ℕ, zero, suc, _+_, _-_, _≤_, _<_, _^_}
+-- What the private functions promise. Definitions only.
+use Prim.Native.Nat.{ℕ, suc, _+_, _-_, _≤_, _<_, _^_}
 use mathlib.Core.Path.{_≡_}
-use mathlib.Core.Bool.{Bool, true, false, _&&_}
 use mathlib.Core.List.{List, [], _∷_, _++_}
 use lib.ListN.{length, getD, take, drop, replicate}
-use lib.Dec.{leb}
-use lib.Ieee.{le}
 use Rattle.slices.specs.Lists.{Below}
 use Rattle.refusals.specs.declared.Check.the-variants.{Fine}
 use Rattle.grid.specs.declared.Grid.{Grid}
 use Rattle.grid.specs.Domain.{Lines, count, segmentAt, linesCheck}
 use Rattle.grid.specs.Boxes.{boxOf}
-use Rattle.tables.specs.Tables.{Tables, cells, listIn}
-use Rattle.visit.specs.declared.Place.{Place}
-use Rattle.visit.specs.declared.Place.the-variants.{Global}
-use Rattle.visit.specs.declared.cursor.Cursor.{Cursor}
+use Rattle.tables.specs.Tables.{Tables, listIn}
+use Rattle.seek.specs.declared.Place.{Place}
+use Rattle.seek.specs.declared.Cursor.{Cursor}
+use Rattle.seek.specs.Tests.{Pair, withEach}
+use Rattle.visit.specs.Places.{numberIn, numberOf}
+use Rattle.seek.specs.Cursors.{cellsRest, globalsRest, restOf, PlaceFits, LineFits, Ready}
+use Rattle.seek.specs.Inside.{CellsFit, GlobalsFit, numbers, stopOf}
 use Rattle.visit.specs.declared.cursor.CellAt.{CellAt}
 use Rattle.visit.specs.declared.cursor.CellAt.the-variants as cellat
 use Rattle.visit.specs.declared.cursor.GlobalAt.{GlobalAt}
@@ -27,12 +26,8 @@ use Rattle.visit.specs.declared.scan.ListEnd.{ListEnd}
 use Rattle.visit.specs.declared.scan.LinesEnd.{LinesEnd}
 use Rattle.visit.specs.declared.scan.Ran.{Ran}
 use Rattle.visit.specs.declared.BatchAnswer.{BatchAnswer}
-use Rattle.visit.specs.declared.seek.Sought.{Sought}
-use Rattle.visit.specs.declared.seek.Sought.the-variants as sought
-use Rattle.visit.specs.Tests.{Pair, withEach, pairs, placeOf, cellTests, others, globalTests, testsOf}
 use Rattle.visit.specs.Batches.{made, handed, firsts, seconds, placeNumbers}
-use Rattle.visit.specs.Places.{numberIn, numberOf}
-use Rattle.visit.specs.Entries.{visitCheck, testOf, batchTests, pairsLeft, BatchIs}
+use Rattle.visit.specs.Entries.{testOf, batchTests, pairsLeft, BatchIs}
 
 -- ---- lines
 
@@ -41,43 +36,7 @@ pub record LineAsks (ls : Lines) (i : ℕ) : Type 0 where
   pub fine : linesCheck ls ≡ Fine
   pub one : i < count ls
 
--- ---- what is left from a place
-
--- of a list: entry i with those from j on, and the later rows
-unfoldable pub restIn : Place → List ℕ → ℕ → ℕ → List Pair
-restIn pl xs i j = withEach pl (getD xs i 0) (drop j xs) ++ pairs pl (drop (suc i) xs)
-
--- of `left` cells from c on: of the list of c, and of the later cells
-unfoldable pub cellsRest : ℕ → List ℕ → List ℕ → ℕ → ℕ → ℕ → ℕ → List Pair
-cellsRest cols offsets items zero c i j = []
-cellsRest cols offsets items (suc left) c i j =
-    restIn (placeOf cols c) (listIn offsets items c) i j ++ cellTests cols offsets items left (suc c)
-
--- of `left` globals from position p on: of the lines of p those from k on, and of the later globals
-unfoldable pub globalsRest : ℕ → List ℕ → ℕ → ℕ → ℕ → List Pair
-globalsRest n globals zero p k = []
-globalsRest n globals (suc left) p k =
-    withEach (Global p) (getD globals p 0) (others (take (suc p) globals) (n - k) k) ++ globalTests n globals left (suc p)
-
--- THE REST from a cursor
-unfoldable pub restOf : Tables → Cursor → List Pair
-restOf t c =
-    cellsRest (t .cols) (t .offsets) (t .items) (cells t - c .cell) (c .cell) (c .i) (c .j)
-    ++ globalsRest (t .lines) (t .globals) (t .«global_count» - c .p) (c .p) (c .k)
-
 -- ---- places in the cells
-
--- cells + 1 offsets that never fall and stay within the items
-pub record CellsFit (m : ℕ) (offsets items : List ℕ) : Type 0 where
-  pub long : m < length offsets
-  pub rises : (c : ℕ) → c < m → getD offsets c 0 ≤ getD offsets (suc c) 0
-  pub within : (c : ℕ) → c ≤ m → getD offsets c 0 ≤ length items
-
--- an entry i of the list of `cell` or beyond, and a later j
-pub record PlaceFits (m : ℕ) (items : List ℕ) (cell i j : ℕ) : Type 0 where
-  pub at-most : cell ≤ m
-  pub later : i < j
-  pub small : j ≤ suc (length items)
 
 pub record CellAsks (m : ℕ) (offsets items : List ℕ) (cell i j : ℕ) : Type 0 where
   pub table : CellsFit m offsets items
@@ -96,30 +55,8 @@ CellFound m offsets items cell i j cellat.Past = (cols : ℕ) → cellsRest cols
 
 -- ---- places among the globals
 
--- the first m entries increase below n
-pub record GlobalsFit (n m : ℕ) (globals : List ℕ) : Type 0 where
-  pub long : m ≤ length globals
-  pub rises : (a b : ℕ) → a < b → b < m → getD globals a 0 < getD globals b 0
-  pub below : (a : ℕ) → a < m → getD globals a 0 < n
-
--- the line before which a run of lines of the global at p ends, where the next to be passed over is the global at q
-unfoldable pub stopIf : Bool → ℕ → ℕ → ℕ
-stopIf true global n = global
-stopIf false global n = n
-
-unfoldable pub stopOf : ℕ → List ℕ → ℕ → ℕ → ℕ
-stopOf n globals p q = stopIf (leb q p) (getD globals q 0) n
-
 pub record StopAsks (globals : List ℕ) (p q : ℕ) : Type 0 where
   pub inside : q ≤ p → q < length globals
-
--- line k of the global at p: the globals before q are below k, and the one at q is not
-pub record LineFits (n m : ℕ) (globals : List ℕ) (p q k : ℕ) : Type 0 where
-  pub at-most : p ≤ m
-  pub q-small : q ≤ p + 1
-  pub k-small : k ≤ n
-  pub passed : (a : ℕ) → a < q → getD globals a 0 < k
-  pub ahead : p < m → q ≤ p → k ≤ getD globals q 0
 
 pub record GlobalAsks (n m : ℕ) (globals : List ℕ) (p q k : ℕ) : Type 0 where
   pub table : GlobalsFit n m globals
@@ -138,11 +75,6 @@ GlobalFound n m globals p q k (globalat.At a b d e) = GlobalIs n m globals p q k
 GlobalFound n m globals p q k globalat.Past = globalsRest n globals (m - p) p k ≡ []
 
 -- ---- rows
-
--- `left` lines from k on
-unfoldable pub numbers : ℕ → ℕ → List ℕ
-numbers zero k = []
-numbers (suc left) k = k ∷ numbers left (suc k)
 
 abbrev pub rowOf : Lines → Place → ℕ → Row
 rowOf ls pl a = record { place = pl; first = a; bounds = boxOf (segmentAt ls a) }
@@ -238,15 +170,6 @@ pub record InLines (ls : Lines) (row : Row) (k stop : ℕ) (fs ss : List ℕ) (h
 
 -- ---- runs
 
--- lines, a grid and tables that pass their checks, and a cursor that fits them
-pub record CursorFits (t : Tables) (c : Cursor) : Type 0 where
-  pub in-cells : PlaceFits (cells t) (t .items) (c .cell) (c .i) (c .j)
-  pub in-globals : LineFits (t .lines) (t .«global_count») (t .globals) (c .p) (c .q) (c .k)
-
-pub record Ready (ls : Lines) (g : Grid) (t : Tables) (c : Cursor) : Type 0 where
-  pub fine : visitCheck ls g t ≡ Fine
-  pub fits : CursorFits t c
-
 pub record RunAsks (ls : Lines) (g : Grid) (t : Tables) (c : Cursor) (fs ss : List ℕ) : Type 0 where
   pub ready : Ready ls g t c
   pub same : length ss ≡ length fs
@@ -301,50 +224,3 @@ pub record RanAll (ls : Lines) (t : Tables) (c : Cursor) (fs ss ps fs′ ss′ p
 pub record BatchMade (ls : Lines) (g : Grid) (t : Tables) (b : ℕ) (first second places first′ second′ places′ : List ℕ) (r : BatchAnswer) : Type 0 where
   pub is : BatchIs ls g t b first second first′ second′ r
   pub places-are : length places ≡ length first → places′ ≡ pairsLeft ls (length first) (placeNumbers (numberOf t)) (batchTests ls g t b first second) places
-
--- ---- seeking a bookmark
-
--- how many tests a list of n lines has: n (n - 1) / 2
-unfoldable pub tri : ℕ → ℕ
-tri zero = 0
-tri (suc n) = n + tri n
-
--- whole cells are passed
-pub record CellSought (m : ℕ) (offsets items : List ℕ) (left at left′ : ℕ) : Type 0 where
-  pub at-most : at ≤ m
-  pub same : (cols : ℕ) (tail : List Pair) → drop left (cellTests cols offsets items m 0 ++ tail) ≡ drop left′ (cellTests cols offsets items (m - at) at ++ tail)
-  pub counts : (cols : ℕ) → left + length (cellTests cols offsets items (m - at) at) ≡ left′ + length (cellTests cols offsets items m 0)
-  pub inside : at < m → left′ < tri (getD offsets (suc at) 0 - getD offsets at 0)
-
--- whole rows of a list of `len` lines are passed
-pub record RowSought (len left at left′ : ℕ) : Type 0 where
-  pub within : at + 1 + left′ < len
-  pub same : (xs : List ℕ) (pl : Place) (tail : List Pair) → length xs ≡ len
-      → drop left (pairs pl xs ++ tail) ≡ drop left′ (pairs pl (drop at xs) ++ tail)
-
--- whole globals are passed
-pub record GlobalSought (n m : ℕ) (globals : List ℕ) (left at left′ : ℕ) : Type 0 where
-  pub at-most : at ≤ m
-  pub same : drop left (globalTests n globals m 0) ≡ drop left′ (globalTests n globals (m - at) at)
-  pub counts : left + length (globalTests n globals (m - at) at) ≡ left′ + length (globalTests n globals m 0)
-  pub inside : at < m → left′ + suc at < n
-
--- lines of the global at p are passed
-pub record LineSought (n m : ℕ) (globals : List ℕ) (p left q k : ℕ) : Type 0 where
-  pub fits : LineFits n m globals p q k
-  pub same : drop left (others (take (suc p) globals) n 0) ≡ others (take (suc p) globals) (n - k) k
-
-pub record SoughtAsks (n m : ℕ) (globals : List ℕ) (p left : ℕ) : Type 0 where
-  pub table : GlobalsFit n m globals
-  pub inside : p < m
-  pub small : left + suc p < n
-
--- the cursor of a bookmark
-pub record CursorIs (ls : Lines) (g : Grid) (t : Tables) (bookmark : ℕ) (c : Cursor) : Type 0 where
-  pub ready : Ready ls g t c
-  pub at-most : bookmark ≤ length (testsOf t)
-  pub rest : restOf t c ≡ drop bookmark (testsOf t)
-
-abbrev pub SeekIs : Lines → Grid → Tables → ℕ → Sought → Type 0
-SeekIs ls g t bookmark (sought.At c) = CursorIs ls g t bookmark c
-SeekIs ls g t bookmark sought.Beyond = length (testsOf t) < bookmark

@@ -1,16 +1,7 @@
-// Where a visit stands, by value: in the cells, the cell and the places i and j in its list; among the globals, the position p, the next
-// line k, and the position q of the next global that is passed over.
+// The next row of a visit, from a place on.
 ghost use mathlib.Core.Path.{_≡_};
-ghost use Rattle.visit.specs.Inside.{CellAsks, CellFound, stopOf, GlobalAsks, GlobalFound, StopAsks};
-
-pub(crate) struct Cursor {
-    pub cell: usize,
-    pub i: usize,
-    pub j: usize,
-    pub p: usize,
-    pub q: usize,
-    pub k: u32,
-}
+ghost use Rattle.seek.specs.Inside.{stopOf};
+ghost use Rattle.visit.specs.Inside.{CellAsks, CellFound, GlobalAsks, GlobalFound, StopAsks};
 
 pub(crate) enum CellAt {
     At { cell: usize, i: usize, j: usize },

@@ -1,18 +1,11 @@
-// A visit of standing tables: a list by its place, one test by its bookmark, and batches of tests from a bookmark.
+// A visit of standing tables: one test by its bookmark, and batches of tests from a bookmark.
 use refusals::Refusal;
+use seek::Place;
 
 mod boxes;
 mod cursor;
-pub mod lists;
 mod scan;
-mod seek;
 pub mod visits;
-
-// Where a test is made: a cell, or a global line by its position.
-pub enum Place {
-    Cell { row: u32, col: u32 },
-    Global(usize),
-}
 
 // One test: its place, its two lines, and whether their boxes overlap.
 pub struct Test {

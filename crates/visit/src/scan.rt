@@ -1,22 +1,25 @@
 // A row of a visit is the tests that share their place and their first line. The scan of a row makes them one after another; the runs go
 // from row to row, until the outputs are full or no test is left.
-use crate::Place;
 use crate::Test;
 use crate::boxes;
 use crate::cursor;
 use crate::cursor::CellAt;
-use crate::cursor::Cursor;
 use crate::cursor::GlobalAt;
 use crate::cursor::wide;
 use grid::Box;
 use grid::Grid;
+use seek::Cursor;
+use seek::Place;
 ghost use mathlib.Core.Path.{_≡_};
 ghost use Prim.Native.Nat.{_<_, _-_};
 ghost use lib.ListN.{length, drop};
 ghost use Rattle.grid.specs.Domain.{lines};
-ghost use Rattle.visit.specs.Tests.{pair, withEach, placeOf};
-ghost use Rattle.visit.specs.Entries.{beside, testOf};
-ghost use Rattle.visit.specs.Inside.{LineAsks, rowOf, nextStep, TestAsks, TestInAsks, TestBeforeAsks, ListAsks, InList, LinesAsk, InLines, numbers, PutIs, CellsAsk, CellsRan, GlobalsAsk, GlobalsRan, Ready, restOf, RunAsks, RanAll};
+ghost use Rattle.seek.specs.Tests.{pair, withEach, placeOf};
+ghost use Rattle.seek.specs.Bookmarks.{beside};
+ghost use Rattle.visit.specs.Entries.{testOf};
+ghost use Rattle.seek.specs.Inside.{numbers};
+ghost use Rattle.seek.specs.Cursors.{Ready, restOf};
+ghost use Rattle.visit.specs.Inside.{LineAsks, rowOf, nextStep, TestAsks, TestInAsks, TestBeforeAsks, ListAsks, InList, LinesAsk, InLines, PutIs, CellsAsk, CellsRan, GlobalsAsk, GlobalsRan, RunAsks, RanAll};
 
 // The first line of a row, with its box.
 pub(crate) struct Row {

@@ -5,38 +5,14 @@ use crate::Tally;
 use crate::TestAnswer;
 use crate::scan;
 use crate::scan::Step;
-use crate::seek;
-use crate::seek::Sought;
 use grid::Grid;
 use refusals::Check;
-use refusals::Refusal;
+use seek::SeekAnswer;
 ghost use mathlib.Core.Path.{_≡_};
 ghost use Rattle.grid.specs.Domain.{lines};
-ghost use Rattle.visit.specs.Entries.{beside, visitCheck, testAt, BatchIs, PlacedBatchIs};
+ghost use Rattle.seek.specs.Bookmarks.{beside, visitCheck};
+ghost use Rattle.visit.specs.Entries.{testAt, BatchIs, PlacedBatchIs};
 ghost use Rattle.visit.specs.Inside.{BatchMade};
-
-// Refusals 3, 2, 1, 8 and 10, in that order. The tables' check asks 2 again, of the number of lines that has passed it.
-fn check_visit(
-    start_x: &[f64],
-    start_y: &[f64],
-    end_x: &[f64],
-    end_y: &[f64],
-    grid: Grid,
-    offsets: &[u32],
-    items: &[u32],
-    globals: &[u32],
-    global_count: usize,
-) -> Check
-    ensures { λ r. let ls = lines (now («start_x» .entry)) (now («start_y» .entry)) (now («end_x» .entry)) (now («end_y» .entry)) in
-        let t = beside ls grid (now (offsets .entry)) (now (items .entry)) (now (globals .entry)) «global_count» in
-        ⌜ r ≡ visitCheck ls grid t ⌝ }
-{
-    let lines = grid::checks::check_lines(start_x, start_y, end_x, end_y);
-    if let Check::Refused(r) = lines {
-        return Check::Refused(r);
-    }
-    tables::check_tables(grid, start_x.len(), offsets, items, globals, global_count)
-}
 
 // The test that stands at a bookmark, or the end mark at the total.
 pub fn test_at(
@@ -55,7 +31,7 @@ pub fn test_at(
         let t = beside ls grid (now (offsets .entry)) (now (items .entry)) (now (globals .entry)) «global_count» in
         ⌜ r ≡ testAt ls grid t bookmark ⌝ }
 {
-    let check = check_visit(
+    let found = seek::bookmarks::find(
         start_x,
         start_y,
         end_x,
@@ -65,44 +41,29 @@ pub fn test_at(
         items,
         globals,
         global_count,
-    );
-    if let Check::Refused(r) = check {
-        return TestAnswer::Refused(r);
-    }
-    let sought = seek::seek(
         bookmark,
-        start_x,
-        start_y,
-        end_x,
-        end_y,
-        grid,
-        offsets,
-        items,
-        globals,
-        global_count,
     );
-    let Sought::At(cursor) = sought else {
-        return TestAnswer::Refused(Refusal {
-            number: 9,
-            value: bookmark,
-        });
-    };
-    let step = scan::test_from(
-        cursor,
-        start_x,
-        start_y,
-        end_x,
-        end_y,
-        grid,
-        offsets,
-        items,
-        globals,
-        global_count,
-    );
-    let Step::Made(test) = step else {
-        return TestAnswer::End;
-    };
-    TestAnswer::Made(test)
+    match found {
+        SeekAnswer::Refused(r) => TestAnswer::Refused(r),
+        SeekAnswer::At(cursor) => {
+            let step = scan::test_from(
+                cursor,
+                start_x,
+                start_y,
+                end_x,
+                end_y,
+                grid,
+                offsets,
+                items,
+                globals,
+                global_count,
+            );
+            let Step::Made(test) = step else {
+                return TestAnswer::End;
+            };
+            TestAnswer::Made(test)
+        }
+    }
 }
 
 // What both batches do: the tests from a bookmark on, until the outputs are full or the end comes. The places are written where their slice is
@@ -130,7 +91,7 @@ fn make_batch(
     if let Check::Refused(r) = lent {
         return BatchAnswer::Refused(r);
     }
-    let check = check_visit(
+    let found = seek::bookmarks::find(
         start_x,
         start_y,
         end_x,
@@ -140,51 +101,36 @@ fn make_batch(
         items,
         globals,
         global_count,
-    );
-    if let Check::Refused(r) = check {
-        return BatchAnswer::Refused(r);
-    }
-    let sought = seek::seek(
         bookmark,
-        start_x,
-        start_y,
-        end_x,
-        end_y,
-        grid,
-        offsets,
-        items,
-        globals,
-        global_count,
     );
-    let Sought::At(cursor) = sought else {
-        return BatchAnswer::Refused(Refusal {
-            number: 9,
-            value: bookmark,
-        });
-    };
-    let ran = scan::run(
-        cursor,
-        start_x,
-        start_y,
-        end_x,
-        end_y,
-        grid,
-        offsets,
-        items,
-        globals,
-        global_count,
-        first,
-        second,
-        places,
-    );
-    slices::clear_from(first, ran.hits);
-    slices::clear_from(second, ran.hits);
-    slices::clear_from(places, ran.hits);
-    BatchAnswer::Done(Tally {
-        tests: ran.tests,
-        overlaps: ran.hits as u64,
-        bookmark: bookmark + ran.tests,
-    })
+    match found {
+        SeekAnswer::Refused(r) => BatchAnswer::Refused(r),
+        SeekAnswer::At(cursor) => {
+            let ran = scan::run(
+                cursor,
+                start_x,
+                start_y,
+                end_x,
+                end_y,
+                grid,
+                offsets,
+                items,
+                globals,
+                global_count,
+                first,
+                second,
+                places,
+            );
+            slices::clear_from(first, ran.hits);
+            slices::clear_from(second, ran.hits);
+            slices::clear_from(places, ran.hits);
+            BatchAnswer::Done(Tally {
+                tests: ran.tests,
+                overlaps: ran.hits as u64,
+                bookmark: bookmark + ran.tests,
+            })
+        }
+    }
 }
 
 // The tests from a bookmark on, until the outputs are full or the end comes: the pairs that overlap, with zero beyond them.

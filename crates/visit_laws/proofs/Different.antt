@@ -12,12 +12,12 @@ use Rattle.slices.specs.Lists.{elem, Rising, Below}
 use Rattle.slices.proofs.Members.{any-append}
 use Rattle.tables.specs.Tables.{Tables, cells, listIn}
 use Rattle.tables.specs.Fit.{TablesFit, Increasing}
-use Rattle.visit.specs.declared.Place.{Place}
-use Rattle.visit.specs.declared.Place.the-variants.{Global}
-use Rattle.visit.specs.Tests.{Pair, withEach, pairs, placeOf, cellTests, others, globalTests, testsOf}
-use Rattle.visit.specs.Inside.{GlobalsFit}
-use Rattle.visit.proofs.Clauses.{with-nil, with-cons, pairs-nil, pairs-cons, cells-zero, cells-suc, globals-zero, globals-suc, others-zero, others-in, others-out}
-use Rattle.visit.proofs.Standing.{globals-fit}
+use Rattle.seek.specs.declared.Place.{Place}
+use Rattle.seek.specs.declared.Place.the-variants.{Global}
+use Rattle.seek.specs.Tests.{Pair, withEach, pairs, placeOf, cellTests, others, globalTests, testsOf}
+use Rattle.seek.specs.Inside.{GlobalsFit}
+use Rattle.seek.proofs.Clauses.{with-nil, with-cons, pairs-nil, pairs-cons, cells-zero, cells-suc, globals-zero, globals-suc, others-zero, others-in, others-out}
+use Rattle.seek.proofs.Standing.{globals-fit}
 use Rattle.visit_laws.specs.Words.{Different}
 use Rattle.visit_laws.proofs.Often.{elem-over, elem-others}
 

@@ -11,7 +11,7 @@ use lib.Seq.{drop-drop, drop-cons, getD-take}
 use Rattle.grid.specs.Domain.{Lines}
 use Rattle.tables.specs.Tables.{Tables}
 use Rattle.visit.specs.declared.TestAnswer.the-variants as answer
-use Rattle.visit.specs.Tests.{Pair, testsOf}
+use Rattle.seek.specs.Tests.{Pair, testsOf}
 use Rattle.visit.specs.Overlap.{overlap}
 use Rattle.visit.specs.Batches.{made, overlapping, handed}
 use Rattle.visit.specs.Entries.{testOf, nextTest, tallyOf}

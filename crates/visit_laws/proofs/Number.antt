@@ -9,11 +9,11 @@ use lib.ListN.{length, take, length-append}
 use lib.Seq.{length-take-le}
 use Rattle.tables.specs.Tables.{Tables, cells, listIn, listOf, globalsOf}
 use Rattle.tables.specs.Fit.{TablesFit}
-use Rattle.visit.specs.Tests.{pairs, placeOf, cellTests, globalTests, testsOf}
-use Rattle.visit.specs.Inside.{tri}
-use Rattle.visit.proofs.Clauses.{cells-zero, cells-suc}
-use Rattle.visit.proofs.Lengths.{tri-zero, tri-suc, tri-twice, length-pairs, length-globals, length-increasing}
-use Rattle.visit.proofs.Standing.{globals-fit}
+use Rattle.seek.specs.Tests.{pairs, placeOf, cellTests, globalTests, testsOf}
+use Rattle.seek.specs.Inside.{tri}
+use Rattle.seek.proofs.Clauses.{cells-zero, cells-suc}
+use Rattle.seek.proofs.Lengths.{tri-zero, tri-suc, tri-twice, length-pairs, length-globals, length-increasing}
+use Rattle.seek.proofs.Standing.{globals-fit}
 use Rattle.visit_laws.specs.Words.{half, sumBelow}
 
 -- k (k - 1) / 2 is what the numbers below k add up to

@@ -19,17 +19,18 @@ use Rattle.grid.specs.Domain.{Lines, segmentAt}
 use Rattle.grid.proofs.Bools.{and-left, and-right}
 use Rattle.tables.specs.Tables.{Tables, cells, listIn, listOf, globalsOf}
 use Rattle.tables.specs.Fit.{TablesFit}
-use Rattle.visit.specs.declared.Place.{Place}
-use Rattle.visit.specs.declared.Place.the-variants.{Global}
-use Rattle.visit.specs.Tests.{Pair, pair, withEach, pairs, placeOf, cellTests, others, globalTests, testsOf}
+use Rattle.seek.specs.declared.Place.{Place}
+use Rattle.seek.specs.declared.Place.the-variants.{Global}
+use Rattle.seek.specs.Tests.{Pair, pair, withEach, pairs, placeOf, cellTests, others, globalTests, testsOf}
 use Rattle.grid.specs.declared.Box.{Box}
 use Rattle.grid.specs.Boxes.{boxOf, overlaps}
 use Rattle.visit.specs.Overlap.{overlap}
 use Rattle.visit.specs.Batches.{overlapping}
-use Rattle.visit.specs.Inside.{GlobalsFit}
-use Rattle.visit.proofs.Clauses.{with-nil, with-cons, pairs-nil, pairs-cons, cells-zero, cells-suc, globals-zero, globals-suc, others-zero, others-in, others-out, over-nil, over-hit, over-miss}
-use Rattle.visit.proofs.OtherLines.{elem-none}
-use Rattle.visit.proofs.Standing.{globals-fit}
+use Rattle.seek.specs.Inside.{GlobalsFit}
+use Rattle.seek.proofs.Clauses.{with-nil, with-cons, pairs-nil, pairs-cons, cells-zero, cells-suc, globals-zero, globals-suc, others-zero, others-in, others-out}
+use Rattle.visit.proofs.Clauses.{over-nil, over-hit, over-miss}
+use Rattle.seek.proofs.OtherLines.{elem-none}
+use Rattle.seek.proofs.Standing.{globals-fit}
 use Rattle.visit_laws.specs.Words.{sumBelow, one, countBelow, testOfBoth, times, Apart}
 use Rattle.visit_laws.proofs.Number.{sum-zero, sum-suc, sum-front, sum-same}
 

@@ -10,13 +10,14 @@ use lib.ListN.{getD, take, drop}
 use Rattle.slices.specs.Lists.{elem}
 use Rattle.grid.specs.Domain.{Lines}
 use Rattle.tables.specs.Tables.{Tables, cells, listIn, listOf}
-use Rattle.visit.specs.declared.Place.{Place}
-use Rattle.visit.specs.declared.Place.the-variants.{Global}
-use Rattle.visit.specs.Tests.{Pair, pair, withEach, pairs, placeOf, cellTests, others, globalTests, testsOf}
+use Rattle.seek.specs.declared.Place.{Place}
+use Rattle.seek.specs.declared.Place.the-variants.{Global}
+use Rattle.seek.specs.Tests.{Pair, pair, withEach, pairs, placeOf, cellTests, others, globalTests, testsOf}
 use Rattle.visit.specs.Places.{numberIn, numberOf}
 use Rattle.visit.specs.Overlap.{overlap}
 use Rattle.visit.specs.Batches.{made, overlapping, handed}
-use Rattle.visit.proofs.Clauses.{with-nil, with-cons, pairs-nil, pairs-cons, cells-zero, cells-suc, globals-zero, globals-suc, made-none, made-full, made-hit, made-miss, over-nil, over-hit, over-miss}
+use Rattle.seek.proofs.Clauses.{with-nil, with-cons, pairs-nil, pairs-cons, cells-zero, cells-suc, globals-zero, globals-suc}
+use Rattle.visit.proofs.Clauses.{made-none, made-full, made-hit, made-miss, over-nil, over-hit, over-miss}
 use Rattle.visit.proofs.Placing.{number-of-cell}
 use Rattle.visit_laws.specs.Words.{Listed, AllListed}
 

@@ -9,7 +9,7 @@ use lib.Dec.{eqb}
 use Rattle.grid.specs.Domain.{Lines}
 use Rattle.slices.specs.Lists.{elem}
 use Rattle.tables.specs.Tables.{Tables, cells, listOf, globalsOf}
-use Rattle.visit.specs.Tests.{Pair, testsOf}
+use Rattle.seek.specs.Tests.{Pair, testsOf}
 use Rattle.visit.specs.Places.{numberOf}
 use Rattle.visit.specs.Batches.{handed}
 use Rattle.visit.specs.Entries.{tallyOf}

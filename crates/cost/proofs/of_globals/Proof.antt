@@ -3,7 +3,7 @@ use mathlib.Core.Path.{_≡_, ap, _∙_}
 use Prim.Native.Nat.{ℕ, _≤_}
 use native.Mathlib.Omega.{arith}
 use native.Mathlib.Nat.{zero-mul}
-use Rattle.visit.proofs.Lengths.{tri-zero}
+use Rattle.seek.proofs.Lengths.{tri-zero}
 use Rattle.cost.proofs.Costs.{globals-most, globals-small}
 use borrow.Author.Needs.{needs}
 use Rattle.cost.proofs.of_globals.Statement.{statement}

@@ -3,8 +3,8 @@ use mathlib.Core.Path.{_≡_, ap, _∙_}
 use Prim.Native.Nat.{ℕ, _≤_}
 use native.Mathlib.Omega.{arith}
 use native.Mathlib.Nat.{mul-le-mul-left}
-use Rattle.visit.specs.Inside.{tri}
-use Rattle.visit.proofs.Lengths.{tri-twice, tri-is}
+use Rattle.seek.specs.Inside.{tri}
+use Rattle.seek.proofs.Lengths.{tri-twice, tri-is}
 use borrow.Author.Needs.{needs}
 use Rattle.cost.proofs.triangle.Statement.{statement}
 use Rattle.cost.proofs.triangle.Tie as tie

@@ -1,6 +1,6 @@
 -- `replies::made` meets its contract: each case of the answer is handed over. Assumes nothing.
 use mathlib.Core.Path.{sym, ap}
-use Rattle.visit.specs.declared.Place.{Place}
+use Rattle.seek.specs.declared.Place.{Place}
 use Rattle.replies.specs.Answers.{ofPlace}
 use Rattle.replies.proofs.Handing.{answered}
 use borrow.Author.Needs.{needs}

@@ -4,8 +4,8 @@ use lib.ListN.{length}
 use Prim.Native.Nat.{_+_}
 use Rattle.refusals.specs.declared.Check.{Check}
 use Rattle.tables.specs.Tables.{tables}
-use Rattle.visit.specs.Places.{listCheck, listAt}
-use Rattle.visit.proofs.PlaceLaws.{part-is}
+use Rattle.seek.specs.Places.{listCheck, listAt}
+use Rattle.seek.proofs.PlaceLaws.{part-is}
 use Rattle.replies.specs.Answers.{ofPart}
 use Rattle.replies.proofs.Handing.{replied}
 use Rattle.capi.proofs.Handing.{list-some, list-part}

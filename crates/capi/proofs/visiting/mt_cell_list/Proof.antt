@@ -4,9 +4,9 @@ use mathlib.Core.Path.{_≡_, refl, _∙_}
 use lib.ListN.{length, getD}
 use Rattle.grid.specs.declared.Grid.{Grid}
 use Rattle.tables.specs.Tables.{Tables, tables}
-use Rattle.visit.specs.declared.Place.the-variants.{Cell}
-use Rattle.visit.specs.Places.{listCheck, listAt}
-use Rattle.visit.proofs.PlaceLaws.{cell-ends}
+use Rattle.seek.specs.declared.Place.the-variants.{Cell}
+use Rattle.seek.specs.Places.{listCheck, listAt}
+use Rattle.seek.proofs.PlaceLaws.{cell-ends}
 use Rattle.replies.specs.Answers.{ofPart}
 use Rattle.replies.proofs.Handing.{short-replies}
 use Rattle.capi.proofs.Handing.{few-replies, asked, part-ends}

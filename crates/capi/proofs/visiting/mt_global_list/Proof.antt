@@ -1,8 +1,8 @@
 -- `capi::visiting::mt_global_list` meets its contract: an `out` that is short, words that are too few, or the list's start and length handed over. Assumes nothing.
 use Rattle.tables.specs.Tables.{tables}
-use Rattle.visit.specs.declared.Place.the-variants.{Global}
-use Rattle.visit.specs.Places.{listCheck}
-use Rattle.visit.proofs.PlaceLaws.{global-ends}
+use Rattle.seek.specs.declared.Place.the-variants.{Global}
+use Rattle.seek.specs.Places.{listCheck}
+use Rattle.seek.proofs.PlaceLaws.{global-ends}
 use Rattle.replies.proofs.Handing.{short-replies}
 use Rattle.capi.proofs.Handing.{few-replies, asked, part-ends}
 use borrow.Author.Needs.{needs}

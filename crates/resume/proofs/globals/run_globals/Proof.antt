@@ -5,7 +5,7 @@ use Prim.Native.Nat.{ℕ, _+_, _-_}
 use borrow.Author.Needs.{needs}
 use lib.ListN.{length, getD}
 use Rattle.grid.specs.Domain.{lines}
-use Rattle.visit.specs.declared.Place.the-variants.{Global}
+use Rattle.seek.specs.declared.Place.the-variants.{Global}
 use Rattle.resume.proofs.GlobalTurns.{GlobalsRun, globals-run, global-is, global-past, globals-first-long, globals-second-long, globals-place, globals-full, globals-over, globals-few, globals-stop, globals-inside, globals-asks, globals-turn, globals-less, globals-small, globals-k}
 use Rattle.resume.specs.Cursors.{globalsFrom}
 use Rattle.resume.proofs.globals.run_globals.Statement.{statement}

@@ -5,7 +5,7 @@ use Prim.Native.Nat.{ℕ, _+_, _-_, _*_, _≤_, _<_}
 use borrow.Author.Needs.{needs}
 use lib.ListN.{length, getD}
 use Rattle.grid.specs.Domain.{lines}
-use Rattle.visit.specs.declared.Place.the-variants.{Global}
+use Rattle.seek.specs.declared.Place.the-variants.{Global}
 use Rattle.resume.proofs.RowTurns.{ListRun, list-run, row-at-is, row-at-past, list-first-long, list-second-long, list-full, list-over, list-part, list-turn, list-less, list-small}
 use Rattle.resume.specs.Cursors.{listFrom}
 use Rattle.resume.proofs.rows.run_list.Statement.{statement}

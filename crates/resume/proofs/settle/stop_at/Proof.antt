@@ -1,7 +1,7 @@
 -- `resume::settle::stop_at` meets its contract. Assumes nothing.
 use native.Mathlib.Omega.{arith}
 use mathlib.Core.Path.{sym}
-use Rattle.visit.proofs.GlobalTurns.{stop-in, stop-out}
+use Rattle.seek.proofs.GlobalRests.{stop-in, stop-out}
 use Rattle.resume.proofs.settle.stop_at.Statement.{statement}
 use Rattle.resume.proofs.settle.stop_at.Tie as tie
 use Rattle.resume.proofs.settle.stop_at.Reads as reads

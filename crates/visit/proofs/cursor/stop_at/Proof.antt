@@ -1,7 +1,7 @@
 -- `visit::cursor::stop_at` meets its contract. Assumes nothing.
 use mathlib.Core.Path.{sym}
 use native.Mathlib.Omega.{arith}
-use Rattle.visit.proofs.GlobalTurns.{stop-in, stop-out}
+use Rattle.seek.proofs.GlobalRests.{stop-in, stop-out}
 use Rattle.visit.proofs.cursor.stop_at.Statement.{statement}
 use Rattle.visit.proofs.cursor.stop_at.Tie as tie
 use Rattle.visit.proofs.cursor.stop_at.Reads as reads

@@ -1,6 +1,6 @@
 -- `visit::scan::place_of` meets its contract. Assumes nothing.
 use mathlib.Core.Path.{refl}
-use Rattle.visit.specs.Tests.{placeOf}
+use Rattle.seek.specs.Tests.{placeOf}
 use borrow.Author.Needs.{needs}
 use Rattle.visit.proofs.scan.place_of.Statement.{statement}
 use Rattle.visit.proofs.scan.place_of.Tie as tie

@@ -1,7 +1,8 @@
 -- `visit::scan::run` meets its contract. Assumes nothing.
 use mathlib.Core.Path.{_≡_, refl, sym, ap, _∙_}
 use Rattle.grid.specs.Domain.{lines}
-use Rattle.visit.proofs.RunWhole.{rows-cols, cells-asks, globals-asks, run-small, run-is}
+use Rattle.seek.proofs.Passed.{rows-cols}
+use Rattle.visit.proofs.RunWhole.{cells-asks, globals-asks, run-small, run-is}
 use borrow.Author.Needs.{needs}
 use Rattle.visit.proofs.scan.run.Statement.{statement}
 use Rattle.visit.proofs.scan.run.Tie as tie

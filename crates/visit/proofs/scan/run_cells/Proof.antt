@@ -7,8 +7,9 @@ use borrow.Author.Needs.{needs}
 use lib.ListN.{length, getD, take, drop}
 use Rattle.grid.specs.Domain.{lines}
 use Rattle.tables.specs.Tables.{listIn}
-use Rattle.visit.specs.Inside.{cellsRest, CellIs, rowOf}
-use Rattle.visit.specs.Tests.{placeOf}
+use Rattle.seek.specs.Cursors.{cellsRest}
+use Rattle.visit.specs.Inside.{CellIs, rowOf}
+use Rattle.seek.specs.Tests.{placeOf}
 use Rattle.visit.proofs.RunTurns.{cell-at, cell-past, PartOf, part-of, row-is, CellsRun, cells-run, cells-long, cells-long-2, cells-long-3, cells-full, cells-over, row-asks, list-asks, cells-turn, cells-less, cells-small}
 use Rattle.visit.proofs.scan.run_cells.Statement.{statement}
 use Rattle.visit.proofs.scan.run_cells.Tie as tie

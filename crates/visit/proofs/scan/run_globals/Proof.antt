@@ -6,7 +6,8 @@ use borrow.Author.Needs.{needs}
 use lib.ListN.{length, getD}
 use Rattle.grid.specs.Domain.{lines}
 use Rattle.grid.proofs.Fine.{lines-fine}
-use Rattle.visit.specs.Inside.{globalsRest, GlobalIs}
+use Rattle.seek.specs.Cursors.{globalsRest}
+use Rattle.visit.specs.Inside.{GlobalIs}
 use Rattle.visit.proofs.RunTurns.{global-at, global-past, GlobalsRun, globals-run, globals-long, globals-long-2, globals-long-3, globals-full, globals-over, global-in, global-few, global-asks, lines-asks, globals-turn, globals-less, globals-small}
 use Rattle.visit.proofs.scan.run_globals.Statement.{statement}
 use Rattle.visit.proofs.scan.run_globals.Tie as tie

@@ -4,7 +4,7 @@ use Prim.Native.Nat.{_-_}
 use Rattle.grid.specs.Domain.{lines}
 use Rattle.visit.specs.declared.Test.{Test}
 use Rattle.visit.specs.declared.scan.Step.the-variants as step
-use Rattle.visit.specs.Inside.{numbers}
+use Rattle.seek.specs.Inside.{numbers}
 use Rattle.visit.proofs.RowTurns.{next-end, next-made, numbers-none, numbers-some}
 use borrow.Author.Needs.{needs}
 use Rattle.visit.proofs.scan.test_before.Statement.{statement}

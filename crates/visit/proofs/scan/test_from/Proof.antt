@@ -6,10 +6,12 @@ use native.Mathlib.Omega.{arith}
 use lib.ListN.{length, getD, take, drop}
 use Rattle.grid.specs.Domain.{lines}
 use Rattle.tables.specs.Tables.{listIn}
-use Rattle.visit.specs.Tests.{placeOf}
-use Rattle.visit.specs.Inside.{cellsRest, rowOf, CellAsks, CellIs, GlobalIs}
+use Rattle.seek.specs.Tests.{placeOf}
+use Rattle.seek.specs.Cursors.{cellsRest}
+use Rattle.visit.specs.Inside.{rowOf, CellAsks, CellIs, GlobalIs}
 use Rattle.visit.proofs.RunTurns.{cell-at, cell-past, global-at, global-past, PartOf, part-of, row-is}
-use Rattle.visit.proofs.RunWhole.{rows-cols, lines-few, m-few, m-wide, settle-asks, glide-asks, one-row, one-in, one-cell, one-none, one-in-globals, one-global-row, one-before, one-global}
+use Rattle.seek.proofs.Passed.{rows-cols, lines-few, m-few, m-wide}
+use Rattle.visit.proofs.RunWhole.{settle-asks, glide-asks, one-row, one-in, one-cell, one-none, one-in-globals, one-global-row, one-before, one-global}
 use borrow.Author.Needs.{needs}
 use Rattle.visit.proofs.scan.test_from.Statement.{statement}
 use Rattle.visit.proofs.scan.test_from.Tie as tie

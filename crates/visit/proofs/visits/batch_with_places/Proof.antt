@@ -2,7 +2,8 @@
 use mathlib.Core.Path.{_≡_, sym, _∙_}
 use borrow.Author.Needs.{needs}
 use Rattle.grid.specs.Domain.{lines}
-use Rattle.visit.specs.Entries.{beside, placesCheck}
+use Rattle.seek.specs.Bookmarks.{beside}
+use Rattle.visit.specs.Entries.{placesCheck}
 use Rattle.visit.proofs.EntryLaws.{placed-unlike, placed-made}
 use Rattle.visit.proofs.visits.batch_with_places.Statement.{statement}
 use Rattle.visit.proofs.visits.batch_with_places.Tie as tie

@@ -3,9 +3,12 @@ use mathlib.Core.Path.{_≡_, refl, sym, ap, _∙_}
 use Rattle.refusals.specs.declared.Check.the-variants.{Fine}
 use Rattle.refusals.proofs.refuse_unless.Reads as refuse-unless-reads
 use Rattle.grid.specs.Domain.{lines}
-use Rattle.visit.specs.Entries.{beside, outputsCheck}
-use Rattle.visit.specs.Inside.{CursorIs}
-use Rattle.visit.proofs.EntryLaws.{seek-at, seek-beyond, batch-unlike, batch-refused, batch-beyond, batch-done, run-asks, bookmark-fits}
+use Rattle.seek.specs.Bookmarks.{beside}
+use Rattle.seek.specs.Cursors.{CursorIs}
+use Rattle.seek.proofs.FindLaws.{found-at, found-none}
+use Rattle.seek.proofs.bookmarks.find.Reads as find-reads
+use Rattle.visit.specs.Entries.{outputsCheck}
+use Rattle.visit.proofs.EntryLaws.{batch-unlike, batch-refused, batch-done, run-asks, bookmark-fits}
 use borrow.Author.Needs.{needs}
 use Rattle.visit.proofs.visits.make_batch.Statement.{statement}
 use Rattle.visit.proofs.visits.make_batch.Tie as tie
@@ -13,8 +16,6 @@ use Rattle.visit.proofs.visits.make_batch.Reads as reads
 use Rattle.visit.proofs.visits.make_batch.Lts as lts
 use Rattle.slices.proofs.clear_from.Reads as clear-from-reads
 use Rattle.visit.proofs.scan.run.Reads as run-reads
-use Rattle.visit.proofs.seek.seek.Reads as seek-reads
-use Rattle.visit.proofs.visits.check_visit.Reads as check-visit-reads
 
 -- the outputs have one length
 same : (c : tie.After-enum-told) → let a = c .before .before .before .before .before .before .before .before .before .before .before .before .before .args in outputsCheck (a .first .now) (a .second .now) ≡ Fine
@@ -30,57 +31,43 @@ returns c =
     batch-unlike ls (a .grid) t (a .bookmark) (a .first .now) (a .second .now) (a .places .now) _ (sym (c .before .before .before .refuse-unless .ensures) ∙ c .before .lent .given .1)
 
 -- the cursor that was found
-found : (c : tie.After-sought)
-    → let a = c .before .before .before .before .before .before .before .before .before .before .before .before .before .before .before .before .before .before .before .args in
+found : (c : tie.After-found2)
+    → let a = c .before .before .before .before .before .before .before .before .before .before .before .before .before .before .before .before .args in
     let ls = lines (a .start-x .now) (a .start-y .now) (a .end-x .now) (a .end-y .now) in
-    CursorIs ls (a .grid) (beside ls (a .grid) (a .offsets .now) (a .items .now) (a .globals .now) (a .global-count)) (a .bookmark) (c .sought .given .0 .0)
+    CursorIs ls (a .grid) (beside ls (a .grid) (a .offsets .now) (a .items .now) (a .globals .now) (a .global-count)) (a .bookmark) (c .found2 .given .0 .0)
 found c =
-    let a = c .before .before .before .before .before .before .before .before .before .before .before .before .before .before .before .before .before .before .before .args in
+    let a = c .before .before .before .before .before .before .before .before .before .before .before .before .before .before .before .before .args in
     let ls = lines (a .start-x .now) (a .start-y .now) (a .end-x .now) (a .end-y .now) in
     let t = beside ls (a .grid) (a .offsets .now) (a .items .now) (a .globals .now) (a .global-count) in
-    seek-at ls (a .grid) t (a .bookmark) _ (c .before .before .seek .ensures) (c .sought .given .0 .0) (c .sought .given .1)
+    found-at ls (a .grid) t (a .bookmark) _ (c .before .before .find .ensures) (c .found2 .given .0 .0) (c .found2 .given .1)
 
 returns-2 : tie.Need-returns-2
 returns-2 c =
     let a = c .before .before .before .before .before .before .before .before .before .before .before .before .before .before .before .before .before .args in
     let ls = lines (a .start-x .now) (a .start-y .now) (a .end-x .now) (a .end-y .now) in
     let t = beside ls (a .grid) (a .offsets .now) (a .items .now) (a .globals .now) (a .global-count) in
-    batch-refused ls (a .grid) t (a .bookmark) (a .first .now) (a .second .now) (a .places .now) (same (c .before .before .before .before)) _ (sym (c .before .before .before .check-visit .ensures) ∙ c .before .check .given .1)
-
-seek-requires : tie.Need-seek-requires
-seek-requires c κs =
-    let a = c .before .before .before .before .before .before .before .before .before .before .before .before .before .before .before .before .args in
-    let ls = lines (a .start-x .now) (a .start-y .now) (a .end-x .now) (a .end-y .now) in
-    let t = beside ls (a .grid) (a .offsets .now) (a .items .now) (a .globals .now) (a .global-count) in
-    sym (c .before .before .check-visit .ensures) ∙ c .enum-told2 .given .1
-
-returns-3 : tie.Need-returns-3
-returns-3 c =
-    let a = c .before .before .before .before .before .before .before .before .before .before .before .before .before .before .before .before .before .before .before .args in
-    let ls = lines (a .start-x .now) (a .start-y .now) (a .end-x .now) (a .end-y .now) in
-    let t = beside ls (a .grid) (a .offsets .now) (a .items .now) (a .globals .now) (a .global-count) in
-    batch-beyond ls (a .grid) t (a .bookmark) (a .first .now) (a .second .now) (a .places .now) (same (c .before .before .before .before .before .before)) (sym (c .before .before .before .before .before .check-visit .ensures) ∙ c .before .before .before .enum-told2 .given .1) (seek-beyond ls (a .grid) t (a .bookmark) _ (c .before .before .seek .ensures) (c .enum-told3 .given .1))
+    batch-refused ls (a .grid) t (a .bookmark) (a .first .now) (a .second .now) (a .places .now) (same (c .before .before .before .before)) _ (found-none ls (a .grid) t (a .bookmark) _ (c .before .before .before .find .ensures) _ (c .before .found .given .1))
 
 run-requires : tie.Need-run-requires
 run-requires c κs =
-    let a = c .before .before .before .before .before .before .before .before .before .before .before .before .before .before .before .before .before .before .before .before .before .before .before .args in
+    let a = c .before .before .before .before .before .before .before .before .before .before .before .before .before .before .before .before .before .before .before .before .args in
     let ls = lines (a .start-x .now) (a .start-y .now) (a .end-x .now) (a .end-y .now) in
     let t = beside ls (a .grid) (a .offsets .now) (a .items .now) (a .globals .now) (a .global-count) in
-    run-asks ls (a .grid) (a .offsets .now) (a .items .now) (a .globals .now) (a .global-count) (sym (c .before .before .before .before .before .before .before .before .before .check-visit .ensures) ∙ c .before .before .before .before .before .before .before .enum-told2 .given .1) (a .bookmark) (c .before .before .before .before .sought .given .0 .0) (found (c .before .before .before .before)) (a .first .now) (a .second .now) (a .places .now) (same (c .before .before .before .before .before .before .before .before .before .before))
+    run-asks ls (a .grid) (a .offsets .now) (a .items .now) (a .globals .now) (a .global-count) (a .bookmark) (c .before .before .before .before .found2 .given .0 .0) (found (c .before .before .before .before)) (a .first .now) (a .second .now) (a .places .now) (same (c .before .before .before .before .before .before .before))
 
-add-t39 : tie.Need-add-t39
-add-t39 c =
-    let a = c .before .before .before .before .before .before .before .before .before .before .before .before .before .before .before .before .before .before .before .before .before .before .before .before .before .before .before .before .before .before .before .before .before .before .before .before .before .before .before .before .before .before .before .args in
+add-t38 : tie.Need-add-t38
+add-t38 c =
+    let a = c .before .before .before .before .before .before .before .before .before .before .before .before .before .before .before .before .before .before .before .before .before .before .before .before .before .before .before .before .before .before .before .before .before .before .before .before .before .before .before .before .args in
     let ls = lines (a .start-x .now) (a .start-y .now) (a .end-x .now) (a .end-y .now) in
     let t = beside ls (a .grid) (a .offsets .now) (a .items .now) (a .globals .now) (a .global-count) in
-    record { fits = bookmark-fits ls (a .grid) (a .offsets .now) (a .items .now) (a .globals .now) (a .global-count) (sym (c .before .before .before .before .before .before .before .before .before .before .before .before .before .before .before .before .before .before .before .before .before .before .before .before .before .before .before .before .before .check-visit .ensures) ∙ c .before .before .before .before .before .before .before .before .before .before .before .before .before .before .before .before .before .before .before .before .before .before .before .before .before .before .before .enum-told2 .given .1) (a .bookmark) (c .before .before .before .before .before .before .before .before .before .before .before .before .before .before .before .before .before .before .before .before .before .before .before .before .sought .given .0 .0) (found (c .before .before .before .before .before .before .before .before .before .before .before .before .before .before .before .before .before .before .before .before .before .before .before .before)) (a .first .now) (a .second .now) (a .places .now) _ _ _ (c .before .before .before .before .before .before .before .before .before .before .before .before .before .before .before .before .before .before .before .run .result) (c .before .before .before .before .before .before .before .before .before .before .before .before .before .before .before .before .before .before .before .run .ensures) }
+    record { fits = bookmark-fits ls (a .grid) (a .offsets .now) (a .items .now) (a .globals .now) (a .global-count) (a .bookmark) (c .before .before .before .before .before .before .before .before .before .before .before .before .before .before .before .before .before .before .before .before .before .before .before .before .found2 .given .0 .0) (found (c .before .before .before .before .before .before .before .before .before .before .before .before .before .before .before .before .before .before .before .before .before .before .before .before)) (a .first .now) (a .second .now) (a .places .now) _ _ _ (c .before .before .before .before .before .before .before .before .before .before .before .before .before .before .before .before .before .before .before .run .result) (c .before .before .before .before .before .before .before .before .before .before .before .before .before .before .before .before .before .before .before .run .ensures) }
 
-returns-4 : tie.Need-returns-4
-returns-4 c =
-    let a = c .before .before .before .before .before .before .before .before .before .before .before .before .before .before .before .before .before .before .before .before .before .before .before .before .before .before .before .before .before .before .before .before .before .before .before .before .before .before .before .before .before .before .before .args in
+returns-3 : tie.Need-returns-3
+returns-3 c =
+    let a = c .before .before .before .before .before .before .before .before .before .before .before .before .before .before .before .before .before .before .before .before .before .before .before .before .before .before .before .before .before .before .before .before .before .before .before .before .before .before .before .before .args in
     let ls = lines (a .start-x .now) (a .start-y .now) (a .end-x .now) (a .end-y .now) in
     let t = beside ls (a .grid) (a .offsets .now) (a .items .now) (a .globals .now) (a .global-count) in
-    batch-done ls (a .grid) t (a .bookmark) (a .first .now) (a .second .now) (a .places .now) (same (c .before .before .before .before .before .before .before .before .before .before .before .before .before .before .before .before .before .before .before .before .before .before .before .before .before .before .before .before .before .before)) (sym (c .before .before .before .before .before .before .before .before .before .before .before .before .before .before .before .before .before .before .before .before .before .before .before .before .before .before .before .before .before .check-visit .ensures) ∙ c .before .before .before .before .before .before .before .before .before .before .before .before .before .before .before .before .before .before .before .before .before .before .before .before .before .before .before .enum-told2 .given .1) (c .before .before .before .before .before .before .before .before .before .before .before .before .before .before .before .before .before .before .before .before .before .before .before .before .sought .given .0 .0) (found (c .before .before .before .before .before .before .before .before .before .before .before .before .before .before .before .before .before .before .before .before .before .before .before .before)) _ _ _ (c .before .before .before .before .before .before .before .before .before .before .before .before .before .before .before .before .before .before .before .run .result) (c .before .before .before .before .before .before .before .before .before .before .before .before .before .before .before .before .before .before .before .run .ensures) _ _ _ (c .before .before .before .before .before .before .before .before .before .before .before .clear-from .ensures) (c .before .before .before .before .before .before .before .clear-from2 .ensures) (c .before .before .before .clear-from3 .ensures)
+    batch-done ls (a .grid) t (a .bookmark) (a .first .now) (a .second .now) (a .places .now) (same (c .before .before .before .before .before .before .before .before .before .before .before .before .before .before .before .before .before .before .before .before .before .before .before .before .before .before .before)) (c .before .before .before .before .before .before .before .before .before .before .before .before .before .before .before .before .before .before .before .before .before .before .before .before .found2 .given .0 .0) (found (c .before .before .before .before .before .before .before .before .before .before .before .before .before .before .before .before .before .before .before .before .before .before .before .before)) _ _ _ (c .before .before .before .before .before .before .before .before .before .before .before .before .before .before .before .before .before .before .before .run .result) (c .before .before .before .before .before .before .before .before .before .before .before .before .before .before .before .before .before .before .before .run .ensures) _ _ _ (c .before .before .before .before .before .before .before .before .before .before .before .clear-from .ensures) (c .before .before .before .before .before .before .before .clear-from2 .ensures) (c .before .before .before .clear-from3 .ensures)
 
 pub make-batch-spec : {M : Type 1} → statement M
 make-batch-spec =
@@ -92,18 +79,14 @@ make-batch-spec =
     (λ c. search needs)
     (λ c κs. search needs)
     (λ c. search needs)
-    returns-2
     (λ c. search needs)
-    seek-requires
-    (λ c. search needs)
-    (λ c. search needs)
-    returns-3
     run-requires
     (λ c κs. search needs)
     (λ c κs. search needs)
     (λ c κs. search needs)
-    add-t39
+    add-t38
+    returns-2
     (λ c. search needs)
     (λ c. search needs)
     (λ c. search needs)
-    returns-4)
+    returns-3)

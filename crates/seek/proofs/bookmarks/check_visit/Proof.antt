@@ -1,0 +1,45 @@
+-- `seek::bookmarks::check_visit` meets its contract. Assumes nothing.
+use mathlib.Core.Path.{_≡_, refl, sym, _∙_}
+use Rattle.grid.specs.Domain.{lines}
+use Rattle.seek.specs.Bookmarks.{beside}
+use Rattle.seek.proofs.FindLaws.{visit-lines, visit-tables}
+use borrow.Author.Needs.{needs}
+use Rattle.seek.proofs.bookmarks.check_visit.Statement.{statement}
+use Rattle.seek.proofs.bookmarks.check_visit.Tie as tie
+
+check-lines-requires : tie.Need-check-lines-requires
+check-lines-requires c κs = search needs
+
+enum-known-lines : tie.Need-enum-known-lines
+enum-known-lines c = search needs
+
+returns : tie.Need-returns
+returns c =
+    let a = c .before .before .before .before .before .before .before .before .before .before .before .args in
+    let ls = lines (a .start-x .now) (a .start-y .now) (a .end-x .now) (a .end-y .now) in
+    let t = beside ls (a .grid) (a .offsets .now) (a .items .now) (a .globals .now) (a .global-count) in
+    visit-lines ls (a .grid) t _ (sym (c .before .before .before .check-lines .ensures) ∙ c .before .lines .given .1)
+
+enum-told : tie.Need-enum-told
+enum-told c = search needs
+
+check-tables-requires : tie.Need-check-tables-requires
+check-tables-requires c κs = search needs
+
+returns-2 : tie.Need-returns-2
+returns-2 c =
+    let a = c .before .before .before .before .before .before .before .before .before .before .before .args in
+    let ls = lines (a .start-x .now) (a .start-y .now) (a .end-x .now) (a .end-y .now) in
+    let t = beside ls (a .grid) (a .offsets .now) (a .items .now) (a .globals .now) (a .global-count) in
+    c .check-tables .ensures ∙ visit-tables ls (a .grid) t (sym (c .before .before .before .check-lines .ensures) ∙ c .before .enum-told .given .1) refl
+
+pub check-visit-spec : {M : Type 1} → statement M
+check-visit-spec =
+    tie.close
+    (tie.spec
+    check-lines-requires
+    enum-known-lines
+    returns
+    enum-told
+    check-tables-requires
+    returns-2)

@@ -1,5 +1,6 @@
 -- Laws of `resume`. `Outcomes` says that the promise of `next` settles its answer and both outputs; the others are laws of its parts.
 pub mod BoxTurns
+pub mod BriefTurns
 pub mod ScanTurns
 pub mod ListLaws
 pub mod Goings

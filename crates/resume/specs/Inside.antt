@@ -1,5 +1,5 @@
 -- What the private functions promise. Definitions only.
-use Prim.Native.Nat.{ℕ, zero, suc, _+_, _-_, _≤_, _<_, _^_}
+use Prim.Native.Nat.{ℕ, zero, suc, _+_, _-_, _*_, _≤_, _<_, _^_}
 use mathlib.Core.Path.{_≡_}
 use mathlib.Core.Bool.{Bool, true, false, cond}
 use mathlib.Core.List.{List, [], _∷_, _++_}
@@ -174,6 +174,17 @@ pub record Scanned (ls : Lines) (line : ℕ) (xs marks fs ss : List ℕ) (hits :
   pub first-long : length fs′ ≡ length fs
   pub second-long : length ss′ ≡ length ss
 
+-- ---- one line with each of a short list
+
+-- the answers of a box with n boxes from entry `at` on
+unfoldable pub answersIn : Box → List Float → List Float → List Float → List Float → ℕ → ℕ → List ℕ
+answersIn b lx ly hx hy at zero = []
+answersIn b lx ly hx hy at (suc n) = markOf (overlaps b (boxIn lx ly hx hy at)) ∷ answersIn b lx ly hx hy (suc at) n
+
+pub record FewAsks (xs : List ℕ) (lx ly hx hy : List Float) (at : ℕ) (fs ss : List ℕ) (hits : ℕ) : Type 0 where
+  pub held : Room (at + length xs) lx ly hx hy
+  pub room : RoomFor xs fs ss hits
+
 -- ---- one line with many from another on
 
 pub record LinesAsk (ls : Lines) (line from many : ℕ) (fs ss : List ℕ) (hits : ℕ) : Type 0 where
@@ -245,6 +256,20 @@ pub record ListAsks (ls : Lines) (xs : List ℕ) (i j : ℕ) (lx ly hx hy : List
   pub scratch : Scratch lx ly hx hy marks
   pub below : Below (count ls) xs
   pub small : (pl : Place) → length (listFrom pl xs i j) < 2 ^ 64
+
+-- a list that is short and begun at its start, with room for all its pairs
+pub record Brief (len i j room : ℕ) : Type 0 where
+  pub first : i ≡ 0
+  pub second : j ≡ 1
+  pub few : len ≤ 16
+  pub fits : len * len ≤ room
+
+pub record BriefAsks (ls : Lines) (xs : List ℕ) (lx ly hx hy : List Float) (fs ss : List ℕ) (hits : ℕ) : Type 0 where
+  pub lent : Lent ls fs ss hits
+  pub boxes : Room 513 lx ly hx hy
+  pub below : Below (count ls) xs
+  pub few : length xs ≤ 16
+  pub fits : hits + length xs * length xs ≤ length fs
 
 pub record ListRanIs (ls : Lines) (xs : List ℕ) (i j : ℕ) (fs ss : List ℕ) (hits : ℕ) (fs′ ss′ : List ℕ) (r : ListRan) : Type 0 where
   pub goes : (pl : Place) (later : List Pair)

@@ -4,6 +4,7 @@ use numbers::order::greatest;
 use numbers::order::least;
 ghost use mathlib.Core.Path.{_≡_};
 ghost use mathlib.Core.Bool.{true};
+ghost use Prim.Native.Nat.{_+_};
 ghost use lib.ListN.{length};
 ghost use Rattle.grid.specs.Domain.{lines, segmentAt};
 ghost use Rattle.grid.specs.Boxes.{boxOf};
@@ -54,7 +55,7 @@ fn lower(a: f64, b: f64) -> f64 {
 
 // Entry u of the four slices becomes the box of line list[u]. Answers the greatest of the low ends and the least of the high ones, of which
 // nothing is promised: a NaN among them is passed over.
-fn gather_each(
+pub(crate) fn gather_each(
     list: &[u32],
     start_x: &[f64],
     start_y: &[f64],
@@ -189,6 +190,19 @@ fn gather(
     low_y[512] = inner.min_y;
     high_x[512] = inner.max_x;
     high_y[512] = inner.max_y;
+}
+
+// The box at an entry of the four slices.
+pub(crate) fn box_in(low_x: &[f64], low_y: &[f64], high_x: &[f64], high_y: &[f64], u: usize) -> Box
+    requires { ⌜ Room (u + 1) (now «low_x») (now «low_y») (now «high_x») (now «high_y») ⌝ }
+    ensures { λ r. ⌜ r ≡ boxIn (now («low_x» .entry)) (now («low_y» .entry)) (now («high_x» .entry)) (now («high_y» .entry)) u ⌝ }
+{
+    Box {
+        min_x: low_x[u],
+        min_y: low_y[u],
+        max_x: high_x[u],
+        max_y: high_y[u],
+    }
 }
 
 // The box where what overlaps it overlaps each of those that stand ready.

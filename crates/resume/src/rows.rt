@@ -5,8 +5,10 @@ use crate::scan;
 use crate::settle;
 use crate::settle::RowAt;
 use slices::least;
+ghost use mathlib.Core.Path.{_≡_};
+ghost use mathlib.Core.Bool.{true};
 ghost use Rattle.grid.specs.Domain.{lines};
-ghost use Rattle.resume.specs.Inside.{SameScratch, PartAsks, PartIs, ListAsks, ListRanIs, CellsAsk, CellsRanIs};
+ghost use Rattle.resume.specs.Inside.{Long, Brief, BriefAsks, SameScratch, PartAsks, PartIs, ListAsks, ListRanIs, CellsAsk, CellsRanIs};
 
 pub(crate) struct ListRan {
     pub i: usize,
@@ -101,7 +103,7 @@ fn scan_part(
 }
 
 // A row is made in parts that there is room for.
-fn run_list(
+fn run_rows(
     list: &[u32],
     i: usize,
     j: usize,
@@ -162,6 +164,145 @@ fn run_list(
         j = b + part.many;
     }
     ListRan { i, j, tests, hits }
+}
+
+// Whether a list is short and begun at its start, and there is room for all its pairs.
+fn is_brief(len: usize, i: usize, j: usize, room: usize) -> bool
+    ensures { λ r. ⌜ (r ≡ true → Brief len i j room) ⌝ }
+{
+    if i != 0 {
+        return false;
+    }
+    if j != 1 {
+        return false;
+    }
+    if 16 < len {
+        return false;
+    }
+    len * len <= room
+}
+
+// All rows of a short list, with no part of a row and no window.
+fn run_brief(
+    list: &[u32],
+    start_x: &[f64],
+    start_y: &[f64],
+    end_x: &[f64],
+    end_y: &[f64],
+    low_x: &mut [f64],
+    low_y: &mut [f64],
+    high_x: &mut [f64],
+    high_y: &mut [f64],
+    first: &mut [u32],
+    second: &mut [u32],
+    hits: usize,
+) -> ListRan
+    requires { ⌜ BriefAsks (lines (now «start_x») (now «start_y») (now «end_x») (now «end_y»)) (now list) (now «low_x») (now «low_y») (now «high_x»)
+        (now «high_y») (now first) (now second) hits ⌝ }
+    ensures { λ r. let ls = lines (now («start_x» .entry)) (now («start_y» .entry)) (now («end_x» .entry)) (now («end_y» .entry)) in
+        ⌜ ListRanIs ls (now (list .entry)) 0 1 (now (first .entry)) (now (second .entry)) hits (now (first .exit)) (now (second .exit)) r ⌝
+        ∗ ⌜ Long (now («low_x» .entry)) (now («low_y» .entry)) (now («high_x» .entry)) (now («high_y» .entry)) (now («low_x» .exit)) (now («low_y» .exit))
+        (now («high_x» .exit)) (now («high_y» .exit)) ⌝ }
+{
+    boxes::gather_each(
+        list,
+        start_x,
+        start_y,
+        end_x,
+        end_y,
+        low_x,
+        low_y,
+        high_x,
+        high_y,
+    );
+    let mut i = 0;
+    let mut tests: u64 = 0;
+    let mut hits = hits;
+    while i < list.len() {
+        let line = list[i];
+        let bounds = boxes::box_in(low_x, low_y, high_x, high_y, i);
+        i = i + 1;
+        tests = tests + ((list.len() - i) as u64);
+        hits = scan::scan_few(
+            line,
+            bounds,
+            &list[i..],
+            low_x,
+            low_y,
+            high_x,
+            high_y,
+            i,
+            first,
+            second,
+            hits,
+        );
+    }
+    ListRan {
+        i,
+        j: i + 1,
+        tests,
+        hits,
+    }
+}
+
+// A short list at once, any other row by row.
+fn run_list(
+    list: &[u32],
+    i: usize,
+    j: usize,
+    start_x: &[f64],
+    start_y: &[f64],
+    end_x: &[f64],
+    end_y: &[f64],
+    low_x: &mut [f64],
+    low_y: &mut [f64],
+    high_x: &mut [f64],
+    high_y: &mut [f64],
+    marks: &mut [u8],
+    first: &mut [u32],
+    second: &mut [u32],
+    hits: usize,
+) -> ListRan
+    requires { ⌜ ListAsks (lines (now «start_x») (now «start_y») (now «end_x») (now «end_y»)) (now list) i j (now «low_x») (now «low_y») (now «high_x»)
+        (now «high_y») (now marks) (now first) (now second) hits ⌝ }
+    ensures { λ r. let ls = lines (now («start_x» .entry)) (now («start_y» .entry)) (now («end_x» .entry)) (now («end_y» .entry)) in
+        ⌜ ListRanIs ls (now (list .entry)) i j (now (first .entry)) (now (second .entry)) hits (now (first .exit)) (now (second .exit)) r ⌝
+        ∗ ⌜ SameScratch (now («low_x» .entry)) (now («low_y» .entry)) (now («high_x» .entry)) (now («high_y» .entry)) (now (marks .entry)) (now («low_x» .exit))
+        (now («low_y» .exit)) (now («high_x» .exit)) (now («high_y» .exit)) (now (marks .exit)) ⌝ }
+{
+    if is_brief(list.len(), i, j, first.len() - hits) {
+        return run_brief(
+            list,
+            start_x,
+            start_y,
+            end_x,
+            end_y,
+            low_x,
+            low_y,
+            high_x,
+            high_y,
+            first,
+            second,
+            hits,
+        );
+    }
+    run_rows(
+        list,
+        i,
+        j,
+        start_x,
+        start_y,
+        end_x,
+        end_y,
+        low_x,
+        low_y,
+        high_x,
+        high_y,
+        marks,
+        first,
+        second,
+        hits,
+    )
 }
 
 // Each list is looked at once, before its first test.

@@ -7,7 +7,7 @@ ghost use mathlib.Core.Bool.{true};
 ghost use Prim.Native.Nat.{_≤_};
 ghost use lib.ListN.{length};
 ghost use Rattle.grid.specs.Domain.{lines};
-ghost use Rattle.resume.specs.Inside.{markOf, MarkAsks, Marked, Whole, RoomFor, PutAsks, Put, PutWhole, ScanAsks, Scanned, LinesAsk, LinesScanned};
+ghost use Rattle.resume.specs.Inside.{markOf, MarkAsks, Marked, Whole, RoomFor, PutAsks, Put, PutWhole, ScanAsks, Scanned, LinesAsk, LinesScanned, FewAsks, answersIn};
 
 fn mark_of(b: bool) -> u8
     ensures { λ r. ⌜ r ≡ markOf b ⌝ }
@@ -122,6 +122,37 @@ fn put(
         return put_whole(line, list, first, second, hits);
     }
     put_some(line, list, marks, first, second, hits)
+}
+
+// The pairs of a line, whose box is lent, with each of a short list. A byte for each answer would cost more than it saves.
+pub(crate) fn scan_few(
+    line: u32,
+    bounds: Box,
+    list: &[u32],
+    low_x: &[f64],
+    low_y: &[f64],
+    high_x: &[f64],
+    high_y: &[f64],
+    at: usize,
+    first: &mut [u32],
+    second: &mut [u32],
+    hits: usize,
+) -> usize
+    requires { ⌜ FewAsks (now list) (now «low_x») (now «low_y») (now «high_x») (now «high_y») at (now first) (now second) hits ⌝ }
+    ensures { λ r. let marks = answersIn bounds (now («low_x» .entry)) (now («low_y» .entry)) (now («high_x» .entry)) (now («high_y» .entry)) at (length (now (list .entry))) in
+        ⌜ Put line (now (list .entry)) marks (length (now (list .entry))) (now (first .entry)) (now (second .entry)) hits (now (first .exit)) (now (second .exit)) r ⌝ }
+{
+    let mut hits = hits;
+    let mut u = 0;
+    while u < list.len() {
+        let other = boxes::box_in(low_x, low_y, high_x, high_y, at + u);
+        let hit = wide8(mark_of(bounds.overlaps_with(other)));
+        first[hits] = line;
+        second[hits] = list[u];
+        hits = hits + hit;
+        u = u + 1;
+    }
+    hits
 }
 
 // The pairs of a line with each of a list, whose boxes stand ready from `at` on, and for which there is room. A line

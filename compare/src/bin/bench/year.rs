@@ -15,6 +15,8 @@ const BAR: Option<f64> = Some(1.0);
 const MEMORY_BAR: Option<f64> = Some(0.5);
 /// Of a visit that hands out each pair once, by a Rust that takes the repeats out of what it is handed.
 const ONCE_BAR: Option<f64> = Some(1.0);
+/// The same by a plain visit of the port.
+const PLAIN_BAR: Option<f64> = Some(1.07);
 
 /// Of a visit that pays for its checks once, by the Rust's callback.
 const VISIT_BAR: Option<f64> = Some(0.6);
@@ -238,9 +240,10 @@ pub fn once(clock: &Clock, years: &[Year], seed: u64) {
         let parties: &mut [&mut dyn FnMut()] = if held { &mut [&mut once, &mut visit, &mut rust] } else { &mut [&mut once, &mut visit] };
         let times = clock.turns(parties);
         let of_a_test = |party: usize| times.of(party) * 1e9 / y.tests as f64;
+        let plain = times.ratio(0, 1);
         print!(
-            "  {:<64} once {:>7.2}  plain {:>7.2} ns a test  once/plain {:.3}", format!("{} lines: {} tests, {} overlaps, {} pairs", y.n, y.tests, y.overlaps, out[0]),
-            of_a_test(0), of_a_test(1), times.ratio(0, 1),
+            "  {:<64} once {:>7.2}  plain {:>7.2} ns a test  once/plain {plain:.3}{}",
+            format!("{} lines: {} tests, {} overlaps, {} pairs", y.n, y.tests, y.overlaps, out[0]), of_a_test(0), of_a_test(1), clock.held(plain, PLAIN_BAR),
         );
         if held {
             let ratio = times.ratio(0, 2);

@@ -28,7 +28,7 @@ pub enum Added {
 }
 
 // In how many lists of cells, and of global lines, the line goes; or that its walk was cut off.
-pub enum Goes {
+pub(crate) enum Goes {
     To { cells: usize, globals: usize },
     Over,
 }

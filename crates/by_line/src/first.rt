@@ -5,7 +5,7 @@ ghost use lib.ListN.{length};
 ghost use Rattle.by_line.specs.First.{meets, frontOf, meetBefore};
 
 // Whether two increasing lists have an entry in common, from their ends back.
-pub fn meet(xs: &[u32], ys: &[u32]) -> bool
+fn meet(xs: &[u32], ys: &[u32]) -> bool
     ensures { λ r. let a = now (xs .entry) in let b = now (ys .entry) in ⌜ r ≡ meets a b (length a) (length b) ⌝ }
 {
     let mut i = xs.len();

@@ -33,7 +33,7 @@ pub struct Ends {
 }
 
 // The columns of a row that are covered: the first and the last.
-pub struct Columns {
+pub(crate) struct Columns {
     pub first: u64,
     pub last: u64,
 }

@@ -20,7 +20,7 @@ pub const MOST_LINES: usize = 65536;
 pub const LEAST_SCRATCH: usize = 16384;
 
 // Finite, of magnitude at most 1e9.
-pub fn is_coordinate(v: f64) -> bool
+fn is_coordinate(v: f64) -> bool
     ensures { λ r. ⌜ r ≡ coordinate v ⌝ }
 {
     numbers::order::magnitude(v) <= 1e9
@@ -35,7 +35,7 @@ pub fn is_point(x: f64, y: f64) -> bool
     false
 }
 
-pub fn is_segment(s: Segment) -> bool
+fn is_segment(s: Segment) -> bool
     ensures { λ r. ⌜ r ≡ segment s ⌝ }
 {
     if is_point(s.start_x, s.start_y) {

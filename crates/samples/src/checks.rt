@@ -8,7 +8,7 @@ ghost use mathlib.Core.Path.{_≡_};
 ghost use Rattle.samples.specs.Samples.{samples, sampled, lengthsCheck, samplesCheck, sampleLinesCheck};
 
 // Whether the four numbers of a line are raised samples.
-pub fn is_sampled(a: Raised) -> bool
+pub(crate) fn is_sampled(a: Raised) -> bool
     ensures { λ r. ⌜ r ≡ sampled a ⌝ }
 {
     (a.start_x <= 1073741824)

@@ -51,42 +51,42 @@ pub enum Reached {
 }
 
 // One axis of the line: what a move adds to the index, modulo 2^32, and to t_max; and the index of the end.
-pub struct Course {
+pub(crate) struct Course {
     pub step: u32,
     pub t_delta: f64,
     pub end: u32,
 }
 
 // One axis of the state: the index, modulo 2^32, and t at the next boundary.
-pub struct Position {
+pub(crate) struct Position {
     pub index: u32,
     pub t_max: f64,
 }
 
-pub struct Way {
+pub(crate) struct Way {
     pub x: Course,
     pub y: Course,
 }
 
-pub struct Walk {
+pub(crate) struct Walk {
     pub x: Position,
     pub y: Position,
 }
 
 // On which axes a turn moves. On none, the walk stops.
-pub struct Turn {
+pub(crate) struct Turn {
     pub x: bool,
     pub y: bool,
 }
 
 // What a turn comes to: the state, and how many are pushed.
-pub struct Next {
+pub(crate) struct Next {
     pub at: Walk,
     pub count: usize,
 }
 
 // How a run of turns ends: at a stop, with so many pushed, or with no turn left.
-pub enum Ran {
+pub(crate) enum Ran {
     Done(usize),
     Over,
 }

@@ -74,6 +74,10 @@ module _ (ls : Lines) (g : Grid) (t : Tables) (b : ℕ) where
   unfolding fromCheck testsFrom
   from-none r e = sym (then-andThen (visitCheck ls g t) (bookmarkCheck t b) (gives (drop b (testsOf t)))) ∙ then-refused _ _ r e
 
+  pub from-fine : (c : Cursor) → CursorIs ls g t b c → fromCheck ls g t b ≡ Fine
+  unfolding fromCheck
+  from-fine c k = andThen-fine _ _ (k .ready .fine) ∙ book-in t b (k .at-most)
+
   pub from-cursor : (c : Cursor) → CursorIs ls g t b c → testsFrom ls g t b ≡ gives (drop b (testsOf t))
   unfolding testsFrom
   from-cursor c k = then-fine _ _ (k .ready .fine) ∙ then-fine _ _ (book-in t b (k .at-most))

@@ -7,6 +7,7 @@ use native.Mathlib.Numerals.{add-one}
 use native.Mathlib.Omega.{arith}
 use lib.ListN.{length, getD, take, drop, length-append, length-drop}
 use lib.Seq.{drop-cons, drop-append-le, drop-drop, drop-nil}
+use Rattle.slices.specs.Lists.{Rising}
 use Rattle.refusals.specs.declared.Check.the-variants.{Fine}
 use Rattle.grid.specs.declared.Grid.{Grid}
 use Rattle.grid.specs.Domain.{Lines, count}
@@ -17,10 +18,11 @@ use Rattle.seek.specs.declared.Cursor.{Cursor}
 use Rattle.seek.specs.Tests.{Pair, withEach, pairs, placeOf, cellTests, others, globalTests, testsOf}
 use Rattle.seek.specs.Bookmarks.{beside, visitCheck}
 use Rattle.seek.specs.Inside.{tri, CellsFit, GlobalsFit, CellSought, RowSought, GlobalSought, LineSought, SoughtAsks}
-use Rattle.seek.specs.Cursors.{cellsRest, globalsRest, restIn, restOf, PlaceFits, LineFits, CursorIs}
+use Rattle.seek.specs.Cursors.{cellsRest, globalsRest, restIn, restOf, PlaceFits, LineFits, atFirst, CursorIs}
 use Rattle.seek.proofs.Clauses.{left-suc, length-with, drop-with, with-cons, pairs-cons, cells-zero, cells-suc, globals-zero, globals-suc}
 use Rattle.seek.proofs.CellRests.{length-list, rest-at, cells-done}
 use Rattle.seek.proofs.GlobalRests.{grest-at, globals-begin, globals-done}
+use Rattle.seek.proofs.FirstTests.{first-in-cell, first-at-global, first-at-end}
 use Rattle.seek.proofs.Lengths.{lines-count, length-pairs}
 use Rattle.seek.proofs.Standing.{Stands, stands, globals-fit}
 use Rattle.seek.proofs.Clauses.{regroup}
@@ -113,7 +115,12 @@ module _ (ls : Lines) (g : Grid) (offsets items globals : List ℕ) (k : ℕ) (f
             rw (← e, rest-at (g .cols) offsets items m c h i (i + 1 + left′), sub-zero, ← globals-begin (count ls) globals k 0)
             (regroup (withEach (placeOf (g .cols) c) (getD xs i 0) (drop (i + 1 + left′) xs)) (pairs (placeOf (g .cols) c) (drop (suc i) xs)) more tail)
 
+        rises : Rising 0 xs
+        unfolding xs
+        rises = (here ls g offsets items globals k fine) .tables .lists .lists c (rw e at h) .rises
+
         pub found-cell : CursorIs ls g t bookmark (record { cell = c; i = i; j = i + 1 + left′; p = 0; q = 0; k = 0 })
+        unfolding xs
         found-cell =
             let row = withEach (placeOf (g .cols) c) (getD xs i 0) (drop (i + 1 + left′) xs) in
             record {
@@ -135,6 +142,7 @@ module _ (ls : Lines) (g : Grid) (offsets items globals : List ℕ) (k : ℕ) (f
                     r-within,
                   );
               rest = rest-is ∙ sym left-is;
+              at-first = sym (ap (atFirst t) left-is ∙ first-in-cell t c i (i + 1 + left′) (pairs (placeOf (g .cols) c) (drop (suc i) xs) ++ (more ++ tail)) rises (omega arith) r-within);
             }
 
     -- past the cells
@@ -175,6 +183,7 @@ module _ (ls : Lines) (g : Grid) (offsets items globals : List ℕ) (k : ℕ) (f
         unfolding tail
         found-end l b =
             let z : k - p ≡ 0 = omega arith in
+            let none : drop bookmark (testsOf t) ≡ [] = past ∙ w .same ∙ rw (z, globals-zero) (drop-nil left′) in
             record {
               ready = record {
                 fine = fine;
@@ -184,7 +193,8 @@ module _ (ls : Lines) (g : Grid) (offsets items globals : List ℕ) (k : ℕ) (f
                 };
               };
               at-most = omega (arith, counted, counted-globals l, tests-long);
-              rest = at-end k 0 0 ∙ globals-done (count ls) globals k k 0 (omega arith) ∙ sym (past ∙ w .same ∙ rw (z, globals-zero) (drop-nil left′));
+              rest = at-end k 0 0 ∙ globals-done (count ls) globals k k 0 (omega arith) ∙ sym none;
+              at-first = rw (e, none) (sym (first-at-end t));
             }
 
         module _ (l : p < k) (q x : ℕ) (s : LineSought (count ls) k globals p left′ q x) where
@@ -231,4 +241,5 @@ module _ (ls : Lines) (g : Grid) (offsets items globals : List ℕ) (k : ℕ) (f
                 ready = record { fine = fine; fits = record { in-cells = place-end; in-globals = s .fits } };
                 at-most = some-left;
                 rest = at-end p q x ∙ sym left-now;
+                at-first = rw (e, left-now) (sym (first-at-global t p q x table-globals (s .fits) l (s .one)));
               }

@@ -8,6 +8,8 @@ pub mod Standing
 pub mod Lengths
 pub mod Passed
 pub mod SeekTurns
+pub mod FirstTests
 pub mod Founds
 pub mod FindLaws
+pub mod Outcomes
 pub mod PlaceLaws

@@ -182,11 +182,12 @@ module _ (n m : ℕ) (globals : List ℕ) (p left₀ left q k : ℕ) (s : LineSe
       ∙ others-jump d (n - (k + d)) k (take (suc p) globals) (λ x a b. free n m globals (s .table) p q k (s .fits) (s .inside) x a (omega arith))
 
   -- the line that is sought
-  pub line-found : k + left ≤ stopOf n globals p q → LineSought n m globals p left₀ q (k + left)
+  pub line-found : k + left < stopOf n globals p q → LineSought n m globals p left₀ q (k + left)
   line-found h =
       record {
-        fits = line-further n m globals (s .table) p q k (s .fits) (s .inside) (k + left) (omega arith) h;
-        same = s .same ∙ jump left h;
+        fits = line-further n m globals (s .table) p q k (s .fits) (s .inside) (k + left) (omega arith) (omega arith);
+        one = h;
+        same = s .same ∙ jump left (omega arith);
       }
 
   pub line-last : p < q → LineSought n m globals p left₀ q (k + left)

@@ -1,15 +1,17 @@
 -- Where a visit stands. A cursor means the tests that are left from there: what is left of the cells, and then what is left of the globals.
 -- Definitions only.
-use Prim.Native.Nat.{ℕ, zero, suc, _+_, _-_, _≤_, _<_}
+use Prim.Native.Nat.{ℕ, zero, suc, _+_, _-_, _*_, _≤_, _<_}
 use mathlib.Core.Path.{_≡_}
-use mathlib.Core.List.{List, [], _++_}
+use mathlib.Core.Bool.{cond}
+use mathlib.Core.List.{List, [], _∷_, _++_}
 use lib.ListN.{length, getD, take, drop}
+use lib.Dec.{ltb}
 use Rattle.refusals.specs.declared.Check.the-variants.{Fine, Refused}
 use Rattle.grid.specs.declared.Grid.{Grid}
 use Rattle.grid.specs.Domain.{Lines}
-use Rattle.tables.specs.Tables.{Tables, cells, listIn}
+use Rattle.tables.specs.Tables.{Tables, cells, listIn, listOf}
 use Rattle.seek.specs.declared.Place.{Place}
-use Rattle.seek.specs.declared.Place.the-variants.{Global}
+use Rattle.seek.specs.declared.Place.the-variants.{Cell, Global}
 use Rattle.seek.specs.declared.Cursor.{Cursor}
 use Rattle.seek.specs.declared.SeekAnswer.{SeekAnswer}
 use Rattle.seek.specs.declared.SeekAnswer.the-variants as answer
@@ -65,13 +67,35 @@ pub record Ready (ls : Lines) (g : Grid) (t : Tables) (c : Cursor) : Type 0 wher
   pub fine : visitCheck ls g t ≡ Fine
   pub fits : CursorFits t c
 
+-- ---- the cursor of some tests
+
+-- how many entries of a list come before the first that is not below v: where v stands in a list that increases
+unfoldable pub rankOf : ℕ → List ℕ → ℕ
+rankOf v [] = 0
+rankOf v (x ∷ xs) = cond (ltb x v) (suc (rankOf v xs)) 0
+
+-- in cell c: where lines a and b stand in its list
+abbrev pub atCell : Tables → ℕ → ℕ → ℕ → Cursor
+atCell t c a b = record { cell = c; i = rankOf a (listOf t c); j = rankOf b (listOf t c); p = 0; q = 0; k = 0 }
+
+-- where the test of lines a and b stands: in its cell; or past all cells at line b of the global at p, of the globals up to which q are below b
+unfoldable pub atTest : Tables → Place → ℕ → ℕ → Cursor
+atTest t (Cell row col) a b = atCell t (row * t .cols + col) a b
+atTest t (Global p) a b = record { cell = cells t; i = 0; j = 1; p = p; q = rankOf b (take (suc p) (t .globals)); k = b }
+
+-- THE CURSOR of some tests: where the first of them stands, or the end
+unfoldable pub atFirst : Tables → List Pair → Cursor
+atFirst t [] = record { cell = cells t; i = 0; j = 1; p = t .«global_count»; q = 0; k = 0 }
+atFirst t (x ∷ xs) = atTest t (x .place) (x .first) (x .second)
+
 -- ---- the cursor of a bookmark
 
--- the cursor of a bookmark
+-- the cursor of the tests from a bookmark on: it fits, they are what is left from it, and it stands at the first of them
 pub record CursorIs (ls : Lines) (g : Grid) (t : Tables) (bookmark : ℕ) (c : Cursor) : Type 0 where
   pub ready : Ready ls g t c
   pub at-most : bookmark ≤ length (testsOf t)
   pub rest : restOf t c ≡ drop bookmark (testsOf t)
+  pub at-first : c ≡ atFirst t (drop bookmark (testsOf t))
 
 -- what is found: the cursor, or why a visit from there is refused
 abbrev pub FindIs : Lines → Grid → Tables → ℕ → SeekAnswer → Type 0

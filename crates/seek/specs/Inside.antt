@@ -70,9 +70,10 @@ pub record GlobalSought (n m : ℕ) (globals : List ℕ) (left at left′ : ℕ)
   pub counts : left + length (globalTests n globals (m - at) at) ≡ left′ + length (globalTests n globals m 0)
   pub inside : at < m → left′ + suc at < n
 
--- lines of the global at p are passed
+-- lines of the global at p are passed, and line k is tested
 pub record LineSought (n m : ℕ) (globals : List ℕ) (p left q k : ℕ) : Type 0 where
   pub fits : LineFits n m globals p q k
+  pub one : k < stopOf n globals p q
   pub same : drop left (others (take (suc p) globals) n 0) ≡ others (take (suc p) globals) (n - k) k
 
 pub record SoughtAsks (n m : ℕ) (globals : List ℕ) (p left : ℕ) : Type 0 where

@@ -6,7 +6,7 @@ use Prim.Native.Nat.{ℕ, zero, suc, _+_, _-_, _≤_, _<_, min}
 use native.Mathlib.Nat.{zero-sub}
 use native.Mathlib.Numerals.{add-one}
 use native.Mathlib.Omega.{arith}
-use lib.ListN.{length, getD, take, drop, List·getD-eq-default}
+use lib.ListN.{length, getD, take, drop, length-take, List·getD-eq-default}
 use lib.Dec.{leb, ltb}
 use lib.Seq.{slice, length-take-le}
 use borrow.Author.Tests.{le-leb, lt-leb, lt-ltb, le-ltb}
@@ -66,6 +66,14 @@ module _ (n : ℕ) (offsets items : List ℕ) (c : ℕ) where
   module _ (from to : ℕ) (ef : from ≡ getD offsets c 0) (et : to ≡ getD offsets (c + 1) 0) where
     to-is : getD offsets (suc c) 0 ≡ to
     to-is = sym (et ∙ rw add-one)
+
+    -- a list is no longer than its offsets are apart
+    pub list-short : to < from + 2 → length (listBy n offsets items c) ≤ 1
+    unfolding listBy
+    list-short h =
+        let part : length (take (to - from) (drop from items)) ≤ 1 = rw (length-take (to - from) (drop from items)) (omega arith) in
+        if-says (λ (xs : List ℕ). length xs ≤ 1) _ (listIn offsets items c) (omega arith)
+        (λ e. rw (← ef, to-is) (rw (part-slice from to items) at part))
 
     pub list-falls : to < from → [] ≡ listBy n offsets items c
     unfolding listBy

@@ -18,10 +18,10 @@ use Rattle.resume.specs.declared.rows.ListRan.{ListRan}
 use Rattle.resume.specs.declared.rows.CellsRan.{CellsRan}
 use Rattle.resume.specs.AsTheyAre.{listBy}
 use Rattle.resume.specs.Cursors.{listFrom, cellsOf, cellsFrom}
-use Rattle.resume.specs.Inside.{Goes, Lent, Scratch, SameScratch, Long, RowIs, ListAsks, ListRanIs, CellIs, CellFound, CellsAsk, CellsRanIs}
+use Rattle.resume.specs.Inside.{Goes, Lent, Scratch, SameScratch, Long, RowIs, ListAsks, ListRanIs, CellsPassed, CellIs, CellFound, CellsAsk, CellsRanIs}
 use Rattle.resume.proofs.Goings.{goes-none, goes-then}
-use Rattle.resume.proofs.ListLaws.{from-begin, from-length}
-use Rattle.resume.proofs.AsIs.{list-increases}
+use Rattle.resume.proofs.ListLaws.{from-begin, from-length, short-none}
+use Rattle.resume.proofs.AsIs.{list-increases, list-short}
 
 module _ (cols : ℕ) (L : ℕ → List ℕ) where
   pub of-zero : (c : ℕ) → cellsOf cols L 0 c ≡ []
@@ -55,6 +55,20 @@ module _ (cols : ℕ) (L : ℕ → List ℕ) where
     pub from-next : (i j : ℕ) → listFrom (placeOf cols c) (L c) i j ≡ [] → cellsFrom cols L (m - c) c i j ≡ cellsFrom cols L (m - (c + 1)) (c + 1) 0 1
     from-next i j e = from-at i j ∙ rw (e, add-one) (of-begin (m - suc c) (suc c))
 
+-- ---- cells that are passed over
+
+pub passed-none : (m : ℕ) (offsets : List ℕ) (cell : ℕ) → CellsPassed m offsets cell cell
+passed-none m offsets cell = record { onward = omega arith; same = λ cols n items. refl }
+
+pub passed-more : (m : ℕ) (offsets : List ℕ) (cell₀ cell from to : ℕ) → CellsPassed m offsets cell₀ cell → cell < m → from ≡ getD offsets cell 0 → to ≡ getD offsets (cell + 1) 0 → to < from + 2
+    → CellsPassed m offsets cell₀ (cell + 1)
+passed-more m offsets cell₀ cell from to p h ef et l =
+    record {
+      onward = omega (arith, p .onward);
+      same = λ cols n items. p .same cols n items
+          ∙ from-next cols (listBy n offsets items) m cell h 0 1 (short-none (placeOf cols cell) (listBy n offsets items cell) (list-short n offsets items cell from to ef et l));
+    }
+
 -- ---- the first test at or after a place in the cells
 
 pub record Settling (n m : ℕ) (offsets items : List ℕ) (cell₀ i₀ j₀ cell i j : ℕ) : Type 0 where
@@ -82,6 +96,10 @@ module _ (n m : ℕ) (offsets items : List ℕ) (cell₀ i₀ j₀ cell i j : �
     pub settling-more : ((pl : Place) (ys : List ℕ) → length ys ≡ length xs → listFrom pl ys i j ≡ []) → Settling n m offsets items cell₀ i₀ j₀ (cell + 1) 0 1
     settling-more f =
         record { same = λ cols. s .same cols ∙ from-next cols (listBy n offsets items) m cell h i j (f (placeOf cols cell) (listBy n offsets items cell) (ap length (sym e))) }
+
+pub settling-passed : (n m : ℕ) (offsets items : List ℕ) (cell₀ i₀ j₀ cell c : ℕ) → Settling n m offsets items cell₀ i₀ j₀ cell 0 1 → CellsPassed m offsets cell c
+    → Settling n m offsets items cell₀ i₀ j₀ c 0 1
+settling-passed n m offsets items cell₀ i₀ j₀ cell c s p = record { same = λ cols. s .same cols ∙ p .same cols n items }
 
 -- ---- the run through the cells
 
@@ -203,3 +221,14 @@ module _ (ls : Lines) (cols m : ℕ) (offsets items : List ℕ) (cell₀ i₀ j�
             goes = λ later. rw (from-next cols L m cell h (r .i) (r .j) d) at (both later);
             same = kept;
           }
+
+pub cells-passed : (ls : Lines) (cols m : ℕ) (offsets items : List ℕ) (cell₀ i₀ j₀ : ℕ) (lx ly hx hy : List Float) (marks fs ss : List ℕ)
+    (lx′ ly′ hx′ hy′ : List Float) (marks′ fs′ ss′ : List ℕ) (cell c tests hits : ℕ)
+    → CellsRun ls cols m offsets items cell₀ i₀ j₀ lx ly hx hy marks fs ss lx′ ly′ hx′ hy′ marks′ fs′ ss′ cell 0 1 tests hits → CellsPassed m offsets cell c
+    → CellsRun ls cols m offsets items cell₀ i₀ j₀ lx ly hx hy marks fs ss lx′ ly′ hx′ hy′ marks′ fs′ ss′ c 0 1 tests hits
+cells-passed ls cols m offsets items cell₀ i₀ j₀ lx ly hx hy marks fs ss lx′ ly′ hx′ hy′ marks′ fs′ ss′ cell c tests hits s p =
+    record {
+      asks = s .asks;
+      goes = λ later. rw (p .same cols (count ls) items) at (s .goes later);
+      same = s .same;
+    }

@@ -74,6 +74,10 @@ module _ (len i j at : ℕ) (ea : at ≡ cond (ltb i j) j (suc i)) where
         same = λ pl xs e. from-at pl xs ∙ row-ends pl xs i at (omega arith) (omega arith) ∙ rw (e₁, e₂) (sym (from-later pl xs (suc i) (suc (suc i)) (omega arith)));
       }
 
+-- a list of fewer than two has no test
+pub short-none : (pl : Place) (xs : List ℕ) → length xs ≤ 1 → listFrom pl xs 0 1 ≡ []
+short-none pl xs h = row-done (length xs) 0 1 1 (later-is 0 1 (omega arith)) h (omega arith) pl xs refl
+
 -- ---- a part of a row
 
 take-and-drop : (n : ℕ) (xs : List ℕ) → take n xs ++ drop n xs ≡ xs

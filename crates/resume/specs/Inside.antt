@@ -278,6 +278,11 @@ pub record ListRanIs (ls : Lines) (xs : List ℕ) (i j : ℕ) (fs ss : List ℕ)
 
 -- ---- the cells
 
+-- from the start of a cell to that of a later one no test is passed over
+pub record CellsPassed (m : ℕ) (offsets : List ℕ) (cell c : ℕ) : Type 0 where
+  pub onward : cell ≤ c
+  pub same : (cols n : ℕ) (items : List ℕ) → cellsFrom cols (listBy n offsets items) (m - cell) cell 0 1 ≡ cellsFrom cols (listBy n offsets items) (m - c) c 0 1
+
 pub record CellIs (n m : ℕ) (offsets items : List ℕ) (cell i j c a b : ℕ) : Type 0 where
   pub inside : c < m
   pub later : a < b

@@ -3,6 +3,7 @@ use slices::least;
 ghost use mathlib.Core.Path.{_≡_};
 ghost use Prim.Native.Nat.{_-_};
 ghost use Rattle.resume.specs.AsTheyAre.{reachOf, listBy, globalsBy};
+ghost use Rattle.resume.specs.Inside.{CellsPassed};
 
 pub(crate) fn wide(x: u32) -> usize
     ensures { λ r. ⌜ r ≡ x ⌝ }
@@ -45,6 +46,21 @@ pub(crate) fn list_of<'a>(lines: usize, offsets: &[u32], items: &'a [u32], cell:
         return &items[from..to];
     }
     &items[0..0]
+}
+
+// The first cell from a cell on that has two lines, by its offsets alone. A list of fewer has no test, so it is not looked at.
+pub(crate) fn next_cell(reach: usize, offsets: &[u32], cell: usize) -> usize
+    ensures { λ r. ⌜ CellsPassed reach (now (offsets .entry)) cell r ⌝ }
+{
+    let last = least(reach, less_one(offsets.len()));
+    let mut cell = cell;
+    while cell < last {
+        if wide(offsets[cell]) + 2 <= wide(offsets[cell + 1]) {
+            return cell;
+        }
+        cell = cell + 1;
+    }
+    cell
 }
 
 // The globals: none where the count is beyond their slice, or they do not increase below the number of lines.

@@ -366,7 +366,7 @@ pub(crate) fn run_cells(
                 hits,
             };
         }
-        cell = cell + 1;
+        cell = lists::next_cell(reach, offsets, cell + 1);
         i = 0;
         j = 1;
     }

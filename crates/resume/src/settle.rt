@@ -83,7 +83,7 @@ pub(crate) fn cell_at(
         if let RowAt::At { i: a, j: b } = row_at(list.len(), i, j) {
             return CellAt::At { cell, i: a, j: b };
         }
-        cell = cell + 1;
+        cell = lists::next_cell(reach, offsets, cell + 1);
         i = 0;
         j = 1;
     }

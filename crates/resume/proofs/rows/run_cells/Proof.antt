@@ -5,12 +5,13 @@ use Prim.Native.Nat.{ℕ, _+_, _-_, _*_, _≤_, _<_}
 use borrow.Author.Needs.{needs}
 use lib.ListN.{length, getD}
 use Rattle.grid.specs.Domain.{lines}
-use Rattle.resume.proofs.CellTurns.{CellsRun, cells-run, cells-list, cells-small, cells-full, cells-turn, cells-over, cells-kept, cells-first-kept, cells-second-kept, cells-first-long, cells-second-long}
+use Rattle.resume.proofs.CellTurns.{CellsRun, cells-run, cells-list, cells-small, cells-full, cells-turn, cells-passed, cells-over, cells-kept, cells-first-kept, cells-second-kept, cells-first-long, cells-second-long}
 use Rattle.resume.proofs.rows.run_cells.Statement.{statement}
 use Rattle.resume.proofs.rows.run_cells.Tie as tie
 use Rattle.resume.proofs.rows.run_cells.Reads as reads
 use Rattle.resume.proofs.rows.run_cells.Lts as lts
 use Rattle.resume.proofs.lists.list_of.Reads as list-of-reads
+use Rattle.resume.proofs.lists.next_cell.Reads as next-cell-reads
 use Rattle.resume.proofs.rows.run_list.Reads as run-list-reads
 
 abbrev Inv-loop : tie.InvT-loop
@@ -57,14 +58,20 @@ same-length-7 c = cells-second-kept _ _ _ _ _ _ _ _ _ _ _ _ _ _ _ _ _ _ _ _ _ _ 
 returns : tie.Need-returns Inv-loop μ-loop
 returns c = cells-full _ _ _ _ _ _ _ _ _ _ _ _ _ _ _ _ _ _ _ _ _ _ _ _ _ _ _ (c .before .before .before .before .before .before .before .before .before .before .before .before .before .before .before .before .before .before .before .before .before .before .before .before .before .before .loop .inv) (c .before .before .before .before .before .before .before .before .before .before .before .before .before .before .before .before .before .before .before .before .before .before .before .before .before .loop-test .taken) _ (c .before .before .before .before .before .before .before .before .before .before .before .before .before .before .before .before .before .before .before .before .before .before .before .before .list-of .ensures) _ _ _ _ _ _ _ _ (c .before .before .before .before .before .before .before .before .before .before .before .before .before .before .before .before .run-list .ensures .0) (c .before .before .before .before .before .before .before .before .before .before .before .before .before .before .before .before .run-list .ensures .1) (c .if1 .taken)
 
-add-cell : tie.Need-add-cell Inv-loop μ-loop
-add-cell c = omega (arith, c .before .before .before .before .before .before .before .before .before .before .before .before .before .before .before .before .before .before .before .before .before .before .before .before .before .loop-test .taken, c .before .before .before .before .before .before .before .before .before .before .before .before .before .before .before .before .before .before .before .before .before .before .before .before .before .before .before .before .before .before .before .before .before .before .before .before .before .before .before .before)
+add-next-cell : tie.Need-add-next-cell Inv-loop μ-loop
+add-next-cell c = omega (arith, c .before .before .before .before .before .before .before .before .before .before .before .before .before .before .before .before .before .before .before .before .before .before .before .before .before .loop-test .taken, c .before .before .before .before .before .before .before .before .before .before .before .before .before .before .before .before .before .before .before .before .before .before .before .before .before .before .before .before .before .before .before .before .before .before .before .before .before .before .before .before)
+
+next-cell-requires : tie.Need-next-cell-requires Inv-loop μ-loop
+next-cell-requires c κs = tt
 
 loop-less : tie.Need-loop-less Inv-loop μ-loop
-loop-less c = omega (arith, c .before .before .before .before .before .before .before .before .before .before .before .before .before .before .before .before .before .before .before .before .before .before .before .before .before .loop-test .taken)
+loop-less c = omega (arith, c .before .before .before .before .before .before .before .before .before .before .before .before .before .before .before .before .before .before .before .before .before .before .before .before .before .before .loop-test .taken, c .next-cell .ensures .onward)
 
 loop-again : tie.Need-loop-again Inv-loop μ-loop
-loop-again c = cells-turn _ _ _ _ _ _ _ _ _ _ _ _ _ _ _ _ _ _ _ _ _ _ _ _ _ _ _ (c .before .before .before .before .before .before .before .before .before .before .before .before .before .before .before .before .before .before .before .before .before .before .before .before .before .before .loop .inv) (c .before .before .before .before .before .before .before .before .before .before .before .before .before .before .before .before .before .before .before .before .before .before .before .before .before .loop-test .taken) _ (c .before .before .before .before .before .before .before .before .before .before .before .before .before .before .before .before .before .before .before .before .before .before .before .before .list-of .ensures) _ _ _ _ _ _ _ _ (c .before .before .before .before .before .before .before .before .before .before .before .before .before .before .before .before .run-list .ensures .0) (c .before .before .before .before .before .before .before .before .before .before .before .before .before .before .before .before .run-list .ensures .1) (c .if1 .left)
+loop-again c =
+    cells-passed _ _ _ _ _ _ _ _ _ _ _ _ _ _ _ _ _ _ _ _ _ _ _ _ _ _
+    (cells-turn _ _ _ _ _ _ _ _ _ _ _ _ _ _ _ _ _ _ _ _ _ _ _ _ _ _ _ (c .before .before .before .before .before .before .before .before .before .before .before .before .before .before .before .before .before .before .before .before .before .before .before .before .before .before .before .loop .inv) (c .before .before .before .before .before .before .before .before .before .before .before .before .before .before .before .before .before .before .before .before .before .before .before .before .before .before .loop-test .taken) _ (c .before .before .before .before .before .before .before .before .before .before .before .before .before .before .before .before .before .before .before .before .before .before .before .before .before .list-of .ensures) _ _ _ _ _ _ _ _ (c .before .before .before .before .before .before .before .before .before .before .before .before .before .before .before .before .before .run-list .ensures .0) (c .before .before .before .before .before .before .before .before .before .before .before .before .before .before .before .before .before .run-list .ensures .1) (c .before .if1 .left))
+    (c .next-cell .ensures)
 
 same-length-8 : tie.Need-same-length-8 Inv-loop μ-loop
 same-length-8 c = c .before .loop .inv .same .boxes .lx-long
@@ -108,7 +115,8 @@ run-cells-spec =
     same-length-6
     same-length-7
     returns
-    add-cell
+    add-next-cell
+    next-cell-requires
     loop-less
     loop-again
     same-length-8

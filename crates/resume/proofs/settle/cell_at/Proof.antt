@@ -3,13 +3,14 @@ use native.Mathlib.Omega.{arith}
 use Prim.Native.Nat.{_-_}
 use borrow.Author.Needs.{needs}
 use mathlib.Core.Path.{sym, _∙_}
-use Rattle.resume.proofs.CellTurns.{Settling, settling-none, settled-past, settled-here, settling-more}
+use Rattle.resume.proofs.CellTurns.{Settling, settling-none, settled-past, settled-here, settling-more, settling-passed}
 use Rattle.resume.proofs.RowTurns.{row-at-is, row-at-past}
 use Rattle.resume.proofs.settle.cell_at.Statement.{statement}
 use Rattle.resume.proofs.settle.cell_at.Tie as tie
 use Rattle.resume.proofs.settle.cell_at.Reads as reads
 use Rattle.resume.proofs.settle.cell_at.Lts as lts
 use Rattle.resume.proofs.lists.list_of.Reads as list-of-reads
+use Rattle.resume.proofs.lists.next_cell.Reads as next-cell-reads
 use Rattle.resume.proofs.settle.row_at.Reads as row-at-reads
 
 abbrev Inv-loop : tie.InvT-loop
@@ -38,14 +39,20 @@ returns c = settled-here _ _ _ _ _ _ _ _ _ _ (c .before .before .before .before 
 enum-told : tie.Need-enum-told Inv-loop μ-loop
 enum-told c = search needs
 
-add-cell : tie.Need-add-cell Inv-loop μ-loop
-add-cell c = omega arith
+add-next-cell : tie.Need-add-next-cell Inv-loop μ-loop
+add-next-cell c = omega arith
+
+next-cell-requires : tie.Need-next-cell-requires Inv-loop μ-loop
+next-cell-requires c κs = tt
 
 loop-less : tie.Need-loop-less Inv-loop μ-loop
-loop-less c = omega arith
+loop-less c = omega (arith, c .next-cell .ensures .onward)
 
 loop-again : tie.Need-loop-again Inv-loop μ-loop
-loop-again c = settling-more _ _ _ _ _ _ _ _ _ _ (c .before .before .before .before .before .loop .inv) (c .before .before .before .before .loop-test .taken) _ (c .before .before .before .list-of .ensures) (row-at-past _ _ _ _ (c .before .before .row-at .ensures) (c .enum-told .given .1))
+loop-again c =
+    settling-passed _ _ _ _ _ _ _ _ _
+    (settling-more _ _ _ _ _ _ _ _ _ _ (c .before .before .before .before .before .before .loop .inv) (c .before .before .before .before .before .loop-test .taken) _ (c .before .before .before .before .list-of .ensures) (row-at-past _ _ _ _ (c .before .before .before .row-at .ensures) (c .before .enum-told .given .1)))
+    (c .next-cell .ensures)
 
 returns-2 : tie.Need-returns-2 Inv-loop μ-loop
 returns-2 c = settled-past _ _ _ _ _ _ _ _ _ _ (c .before .loop .inv) (c .loop-test .left)
@@ -62,7 +69,8 @@ cell-at-spec =
     enum-known-a
     returns
     enum-told
-    add-cell
+    add-next-cell
+    next-cell-requires
     loop-less
     loop-again
     returns-2)

@@ -1,6 +1,6 @@
 -- The box of a line as the code makes it, the turns of the gathering, and the box within all that are gathered. Assumes nothing.
 use mathlib.Core.Path.{_≡_, refl, sym, ap, _∙_}
-use mathlib.Core.Bool.{Bool, true, false, _&&_, true≢false}
+use mathlib.Core.Bool.{Bool, true, false, cond, _&&_, true≢false}
 use mathlib.Core.List.{List, [], _∷_}
 use Prim.Native.Nat.{ℕ, zero, suc, _+_, _-_, _≤_, _<_, min}
 use native.Mathlib.Decide.{ℕ-discrete}
@@ -8,12 +8,13 @@ use native.Mathlib.Omega.{arith}
 use lib.ListN.{length, getD, take, drop, set, length-set}
 use lib.Seq.{getD-set-same, getD-set-other}
 use lib.Dec.{T}
-use lib.Ieee.{Float, nan, le}
+use lib.Ieee.{Float, nan, inf, fin, isNan, eq, lt, le}
 use lib.Ieee.Fits.{and-l, and-r, and-i}
 use Rattle.numbers.specs.Order.{leastOf, greatestOf}
 use Rattle.numbers.proofs.FloatOrder.{float-le-trans}
 use Rattle.slices.specs.Lists.{Below}
 use Rattle.slices.proofs.Members.{below-at}
+use Rattle.grid.proofs.Bools.{and-left, and-right}
 use Rattle.grid.specs.declared.Box.{Box}
 use Rattle.grid.specs.Domain.{Lines, count, Alike, segmentAt}
 use Rattle.grid.specs.Boxes.{boxOf, overlaps}
@@ -37,6 +38,38 @@ pub box-is : (ls : Lines) (i : ℕ) (a b d e : Float)
     → _≡_ {A = Box} (record { «min_x» = a; «min_y» = b; «max_x» = d; «max_y» = e }) (boxOf (segmentAt ls i))
 unfolding boxOf
 box-is ls i a b d e p q s t = rw (p, q, s, t)
+
+-- only a NaN is not equal to itself
+number : (a : Float) → eq a a ≡ true → isNan a ≡ false
+unfolding eq isNan
+number nan h = sym h
+number (inf s) h = refl
+number (fin s m e) h = refl
+
+plain-least : (a b : Float) → eq a a ≡ true → cond (lt b a) b a ≡ leastOf a b
+unfolding leastOf
+plain-least a b h = rw (number a h)
+
+plain-greatest : (a b : Float) → eq a a ≡ true → cond (lt a b) b a ≡ greatestOf a b
+unfolding greatestOf
+plain-greatest a b h = rw (number a h)
+
+-- the same where no start is a NaN
+pub box-plain : (ls : Lines) (i : ℕ) (a b d e : Float)
+    → (eq (getD (ls .«start_x») i nan) (getD (ls .«start_x») i nan) && eq (getD (ls .«start_y») i nan) (getD (ls .«start_y») i nan)) ≡ true
+    → a ≡ cond (lt (getD (ls .«end_x») i nan) (getD (ls .«start_x») i nan)) (getD (ls .«end_x») i nan) (getD (ls .«start_x») i nan)
+    → b ≡ cond (lt (getD (ls .«end_y») i nan) (getD (ls .«start_y») i nan)) (getD (ls .«end_y») i nan) (getD (ls .«start_y») i nan)
+    → d ≡ cond (lt (getD (ls .«start_x») i nan) (getD (ls .«end_x») i nan)) (getD (ls .«end_x») i nan) (getD (ls .«start_x») i nan)
+    → e ≡ cond (lt (getD (ls .«start_y») i nan) (getD (ls .«end_y») i nan)) (getD (ls .«end_y») i nan) (getD (ls .«start_y») i nan)
+    → _≡_ {A = Box} (record { «min_x» = a; «min_y» = b; «max_x» = d; «max_y» = e }) (boxOf (segmentAt ls i))
+box-plain ls i a b d e h p q s t =
+    let x = and-left (eq (getD (ls .«start_x») i nan) (getD (ls .«start_x») i nan)) (eq (getD (ls .«start_y») i nan) (getD (ls .«start_y») i nan)) h in
+    let y = and-right (eq (getD (ls .«start_x») i nan) (getD (ls .«start_x») i nan)) (eq (getD (ls .«start_y») i nan) (getD (ls .«start_y») i nan)) h in
+    box-is ls i a b d e
+    (p ∙ plain-least (getD (ls .«start_x») i nan) (getD (ls .«end_x») i nan) x)
+    (q ∙ plain-least (getD (ls .«start_y») i nan) (getD (ls .«end_y») i nan) y)
+    (s ∙ plain-greatest (getD (ls .«start_x») i nan) (getD (ls .«end_x») i nan) x)
+    (t ∙ plain-greatest (getD (ls .«start_y») i nan) (getD (ls .«end_y») i nan) y)
 
 -- ---- gathering
 

@@ -3,8 +3,9 @@ use grid::Box;
 use numbers::order::greatest;
 use numbers::order::least;
 ghost use mathlib.Core.Path.{_≡_};
-ghost use mathlib.Core.Bool.{true};
+ghost use mathlib.Core.Bool.{true, cond};
 ghost use Prim.Native.Nat.{_+_};
+ghost use lib.Ieee.{lt};
 ghost use lib.ListN.{length};
 ghost use Rattle.grid.specs.Domain.{lines, segmentAt};
 ghost use Rattle.grid.specs.Boxes.{boxOf};
@@ -16,6 +17,25 @@ pub(crate) struct Window {
     pub held: usize,
 }
 
+fn higher(a: f64, b: f64) -> f64
+    ensures { λ r. ⌜ r ≡ cond (lt a b) b a ⌝ }
+{
+    if a < b {
+        return b;
+    }
+    a
+}
+
+fn lower(a: f64, b: f64) -> f64
+    ensures { λ r. ⌜ r ≡ cond (lt b a) b a ⌝ }
+{
+    if b < a {
+        return b;
+    }
+    a
+}
+
+// Where no start is a NaN, the box is made without a branch that goes by which end is lesser.
 pub(crate) fn box_at(
     start_x: &[f64],
     start_y: &[f64],
@@ -31,26 +51,21 @@ pub(crate) fn box_at(
     let y0 = start_y[i];
     let x1 = end_x[i];
     let y1 = end_y[i];
+    let plain = Box {
+        min_x: lower(x0, x1),
+        min_y: lower(y0, y1),
+        max_x: higher(x0, x1),
+        max_y: higher(y0, y1),
+    };
+    if (x0 == x0) & (y0 == y0) {
+        return plain;
+    }
     Box {
         min_x: least(x0, x1),
         min_y: least(y0, y1),
         max_x: greatest(x0, x1),
         max_y: greatest(y0, y1),
     }
-}
-
-fn higher(a: f64, b: f64) -> f64 {
-    if a < b {
-        return b;
-    }
-    a
-}
-
-fn lower(a: f64, b: f64) -> f64 {
-    if b < a {
-        return b;
-    }
-    a
 }
 
 // Entry u of the four slices becomes the box of line list[u]. Answers the greatest of the low ends and the least of the high ones, of which

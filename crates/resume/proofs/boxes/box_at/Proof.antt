@@ -1,17 +1,15 @@
 -- `resume::boxes::box_at` meets its contract. Assumes nothing.
-use native.Mathlib.Omega.{arith}
-use mathlib.Core.Path.{_≡_, refl, sym, ap, _∙_}
-use Prim.Native.Nat.{ℕ, _+_, _-_}
-use borrow.Author.Needs.{needs}
-use lib.ListN.{length, getD}
 use Rattle.grid.specs.Domain.{lines}
-use Rattle.resume.proofs.BoxTurns.{in-start-y, in-end-x, in-end-y, box-is}
+use Rattle.resume.proofs.BoxTurns.{box-is, box-plain}
+use borrow.Author.Needs.{needs}
 use Rattle.resume.proofs.boxes.box_at.Statement.{statement}
 use Rattle.resume.proofs.boxes.box_at.Tie as tie
 use Rattle.resume.proofs.boxes.box_at.Reads as reads
 use Rattle.resume.proofs.boxes.box_at.Lts as lts
 use Rattle.numbers.proofs.order.greatest.Reads as greatest-reads
 use Rattle.numbers.proofs.order.least.Reads as least-reads
+use Rattle.resume.proofs.boxes.higher.Reads as higher-reads
+use Rattle.resume.proofs.boxes.lower.Reads as lower-reads
 
 mul-x0 : tie.Need-mul-x0
 mul-x0 c = search needs
@@ -37,6 +35,23 @@ mul-y1 c = search needs
 shared-slice-read-y1 : tie.Need-shared-slice-read-y1
 shared-slice-read-y1 c = search needs
 
+lower-requires : tie.Need-lower-requires
+lower-requires c κs = search needs
+
+lower-requires-2 : tie.Need-lower-requires-2
+lower-requires-2 c κs = search needs
+
+higher-requires : tie.Need-higher-requires
+higher-requires c κs = search needs
+
+higher-requires-2 : tie.Need-higher-requires-2
+higher-requires-2 c κs = search needs
+
+returns : tie.Need-returns
+returns c =
+    let a = c .before .before .before .before .before .before .before .before .before .before .before .before .before .args in
+    box-plain (lines (a .start-x .now) (a .start-y .now) (a .end-x .now) (a .end-y .now)) (a .line) _ _ _ _ (c .if1 .taken) (c .before .before .before .before .lower .ensures) (c .before .before .before .lower2 .ensures) (c .before .before .higher .ensures) (c .before .higher2 .ensures)
+
 least-requires : tie.Need-least-requires
 least-requires c κs = search needs
 
@@ -49,9 +64,9 @@ greatest-requires c κs = search needs
 greatest-requires-2 : tie.Need-greatest-requires-2
 greatest-requires-2 c κs = search needs
 
-returns : tie.Need-returns
-returns c =
-    let a = c .before .before .before .before .before .before .before .before .before .before .before .before .args in
+returns-2 : tie.Need-returns-2
+returns-2 c =
+    let a = c .before .before .before .before .before .before .before .before .before .before .before .before .before .before .before .before .before .args in
     box-is (lines (a .start-x .now) (a .start-y .now) (a .end-x .now) (a .end-y .now)) (a .line) _ _ _ _ (c .before .before .before .least .ensures) (c .before .before .least2 .ensures) (c .before .greatest .ensures) (c .greatest2 .ensures)
 
 pub box-at-spec : {M : Type 1} → statement M
@@ -66,8 +81,13 @@ box-at-spec =
     shared-slice-read-x1
     mul-y1
     shared-slice-read-y1
+    lower-requires
+    lower-requires-2
+    higher-requires
+    higher-requires-2
+    returns
     least-requires
     least-requires-2
     greatest-requires
     greatest-requires-2
-    returns)
+    returns-2)

@@ -2,7 +2,7 @@
 use mathlib.Core.Path.{_≡_, refl, sym, ap, _∙_}
 use mathlib.Core.Bool.{Bool, true, false, cond, _&&_, true≢false}
 use mathlib.Core.List.{List, [], _∷_}
-use Prim.Native.Nat.{ℕ, zero, suc, _+_, _-_, _≤_, _<_, min}
+use Prim.Native.Nat.{ℕ, zero, suc, _+_, _-_, _*_, _≤_, _<_, min}
 use native.Mathlib.Decide.{ℕ-discrete}
 use native.Mathlib.Omega.{arith}
 use lib.ListN.{length, getD, take, drop, set, length-set}
@@ -18,7 +18,7 @@ use Rattle.grid.proofs.Bools.{and-left, and-right}
 use Rattle.grid.specs.declared.Box.{Box}
 use Rattle.grid.specs.Domain.{Lines, count, Alike, segmentAt}
 use Rattle.grid.specs.Boxes.{boxOf, overlaps}
-use Rattle.resume.specs.Inside.{LineAsks, boxIn, Room, Long, GatherAsks, Filled, Gathered, nowhere, Inner}
+use Rattle.resume.specs.Inside.{LineAsks, boxIn, flatIn, FlatAsks, FlatFilled, Room, Long, GatherAsks, Filled, Gathered, nowhere, Inner}
 
 module _ (ls : Lines) (i : ℕ) (h : LineAsks ls i) where
   pub in-start-y : i < length (ls .«start_y»)
@@ -70,6 +70,14 @@ box-plain ls i a b d e h p q s t =
     (q ∙ plain-least (getD (ls .«start_y») i nan) (getD (ls .«end_y») i nan) y)
     (s ∙ plain-greatest (getD (ls .«start_x») i nan) (getD (ls .«end_x») i nan) x)
     (t ∙ plain-greatest (getD (ls .«start_y») i nan) (getD (ls .«end_y») i nan) y)
+
+-- near ends and then far ends, for axis and then axis
+pub both-axes : (p q r s : Bool) → ((p && r) && (q && s)) ≡ (p && (q && (r && s)))
+both-axes false q r s = refl
+both-axes true true true s = refl
+both-axes true true false s = refl
+both-axes true false true s = refl
+both-axes true false false s = refl
 
 -- ---- gathering
 
@@ -133,6 +141,106 @@ module _ (ls : Lines) (xs : List ℕ) (lx ly hx hy : List Float) (u : ℕ) (lx�
                 hy-long = length-set hy′ u (b .«max_y») ∙ g .done .long .hy-long;
               };
             };
+          }
+
+-- ---- gathering one after another
+
+-- four entries from p on
+put4 : List Float → ℕ → Box → List Float
+put4 f p b = set (set (set (set f p (b .«min_x»)) (p + 1) (b .«min_y»)) (p + 2) (b .«max_x»)) (p + 3) (b .«max_y»)
+
+module _ (f : List Float) (p : ℕ) (b : Box) where
+  put4-long : length (put4 f p b) ≡ length f
+  unfolding put4
+  put4-long = simp length-set
+
+  put4-before : (q : ℕ) → q < p → getD (put4 f p b) q nan ≡ getD f q nan
+  unfolding put4
+  put4-before q h =
+      getD-set-other (set (set (set f p (b .«min_x»)) (p + 1) (b .«min_y»)) (p + 2) (b .«max_x»)) (p + 3) q (b .«max_y») nan (λ e. omega arith)
+      ∙ getD-set-other (set (set f p (b .«min_x»)) (p + 1) (b .«min_y»)) (p + 2) q (b .«max_x») nan (λ e. omega arith)
+      ∙ getD-set-other (set f p (b .«min_x»)) (p + 1) q (b .«min_y») nan (λ e. omega arith)
+      ∙ getD-set-other f p q (b .«min_x») nan (λ e. omega arith)
+
+  module _ (h : p + 4 ≤ length f) where
+    one-long : length (set f p (b .«min_x»)) ≡ length f
+    one-long = length-set f p (b .«min_x»)
+
+    two-long : length (set (set f p (b .«min_x»)) (p + 1) (b .«min_y»)) ≡ length f
+    two-long = simp length-set
+
+    three-long : length (set (set (set f p (b .«min_x»)) (p + 1) (b .«min_y»)) (p + 2) (b .«max_x»)) ≡ length f
+    three-long = simp length-set
+
+    put4-first : getD (put4 f p b) p nan ≡ b .«min_x»
+    unfolding put4
+    put4-first =
+        getD-set-other (set (set (set f p (b .«min_x»)) (p + 1) (b .«min_y»)) (p + 2) (b .«max_x»)) (p + 3) p (b .«max_y») nan (λ e. omega arith)
+        ∙ getD-set-other (set (set f p (b .«min_x»)) (p + 1) (b .«min_y»)) (p + 2) p (b .«max_x») nan (λ e. omega arith)
+        ∙ getD-set-other (set f p (b .«min_x»)) (p + 1) p (b .«min_y») nan (λ e. omega arith)
+        ∙ getD-set-same f p (b .«min_x») nan (omega arith)
+
+    put4-second : getD (put4 f p b) (p + 1) nan ≡ b .«min_y»
+    unfolding put4
+    put4-second =
+        getD-set-other (set (set (set f p (b .«min_x»)) (p + 1) (b .«min_y»)) (p + 2) (b .«max_x»)) (p + 3) (p + 1) (b .«max_y») nan (λ e. omega arith)
+        ∙ getD-set-other (set (set f p (b .«min_x»)) (p + 1) (b .«min_y»)) (p + 2) (p + 1) (b .«max_x») nan (λ e. omega arith)
+        ∙ getD-set-same (set f p (b .«min_x»)) (p + 1) (b .«min_y») nan (omega (arith, one-long))
+
+    put4-third : getD (put4 f p b) (p + 2) nan ≡ b .«max_x»
+    unfolding put4
+    put4-third =
+        getD-set-other (set (set (set f p (b .«min_x»)) (p + 1) (b .«min_y»)) (p + 2) (b .«max_x»)) (p + 3) (p + 2) (b .«max_y») nan (λ e. omega arith)
+        ∙ getD-set-same (set (set f p (b .«min_x»)) (p + 1) (b .«min_y»)) (p + 2) (b .«max_x») nan (omega (arith, two-long))
+
+    put4-last : getD (put4 f p b) (p + 3) nan ≡ b .«max_y»
+    unfolding put4
+    put4-last = getD-set-same (set (set (set f p (b .«min_x»)) (p + 1) (b .«min_y»)) (p + 2) (b .«max_x»)) (p + 3) (b .«max_y») nan (omega (arith, three-long))
+
+pub record Flattening (ls : Lines) (xs : List ℕ) (flat : List Float) (u : ℕ) (flat′ : List Float) : Type 0 where
+  pub asks : FlatAsks ls xs flat
+  pub to : u ≤ length xs
+  pub done : FlatFilled ls xs u flat flat′
+
+pub flat-start : (ls : Lines) (xs : List ℕ) (flat : List Float) → FlatAsks ls xs flat → Flattening ls xs flat 0 flat
+flat-start ls xs flat a = record { asks = a; to = omega arith; done = record { each = λ u h. absurd (omega arith); long = refl } }
+
+module _ (ls : Lines) (xs : List ℕ) (flat : List Float) (u : ℕ) (flat′ : List Float) (g : Flattening ls xs flat u flat′) where
+  pub flat-end : length xs ≤ u → FlatFilled ls xs (length xs) flat flat′
+  flat-end h = let e : u ≡ length xs = omega (arith, g .to) in rw e at (g .done)
+
+  module _ (h : u < length xs) where
+    pub flat-asks : LineAsks ls (getD xs u 0)
+    flat-asks = record { alike = g .asks .alike; one = below-at (count ls) xs u (g .asks .below) h }
+
+    pub flat-room : 4 * u + 4 ≤ length flat′
+    flat-room = omega (arith, g .asks .room, g .done .long)
+
+    module _ (b : Box) (e : b ≡ boxOf (segmentAt ls (getD xs u 0))) where
+      flat-same : flatIn (put4 flat′ (4 * u) b) u ≡ boxOf (segmentAt ls (getD xs u 0))
+      flat-same = rw (put4-first flat′ (4 * u) b flat-room, put4-second flat′ (4 * u) b flat-room, put4-third flat′ (4 * u) b flat-room, put4-last flat′ (4 * u) b flat-room) e
+
+      flat-other : (t : ℕ) → t < u → flatIn (put4 flat′ (4 * u) b) t ≡ flatIn flat′ t
+      flat-other t l =
+          rw (
+            put4-before flat′ (4 * u) b (4 * t) (omega arith),
+            put4-before flat′ (4 * u) b (4 * t + 1) (omega arith),
+            put4-before flat′ (4 * u) b (4 * t + 2) (omega arith),
+            put4-before flat′ (4 * u) b (4 * t + 3) (omega arith),
+          )
+
+      flat-each : (t : ℕ) → t < u + 1 → Dec (t ≡ u) → flatIn (put4 flat′ (4 * u) b) t ≡ boxOf (segmentAt ls (getD xs t 0))
+      flat-each t l (yes q) = rw q flat-same
+      flat-each t l (no q) = flat-other t (omega arith) ∙ g .done .each t (omega arith)
+
+      pub flat-more : Flattening ls xs flat (u + 1)
+          (set (set (set (set flat′ (4 * u) (b .«min_x»)) (4 * u + 1) (b .«min_y»)) (4 * u + 2) (b .«max_x»)) (4 * u + 3) (b .«max_y»))
+      unfolding put4
+      flat-more =
+          record {
+            asks = g .asks;
+            to = omega arith;
+            done = record { each = λ t l. flat-each t l (ℕ-discrete t u); long = put4-long flat′ (4 * u) b ∙ g .done .long };
           }
 
 -- ---- the box within all

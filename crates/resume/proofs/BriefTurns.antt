@@ -20,69 +20,63 @@ use Rattle.visit.specs.Overlap.{overlap}
 use Rattle.visit.specs.Inside.{Moved}
 use Rattle.resume.specs.declared.rows.ListRan.{ListRan}
 use Rattle.resume.specs.Cursors.{listFrom}
-use Rattle.resume.specs.Inside.{boxIn, Room, Long, GatherAsks, Filled, markOf, PutAsks, Answers, Put, FewAsks, answersIn, Goes, Brief, BriefAsks, ListAsks, ListRanIs, SameScratch}
+use Rattle.resume.specs.Inside.{flatIn, Long, FlatAsks, FlatFilled, markOf, PutAsks, Answers, Put, FewAsks, answersIn, Goes, Brief, BriefAsks, ListAsks, ListRanIs, SameScratch}
 use Rattle.resume.proofs.ScanTurns.{mark-most, Putting, put-start, put-more, put-end}
 use Rattle.resume.proofs.Goings.{goes-none, goes-then, goes-row}
 use Rattle.resume.proofs.ListLaws.{from-begin, row-past}
 
 -- ---- how many pairs
 
-pub square-few : (n : ℕ) → n ≤ 16 → n * n ≤ 256
-square-few n h = let k : n * n ≤ 16 * n = mul-le-mul-right n h in omega (arith, k, h)
+pub square-few : (n : ℕ) → n ≤ 32 → n * n ≤ 1024
+square-few n h = let k : n * n ≤ 32 * n = mul-le-mul-right n h in omega (arith, k, h)
 
 -- ---- the answers of a row
 
-answers-long : (b : Box) (lx ly hx hy : List Float) (at n : ℕ) → length (answersIn b lx ly hx hy at n) ≡ n
+answers-long : (b : Box) (flat : List Float) (at n : ℕ) → length (answersIn b flat at n) ≡ n
 unfolding answersIn
-answers-long b lx ly hx hy at zero = refl
-answers-long b lx ly hx hy at (suc n) = ap suc (answers-long b lx ly hx hy (suc at) n)
+answers-long b flat at zero = refl
+answers-long b flat at (suc n) = ap suc (answers-long b flat (suc at) n)
 
-answers-at : (b : Box) (lx ly hx hy : List Float) (at n u : ℕ) → u < n → getD (answersIn b lx ly hx hy at n) u 0 ≡ markOf (overlaps b (boxIn lx ly hx hy (at + u)))
+answers-at : (b : Box) (flat : List Float) (at n u : ℕ) → u < n → getD (answersIn b flat at n) u 0 ≡ markOf (overlaps b (flatIn flat (at + u)))
 unfolding answersIn
-answers-at b lx ly hx hy at zero u h = absurd (omega arith)
-answers-at b lx ly hx hy at (suc n) zero h = let e : at ≡ at + 0 = omega arith in ap (λ (k : ℕ). markOf (overlaps b (boxIn lx ly hx hy k))) e
-answers-at b lx ly hx hy at (suc n) (suc u) h =
+answers-at b flat at zero u h = absurd (omega arith)
+answers-at b flat at (suc n) zero h = let e : at ≡ at + 0 = omega arith in ap (λ (k : ℕ). markOf (overlaps b (flatIn flat k))) e
+answers-at b flat at (suc n) (suc u) h =
     let e : suc at + u ≡ at + suc u = omega arith in
-    answers-at b lx ly hx hy (suc at) n u (omega arith) ∙ ap (λ (k : ℕ). markOf (overlaps b (boxIn lx ly hx hy k))) e
+    answers-at b flat (suc at) n u (omega arith) ∙ ap (λ (k : ℕ). markOf (overlaps b (flatIn flat k))) e
 
 -- the entries before u are done
-pub record FewTurn (line : ℕ) (b : Box) (xs : List ℕ) (lx ly hx hy : List Float) (at : ℕ) (fs ss : List ℕ) (hits : ℕ) (fs′ ss′ : List ℕ) (hits′ u : ℕ) : Type 0 where
-  pub asks : FewAsks xs lx ly hx hy at fs ss hits
-  pub turn : Putting line xs (answersIn b lx ly hx hy at (length xs)) fs ss hits fs′ ss′ hits′ u
+pub record FewTurn (line : ℕ) (b : Box) (xs : List ℕ) (flat : List Float) (at : ℕ) (fs ss : List ℕ) (hits : ℕ) (fs′ ss′ : List ℕ) (hits′ u : ℕ) : Type 0 where
+  pub asks : FewAsks xs flat at fs ss hits
+  pub turn : Putting line xs (answersIn b flat at (length xs)) fs ss hits fs′ ss′ hits′ u
 
-pub few-start : (line : ℕ) (b : Box) (xs : List ℕ) (lx ly hx hy : List Float) (at : ℕ) (fs ss : List ℕ) (hits : ℕ) → FewAsks xs lx ly hx hy at fs ss hits
-    → FewTurn line b xs lx ly hx hy at fs ss hits fs ss hits 0
-few-start line b xs lx ly hx hy at fs ss hits a =
+pub few-start : (line : ℕ) (b : Box) (xs : List ℕ) (flat : List Float) (at : ℕ) (fs ss : List ℕ) (hits : ℕ) → FewAsks xs flat at fs ss hits
+    → FewTurn line b xs flat at fs ss hits fs ss hits 0
+few-start line b xs flat at fs ss hits a =
     record {
       asks = a;
-      turn = put-start line xs (answersIn b lx ly hx hy at (length xs)) fs ss hits
+      turn = put-start line xs (answersIn b flat at (length xs)) fs ss hits
           (record {
-            in-marks = omega (arith, answers-long b lx ly hx hy at (length xs));
-            bits = λ u h. rw (answers-at b lx ly hx hy at (length xs) u h) (mark-most (overlaps b (boxIn lx ly hx hy (at + u))));
+            in-marks = omega (arith, answers-long b flat at (length xs));
+            bits = λ u h. rw (answers-at b flat at (length xs) u h) (mark-most (overlaps b (flatIn flat (at + u))));
             room = a .room;
           });
     }
 
-module _ (line : ℕ) (b : Box) (xs : List ℕ) (lx ly hx hy : List Float) (at : ℕ) (fs ss : List ℕ) (hits : ℕ) (fs′ ss′ : List ℕ) (hits′ u : ℕ)
-    (p : FewTurn line b xs lx ly hx hy at fs ss hits fs′ ss′ hits′ u) where
+module _ (line : ℕ) (b : Box) (xs : List ℕ) (flat : List Float) (at : ℕ) (fs ss : List ℕ) (hits : ℕ) (fs′ ss′ : List ℕ) (hits′ u : ℕ)
+    (p : FewTurn line b xs flat at fs ss hits fs′ ss′ hits′ u) where
   pub few-first-long : length fs′ ≡ length fs
   few-first-long = p .turn .put .first-long
 
   pub few-second-long : length ss′ ≡ length ss
   few-second-long = p .turn .put .second-long
 
-  pub few-end : length xs ≤ u → Put line xs (answersIn b lx ly hx hy at (length xs)) (length xs) fs ss hits fs′ ss′ hits′
-  few-end = put-end line xs (answersIn b lx ly hx hy at (length xs)) fs ss hits fs′ ss′ hits′ u (p .turn)
+  pub few-end : length xs ≤ u → Put line xs (answersIn b flat at (length xs)) (length xs) fs ss hits fs′ ss′ hits′
+  few-end = put-end line xs (answersIn b flat at (length xs)) fs ss hits fs′ ss′ hits′ u (p .turn)
 
   module _ (l : u < length xs) where
-    pub few-box : Room (at + u + 1) lx ly hx hy
-    few-box =
-        record {
-          in-lx = omega (arith, p .asks .held .in-lx);
-          in-ly = omega (arith, p .asks .held .in-ly);
-          in-hx = omega (arith, p .asks .held .in-hx);
-          in-hy = omega (arith, p .asks .held .in-hy);
-        }
+    pub few-box : 4 * (at + u) + 4 ≤ length flat
+    few-box = omega (arith, p .asks .held)
 
     pub few-in-first : hits′ < length fs′
     few-in-first = omega (arith, p .turn .put .most, p .asks .room .room, p .turn .put .first-long)
@@ -90,42 +84,37 @@ module _ (line : ℕ) (b : Box) (xs : List ℕ) (lx ly hx hy : List Float) (at :
     pub few-in-second : hits′ < length ss′
     few-in-second = omega (arith, p .turn .put .most, p .asks .room .room, p .asks .room .same, p .turn .put .second-long)
 
-    pub few-more : (m : ℕ) → m ≡ markOf (overlaps b (boxIn lx ly hx hy (at + u)))
-        → FewTurn line b xs lx ly hx hy at fs ss hits (set fs′ hits′ line) (set ss′ hits′ (getD xs u 0)) (hits′ + m) (u + 1)
+    pub few-more : (m : ℕ) → m ≡ markOf (overlaps b (flatIn flat (at + u)))
+        → FewTurn line b xs flat at fs ss hits (set fs′ hits′ line) (set ss′ hits′ (getD xs u 0)) (hits′ + m) (u + 1)
     few-more m e =
         record {
           asks = p .asks;
-          turn = put-more line xs (answersIn b lx ly hx hy at (length xs)) fs ss hits fs′ ss′ hits′ u (p .turn) l m (e ∙ sym (answers-at b lx ly hx hy at (length xs) u l));
+          turn = put-more line xs (answersIn b flat at (length xs)) fs ss hits fs′ ss′ hits′ u (p .turn) l m (e ∙ sym (answers-at b flat at (length xs) u l));
         }
 
 -- ---- the rows
 
 -- the rows before i are done
-pub record BriefRun (ls : Lines) (xs : List ℕ) (lx ly hx hy : List Float) (fs ss : List ℕ) (hits₀ : ℕ) (fs′ ss′ : List ℕ) (i tests hits : ℕ) : Type 0 where
+pub record BriefRun (ls : Lines) (xs : List ℕ) (flat : List Float) (fs ss : List ℕ) (hits₀ : ℕ) (fs′ ss′ : List ℕ) (i tests hits : ℕ) : Type 0 where
   pub same : length ss ≡ length fs
-  pub room : Room 513 lx ly hx hy
-  pub short : length xs ≤ 16
+  pub room : 128 ≤ length flat
+  pub short : length xs ≤ 32
   pub fits : hits₀ + length xs * length xs ≤ length fs
-  pub each : (u : ℕ) → u < length xs → boxIn lx ly hx hy u ≡ boxOf (segmentAt ls (getD xs u 0))
+  pub each : (u : ℕ) → u < length xs → flatIn flat u ≡ boxOf (segmentAt ls (getD xs u 0))
   pub goes : (pl : Place) (later : List Pair) → Goes ls (pairs pl xs ++ later) (pairs pl (drop i xs) ++ later) tests (length fs) fs ss hits₀ fs′ ss′ hits
   pub to : i ≤ length xs
   pub most : hits ≤ hits₀ + i * length xs
-  pub few : tests ≤ i * 16
+  pub few : tests ≤ i * 32
 
-module _ (ls : Lines) (xs : List ℕ) (lx ly hx hy : List Float) (fs ss : List ℕ) (hits : ℕ) (a : BriefAsks ls xs lx ly hx hy fs ss hits) where
-  pub brief-gathers : GatherAsks ls xs lx ly hx hy
-  brief-gathers = record { alike = a .lent .alike; below = a .below; most = omega (arith, a .few); room = a .boxes }
+module _ (ls : Lines) (xs : List ℕ) (flat : List Float) (fs ss : List ℕ) (hits : ℕ) (a : BriefAsks ls xs flat fs ss hits) where
+  pub brief-gathers : FlatAsks ls xs flat
+  brief-gathers = record { alike = a .lent .alike; below = a .below; room = omega (arith, a .few, a .boxes) }
 
-  pub brief-start : (lx′ ly′ hx′ hy′ : List Float) → Filled ls xs (length xs) lx ly hx hy lx′ ly′ hx′ hy′ → BriefRun ls xs lx′ ly′ hx′ hy′ fs ss hits fs ss 0 0 hits
-  brief-start lx′ ly′ hx′ hy′ f =
+  pub brief-start : (flat′ : List Float) → FlatFilled ls xs (length xs) flat flat′ → BriefRun ls xs flat′ fs ss hits fs ss 0 0 hits
+  brief-start flat′ f =
       record {
         same = a .lent .same;
-        room = record {
-          in-lx = omega (arith, f .long .lx-long, a .boxes .in-lx);
-          in-ly = omega (arith, f .long .ly-long, a .boxes .in-ly);
-          in-hx = omega (arith, f .long .hx-long, a .boxes .in-hx);
-          in-hy = omega (arith, f .long .hy-long, a .boxes .in-hy);
-        };
+        room = omega (arith, f .long, a .boxes);
         short = a .few;
         fits = a .fits;
         each = f .each;
@@ -135,8 +124,8 @@ module _ (ls : Lines) (xs : List ℕ) (lx ly hx hy : List Float) (fs ss : List �
         few = omega arith;
       }
 
-module _ (ls : Lines) (xs : List ℕ) (lx ly hx hy : List Float) (fs ss : List ℕ) (hits₀ : ℕ) (fs′ ss′ : List ℕ) (i tests hits : ℕ)
-    (s : BriefRun ls xs lx ly hx hy fs ss hits₀ fs′ ss′ i tests hits) where
+module _ (ls : Lines) (xs : List ℕ) (flat : List Float) (fs ss : List ℕ) (hits₀ : ℕ) (fs′ ss′ : List ℕ) (i tests hits : ℕ)
+    (s : BriefRun ls xs flat fs ss hits₀ fs′ ss′ i tests hits) where
   pub brief-first-long : length fs′ ≡ length fs
   brief-first-long = s .goes (Global 0) [] .moved .first-long
 
@@ -154,14 +143,8 @@ module _ (ls : Lines) (xs : List ℕ) (lx ly hx hy : List Float) (fs ss : List �
       }
 
   module _ (l : i < length xs) where
-    pub brief-box : Room (i + 1) lx ly hx hy
-    brief-box =
-        record {
-          in-lx = omega (arith, s .short, s .room .in-lx);
-          in-ly = omega (arith, s .short, s .room .in-ly);
-          in-hx = omega (arith, s .short, s .room .in-hx);
-          in-hy = omega (arith, s .short, s .room .in-hy);
-        }
+    pub brief-box : 4 * i + 4 ≤ length flat
+    brief-box = omega (arith, s .short, s .room)
 
     rest-long : length (drop (i + 1) xs) ≡ length xs - (i + 1)
     rest-long = length-drop (i + 1) xs
@@ -173,17 +156,12 @@ module _ (ls : Lines) (xs : List ℕ) (lx ly hx hy : List Float) (fs ss : List �
         let e : (i + 1) * length xs ≡ i * length xs + length xs = omega arith in
         omega (arith, k, e, s .most, s .fits)
 
-    brief-few : FewAsks (drop (i + 1) xs) lx ly hx hy (i + 1) fs′ ss′ hits
+    brief-few : FewAsks (drop (i + 1) xs) flat (i + 1) fs′ ss′ hits
     brief-few =
         let r = rest-long in
         let q = room-left in
         record {
-          held = record {
-            in-lx = omega (arith, r, s .short, s .room .in-lx);
-            in-ly = omega (arith, r, s .short, s .room .in-ly);
-            in-hx = omega (arith, r, s .short, s .room .in-hx);
-            in-hy = omega (arith, r, s .short, s .room .in-hy);
-          };
+          held = omega (arith, r, s .short, s .room);
           room = record { same = brief-second-long ∙ s .same ∙ sym brief-first-long; room = omega (arith, r, q, brief-first-long) };
         }
 
@@ -191,21 +169,21 @@ module _ (ls : Lines) (xs : List ℕ) (lx ly hx hy : List Float) (fs ss : List �
     rest-all : take (length xs - (i + 1)) (drop (i + 1) xs) ≡ drop (i + 1) xs
     rest-all = take-all (length xs - (i + 1)) (drop (i + 1) xs) (omega (arith, rest-long))
 
-    pub brief-few-part : FewAsks (take (length xs - (i + 1)) (drop (i + 1) xs)) lx ly hx hy (i + 1) fs′ ss′ hits
+    pub brief-few-part : FewAsks (take (length xs - (i + 1)) (drop (i + 1) xs)) flat (i + 1) fs′ ss′ hits
     brief-few-part = rw rest-all brief-few
 
     pub brief-small : tests + (length xs - (i + 1)) < 2 ^ 64
     brief-small = omega (arith, s .few, s .short)
 
-    module _ (b : Box) (e : b ≡ boxIn lx ly hx hy i) (fs″ ss″ : List ℕ) (hits″ : ℕ)
-        (p : Put (getD xs i 0) (drop (i + 1) xs) (answersIn b lx ly hx hy (i + 1) (length (drop (i + 1) xs))) (length (drop (i + 1) xs)) fs′ ss′ hits fs″ ss″ hits″) where
-      answers : Answers ls (getD xs i 0) (drop (i + 1) xs) (answersIn b lx ly hx hy (i + 1) (length (drop (i + 1) xs)))
+    module _ (b : Box) (e : b ≡ flatIn flat i) (fs″ ss″ : List ℕ) (hits″ : ℕ)
+        (p : Put (getD xs i 0) (drop (i + 1) xs) (answersIn b flat (i + 1) (length (drop (i + 1) xs))) (length (drop (i + 1) xs)) fs′ ss′ hits fs″ ss″ hits″) where
+      answers : Answers ls (getD xs i 0) (drop (i + 1) xs) (answersIn b flat (i + 1) (length (drop (i + 1) xs)))
       unfolding overlap
       answers =
           record {
             each = λ u h.
                 let r = rest-long in
-                answers-at b lx ly hx hy (i + 1) (length (drop (i + 1) xs)) u h
+                answers-at b flat (i + 1) (length (drop (i + 1) xs)) u h
                 ∙ ap markOf (rw (e, s .each i l, s .each (i + 1 + u) (omega (arith, r, h)), getD-drop (i + 1) xs u 0) refl);
           }
 
@@ -220,7 +198,7 @@ module _ (ls : Lines) (xs : List ℕ) (lx ly hx hy : List Float) (fs ss : List �
           ∙ append-assoc (withEach pl (getD xs i 0) (drop (i + 1) xs)) (pairs pl (drop (i + 1) xs)) later in
           rw q (rw brief-first-long at (goes-row ls (length fs′) pl (getD xs i 0) (drop (i + 1) xs) rest fs′ ss′ hits fs″ ss″ hits″ m))
 
-      brief-turn : BriefRun ls xs lx ly hx hy fs ss hits₀ fs″ ss″ (i + 1) (tests + (length xs - (i + 1))) hits″
+      brief-turn : BriefRun ls xs flat fs ss hits₀ fs″ ss″ (i + 1) (tests + (length xs - (i + 1))) hits″
       brief-turn =
           let r = rest-long in
           let k : (i + 1) * length xs ≡ i * length xs + length xs = omega arith in
@@ -236,20 +214,20 @@ module _ (ls : Lines) (xs : List ℕ) (lx ly hx hy : List Float) (fs ss : List �
             few = omega (arith, s .few, s .short);
           }
 
-    pub brief-turn-part : (b : Box) → b ≡ boxIn lx ly hx hy i → (fs″ ss″ : List ℕ) (hits″ : ℕ)
-        → Put (getD xs i 0) (take (length xs - (i + 1)) (drop (i + 1) xs)) (answersIn b lx ly hx hy (i + 1) (length (take (length xs - (i + 1)) (drop (i + 1) xs))))
+    pub brief-turn-part : (b : Box) → b ≡ flatIn flat i → (fs″ ss″ : List ℕ) (hits″ : ℕ)
+        → Put (getD xs i 0) (take (length xs - (i + 1)) (drop (i + 1) xs)) (answersIn b flat (i + 1) (length (take (length xs - (i + 1)) (drop (i + 1) xs))))
         (length (take (length xs - (i + 1)) (drop (i + 1) xs))) fs′ ss′ hits fs″ ss″ hits″
-        → BriefRun ls xs lx ly hx hy fs ss hits₀ fs″ ss″ (i + 1) (tests + (length xs - (i + 1))) hits″
+        → BriefRun ls xs flat fs ss hits₀ fs″ ss″ (i + 1) (tests + (length xs - (i + 1))) hits″
     brief-turn-part b e fs″ ss″ hits″ p = brief-turn b e fs″ ss″ hits″ (rw rest-all at p)
 
 -- ---- a list that is short
 
 pub brief-asks : (ls : Lines) (xs : List ℕ) (i j : ℕ) (lx ly hx hy : List Float) (marks fs ss : List ℕ) (hits : ℕ) → Brief (length xs) i j (length fs - hits)
-    → ListAsks ls xs i j lx ly hx hy marks fs ss hits → BriefAsks ls xs lx ly hx hy fs ss hits
+    → ListAsks ls xs i j lx ly hx hy marks fs ss hits → BriefAsks ls xs lx fs ss hits
 brief-asks ls xs i j lx ly hx hy marks fs ss hits b a =
     record {
       lent = a .lent;
-      boxes = a .scratch .boxes;
+      boxes = omega (arith, a .scratch .boxes .in-lx);
       below = a .below;
       few = b .few;
       fits = omega (arith, b .fits, a .lent .in-room);
@@ -259,5 +237,5 @@ pub brief-ran : (ls : Lines) (xs : List ℕ) (i j room : ℕ) (fs ss : List ℕ)
     → ListRanIs ls xs 0 1 fs ss hits fs′ ss′ r → ListRanIs ls xs i j fs ss hits fs′ ss′ r
 brief-ran ls xs i j room fs ss hits fs′ ss′ r b v = rw (b .first, b .second) v
 
-pub brief-scratch : (lx ly hx hy lx′ ly′ hx′ hy′ : List Float) (marks : List ℕ) → Long lx ly hx hy lx′ ly′ hx′ hy′ → SameScratch lx ly hx hy marks lx′ ly′ hx′ hy′ marks
-brief-scratch lx ly hx hy lx′ ly′ hx′ hy′ marks l = record { boxes = l; bytes = refl }
+pub brief-scratch : (lx ly hx hy lx′ : List Float) (marks : List ℕ) → length lx′ ≡ length lx → SameScratch lx ly hx hy marks lx′ ly hx hy marks
+brief-scratch lx ly hx hy lx′ marks l = record { boxes = record { lx-long = l; ly-long = refl; hx-long = refl; hy-long = refl }; bytes = refl }

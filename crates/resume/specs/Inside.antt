@@ -89,6 +89,21 @@ pub record Gathered (ls : Lines) (xs : List ℕ) (m : ℕ) (lx ly hx hy lx′ ly
   pub long : Long lx ly hx hy lx′ ly′ hx′ hy′
   pub says : Inner m lx′ ly′ hx′ hy′ (boxIn lx′ ly′ hx′ hy′ 512)
 
+-- the box at entry u of one list, which holds four numbers for each
+abbrev pub flatIn : List Float → ℕ → Box
+flatIn flat u =
+    record { «min_x» = getD flat (4 * u) nan; «min_y» = getD flat (4 * u + 1) nan; «max_x» = getD flat (4 * u + 2) nan; «max_y» = getD flat (4 * u + 3) nan }
+
+pub record FlatAsks (ls : Lines) (xs : List ℕ) (flat : List Float) : Type 0 where
+  pub alike : Alike ls
+  pub below : Below (count ls) xs
+  pub room : 4 * length xs ≤ length flat
+
+-- the boxes of the first m entries
+pub record FlatFilled (ls : Lines) (xs : List ℕ) (m : ℕ) (flat flat′ : List Float) : Type 0 where
+  pub each : (u : ℕ) → u < m → flatIn flat′ u ≡ boxOf (segmentAt ls (getD xs u 0))
+  pub long : length flat′ ≡ length flat
+
 -- the boxes of `held` entries from `from` on
 pub record Holds (ls : Lines) (xs : List ℕ) (from held : ℕ) (lx ly hx hy : List Float) : Type 0 where
   pub each : (u : ℕ) → u < held → boxIn lx ly hx hy u ≡ boxOf (segmentAt ls (getD xs (from + u) 0))
@@ -177,12 +192,12 @@ pub record Scanned (ls : Lines) (line : ℕ) (xs marks fs ss : List ℕ) (hits :
 -- ---- one line with each of a short list
 
 -- the answers of a box with n boxes from entry `at` on
-unfoldable pub answersIn : Box → List Float → List Float → List Float → List Float → ℕ → ℕ → List ℕ
-answersIn b lx ly hx hy at zero = []
-answersIn b lx ly hx hy at (suc n) = markOf (overlaps b (boxIn lx ly hx hy at)) ∷ answersIn b lx ly hx hy (suc at) n
+unfoldable pub answersIn : Box → List Float → ℕ → ℕ → List ℕ
+answersIn b flat at zero = []
+answersIn b flat at (suc n) = markOf (overlaps b (flatIn flat at)) ∷ answersIn b flat (suc at) n
 
-pub record FewAsks (xs : List ℕ) (lx ly hx hy : List Float) (at : ℕ) (fs ss : List ℕ) (hits : ℕ) : Type 0 where
-  pub held : Room (at + length xs) lx ly hx hy
+pub record FewAsks (xs : List ℕ) (flat : List Float) (at : ℕ) (fs ss : List ℕ) (hits : ℕ) : Type 0 where
+  pub held : 4 * (at + length xs) ≤ length flat
   pub room : RoomFor xs fs ss hits
 
 -- ---- one line with many from another on
@@ -261,14 +276,14 @@ pub record ListAsks (ls : Lines) (xs : List ℕ) (i j : ℕ) (lx ly hx hy : List
 pub record Brief (len i j room : ℕ) : Type 0 where
   pub first : i ≡ 0
   pub second : j ≡ 1
-  pub few : len ≤ 16
+  pub few : len ≤ 32
   pub fits : len * len ≤ room
 
-pub record BriefAsks (ls : Lines) (xs : List ℕ) (lx ly hx hy : List Float) (fs ss : List ℕ) (hits : ℕ) : Type 0 where
+pub record BriefAsks (ls : Lines) (xs : List ℕ) (flat : List Float) (fs ss : List ℕ) (hits : ℕ) : Type 0 where
   pub lent : Lent ls fs ss hits
-  pub boxes : Room 513 lx ly hx hy
+  pub boxes : 128 ≤ length flat
   pub below : Below (count ls) xs
-  pub few : length xs ≤ 16
+  pub few : length xs ≤ 32
   pub fits : hits + length xs * length xs ≤ length fs
 
 pub record ListRanIs (ls : Lines) (xs : List ℕ) (i j : ℕ) (fs ss : List ℕ) (hits : ℕ) (fs′ ss′ : List ℕ) (r : ListRan) : Type 0 where

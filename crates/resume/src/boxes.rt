@@ -4,12 +4,12 @@ use numbers::order::greatest;
 use numbers::order::least;
 ghost use mathlib.Core.Path.{_≡_};
 ghost use mathlib.Core.Bool.{true, cond};
-ghost use Prim.Native.Nat.{_+_};
+ghost use Prim.Native.Nat.{_+_, _*_, _≤_};
 ghost use lib.Ieee.{lt};
 ghost use lib.ListN.{length};
 ghost use Rattle.grid.specs.Domain.{lines, segmentAt};
 ghost use Rattle.grid.specs.Boxes.{boxOf};
-ghost use Rattle.resume.specs.Inside.{boxIn, LineAsks, GatherAsks, Filled, Gathered, nowhere, Room, Inner, WindowAsks, WindowIs};
+ghost use Rattle.resume.specs.Inside.{boxIn, flatIn, FlatAsks, FlatFilled, LineAsks, GatherAsks, Filled, Gathered, nowhere, Room, Inner, WindowAsks, WindowIs};
 
 // The boxes of `held` entries of a list stand ready, from its entry `from` on.
 pub(crate) struct Window {
@@ -207,16 +207,42 @@ fn gather(
     high_y[512] = inner.max_y;
 }
 
-// The box at an entry of the four slices.
-pub(crate) fn box_in(low_x: &[f64], low_y: &[f64], high_x: &[f64], high_y: &[f64], u: usize) -> Box
-    requires { ⌜ Room (u + 1) (now «low_x») (now «low_y») (now «high_x») (now «high_y») ⌝ }
-    ensures { λ r. ⌜ r ≡ boxIn (now («low_x» .entry)) (now («low_y» .entry)) (now («high_x» .entry)) (now («high_y» .entry)) u ⌝ }
+// The boxes of a short list stand one after another, four numbers each: entry u of them becomes the box of line list[u].
+pub(crate) fn gather_flat(
+    list: &[u32],
+    start_x: &[f64],
+    start_y: &[f64],
+    end_x: &[f64],
+    end_y: &[f64],
+    flat: &mut [f64],
+)
+    requires { ⌜ FlatAsks (lines (now «start_x») (now «start_y») (now «end_x») (now «end_y»)) (now list) (now flat) ⌝ }
+    ensures { λ _. let ls = lines (now («start_x» .entry)) (now («start_y» .entry)) (now («end_x» .entry)) (now («end_y» .entry)) in
+        ⌜ FlatFilled ls (now (list .entry)) (length (now (list .entry))) (now (flat .entry)) (now (flat .exit)) ⌝ }
 {
+    let mut u = 0;
+    while u < list.len() {
+        let bounds = box_at(start_x, start_y, end_x, end_y, list[u]);
+        let at = 4 * u;
+        flat[at] = bounds.min_x;
+        flat[at + 1] = bounds.min_y;
+        flat[at + 2] = bounds.max_x;
+        flat[at + 3] = bounds.max_y;
+        u = u + 1;
+    }
+}
+
+// The box at an entry of them.
+pub(crate) fn flat_at(flat: &[f64], u: usize) -> Box
+    requires { ⌜ 4 * u + 4 ≤ length (now flat) ⌝ }
+    ensures { λ r. ⌜ r ≡ flatIn (now (flat .entry)) u ⌝ }
+{
+    let at = 4 * u;
     Box {
-        min_x: low_x[u],
-        min_y: low_y[u],
-        max_x: high_x[u],
-        max_y: high_y[u],
+        min_x: flat[at],
+        min_y: flat[at + 1],
+        max_x: flat[at + 2],
+        max_y: flat[at + 3],
     }
 }
 

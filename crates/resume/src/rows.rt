@@ -7,8 +7,9 @@ use crate::settle::RowAt;
 use slices::least;
 ghost use mathlib.Core.Path.{_≡_};
 ghost use mathlib.Core.Bool.{true};
+ghost use lib.ListN.{length};
 ghost use Rattle.grid.specs.Domain.{lines};
-ghost use Rattle.resume.specs.Inside.{Long, Brief, BriefAsks, SameScratch, PartAsks, PartIs, ListAsks, ListRanIs, CellsAsk, CellsRanIs};
+ghost use Rattle.resume.specs.Inside.{Brief, BriefAsks, SameScratch, PartAsks, PartIs, ListAsks, ListRanIs, CellsAsk, CellsRanIs};
 
 pub(crate) struct ListRan {
     pub i: usize,
@@ -176,7 +177,7 @@ fn is_brief(len: usize, i: usize, j: usize, room: usize) -> bool
     if j != 1 {
         return false;
     }
-    if 16 < len {
+    if 32 < len {
         return false;
     }
     len * len <= room
@@ -189,53 +190,26 @@ fn run_brief(
     start_y: &[f64],
     end_x: &[f64],
     end_y: &[f64],
-    low_x: &mut [f64],
-    low_y: &mut [f64],
-    high_x: &mut [f64],
-    high_y: &mut [f64],
+    flat: &mut [f64],
     first: &mut [u32],
     second: &mut [u32],
     hits: usize,
 ) -> ListRan
-    requires { ⌜ BriefAsks (lines (now «start_x») (now «start_y») (now «end_x») (now «end_y»)) (now list) (now «low_x») (now «low_y») (now «high_x»)
-        (now «high_y») (now first) (now second) hits ⌝ }
+    requires { ⌜ BriefAsks (lines (now «start_x») (now «start_y») (now «end_x») (now «end_y»)) (now list) (now flat) (now first) (now second) hits ⌝ }
     ensures { λ r. let ls = lines (now («start_x» .entry)) (now («start_y» .entry)) (now («end_x» .entry)) (now («end_y» .entry)) in
         ⌜ ListRanIs ls (now (list .entry)) 0 1 (now (first .entry)) (now (second .entry)) hits (now (first .exit)) (now (second .exit)) r ⌝
-        ∗ ⌜ Long (now («low_x» .entry)) (now («low_y» .entry)) (now («high_x» .entry)) (now («high_y» .entry)) (now («low_x» .exit)) (now («low_y» .exit))
-        (now («high_x» .exit)) (now («high_y» .exit)) ⌝ }
+        ∗ ⌜ length (now (flat .exit)) ≡ length (now (flat .entry)) ⌝ }
 {
-    boxes::gather_each(
-        list,
-        start_x,
-        start_y,
-        end_x,
-        end_y,
-        low_x,
-        low_y,
-        high_x,
-        high_y,
-    );
+    boxes::gather_flat(list, start_x, start_y, end_x, end_y, flat);
     let mut i = 0;
     let mut tests: u64 = 0;
     let mut hits = hits;
     while i < list.len() {
         let line = list[i];
-        let bounds = boxes::box_in(low_x, low_y, high_x, high_y, i);
+        let bounds = boxes::flat_at(flat, i);
         i = i + 1;
         tests = tests + ((list.len() - i) as u64);
-        hits = scan::scan_few(
-            line,
-            bounds,
-            &list[i..],
-            low_x,
-            low_y,
-            high_x,
-            high_y,
-            i,
-            first,
-            second,
-            hits,
-        );
+        hits = scan::scan_few(line, bounds, &list[i..], flat, i, first, second, hits);
     }
     ListRan {
         i,
@@ -278,9 +252,6 @@ fn run_list(
             end_x,
             end_y,
             low_x,
-            low_y,
-            high_x,
-            high_y,
             first,
             second,
             hits,

@@ -7,6 +7,7 @@ ghost use mathlib.Core.Bool.{true};
 ghost use Prim.Native.Nat.{_≤_};
 ghost use lib.ListN.{length};
 ghost use Rattle.grid.specs.Domain.{lines};
+ghost use Rattle.grid.specs.Boxes.{overlaps};
 ghost use Rattle.resume.specs.Inside.{markOf, MarkAsks, Marked, Whole, RoomFor, PutAsks, Put, PutWhole, ScanAsks, Scanned, LinesAsk, LinesScanned, FewAsks, answersIn};
 
 fn mark_of(b: bool) -> u8
@@ -124,29 +125,33 @@ fn put(
     put_some(line, list, marks, first, second, hits)
 }
 
+// Whether two boxes overlap, by the near ends and then by the far ones: each time both axes are asked at once.
+fn meets(a: Box, b: Box) -> bool
+    ensures { λ r. ⌜ r ≡ overlaps a b ⌝ }
+{
+    ((b.min_x <= a.max_x) & (b.min_y <= a.max_y)) & ((a.min_x <= b.max_x) & (a.min_y <= b.max_y))
+}
+
 // The pairs of a line, whose box is lent, with each of a short list. A byte for each answer would cost more than it saves.
 pub(crate) fn scan_few(
     line: u32,
     bounds: Box,
     list: &[u32],
-    low_x: &[f64],
-    low_y: &[f64],
-    high_x: &[f64],
-    high_y: &[f64],
+    flat: &[f64],
     at: usize,
     first: &mut [u32],
     second: &mut [u32],
     hits: usize,
 ) -> usize
-    requires { ⌜ FewAsks (now list) (now «low_x») (now «low_y») (now «high_x») (now «high_y») at (now first) (now second) hits ⌝ }
-    ensures { λ r. let marks = answersIn bounds (now («low_x» .entry)) (now («low_y» .entry)) (now («high_x» .entry)) (now («high_y» .entry)) at (length (now (list .entry))) in
+    requires { ⌜ FewAsks (now list) (now flat) at (now first) (now second) hits ⌝ }
+    ensures { λ r. let marks = answersIn bounds (now (flat .entry)) at (length (now (list .entry))) in
         ⌜ Put line (now (list .entry)) marks (length (now (list .entry))) (now (first .entry)) (now (second .entry)) hits (now (first .exit)) (now (second .exit)) r ⌝ }
 {
     let mut hits = hits;
     let mut u = 0;
     while u < list.len() {
-        let other = boxes::box_in(low_x, low_y, high_x, high_y, at + u);
-        let hit = wide8(mark_of(bounds.overlaps_with(other)));
+        let other = boxes::flat_at(flat, at + u);
+        let hit = wide8(mark_of(meets(bounds, other)));
         first[hits] = line;
         second[hits] = list[u];
         hits = hits + hit;

@@ -1,6 +1,6 @@
 -- `resume::rows::run_list` meets its contract. Assumes nothing.
-use borrow.Author.Needs.{needs}
 use Rattle.resume.proofs.BriefTurns.{brief-asks, brief-ran, brief-scratch}
+use borrow.Author.Needs.{needs}
 use Rattle.resume.proofs.rows.run_list.Statement.{statement}
 use Rattle.resume.proofs.rows.run_list.Tie as tie
 use Rattle.resume.proofs.rows.run_list.Reads as reads
@@ -16,7 +16,7 @@ is-brief-requires : tie.Need-is-brief-requires
 is-brief-requires c κs = search needs
 
 run-brief-requires : tie.Need-run-brief-requires
-run-brief-requires c κs = brief-asks _ _ _ _ _ _ _ _ _ _ _ _ (c .before .before .before .before .before .before .before .is-brief .ensures (c .before .before .before .before .before .before .if1 .taken)) (c .before .before .before .before .before .before .before .before .before .before .before .before .before .before .before .before .before .before .before .before .pre)
+run-brief-requires c κs = brief-asks _ _ _ _ _ _ _ _ _ _ _ _ (c .before .before .before .before .is-brief .ensures (c .before .before .before .if1 .taken)) (c .before .before .before .before .before .before .before .before .before .before .before .before .before .before .before .before .before .pre)
 
 same-length : tie.Need-same-length
 same-length c = search needs
@@ -27,6 +27,15 @@ same-length-2 c = search needs
 same-length-3 : tie.Need-same-length-3
 same-length-3 c = search needs
 
+returns : tie.Need-returns
+returns c = (
+  brief-ran _ _ _ _ _ _ _ _ _ _ _ (c .before .before .before .before .before .before .before .before .before .before .before .is-brief .ensures (c .before .before .before .before .before .before .before .before .before .before .if1 .taken)) (c .before .before .before .before .before .before .run-brief .ensures .0),
+  brief-scratch _ _ _ _ _ _ (c .before .before .before .before .before .before .run-brief .ensures .1),
+)
+
+run-rows-requires : tie.Need-run-rows-requires
+run-rows-requires c κs = search needs
+
 same-length-4 : tie.Need-same-length-4
 same-length-4 c = search needs
 
@@ -35,12 +44,6 @@ same-length-5 c = search needs
 
 same-length-6 : tie.Need-same-length-6
 same-length-6 c = search needs
-
-returns : tie.Need-returns
-returns c = (brief-ran _ _ _ _ _ _ _ _ _ _ _ (c .before .before .before .before .before .before .before .before .before .before .before .before .before .before .before .before .before .before .before .before .is-brief .ensures (c .before .before .before .before .before .before .before .before .before .before .before .before .before .before .before .before .before .before .before .if1 .taken)) (c .before .before .before .before .before .before .before .before .before .before .before .before .run-brief .ensures .0), brief-scratch _ _ _ _ _ _ _ _ _ (c .before .before .before .before .before .before .before .before .before .before .before .before .run-brief .ensures .1))
-
-run-rows-requires : tie.Need-run-rows-requires
-run-rows-requires c κs = search needs
 
 same-length-7 : tie.Need-same-length-7
 same-length-7 c = search needs
@@ -53,15 +56,6 @@ same-length-9 c = search needs
 
 same-length-10 : tie.Need-same-length-10
 same-length-10 c = search needs
-
-same-length-11 : tie.Need-same-length-11
-same-length-11 c = search needs
-
-same-length-12 : tie.Need-same-length-12
-same-length-12 c = search needs
-
-same-length-13 : tie.Need-same-length-13
-same-length-13 c = search needs
 
 returns-2 : tie.Need-returns-2
 returns-2 c = search needs
@@ -76,16 +70,13 @@ run-list-spec =
     same-length
     same-length-2
     same-length-3
+    returns
+    run-rows-requires
     same-length-4
     same-length-5
     same-length-6
-    returns
-    run-rows-requires
     same-length-7
     same-length-8
     same-length-9
     same-length-10
-    same-length-11
-    same-length-12
-    same-length-13
     returns-2)

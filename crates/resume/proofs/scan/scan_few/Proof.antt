@@ -12,29 +12,29 @@ use Rattle.resume.proofs.scan.scan_few.Statement.{statement}
 use Rattle.resume.proofs.scan.scan_few.Tie as tie
 use Rattle.resume.proofs.scan.scan_few.Reads as reads
 use Rattle.resume.proofs.scan.scan_few.Lts as lts
-use Rattle.grid.proofs.Box.overlaps_with.Reads as overlaps-with-reads
-use Rattle.resume.proofs.boxes.box_in.Reads as box-in-reads
+use Rattle.resume.proofs.boxes.flat_at.Reads as flat-at-reads
 use Rattle.resume.proofs.scan.mark_of.Reads as mark-of-reads
+use Rattle.resume.proofs.scan.meets.Reads as meets-reads
 use Rattle.resume.proofs.scan.wide8.Reads as wide8-reads
 
 abbrev Inv-loop : tie.InvT-loop
-Inv-loop line bounds list low-x low-y high-x high-y at first₀ second₀ hits hits₀ u₀ first second hits' u =
-    FewTurn line bounds list low-x low-y high-x high-y at first₀ second₀ hits first second hits' u
+Inv-loop line bounds list flat at first₀ second₀ hits hits₀ u₀ first second hits' u =
+    FewTurn line bounds list flat at first₀ second₀ hits first second hits' u
 
 abbrev μ-loop : tie.MeasureT-loop
-μ-loop line bounds list low-x low-y high-x high-y at first₀ second₀ hits hits₀ u₀ first second hits' u = length list - u
+μ-loop line bounds list flat at first₀ second₀ hits hits₀ u₀ first second hits' u = length list - u
 
 loop-holds : tie.Need-loop-holds Inv-loop μ-loop
-loop-holds c = few-start _ _ _ _ _ _ _ _ _ _ _ (search needs)
+loop-holds c = few-start _ _ _ _ _ _ _ _ (search needs)
 
-add-box-in : tie.Need-add-box-in Inv-loop μ-loop
-add-box-in c = omega (arith, few-box _ _ _ _ _ _ _ _ _ _ _ _ _ _ _ (c .before .loop .inv) (c .loop-test .taken) .in-lx)
+add-flat-at : tie.Need-add-flat-at Inv-loop μ-loop
+add-flat-at c = omega (arith, few-box _ _ _ _ _ _ _ _ _ _ _ _ (c .before .loop .inv) (c .loop-test .taken))
 
-box-in-requires : tie.Need-box-in-requires Inv-loop μ-loop
-box-in-requires c κs = few-box _ _ _ _ _ _ _ _ _ _ _ _ _ _ _ (c .before .loop .inv) (c .loop-test .taken)
+flat-at-requires : tie.Need-flat-at-requires Inv-loop μ-loop
+flat-at-requires c κs = few-box _ _ _ _ _ _ _ _ _ _ _ _ (c .before .loop .inv) (c .loop-test .taken)
 
-overlaps-with-requires : tie.Need-overlaps-with-requires Inv-loop μ-loop
-overlaps-with-requires c κs = search needs
+meets-requires : tie.Need-meets-requires Inv-loop μ-loop
+meets-requires c κs = search needs
 
 mark-of-requires : tie.Need-mark-of-requires Inv-loop μ-loop
 mark-of-requires c κs = search needs
@@ -43,10 +43,10 @@ wide8-requires : tie.Need-wide8-requires Inv-loop μ-loop
 wide8-requires c κs = search needs
 
 mul-first : tie.Need-mul-first Inv-loop μ-loop
-mul-first c = omega (arith, few-in-first _ _ _ _ _ _ _ _ _ _ _ _ _ _ _ (c .before .before .before .before .before .loop .inv) (c .before .before .before .before .loop-test .taken), few-in-second _ _ _ _ _ _ _ _ _ _ _ _ _ _ _ (c .before .before .before .before .before .loop .inv) (c .before .before .before .before .loop-test .taken), c .before, c .before .before, c .before .before .before, c .before .before .before .before, c .before .before .before .before .before, c .before .before .before .before .before .before, c .before .before .before .before .before .before .before, c .before .before .before .before .before .before .before .before, c .before .before .before .before .before .before .before .before .before, c .before .before .before .before .before .before .before .before .before .before, c .before .before .before .before .before .before .before .before .before .before .before, c .before .before .before .before .before .before .before .before .before .before .before .before)
+mul-first c = omega (arith, few-in-first _ _ _ _ _ _ _ _ _ _ _ _ (c .before .before .before .before .before .loop .inv) (c .before .before .before .before .loop-test .taken), few-in-second _ _ _ _ _ _ _ _ _ _ _ _ (c .before .before .before .before .before .loop .inv) (c .before .before .before .before .loop-test .taken), c .before, c .before .before, c .before .before .before, c .before .before .before .before, c .before .before .before .before .before, c .before .before .before .before .before .before, c .before .before .before .before .before .before .before, c .before .before .before .before .before .before .before .before, c .before .before .before .before .before .before .before .before .before)
 
 slice-write-first : tie.Need-slice-write-first Inv-loop μ-loop
-slice-write-first c = omega (arith, few-in-first _ _ _ _ _ _ _ _ _ _ _ _ _ _ _ (c .before .before .before .before .before .loop .inv) (c .before .before .before .before .loop-test .taken), few-in-second _ _ _ _ _ _ _ _ _ _ _ _ _ _ _ (c .before .before .before .before .before .loop .inv) (c .before .before .before .before .loop-test .taken), c .before .before .before .before .before .before, c .before .before .before .before .before .before .before, c .before .before .before .before .before .before .before .before, c .before .before .before .before .before .before .before .before .before, c .before .before .before .before .before .before .before .before .before .before, c .before .before .before .before .before .before .before .before .before .before .before, c .before .before .before .before .before .before .before .before .before .before .before .before, c .before .before .before .before .before .before .before .before .before .before .before .before .before)
+slice-write-first c = omega (arith, few-in-first _ _ _ _ _ _ _ _ _ _ _ _ (c .before .before .before .before .before .loop .inv) (c .before .before .before .before .loop-test .taken), few-in-second _ _ _ _ _ _ _ _ _ _ _ _ (c .before .before .before .before .before .loop .inv) (c .before .before .before .before .loop-test .taken), c .before .before .before .before .before .before, c .before .before .before .before .before .before .before, c .before .before .before .before .before .before .before .before, c .before .before .before .before .before .before .before .before .before, c .before .before .before .before .before .before .before .before .before .before)
 
 mul-second : tie.Need-mul-second Inv-loop μ-loop
 mul-second c = omega arith
@@ -55,17 +55,17 @@ shared-slice-read-second : tie.Need-shared-slice-read-second Inv-loop μ-loop
 shared-slice-read-second c = omega arith
 
 mul-second-2 : tie.Need-mul-second-2 Inv-loop μ-loop
-mul-second-2 c = omega (arith, few-in-first _ _ _ _ _ _ _ _ _ _ _ _ _ _ _ (c .before .before .before .before .before .before .loop .inv) (c .before .before .before .before .before .loop-test .taken), few-in-second _ _ _ _ _ _ _ _ _ _ _ _ _ _ _ (c .before .before .before .before .before .before .loop .inv) (c .before .before .before .before .before .loop-test .taken), c .before .before .before .before .before .before, c .before .before .before .before .before .before .before, c .before .before .before .before .before .before .before .before, c .before .before .before .before .before .before .before .before .before, c .before .before .before .before .before .before .before .before .before .before, c .before .before .before .before .before .before .before .before .before .before .before, c .before .before .before .before .before .before .before .before .before .before .before .before, c .before .before .before .before .before .before .before .before .before .before .before .before .before)
+mul-second-2 c = omega (arith, few-in-first _ _ _ _ _ _ _ _ _ _ _ _ (c .before .before .before .before .before .before .loop .inv) (c .before .before .before .before .before .loop-test .taken), few-in-second _ _ _ _ _ _ _ _ _ _ _ _ (c .before .before .before .before .before .before .loop .inv) (c .before .before .before .before .before .loop-test .taken), c .before .before .before .before .before .before, c .before .before .before .before .before .before .before, c .before .before .before .before .before .before .before .before, c .before .before .before .before .before .before .before .before .before, c .before .before .before .before .before .before .before .before .before .before)
 
 slice-write-second : tie.Need-slice-write-second Inv-loop μ-loop
-slice-write-second c = omega (arith, few-in-first _ _ _ _ _ _ _ _ _ _ _ _ _ _ _ (c .before .before .before .before .before .before .loop .inv) (c .before .before .before .before .before .loop-test .taken), few-in-second _ _ _ _ _ _ _ _ _ _ _ _ _ _ _ (c .before .before .before .before .before .before .loop .inv) (c .before .before .before .before .before .loop-test .taken), c .before .before .before .before .before .before, c .before .before .before .before .before .before .before, c .before .before .before .before .before .before .before .before, c .before .before .before .before .before .before .before .before .before, c .before .before .before .before .before .before .before .before .before .before, c .before .before .before .before .before .before .before .before .before .before .before, c .before .before .before .before .before .before .before .before .before .before .before .before, c .before .before .before .before .before .before .before .before .before .before .before .before .before)
+slice-write-second c = omega (arith, few-in-first _ _ _ _ _ _ _ _ _ _ _ _ (c .before .before .before .before .before .before .loop .inv) (c .before .before .before .before .before .loop-test .taken), few-in-second _ _ _ _ _ _ _ _ _ _ _ _ (c .before .before .before .before .before .before .loop .inv) (c .before .before .before .before .before .loop-test .taken), c .before .before .before .before .before .before, c .before .before .before .before .before .before .before, c .before .before .before .before .before .before .before .before, c .before .before .before .before .before .before .before .before .before, c .before .before .before .before .before .before .before .before .before .before)
 
 add-hits : tie.Need-add-hits Inv-loop μ-loop
 add-hits c =
-    let h = few-in-first _ _ _ _ _ _ _ _ _ _ _ _ _ _ _ (c .before .before .before .before .before .before .loop .inv) (c .before .before .before .before .before .loop-test .taken) in
-    let o = mark-most (c .before .before .before .overlaps-with .result) in
+    let h = few-in-first _ _ _ _ _ _ _ _ _ _ _ _ (c .before .before .before .before .before .before .loop .inv) (c .before .before .before .before .before .loop-test .taken) in
+    let o = mark-most (c .before .before .before .meets .result) in
     let q : c .before .wide8 .result ≤ 1 = rw (c .before .wide8 .ensures ∙ c .before .before .mark-of .ensures) o in
-    omega (arith, h, q, c .before .before .before .before .before .before, c .before .before .before .before .before .before .before, c .before .before .before .before .before .before .before .before, c .before .before .before .before .before .before .before .before .before, c .before .before .before .before .before .before .before .before .before .before, c .before .before .before .before .before .before .before .before .before .before .before, c .before .before .before .before .before .before .before .before .before .before .before .before, c .before .before .before .before .before .before .before .before .before .before .before .before .before)
+    omega (arith, h, q, c .before .before .before .before .before .before, c .before .before .before .before .before .before .before, c .before .before .before .before .before .before .before .before, c .before .before .before .before .before .before .before .before .before, c .before .before .before .before .before .before .before .before .before .before)
 
 add-u : tie.Need-add-u Inv-loop μ-loop
 add-u c = omega arith
@@ -75,17 +75,17 @@ loop-less c = omega arith
 
 loop-again : tie.Need-loop-again Inv-loop μ-loop
 loop-again c =
-    few-more _ _ _ _ _ _ _ _ _ _ _ _ _ _ _ (c .before .before .before .before .before .before .loop .inv) (c .before .before .before .before .before .loop-test .taken) _
-    (c .before .wide8 .ensures ∙ c .before .before .mark-of .ensures ∙ ap markOf (c .before .before .before .overlaps-with .ensures ∙ ap (overlaps _) (c .before .before .before .before .box-in .ensures)))
+    few-more _ _ _ _ _ _ _ _ _ _ _ _ (c .before .before .before .before .before .before .loop .inv) (c .before .before .before .before .before .loop-test .taken) _
+    (c .before .wide8 .ensures ∙ c .before .before .mark-of .ensures ∙ ap markOf (c .before .before .before .meets .ensures ∙ ap (overlaps _) (c .before .before .before .before .flat-at .ensures)))
 
 same-length : tie.Need-same-length Inv-loop μ-loop
-same-length c = few-first-long _ _ _ _ _ _ _ _ _ _ _ _ _ _ _ (c .before .loop .inv)
+same-length c = few-first-long _ _ _ _ _ _ _ _ _ _ _ _ (c .before .loop .inv)
 
 same-length-2 : tie.Need-same-length-2 Inv-loop μ-loop
-same-length-2 c = few-second-long _ _ _ _ _ _ _ _ _ _ _ _ _ _ _ (c .before .loop .inv)
+same-length-2 c = few-second-long _ _ _ _ _ _ _ _ _ _ _ _ (c .before .loop .inv)
 
 returns : tie.Need-returns Inv-loop μ-loop
-returns c = few-end _ _ _ _ _ _ _ _ _ _ _ _ _ _ _ (c .before .loop .inv) (c .loop-test .left)
+returns c = few-end _ _ _ _ _ _ _ _ _ _ _ _ (c .before .loop .inv) (c .loop-test .left)
 
 pub scan-few-spec : {M : Type 1} → statement M
 scan-few-spec =
@@ -94,9 +94,9 @@ scan-few-spec =
     Inv-loop
     μ-loop
     loop-holds
-    add-box-in
-    box-in-requires
-    overlaps-with-requires
+    add-flat-at
+    flat-at-requires
+    meets-requires
     mark-of-requires
     wide8-requires
     mul-first

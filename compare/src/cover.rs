@@ -1,7 +1,7 @@
 //! The covering walk once more, by its rule in words and on wide signed numbers. A cell is 2^20 fine units. Floats bring the ends into fine units, and all
 //! else is whole numbers.
 
-use crate::model::{coordinate_fits, grid_fits, SCRATCH};
+use crate::model::{counts_fit, SCRATCH};
 use crate::{Grid, Line};
 
 const CELL: i128 = 1 << 20;
@@ -9,7 +9,7 @@ const CELL: i128 = 1 << 20;
 /// A fine coordinate, or none where the guard does not let it pass: below the low side, or 4,095 cells away.
 fn fine(low: f64, size: f64, v: f64) -> Option<i128> {
     let units = (v - low) / (size / CELL as f64);
-    (v >= low && units < 4095.0 * CELL as f64).then_some(units as i128)
+    (v >= low && units < 4095.0 * CELL as f64).then_some(units.max(0.0) as i128)
 }
 
 /// The cells of a line that passes: none where it does not.
@@ -58,16 +58,14 @@ pub fn cells(g: &Grid, line: &Line) -> Vec<u32> {
     by_rule(g, line).unwrap_or_else(|| (0..g.rows * g.cols).collect())
 }
 
-/// The covering walk inside a build: 3, 1, 8; 16 where a line does not pass on a grid of more than 2,048 cells; else its cells at the start of the scratch.
+/// The covering walk inside a build, on a grid and of a line as they are: 3, and 8 by the counts; 16 where a line does not pass on a grid of more than 2,048
+/// cells; else its cells at the start of the scratch.
 pub fn segment_cells(g: &Grid, line: &Line, scratch: &mut [u32], out: &mut [u64]) -> u32 {
     out[0] = 0;
     if scratch.len() < SCRATCH {
         return 3;
     }
-    if !line.iter().all(|&v| coordinate_fits(v)) {
-        return 1;
-    }
-    if !grid_fits(g) {
+    if !counts_fit(g) {
         return 8;
     }
     let count = g.rows * g.cols;

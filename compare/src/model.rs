@@ -148,11 +148,14 @@ pub fn coordinate_fits(v: f64) -> bool {
     magnitude(v) <= 1e9
 }
 
+pub fn counts_fit(g: &Grid) -> bool {
+    (g.cols == 0 && g.rows == 0)
+        || ((1..=4004).contains(&g.cols) && (1..=4004).contains(&g.rows) && g.cols as u64 * g.rows as u64 <= 1_002_001)
+}
+
 pub fn grid_fits(g: &Grid) -> bool {
-    let counts = (g.cols == 0 && g.rows == 0)
-        || ((1..=4004).contains(&g.cols) && (1..=4004).contains(&g.rows) && g.cols as u64 * g.rows as u64 <= 1_002_001);
     let sizes = [g.cell_width, g.cell_height].iter().all(|&size| size >= 1e-6 / 4.0 && size <= 2e9);
-    coordinate_fits(g.min_x) && coordinate_fits(g.min_y) && sizes && counts
+    coordinate_fits(g.min_x) && coordinate_fits(g.min_y) && sizes && counts_fit(g)
 }
 
 pub fn snap_size_fits(size: f64) -> bool {

@@ -4,7 +4,7 @@ use super::walk::{self, Walk};
 use super::{answers, float, show_grid, slices, word, Kind, JUNK};
 use crate::cases;
 use crate::cover;
-use crate::model::SCRATCH;
+use crate::model::{self, SCRATCH};
 use crate::random::{nudged, Random};
 use crate::{Grid, Line, Mode};
 
@@ -75,7 +75,9 @@ impl Kind for Cover {
         let settled = if number == 0 { out[0] as usize } else { case.walk.scratch };
         slices("scratch", &wanted[..settled], &scratch[..settled])?;
         let (second, more, beside) = asked(&case.other, crate::port::inner_cover);
-        if (number, second) == (0, 0) && g.cols > 0 {
+        // on a fit grid, of lines that obey the rule
+        let fits = model::grid_fits(g) && [line, &case.other].iter().all(|l| l.iter().all(|&v| model::coordinate_fits(v)));
+        if (number, second) == (0, 0) && g.cols > 0 && fits {
             let beside = &beside[..more[0] as usize];
             if !scratch[..settled].iter().any(|c| beside.binary_search(c).is_ok()) {
                 return Err(format!("no cell is shared with {}", case.other.map(float).join(", ")));

@@ -19,14 +19,14 @@ use Rattle.grid.specs.declared.Axis.{Axis}
 use Rattle.grid.specs.declared.Grid.{Grid}
 use Rattle.grid.specs.declared.Segment.{Segment}
 use Rattle.grid.specs.Axes.{xAxis, yAxis}
-use Rattle.grid.specs.Domain.{fit, scratchCheck, gridCheck}
+use Rattle.grid.specs.Domain.{shape, scratchCheck}
 use Rattle.grid.proofs.Bools.{and-left, and-right}
-use Rattle.grid.proofs.Shapes.{Shape, fit-says}
+use Rattle.grid.proofs.Shapes.{Shape, shape-says}
 use Rattle.cover.specs.declared.Ends.{Ends}
 use Rattle.cover.specs.declared.Covered.the-variants.{Found, Everywhere, Refused}
 use Rattle.cover.specs.Fine.{fineOn, nearOn}
 use Rattle.cover.specs.Rule.{run, cellsBetween}
-use Rattle.cover.specs.Covering.{endPasses, passes, ordered, endsOf, everyCell, unlessNone, coveringOf, offGrid, everywhere, coverCheck, foundOf, coveredOf, CoverIs}
+use Rattle.cover.specs.Covering.{endPasses, passes, ordered, endsOf, everyCell, unlessNone, coveringOf, offGrid, everywhere, roomCheck, foundOf, coveredOf, CoverIs}
 use Rattle.cover.specs.Inside.{Grown, Front, Small, Frame}
 use Rattle.cover.proofs.Guarding.{fine-small}
 
@@ -96,23 +96,20 @@ module _ (g : Grid) (line : Segment) (h : passes g line ≡ true) where
         holds = let r = s .high in let t = s .wide in omega arith;
       })
 
--- ---- what a scratch and a grid say that pass the checks
+-- ---- what a scratch and the counts of a grid say that pass the checks
 
-module _ (n : ℕ) (g : Grid) (line : Segment) (h : coverCheck n g line ≡ Fine) where
-  pub cover-room : 16384 ≤ n
-  unfolding coverCheck scratchCheck
-  cover-room = leb-true 16384 n (unless-fine _ 3 0 (andThen-left _ _ h))
+module _ (n : ℕ) (g : Grid) (h : roomCheck n g ≡ Fine) where
+  pub room-for : 16384 ≤ n
+  unfolding roomCheck scratchCheck
+  room-for = leb-true 16384 n (unless-fine _ 3 0 (andThen-left _ _ h))
 
-  cover-fit : fit g ≡ true
-  unfolding coverCheck gridCheck
-  cover-fit = unless-fine (fit g) 8 0 (andThen-right _ _ (andThen-right _ _ h))
+  pub room-shape : Shape (g .cols) (g .rows)
+  unfolding roomCheck
+  room-shape = shape-says (g .cols) (g .rows) (unless-fine (shape (g .cols) (g .rows)) 8 0 (andThen-right _ _ h))
 
-  pub cover-shape : Shape (g .cols) (g .rows)
-  cover-shape = fit-says g cover-fit .counts
-
-  found-is : coveredOf n g line ≡ foundOf g line
+  found-is : (line : Segment) → coveredOf n g line ≡ foundOf g line
   unfolding coveredOf answerBy
-  found-is = rw (then-fine _ _ h)
+  found-is line = rw (then-fine _ _ h)
 
 -- ---- the cells, case by case
 
@@ -170,19 +167,18 @@ module _ (g : Grid) (line : Segment) where
 -- ---- the answer
 
 module _ (g : Grid) (line : Segment) (was : List ℕ) where
-  pub refused-answer : (r : Refusal) → coverCheck (length was) g line ≡ check.Refused r → CoverIs g line was (Refused r) was
+  pub refused-answer : (r : Refusal) → roomCheck (length was) g ≡ check.Refused r → CoverIs g line was (Refused r) was
   unfolding coveredOf answerBy
   refused-answer r e = record { answer = rw (then-refused _ _ r e); size = refl; left = refl }
 
-  module _ (fine : coverCheck (length was) g line ≡ Fine) where
+  module _ (fine : roomCheck (length was) g ≡ Fine) where
     -- the cells are found
     found-answer : (now : List ℕ) (n : ℕ) → everywhere g line ≡ false → length now ≡ length was → n ≡ length (coveringOf g line) → take n now ≡ coveringOf g line → CoverIs g line was (Found n) now
     unfolding foundOf
-    found-answer now n e l c t = record { answer = sym (found-is (length was) g line fine ∙ rw (e, c)); size = l; left = t }
+    found-answer now n e l c t = record { answer = sym (found-is (length was) g fine line ∙ rw (e, c)); size = l; left = t }
 
     pub none-answer : g .cols ≡ 0 → CoverIs g line was (Found 0) was
     none-answer e =
-        let s = cover-shape (length was) g line fine in
         let z : coveringOf g line ≡ [] = covering-none g line e in
         let k : g .rows * g .cols ≤ 2048 = ap-zero (g .rows) (g .cols) e in
         found-answer was 0 (everywhere-few g line k) refl (sym (ap length z)) (sym z)
@@ -197,7 +193,7 @@ module _ (g : Grid) (line : Segment) (was : List ℕ) where
 
     pub everywhere-answer : passes g line ≡ false → 2048 < g .rows * g .cols → CoverIs g line was Everywhere was
     unfolding foundOf
-    everywhere-answer h l = record { answer = sym (found-is (length was) g line fine ∙ rw (everywhere-so g line h l)); size = refl; left = refl }
+    everywhere-answer h l = record { answer = sym (found-is (length was) g fine line ∙ rw (everywhere-so g line h l)); size = refl; left = refl }
 
     pub all-answer : (now : List ℕ) (n : ℕ) → 0 < g .cols → passes g line ≡ false → g .rows * g .cols ≤ 2048 → Grown was now 0 n (run (g .rows * g .cols) 0) → CoverIs g line was (Found n) now
     all-answer now n c h l w =

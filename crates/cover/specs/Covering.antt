@@ -8,11 +8,11 @@ use lib.ListN.{length, take}
 use lib.Ieee.{Float}
 use Rattle.slices.specs.Lists.{elem}
 use Rattle.refusals.specs.declared.Check.{Check}
-use Rattle.refusals.specs.Refusals.{andThen, gives, _then_, answerBy}
+use Rattle.refusals.specs.Refusals.{unless, andThen, gives, _then_, answerBy}
 use Rattle.grid.specs.declared.Grid.{Grid}
 use Rattle.grid.specs.declared.Segment.{Segment}
 use Rattle.grid.specs.Axes.{xAxis, yAxis}
-use Rattle.grid.specs.Domain.{scratchCheck, segmentCheck, gridCheck}
+use Rattle.grid.specs.Domain.{shape, scratchCheck}
 use Rattle.cover.specs.declared.Ends.{Ends}
 use Rattle.cover.specs.declared.Covered.{Covered}
 use Rattle.cover.specs.declared.Covered.the-variants.{Found, Everywhere, Refused}
@@ -70,9 +70,9 @@ pub record Common (xs ys : List ℕ) : Type 0 where
 
 -- ---- the answer
 
--- 3, 1, 8, by n entries of scratch
-unfoldable pub coverCheck : ℕ → Grid → Segment → Check
-coverCheck n g line = andThen (scratchCheck n) (andThen (segmentCheck line) (gridCheck g))
+-- 3, by n entries of scratch, and 8, by the counts of the grid alone: all that the cells of any line need to have room there
+unfoldable pub roomCheck : ℕ → Grid → Check
+roomCheck n g = andThen (scratchCheck n) (unless (shape (g .cols) (g .rows)) 8 0)
 
 -- how many cells there are, or that they are every cell of a grid of more than 2,048
 unfoldable pub foundOf : Grid → Segment → Covered
@@ -82,7 +82,7 @@ foundOf g line = cond (everywhere g line) Everywhere (Found (length (coveringOf 
 -- the first refusal that applies, else that
 unfoldable pub coveredOf : ℕ → Grid → Segment → Covered
 unfolding foundOf
-coveredOf n g line = answerBy Refused (λ c. c) (coverCheck n g line then gives (foundOf g line))
+coveredOf n g line = answerBy Refused (λ c. c) (roomCheck n g then gives (foundOf g line))
 
 -- ---- what is left of the scratch
 
@@ -92,7 +92,7 @@ Left cells was (Found n) now = take n now ≡ cells
 Left cells was Everywhere now = now ≡ was
 Left cells was (Refused r) now = now ≡ was
 
--- what the covering walk promises
+-- what the covering walk promises, of a grid and a segment as they are
 pub record CoverIs (g : Grid) (line : Segment) (was : List ℕ) (r : Covered) (now : List ℕ) : Type 0 where
   pub answer : r ≡ coveredOf (length was) g line
   pub size : length now ≡ length was

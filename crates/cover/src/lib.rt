@@ -10,11 +10,12 @@ use grid::Grid;
 use grid::Segment;
 use refusals::Check;
 use refusals::Refusal;
+use refusals::refuse_unless;
 use rows::cells_between;
 use runs::put_run;
 ghost use mathlib.Core.Path.{_≡_};
 ghost use lib.ListN.{length};
-ghost use Rattle.cover.specs.Covering.{offGrid, coverCheck, CoverIs};
+ghost use Rattle.cover.specs.Covering.{offGrid, roomCheck, CoverIs};
 
 // The number of cells, which stand in the lent scratch; or that the line is in every cell of a grid of more than 2,048, since one of its ends is off the
 // grid; or a refusal. Behind the last two the scratch is as it was.
@@ -51,26 +52,23 @@ pub fn is_off(grid: Grid, line: Segment) -> bool
     true
 }
 
-// Refusals 3, 1 and 8, of n entries of scratch.
-fn check_cover(grid: Grid, line: Segment, n: usize) -> Check
-    ensures { λ r. ⌜ r ≡ coverCheck n grid line ⌝ }
+// Refusals 3 and 8, of n entries of scratch and the counts of a grid: few comparisons of whole numbers, which a walk makes for every line.
+pub fn check_room(grid: Grid, n: usize) -> Check
+    ensures { λ r. ⌜ r ≡ roomCheck n grid ⌝ }
 {
     let lent = grid::checks::check_scratch(n);
     if let Check::Refused(r) = lent {
         return Check::Refused(r);
     }
-    let inside = grid::checks::check_segment(line);
-    if let Check::Refused(r) = inside {
-        return Check::Refused(r);
-    }
-    grid::checks::check_grid(grid)
+    refuse_unless(grid::checks::is_shape(grid.cols, grid.rows), 8, 0)
 }
 
-// The cells of a segment at the start of the scratch. What is beyond them there is not zeroed.
+// The cells of a segment at the start of the scratch. What is beyond them there is not zeroed. The floats of the grid and of the segment are taken as they
+// are: an end that is no number does not pass the guard.
 pub fn cover_segment(grid: Grid, line: Segment, scratch: &mut [u32]) -> Covered
     ensures { λ r. ⌜ CoverIs grid line (now (scratch .entry)) r (now (scratch .exit)) ⌝ }
 {
-    let check = check_cover(grid, line, scratch.len());
+    let check = check_room(grid, scratch.len());
     if let Check::Refused(r) = check {
         return Covered::Refused(r);
     }

@@ -20,7 +20,7 @@ use Rattle.walk.specs.declared.Reached.the-variants as reached
 use Rattle.walk.specs.Pushes.{Outcome}
 use Rattle.walk.specs.Segment as walk
 use Rattle.walk.proofs.Visits.{Cells, segment-visits}
-use Rattle.walk.proofs.Answer.{reach-is}
+use Rattle.walk.proofs.Checked.{as-is}
 use Rattle.tables.specs.Lists.{Walks, long, local}
 use Rattle.tables.specs.States.{Line}
 use Rattle.tables.proofs.Lists.{local-walks, local-short}
@@ -72,15 +72,15 @@ module _ (mode : Mode) (g : Grid) (ls : Lines) (i : ℕ) where
       go (refused why) e k = absurd (true≢false (sym k))
       go (gives xs) e k = segment-visits mode g (segmentAt ls i) h xs e
 
-  -- the scratch, the line and the grid pass, so the walk can be refused by 7 alone
+  -- the scratch and the grid pass, so the walk can be refused by 7 alone
   module _ {s : List ℕ} (a : WalkAsks g ls i s) (r : Reached) {s′ : List ℕ}
-      (h : walk.Walked (walk.everywhereIn mode g (segmentAt ls i)) (walk.reachOf mode (length s) g (segmentAt ls i)) s r s′) where
+      (h : walk.Walked (walk.everywhereIn mode g (segmentAt ls i)) (walk.asIsOf mode (length s) g (segmentAt ls i)) s r s′) where
     abbrev all : Bool
     all = walk.everywhereIn mode g (segmentAt ls i)
 
     inner : walk.Walked all (walkOn mode g ls i) s r s′
-    unfolding walkOn lineFits
-    inner = let w = a .walkable in rw (reach-is mode g _ (length s) (w .space) (w .each i (a .at)) (w .fits)) at h
+    unfolding walkOn
+    inner = let w = a .walkable in rw (as-is (length s) g mode _ (w .space) (w .fits)) at h
 
     pub walk-found : (n : ℕ) → r ≡ reached.Found n → CountAs (walkCheck mode g ls i) (Front mode g ls i s′) (counted.Of n)
     unfolding cellsOn walkCheck unless

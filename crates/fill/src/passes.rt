@@ -41,7 +41,15 @@ fn walk_line(
         ⌜ CountAs (walkCheck mode grid ls i) (Front mode grid ls i (now (scratch .exit))) r ⌝ }
 {
     let line = segment_at(start_x, start_y, end_x, end_y, i);
-    let cells = walk::segment_cells(mode, grid, line, scratch);
+    let cells = walk::cells_between(
+        mode,
+        grid,
+        line.start_x,
+        line.start_y,
+        line.end_x,
+        line.end_y,
+        scratch,
+    );
     match cells {
         Reached::Found(n) => Count::Of(n),
         Reached::Everywhere => Count::Of(cell_count(grid)),

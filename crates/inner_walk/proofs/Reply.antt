@@ -10,7 +10,7 @@ use Rattle.grid.specs.declared.Segment.{Segment}
 use Rattle.walk.specs.declared.Mode.{Mode}
 use Rattle.walk.specs.declared.Reached.{Reached}
 use Rattle.walk.specs.declared.Reached.the-variants.{Found, Everywhere, Refused}
-use Rattle.walk.specs.Segment.{everywhereIn, reachOf, Walked}
+use Rattle.walk.specs.Segment.{everywhereIn, asIsOf, Walked}
 use Rattle.inner_walk.specs.Replies.{reachNumber, reachValue, WalkReplies}
 
 -- nothing is written where there is no entry
@@ -35,11 +35,11 @@ module _ {R : Reached} (out : List ℕ) {out′ : List ℕ} where
 
 -- ---- of the walk
 
-pub replies : {mode : Mode} {g : Grid} {line : Segment} {was now out out′ : List ℕ} {R : Reached} {r : ℕ} → Walked (everywhereIn mode g line) (reachOf mode (length was) g line) was R now
+pub replies : {mode : Mode} {g : Grid} {line : Segment} {was now out out′ : List ℕ} {R : Reached} {r : ℕ} → Walked (everywhereIn mode g line) (asIsOf mode (length was) g line) was R now
     → (r ≡ reachNumber R) × (out′ ≡ set out 0 (reachValue R)) → WalkReplies mode g line was out r now out′
 replies {mode} {g} {line} {was} {now} {out} w k =
     record {
       number = k .0 ∙ ap reachNumber (w .answer);
       value = k .1 ∙ ap (λ (R : Reached). set out 0 (reachValue R)) (w .answer);
-      walked = subst (λ (R : Reached). Walked (everywhereIn mode g line) (reachOf mode (length was) g line) was R now) (w .answer) w;
+      walked = subst (λ (R : Reached). Walked (everywhereIn mode g line) (asIsOf mode (length was) g line) was R now) (w .answer) w;
     }

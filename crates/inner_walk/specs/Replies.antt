@@ -12,7 +12,7 @@ use Rattle.grid.specs.declared.Segment.{Segment}
 use Rattle.walk.specs.declared.Mode.{Mode}
 use Rattle.walk.specs.declared.Reached.{Reached}
 use Rattle.walk.specs.declared.Reached.the-variants.{Found, Everywhere, Refused}
-use Rattle.walk.specs.Segment.{everywhereIn, reachOf, reachedOf, Walked}
+use Rattle.walk.specs.Segment.{everywhereIn, asIsOf, reachedOf, Walked}
 
 abbrev none : Float
 none = fin false 0 (pos 0)
@@ -44,10 +44,10 @@ reachValue (Refused r) = r .value
 
 -- what the walk of a line answers inside a larger call, with a scratch of n entries
 abbrev pub reachedIn : Mode → Grid → Segment → ℕ → Reached
-reachedIn mode g line n = reachedOf (everywhereIn mode g line) (reachOf mode n g line)
+reachedIn mode g line n = reachedOf (everywhereIn mode g line) (asIsOf mode n g line)
 
 -- its number, its value at the start of `out`, and the scratch as the walk promises it
 pub record WalkReplies (mode : Mode) (g : Grid) (line : Segment) (scratch out : List ℕ) (r : ℕ) (scratch′ out′ : List ℕ) : Type 0 where
   pub number : r ≡ reachNumber (reachedIn mode g line (length scratch))
   pub value : out′ ≡ set out 0 (reachValue (reachedIn mode g line (length scratch)))
-  pub walked : Walked (everywhereIn mode g line) (reachOf mode (length scratch) g line) scratch (reachedIn mode g line (length scratch)) scratch′
+  pub walked : Walked (everywhereIn mode g line) (asIsOf mode (length scratch) g line) scratch (reachedIn mode g line (length scratch)) scratch′

@@ -1,6 +1,7 @@
 // The walk of one line as a build takes it, the ordering of its cells, and the covering walk, for whoever times or compares them. They are no part of the
 // library.
 use grid::Grid;
+use grid::Segment;
 use walk::Mode;
 use walk::Reached;
 ghost use mathlib.Core.Path.{_≡_};
@@ -91,15 +92,13 @@ pub extern "C" fn mt_inner_walk(
         let line = segmentBy «start_x» «start_y» «end_x» «end_y» in
         ⌜ WalkReplies Rust g line (now (scratch .entry)) (now (out .entry)) r (now (scratch .exit)) (now (out .exit)) ⌝ }
 {
-    let r = walk::cells_between(
-        Mode::Rust,
-        grid_of(sizes, cols, rows),
+    let line = Segment {
         start_x,
         start_y,
         end_x,
         end_y,
-        scratch,
-    );
+    };
+    let r = walk::cells_by_turns(Mode::Rust, grid_of(sizes, cols, rows), line, scratch);
     answer(r, out)
 }
 
@@ -120,14 +119,12 @@ pub extern "C" fn mt_inner_cover(
         let line = segmentBy «start_x» «start_y» «end_x» «end_y» in
         ⌜ WalkReplies Covering g line (now (scratch .entry)) (now (out .entry)) r (now (scratch .exit)) (now (out .exit)) ⌝ }
 {
-    let r = walk::cells_between(
-        Mode::Covering,
-        grid_of(sizes, cols, rows),
+    let line = Segment {
         start_x,
         start_y,
         end_x,
         end_y,
-        scratch,
-    );
+    };
+    let r = walk::cells_covered(grid_of(sizes, cols, rows), line, scratch);
     answer(r, out)
 }

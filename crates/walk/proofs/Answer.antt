@@ -34,13 +34,14 @@ use Rattle.walk.specs.Turns.{rayOf, startOf}
 use Rattle.walk.specs.Pushes.{Outcome, walkedOf}
 use Rattle.walk.specs.Modular.{wayBy, startBy, walkedBy}
 use Rattle.walk.specs.Neighbours.{alongOn, besideOf, lineOf, endOf}
-use Rattle.walk.specs.Segment.{pushesOf, answered, byTurns, unlessNone, turnsOf, turning, segmentOf, entryCheck, reachOf, reachedOf, Walked}
+use Rattle.cover.specs.Covering.{roomCheck}
+use Rattle.walk.specs.Segment.{pushesOf, answered, byTurns, unlessNone, turnsOf, turning, segmentOf, everywhereIn, entryCheck, reachOf, asIsOf, reachedOf, Walked}
 use Rattle.walk.specs.Inside.{Grown, Covers, Complete, WalkedTo, Walks}
 use Rattle.walk.proofs.Whole.{walked-is}
 use Rattle.walk.proofs.Grows.{and-then}
 use Rattle.walk.proofs.Added.{end-le}
 use Rattle.walk.proofs.Faithful.{same-answer}
-use Rattle.walk.proofs.Checked.{entry-spares}
+use Rattle.walk.proofs.Checked.{room-spares, entry-spares, as-is-checked}
 use Rattle.walk.proofs.Reaching.{segment-turns}
 
 module _ (mode : Mode) (g : Grid) (line : Segment) where
@@ -81,7 +82,7 @@ module _ (mode : Mode) (g : Grid) (line : Segment) where
 
 -- ---- the answers
 
-refused-walked : (o : Outcome) (why : Refusal) (was now : List ℕ) → o ≡ refused why → length now ≡ length was → now ≡ leftBy 0 why was → Walked false o was (Refused why) now
+refused-walked : {all : Bool} (o : Outcome) (why : Refusal) (was now : List ℕ) → o ≡ refused why → length now ≡ length was → now ≡ leftBy 0 why was → Walked all o was (Refused why) now
 unfolding reachedOf answerBy
 refused-walked o why was now e l h = rw e (record { answer = refl; size = l; left = h })
 
@@ -124,15 +125,15 @@ module _ (mode : Mode) (g : Grid) (line : Segment) (shape : Shape (g .cols) (g .
       (turned ∙ budget (walkedBy (g .cols) (g .rows) way w) (subst (λ (z : Ran). WalkedTo (walkedBy (g .cols) (g .rows) way w) z s) d (run .ran)))
       (k ∙ l) (c ∙ rw z (sym (left-zero 0 (refusal 7 0) was refl)))
 
--- behind the checks
+-- behind 3, and 8 by the counts
 module _ (mode : Mode) (g : Grid) (line : Segment) (was : List ℕ) where
   abbrev o : Outcome
-  o = entryCheck (length was) g line then turnsOf mode g line
+  o = roomCheck (length was) g then turnsOf mode g line
 
-  pub check-answer : (r : Refusal) → entryCheck (length was) g line ≡ check.Refused r → Walked false o was (Refused r) was
-  check-answer r e = refused-walked _ r was was (then-refused _ _ r e) refl (sym (left-same 0 r was (entry-spares g line (length was) .says r e)))
+  pub check-answer : (r : Refusal) → roomCheck (length was) g ≡ check.Refused r → Walked false o was (Refused r) was
+  check-answer r e = refused-walked _ r was was (then-refused _ _ r e) refl (sym (left-same 0 r was (room-spares (length was) g .says r e)))
 
-  module _ (fine : entryCheck (length was) g line ≡ Fine) where
+  module _ (fine : roomCheck (length was) g ≡ Fine) where
     walks-on : o ≡ turnsOf mode g line
     walks-on = then-fine _ _ fine
 
@@ -141,3 +142,13 @@ module _ (mode : Mode) (g : Grid) (line : Segment) (was : List ℕ) where
 
     pub turns-answer : (r : Reached) (now : List ℕ) → (g .cols ≡ 0 → ⊥) → Walked false (byTurns mode g line) was r now → Walked false o was r now
     turns-answer r now h k = subst (λ (o : Outcome). Walked false o was r now) (sym (walks-on ∙ some-is mode g line h)) k
+
+-- behind 3, 1 and 8
+module _ (mode : Mode) (g : Grid) (line : Segment) {was : List ℕ} where
+  pub reach-refused : (r : Refusal) → entryCheck (length was) g line ≡ check.Refused r → Walked (everywhereIn mode g line) (reachOf mode (length was) g line) was (Refused r) was
+  unfolding reachOf
+  reach-refused r e = refused-walked _ r was was (then-refused _ _ r e) refl (sym (left-same 0 r was (entry-spares g line (length was) .says r e)))
+
+  pub reach-walked : {now : List ℕ} {R : Reached} → entryCheck (length was) g line ≡ Fine → Walked (everywhereIn mode g line) (asIsOf mode (length was) g line) was R now
+      → Walked (everywhereIn mode g line) (reachOf mode (length was) g line) was R now
+  reach-walked h w = rw (as-is-checked g line (length was) mode h) at w

@@ -19,8 +19,8 @@ use Rattle.walk.specs.declared.Cells.the-variants as cells
 use Rattle.walk.specs.declared.Reached.{Reached}
 use Rattle.walk.specs.declared.Reached.the-variants.{Found, Everywhere, Refused}
 use Rattle.walk.specs.Pushes.{Outcome}
-use Rattle.walk.specs.Segment.{segmentOf, everywhereIn, entryCheck, offIn, offCheck, entryOf, reachOf, cellsOf, scratchOf, reachedOf, Walked, Entered}
-use Rattle.walk.proofs.Checked.{entry-spares}
+use Rattle.walk.specs.Segment.{segmentOf, everywhereIn, entryCheck, offIn, offCheck, entryOf, reachOf, asIsOf, cellsOf, scratchOf, reachedOf, Walked, Entered}
+use Rattle.walk.proofs.Checked.{entry-spares, as-is-checked}
 use Rattle.walk.proofs.Reaching.{everywhere-out}
 
 -- ---- what the walk inside leaves, handed back
@@ -63,10 +63,13 @@ module _ (mode : Mode) (g : Grid) (line : Segment) {was : List ℕ} where
     unfolding entryOf offCheck unless _then_ clears
     off-entry h = spared (entryOf mode (length was) g line) (refusal 16 0) was (rw (fine, h)) refl
 
-    module _ (on : offIn mode g line ≡ false) {now : List ℕ} {R : Reached} (w : Walked (everywhereIn mode g line) (reachOf mode (length was) g line) was R now) where
-      same : reachOf mode (length was) g line ≡ entryOf mode (length was) g line
+    module _ (on : offIn mode g line ≡ false) {now : List ℕ} {R : Reached} (w : Walked (everywhereIn mode g line) (asIsOf mode (length was) g line) was R now) where
+      on-grid : reachOf mode (length was) g line ≡ entryOf mode (length was) g line
       unfolding entryOf reachOf offCheck unless _then_
-      same = rw (fine, on)
+      on-grid = rw (fine, on)
+
+      same : asIsOf mode (length was) g line ≡ entryOf mode (length was) g line
+      same = as-is-checked g line (length was) mode fine ∙ on-grid
 
       is : (r : Reached) → R ≡ r → Walked (everywhereIn mode g line) (entryOf mode (length was) g line) was r now
       is r e = rw (← e, ← same) w

@@ -1,4 +1,4 @@
--- For the crates above: `Visits`, `Outcomes`, `Reaching`, which says which walk a mode is, and `reach-is` of `Answer`. `Faithful` and `Modes` hold the
+-- For the crates above: `Visits`, `Outcomes`, `Reaching`, which says which walk a mode is, `as-is` of `Checked` and `reach-is` of `Answer`. `Faithful` and `Modes` hold the
 -- definitions to document 01. `Whole`, `Tolerance`, `Plain` and `Off` hold the code's way to them. `Floats`, `Grows`, `Loop`, `Flat`, `Added`, `Spread`,
 -- `Room`, `Pushed`, `Checked`, `Answer` and `Entry` are the steps of the functions' proofs.
 pub mod Floats

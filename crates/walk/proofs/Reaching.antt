@@ -14,15 +14,15 @@ use Rattle.grid.specs.declared.Grid.{Grid}
 use Rattle.grid.specs.declared.Segment.{Segment}
 use Rattle.cover.specs.declared.Covered.{Covered}
 use Rattle.cover.specs.declared.Covered.the-variants as cover
-use Rattle.cover.specs.Covering.{coveringOf, offGrid, everywhere, coverCheck, foundOf, coveredOf, CoverIs}
+use Rattle.cover.specs.Covering.{coveringOf, offGrid, everywhere, roomCheck, foundOf, coveredOf, CoverIs}
 use Rattle.cover.proofs.Laws.{everywhere-off}
 use Rattle.walk.specs.declared.Mode.{Mode}
 use Rattle.walk.specs.declared.Mode.the-variants.{Rust, Sided, Covering}
 use Rattle.walk.specs.declared.Reached.{Reached}
 use Rattle.walk.specs.declared.Reached.the-variants.{Found, Everywhere, Refused}
 use Rattle.walk.specs.Pushes.{Outcome}
-use Rattle.walk.specs.Segment.{turnsOf, turning, segmentOf, everywhereIn, entryCheck, offIn, offCheck, entryOf, reachOf, reachedOf, Walked}
-use Rattle.walk.proofs.Checked.{entry-spares}
+use Rattle.walk.specs.Segment.{turnsOf, turning, segmentOf, everywhereIn, offIn, offCheck, entryOf, reachOf, asIsOf, reachedOf, Walked}
+use Rattle.walk.proofs.Checked.{room-spares}
 
 -- ---- which walk it is
 
@@ -71,14 +71,14 @@ module _ (mode : Mode) (g : Grid) (line : Segment) where
   unfolding entryOf reachOf offCheck unless _then_
   entry-turns n h = rw (turning-on h)
 
-  pub reached-turns : (n : ℕ) {was now : List ℕ} {r : Reached} → turning mode ≡ true → Walked false (entryCheck n g line then turnsOf mode g line) was r now
-      → Walked (everywhereIn mode g line) (reachOf mode n g line) was r now
-  unfolding reachOf
+  pub reached-turns : (n : ℕ) {was now : List ℕ} {r : Reached} → turning mode ≡ true → Walked false (roomCheck n g then turnsOf mode g line) was r now
+      → Walked (everywhereIn mode g line) (asIsOf mode n g line) was r now
+  unfolding asIsOf
   reached-turns n h w = rw (turning-nowhere h, segment-turns h) w
 
-  pub reached-covers : (n : ℕ) {was now : List ℕ} {r : Reached} → turning mode ≡ false → Walked (everywhere g line) (entryCheck n g line then gives (coveringOf g line)) was r now
-      → Walked (everywhereIn mode g line) (reachOf mode n g line) was r now
-  unfolding reachOf
+  pub reached-covers : (n : ℕ) {was now : List ℕ} {r : Reached} → turning mode ≡ false → Walked (everywhere g line) (roomCheck n g then gives (coveringOf g line)) was r now
+      → Walked (everywhereIn mode g line) (asIsOf mode n g line) was r now
+  unfolding asIsOf
   reached-covers n h w = rw (covering-everywhere h, segment-covers h) w
 
 module _ {mode : Mode} where
@@ -128,11 +128,10 @@ module _ (xs was now : List ℕ) (size : length now ≡ length was) where
 
 module _ {g : Grid} {line : Segment} {was now : List ℕ} {R : Covered} (w : CoverIs g line was R now) where
   abbrev c : Check
-  c = entryCheck (length was) g line
+  c = roomCheck (length was) g
 
-  -- the checks are the same three, in the same order
   says : (r : Covered) → R ≡ r → r ≡ answerFrom c (everywhere g line) (coveringOf g line)
-  unfolding coveredOf coverCheck entryCheck foundOf
+  unfolding coveredOf foundOf
   says r e = sym e ∙ w .answer
 
   is : (r : Covered) → R ≡ r → CoverIs g line was r now
@@ -145,4 +144,4 @@ module _ {g : Grid} {line : Segment} {was now : List ℕ} {R : Covered} (w : Cov
   everywhere-covered e = every (coveringOf g line) was now (w .size) c (everywhere g line) (says cover.Everywhere e) (is cover.Everywhere e .left)
 
   pub refused-covered : (r : Refusal) → R ≡ cover.Refused r → Walked (everywhere g line) (c then gives (coveringOf g line)) was (Refused r) now
-  refused-covered r e = unfound (coveringOf g line) was now (w .size) c (everywhere g line) r (entry-spares g line (length was)) (says (cover.Refused r) e) (is (cover.Refused r) e .left)
+  refused-covered r e = unfound (coveringOf g line) was now (w .size) c (everywhere g line) r (room-spares (length was) g) (says (cover.Refused r) e) (is (cover.Refused r) e .left)

@@ -19,8 +19,8 @@ ghost use lib.ListN.{length};
 ghost use Rattle.refusals.specs.Refusals.{gives, _then_};
 ghost use Rattle.grid.specs.Domain.{segmentBy};
 ghost use Rattle.grid.proofs.Shapes.{Shape};
-ghost use Rattle.cover.specs.Covering.{coveringOf, everywhere};
-ghost use Rattle.walk.specs.Segment.{byTurns, turnsOf, turning, everywhereIn, entryCheck, offIn, entryOf, reachOf, Walked, Entered};
+ghost use Rattle.cover.specs.Covering.{coveringOf, everywhere, roomCheck};
+ghost use Rattle.walk.specs.Segment.{byTurns, turnsOf, turning, everywhereIn, entryCheck, offIn, entryOf, reachOf, asIsOf, Walked, Entered};
 
 // Which cells a line visits. By turns, and beside a boundary those that the Rust adds, or by the side of the boundary that a value lies on; or those of the
 // covering walk, so that two lines with a common exact point share a cell.
@@ -130,12 +130,12 @@ fn by_turns(mode: Mode, grid: Grid, line: Segment, scratch: &mut [u32]) -> Reach
     }
 }
 
-// The same behind refusals 3, 1 and 8. A grid of 0 columns visits nothing.
-fn turned(mode: Mode, grid: Grid, line: Segment, scratch: &mut [u32]) -> Reached
-    ensures { λ r. let o = entryCheck (length (now (scratch .entry))) grid line then turnsOf mode grid line in
+// The same on a grid as it is, behind refusals 3, and 8 by the counts of the grid alone. A grid of 0 columns visits nothing.
+pub fn cells_by_turns(mode: Mode, grid: Grid, line: Segment, scratch: &mut [u32]) -> Reached
+    ensures { λ r. let o = roomCheck (length (now (scratch .entry))) grid then turnsOf mode grid line in
         ⌜ Walked false o (now (scratch .entry)) r (now (scratch .exit)) ⌝ }
 {
-    let check = check_entry(grid, line, scratch.len());
+    let check = cover::check_room(grid, scratch.len());
     if let Check::Refused(r) = check {
         return Reached::Refused(r);
     }
@@ -145,9 +145,9 @@ fn turned(mode: Mode, grid: Grid, line: Segment, scratch: &mut [u32]) -> Reached
     by_turns(mode, grid, line, scratch)
 }
 
-// The covering walk, which checks 3, 1 and 8 itself.
-fn covered(grid: Grid, line: Segment, scratch: &mut [u32]) -> Reached
-    ensures { λ r. let o = entryCheck (length (now (scratch .entry))) grid line then gives (coveringOf grid line) in
+// The covering walk on a grid as it is, which makes the same checks itself.
+pub fn cells_covered(grid: Grid, line: Segment, scratch: &mut [u32]) -> Reached
+    ensures { λ r. let o = roomCheck (length (now (scratch .entry))) grid then gives (coveringOf grid line) in
         ⌜ Walked (everywhere grid line) o (now (scratch .entry)) r (now (scratch .exit)) ⌝ }
 {
     let cells = cover::cover_segment(grid, line, scratch);
@@ -169,8 +169,9 @@ fn is_turning(mode: Mode) -> bool
     }
 }
 
-// The walk between two points: by turns, or the covering walk. The ends are handed over as numbers, in registers: a segment that is written to memory
-// number by number and read back in pairs makes a processor wait, for a sixth of a short walk.
+// The walk between two points, on a grid as it is: by turns, or the covering walk. A larger call has checked the lines and the grid once, so that here no
+// float is checked again: 3, and 8 by the counts alone, and 7. The ends are handed over as numbers, in registers: a segment that is written to memory number
+// by number and read back in pairs makes a processor wait, for a sixth of a short walk.
 pub fn cells_between(
     mode: Mode,
     grid: Grid,
@@ -181,7 +182,7 @@ pub fn cells_between(
     scratch: &mut [u32],
 ) -> Reached
     ensures { λ r. let line = segmentBy «start_x» «start_y» «end_x» «end_y» in
-        let o = reachOf mode (length (now (scratch .entry))) grid line in
+        let o = asIsOf mode (length (now (scratch .entry))) grid line in
         ⌜ Walked (everywhereIn mode grid line) o (now (scratch .entry)) r (now (scratch .exit)) ⌝ }
 {
     let line = Segment {
@@ -191,9 +192,9 @@ pub fn cells_between(
         end_y,
     };
     if is_turning(mode) {
-        return turned(mode, grid, line, scratch);
+        return cells_by_turns(mode, grid, line, scratch);
     }
-    covered(grid, line, scratch)
+    cells_covered(grid, line, scratch)
 }
 
 // The walk of one line inside a larger call: its cells, increasing, none twice, at the start of the scratch. What is beyond them there is not zeroed.
@@ -202,6 +203,10 @@ pub fn segment_cells(mode: Mode, grid: Grid, line: Segment, scratch: &mut [u32])
     ensures { λ r. let o = reachOf mode (length (now (scratch .entry))) grid line in
         ⌜ Walked (everywhereIn mode grid line) o (now (scratch .entry)) r (now (scratch .exit)) ⌝ }
 {
+    let check = check_entry(grid, line, scratch.len());
+    if let Check::Refused(r) = check {
+        return Reached::Refused(r);
+    }
     cells_between(
         mode,
         grid,

@@ -6,19 +6,19 @@ use Rattle.fill.proofs.passes.walk_line.Tie as tie
 
 returns : tie.Need-returns
 returns c =
-    let w = c .before .before .before .before .before .segment-cells in
+    let w = c .before .before .before .before .before .cells-between in
     let h = rw (c .before .before .before .before .before .before .before .segment-at .ensures) at (w .ensures) in
     walk-found _ _ _ _ (c .before .before .before .before .before .before .before .before .before .before .before .before .before .pre) (w .result) h _ (c .before .cells .given .1)
 
 returns-2 : tie.Need-returns-2
 returns-2 c =
-    let w = c .before .before .before .before .before .segment-cells in
+    let w = c .before .before .before .before .before .cells-between in
     let h = rw (c .before .before .before .before .before .before .before .segment-at .ensures) at (w .ensures) in
     walk-everywhere _ _ _ _ (c .before .before .before .before .before .before .before .before .before .before .before .before .before .pre) (w .result) h _ (c .before .enum-told .given .1) (c .cell-count .ensures .0)
 
 returns-3 : tie.Need-returns-3
 returns-3 c =
-    let w = c .before .before .before .before .segment-cells in
+    let w = c .before .before .before .before .cells-between in
     let h = rw (c .before .before .before .before .before .before .segment-at .ensures) at (w .ensures) in
     walk-over _ _ _ _ (c .before .before .before .before .before .before .before .before .before .before .before .before .pre) (w .result) h _ (c .enum-told2 .given .1)
 

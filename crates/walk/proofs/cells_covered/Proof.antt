@@ -1,8 +1,8 @@
--- `walk::covered` meets its contract. Assumes nothing.
+-- `walk::cells_covered` meets its contract. Assumes nothing.
 use borrow.Author.Needs.{needs}
 use Rattle.walk.proofs.Reaching.{found-covered, everywhere-covered, refused-covered}
-use Rattle.walk.proofs.covered.Statement.{statement}
-use Rattle.walk.proofs.covered.Tie as tie
+use Rattle.walk.proofs.cells_covered.Statement.{statement}
+use Rattle.walk.proofs.cells_covered.Tie as tie
 
 returns : tie.Need-returns
 returns c = found-covered (c .before .before .before .before .before .cover-segment .ensures) _ (c .before .cells .given .1)
@@ -13,8 +13,8 @@ returns-2 c = everywhere-covered (c .before .before .before .before .cover-segme
 returns-3 : tie.Need-returns-3
 returns-3 c = refused-covered (c .before .before .before .before .before .cover-segment .ensures) _ (c .before .cells2 .given .1)
 
-pub covered-spec : {M : Type 1} → statement M
-covered-spec =
+pub cells-covered-spec : {M : Type 1} → statement M
+cells-covered-spec =
     tie.close
     (tie.spec
     (λ c κs. search needs)

@@ -1,22 +1,21 @@
--- `walk::turned` meets its contract. Assumes nothing.
+-- `walk::cells_by_turns` meets its contract. Assumes nothing.
 use mathlib.Core.Path.{_≡_, sym, _∙_}
 use native.Mathlib.Omega.{arith}
 use borrow.Author.Needs.{needs}
 use lib.ListN.{length}
 use Rattle.refusals.specs.declared.Check.the-variants.{Fine}
-use Rattle.grid.proofs.Shapes.{fit-says}
-use Rattle.walk.specs.Segment.{entryCheck}
-use Rattle.walk.proofs.Checked.{entry-room, entry-fit}
+use Rattle.cover.specs.Covering.{roomCheck}
+use Rattle.cover.proofs.Entry.{room-for, room-shape}
 use Rattle.walk.proofs.Answer.{check-answer, none-answer, turns-answer}
-use Rattle.walk.proofs.turned.Statement.{statement}
-use Rattle.walk.proofs.turned.Tie as tie
+use Rattle.walk.proofs.cells_by_turns.Statement.{statement}
+use Rattle.walk.proofs.cells_by_turns.Tie as tie
 
--- 3, 1 and 8 have found nothing
-checked : (c : tie.After-enum-told) → let a = c .before .before .before .before .args in entryCheck (length (a .scratch .now)) (a .grid) (a .line) ≡ Fine
-checked c = sym (c .before .before .check-entry .ensures) ∙ c .enum-told .given .1
+-- 3 and 8 have found nothing
+checked : (c : tie.After-enum-told) → let a = c .before .before .before .before .args in roomCheck (length (a .scratch .now)) (a .grid) ≡ Fine
+checked c = sym (c .before .before .check-room .ensures) ∙ c .enum-told .given .1
 
 returns : tie.Need-returns
-returns c = check-answer _ _ _ _ _ (sym (c .before .before .before .check-entry .ensures) ∙ c .before .check .given .1)
+returns c = check-answer _ _ _ _ _ (sym (c .before .before .before .check-room .ensures) ∙ c .before .check .given .1)
 
 returns-2 : tie.Need-returns-2
 returns-2 c = none-answer _ _ _ _ (checked (c .before .before)) (c .if1 .taken)
@@ -24,13 +23,13 @@ returns-2 c = none-answer _ _ _ _ (checked (c .before .before)) (c .if1 .taken)
 by-turns-requires : tie.Need-by-turns-requires
 by-turns-requires c κs =
     let f = checked (c .before .before .before) in
-    (entry-room _ _ _ f, (fit-says _ (entry-fit _ _ _ f) .counts, omega (arith, c .before .if1 .left)))
+    (room-for _ _ f, (room-shape _ _ f, omega (arith, c .before .if1 .left)))
 
 returns-3 : tie.Need-returns-3
 returns-3 c = turns-answer _ _ _ _ (checked (c .before .before .before .before .before .before)) _ _ (c .before .before .before .before .if1 .left) (c .before .before .by-turns .ensures)
 
-pub turned-spec : {M : Type 1} → statement M
-turned-spec =
+pub cells-by-turns-spec : {M : Type 1} → statement M
+cells-by-turns-spec =
     tie.close
     (tie.spec
     (λ c κs. search needs)

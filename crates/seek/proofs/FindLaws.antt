@@ -8,24 +8,26 @@ use borrow.Author.Tests.{le-leb, lt-leb}
 use Rattle.refusals.specs.declared.Refusal.{Refusal}
 use Rattle.refusals.specs.declared.Check.{Check}
 use Rattle.refusals.specs.declared.Check.the-variants.{Fine, Refused}
-use Rattle.refusals.specs.Refusals.{refusal, unless, andThen, Answer, refused, gives, clears}
+use Rattle.refusals.specs.Refusals.{refusal, unless, andThen, Answer, refused, gives, answerBy, clears}
 use Rattle.refusals.proofs.Checks.{andThen-refused, andThen-fine}
 use Rattle.refusals.proofs.Answers.{then-refused, then-fine, then-andThen}
 use Rattle.refusals.proofs.Leaving.{Clearing, clearing-unless, clearing-then}
 use Rattle.grid.specs.declared.Grid.{Grid}
 use Rattle.grid.specs.Domain.{Lines, count, linesCheck, gridCheck}
 use Rattle.grid.proofs.Fine.{lines-counted, lines-spare, grid-spares}
-use Rattle.tables.specs.Tables.{Tables}
+use Rattle.tables.specs.Tables.{Tables, cells}
 use Rattle.tables.specs.Fit.{tablesCheck, standingCheck}
 use Rattle.seek.specs.declared.Cursor.{Cursor}
 use Rattle.seek.specs.declared.SeekAnswer.{SeekAnswer}
 use Rattle.seek.specs.declared.SeekAnswer.the-variants as answer
+use Rattle.seek.specs.declared.PairAnswer.{PairAnswer}
+use Rattle.seek.specs.declared.PairAnswer.the-variants as one
 use Rattle.seek.specs.declared.bookmarks.Sought.{Sought}
 use Rattle.seek.specs.declared.bookmarks.Sought.the-variants as sought
 use Rattle.seek.specs.Tests.{Pair, testsOf}
-use Rattle.seek.specs.Bookmarks.{visitCheck, bookmarkCheck, fromCheck, testsFrom}
+use Rattle.seek.specs.Bookmarks.{visitCheck, bookmarkCheck, fromCheck, testsFrom, firstOf, pairAt}
 use Rattle.seek.specs.Cursors.{CursorIs, FindIs}
-use Rattle.seek.specs.Inside.{SeekIs}
+use Rattle.seek.specs.Inside.{pairOf, SoughtAt, SeekIs}
 
 -- ---- the checks of a visit
 
@@ -42,7 +44,7 @@ module _ (ls : Lines) (g : Grid) (t : Tables) where
 -- ---- a seek, taken apart by what it is
 
 module _ (ls : Lines) (g : Grid) (t : Tables) (b : ℕ) (s : Sought) (f : SeekIs ls g t b s) where
-  pub seek-at : (c : Cursor) → s ≡ sought.At c → CursorIs ls g t b c
+  pub seek-at : (c : Cursor) → s ≡ sought.At c → SoughtAt ls g t b c
   seek-at c e = subst (SeekIs ls g t b) e f
 
   pub seek-beyond : s ≡ sought.Beyond → length (testsOf t) < b
@@ -81,6 +83,16 @@ module _ (ls : Lines) (g : Grid) (t : Tables) (b : ℕ) where
   pub from-cursor : (c : Cursor) → CursorIs ls g t b c → testsFrom ls g t b ≡ gives (drop b (testsOf t))
   unfolding testsFrom
   from-cursor c k = then-fine _ _ (k .ready .fine) ∙ then-fine _ _ (book-in t b (k .at-most))
+
+  -- the test at a bookmark, by the check and by the cursor
+  pub pair-none : (r : Refusal) → fromCheck ls g t b ≡ Refused r → one.Refused r ≡ pairAt ls g t b
+  unfolding pairAt answerBy
+  pair-none r e = rw (from-none r e)
+
+  pub pair-read : (c : Cursor) → SoughtAt ls g t b c → (r : PairAnswer)
+      → r ≡ pairOf (cells t) (t .cols) (t .offsets) (t .items) (t .globals) (t .«global_count») c → r ≡ pairAt ls g t b
+  unfolding pairAt answerBy
+  pair-read c k r e = e ∙ k .reads ∙ rw (from-cursor c (k .is))
 
   -- no check of a visit refuses by 4 to 7
   pub from-spares : Clearing false (fromCheck ls g t b)

@@ -17,16 +17,16 @@ use Rattle.seek.specs.declared.Place.the-variants.{Global}
 use Rattle.seek.specs.declared.Cursor.{Cursor}
 use Rattle.seek.specs.Tests.{Pair, withEach, pairs, placeOf, cellTests, others, globalTests, testsOf}
 use Rattle.seek.specs.Bookmarks.{beside, visitCheck}
-use Rattle.seek.specs.Inside.{tri, CellsFit, GlobalsFit, CellSought, RowSought, GlobalSought, LineSought, SoughtAsks}
+use Rattle.seek.specs.Inside.{tri, CellsFit, GlobalsFit, CellSought, RowSought, GlobalSought, LineSought, SoughtAsks, PairAsks, SoughtAt}
 use Rattle.seek.specs.Cursors.{cellsRest, globalsRest, restIn, restOf, PlaceFits, LineFits, atFirst, CursorIs}
 use Rattle.seek.proofs.Clauses.{left-suc, length-with, drop-with, with-cons, pairs-cons, cells-zero, cells-suc, globals-zero, globals-suc}
 use Rattle.seek.proofs.CellRests.{length-list, rest-at, cells-done}
 use Rattle.seek.proofs.GlobalRests.{grest-at, globals-begin, globals-done}
-use Rattle.seek.proofs.FirstTests.{first-in-cell, first-at-global, first-at-end}
+use Rattle.seek.proofs.FirstTests.{first-in-cell, first-at-global, first-at-end, reads-cell, reads-global, reads-end}
 use Rattle.seek.proofs.Lengths.{lines-count, length-pairs}
 use Rattle.seek.proofs.Standing.{Stands, stands, globals-fit}
 use Rattle.seek.proofs.Clauses.{regroup}
-use Rattle.seek.proofs.Passed.{here, m-fits, lines-few}
+use Rattle.seek.proofs.Passed.{here, m-fits, m-few, lines-few}
 
 -- the row i of a list, with some of it passed
 row-rest : (xs : List ℕ) (pl : Place) (tail : List Pair) (i left : ℕ) → i + 1 + left < length xs
@@ -49,6 +49,9 @@ module _ (ls : Lines) (g : Grid) (offsets items globals : List ℕ) (k : ℕ) (f
 
   pub table-globals : GlobalsFit (count ls) k globals
   table-globals = globals-fit (beside ls g offsets items globals k) ((here ls g offsets items globals k fine) .tables)
+
+  stood : (c : Cursor) → c .i < c .j → (c .cell < m → c .j < getD offsets (suc (c .cell)) 0 - getD offsets (c .cell) 0) → PairAsks m offsets items globals k c
+  stood c l f = record { table = table; few = m-few ls g offsets items globals k fine m e; long = table-globals .long; later = l; inside = f }
 
   tail : List Pair
   tail = globalTests (count ls) globals k 0
@@ -119,7 +122,7 @@ module _ (ls : Lines) (g : Grid) (offsets items globals : List ℕ) (k : ℕ) (f
         unfolding xs
         rises = (here ls g offsets items globals k fine) .tables .lists .lists c (rw e at h) .rises
 
-        pub found-cell : CursorIs ls g t bookmark (record { cell = c; i = i; j = i + 1 + left′; p = 0; q = 0; k = 0 })
+        found-cell : CursorIs ls g t bookmark (record { cell = c; i = i; j = i + 1 + left′; p = 0; q = 0; k = 0 })
         unfolding xs
         found-cell =
             let row = withEach (placeOf (g .cols) c) (getD xs i 0) (drop (i + 1 + left′) xs) in
@@ -143,6 +146,15 @@ module _ (ls : Lines) (g : Grid) (offsets items globals : List ℕ) (k : ℕ) (f
                   );
               rest = rest-is ∙ sym left-is;
               at-first = sym (ap (atFirst t) left-is ∙ first-in-cell t c i (i + 1 + left′) (pairs (placeOf (g .cols) c) (drop (suc i) xs) ++ (more ++ tail)) rises (omega arith) r-within);
+            }
+
+        pub sought-cell : SoughtAt ls g t bookmark (record { cell = c; i = i; j = i + 1 + left′; p = 0; q = 0; k = 0 })
+        unfolding xs
+        sought-cell =
+            record {
+              is = found-cell;
+              asks = rw (← e) (stood (record { cell = c; i = i; j = i + 1 + left′; p = 0; q = 0; k = 0 }) (omega arith) (λ l. omega (arith, r-within, xs-long)));
+              reads = rw left-is (reads-cell t (rw e at table) c i (i + 1 + left′) (pairs (placeOf (g .cols) c) (drop (suc i) xs) ++ (more ++ tail)) (rw e at h) (omega arith) r-within);
             }
 
     -- past the cells
@@ -179,11 +191,13 @@ module _ (ls : Lines) (g : Grid) (offsets items globals : List ℕ) (k : ℕ) (f
         pub found-beyond : k ≤ p → 0 < left′ → length (testsOf t) < bookmark
         found-beyond l b = omega (arith, counted, counted-globals l, tests-long)
 
-        pub found-end : k ≤ p → left′ ≤ 0 → CursorIs ls g t bookmark (record { cell = m; i = 0; j = 1; p = k; q = 0; k = 0 })
+        none : k ≤ p → drop bookmark (testsOf t) ≡ []
+        unfolding tail
+        none l = let z : k - p ≡ 0 = omega arith in past ∙ w .same ∙ rw (z, globals-zero) (drop-nil left′)
+
+        found-end : k ≤ p → left′ ≤ 0 → CursorIs ls g t bookmark (record { cell = m; i = 0; j = 1; p = k; q = 0; k = 0 })
         unfolding tail
         found-end l b =
-            let z : k - p ≡ 0 = omega arith in
-            let none : drop bookmark (testsOf t) ≡ [] = past ∙ w .same ∙ rw (z, globals-zero) (drop-nil left′) in
             record {
               ready = record {
                 fine = fine;
@@ -193,8 +207,16 @@ module _ (ls : Lines) (g : Grid) (offsets items globals : List ℕ) (k : ℕ) (f
                 };
               };
               at-most = omega (arith, counted, counted-globals l, tests-long);
-              rest = at-end k 0 0 ∙ globals-done (count ls) globals k k 0 (omega arith) ∙ sym none;
-              at-first = rw (e, none) (sym (first-at-end t));
+              rest = at-end k 0 0 ∙ globals-done (count ls) globals k k 0 (omega arith) ∙ sym (none l);
+              at-first = rw (e, none l) (sym (first-at-end t));
+            }
+
+        pub sought-end : k ≤ p → left′ ≤ 0 → SoughtAt ls g t bookmark (record { cell = m; i = 0; j = 1; p = k; q = 0; k = 0 })
+        sought-end l b =
+            record {
+              is = found-end l b;
+              asks = rw (← e) (stood (record { cell = m; i = 0; j = 1; p = k; q = 0; k = 0 }) (omega arith) (λ x. absurd (omega arith)));
+              reads = rw (e, none l) (reads-end t);
             }
 
         module _ (l : p < k) (q x : ℕ) (s : LineSought (count ls) k globals p left′ q x) where
@@ -235,11 +257,19 @@ module _ (ls : Lines) (g : Grid) (offsets items globals : List ℕ) (k : ℕ) (f
                 tests-long,
               )
 
-          pub found-global : CursorIs ls g t bookmark (record { cell = m; i = 0; j = 1; p = p; q = q; k = x })
+          found-global : CursorIs ls g t bookmark (record { cell = m; i = 0; j = 1; p = p; q = q; k = x })
           found-global =
               record {
                 ready = record { fine = fine; fits = record { in-cells = place-end; in-globals = s .fits } };
                 at-most = some-left;
                 rest = at-end p q x ∙ sym left-now;
                 at-first = rw (e, left-now) (sym (first-at-global t p q x table-globals (s .fits) l (s .one)));
+              }
+
+          pub sought-global : SoughtAt ls g t bookmark (record { cell = m; i = 0; j = 1; p = p; q = q; k = x })
+          sought-global =
+              record {
+                is = found-global;
+                asks = rw (← e) (stood (record { cell = m; i = 0; j = 1; p = p; q = q; k = x }) (omega arith) (λ y. absurd (omega arith)));
+                reads = rw (e, left-now) (reads-global t p q x table-globals (s .fits) l (s .one));
               }

@@ -11,5 +11,6 @@ pub mod SeekTurns
 pub mod FirstTests
 pub mod Founds
 pub mod FindLaws
+pub mod PairLines
 pub mod Outcomes
 pub mod PlaceLaws

@@ -1,17 +1,22 @@
 -- What the private functions promise, and words for it. Definitions only.
-use Prim.Native.Nat.{ℕ, zero, suc, _+_, _-_, _≤_, _<_}
+use Prim.Native.Nat.{ℕ, zero, suc, _+_, _-_, _≤_, _<_, _^_}
 use mathlib.Core.Path.{_≡_}
-use mathlib.Core.Bool.{Bool, true, false}
+use mathlib.Core.Bool.{Bool, true, false, cond}
 use mathlib.Core.List.{List, [], _∷_, _++_}
 use lib.ListN.{length, getD, take, drop}
-use lib.Dec.{leb}
+use lib.Dec.{leb, ltb}
 use Rattle.grid.specs.declared.Grid.{Grid}
 use Rattle.grid.specs.Domain.{Lines}
-use Rattle.tables.specs.Tables.{Tables}
+use Rattle.tables.specs.Tables.{Tables, cells}
 use Rattle.seek.specs.declared.Place.{Place}
+use Rattle.seek.specs.declared.Place.the-variants.{Global}
+use Rattle.seek.specs.declared.Cursor.{Cursor}
+use Rattle.seek.specs.declared.PairAnswer.{PairAnswer}
+use Rattle.seek.specs.declared.PairAnswer.the-variants as answer
 use Rattle.seek.specs.declared.bookmarks.Sought.{Sought}
 use Rattle.seek.specs.declared.bookmarks.Sought.the-variants as sought
-use Rattle.seek.specs.Tests.{Pair, pairs, cellTests, others, globalTests, testsOf}
+use Rattle.seek.specs.Tests.{Pair, pairs, placeOf, cellTests, others, globalTests, testsOf}
+use Rattle.seek.specs.Bookmarks.{firstOf}
 use Rattle.seek.specs.Cursors.{LineFits, CursorIs}
 
 -- ---- tables that fit
@@ -81,6 +86,29 @@ pub record SoughtAsks (n m : ℕ) (globals : List ℕ) (p left : ℕ) : Type 0 w
   pub inside : p < m
   pub small : left + suc p < n
 
+-- ---- the test at a cursor
+
+-- a cursor that stands at a test of tables that fit, or at their end
+pub record PairAsks (m : ℕ) (offsets items globals : List ℕ) (count : ℕ) (c : Cursor) : Type 0 where
+  pub table : CellsFit m offsets items
+  pub few : m < 2 ^ 32
+  pub long : count ≤ length globals
+  pub later : c .i < c .j
+  pub inside : c .cell < m → c .j < getD offsets (suc (c .cell)) 0 - getD offsets (c .cell) 0
+
+-- as it is read off the tables
+unfoldable pub pairOf : ℕ → ℕ → List ℕ → List ℕ → List ℕ → ℕ → Cursor → PairAnswer
+pairOf m cols offsets items globals count c =
+    cond (ltb (c .cell) m)
+    (answer.Made (placeOf cols (c .cell)) (getD items (getD offsets (c .cell) 0 + c .i) 0) (getD items (getD offsets (c .cell) 0 + c .j) 0))
+    (cond (ltb (c .p) count) (answer.Made (Global (c .p)) (getD globals (c .p) 0) (c .k)) answer.End)
+
+-- the cursor of a bookmark, and the test that stands there
+pub record SoughtAt (ls : Lines) (g : Grid) (t : Tables) (bookmark : ℕ) (c : Cursor) : Type 0 where
+  pub is : CursorIs ls g t bookmark c
+  pub asks : PairAsks (cells t) (t .offsets) (t .items) (t .globals) (t .«global_count») c
+  pub reads : pairOf (cells t) (t .cols) (t .offsets) (t .items) (t .globals) (t .«global_count») c ≡ firstOf (drop bookmark (testsOf t))
+
 abbrev pub SeekIs : Lines → Grid → Tables → ℕ → Sought → Type 0
-SeekIs ls g t bookmark (sought.At c) = CursorIs ls g t bookmark c
+SeekIs ls g t bookmark (sought.At c) = SoughtAt ls g t bookmark c
 SeekIs ls g t bookmark sought.Beyond = length (testsOf t) < bookmark

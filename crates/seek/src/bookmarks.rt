@@ -1,17 +1,19 @@
 // The cursor of a bookmark, after all checks of a visit: whole cells, whole rows, whole globals and runs of lines are passed by their counts, never test by test.
 use crate::Cursor;
+use crate::PairAnswer;
+use crate::Place;
 use crate::SeekAnswer;
 use crate::lists::wide;
 use grid::Grid;
 use refusals::Check;
 use refusals::Refusal;
 ghost use mathlib.Core.Path.{_≡_};
-ghost use Prim.Native.Nat.{_<_};
+ghost use Prim.Native.Nat.{_*_, _<_};
 ghost use Rattle.refusals.specs.declared.Check.the-variants.{Fine};
 ghost use Rattle.grid.specs.Domain.{lines};
-ghost use Rattle.seek.specs.Bookmarks.{beside, visitCheck};
+ghost use Rattle.seek.specs.Bookmarks.{beside, visitCheck, pairAt};
 ghost use Rattle.seek.specs.Cursors.{FindIs};
-ghost use Rattle.seek.specs.Inside.{tri, CellsFit, CellSought, RowSought, GlobalsFit, GlobalSought, SoughtAsks, LineSought, SeekIs};
+ghost use Rattle.seek.specs.Inside.{tri, CellsFit, CellSought, RowSought, GlobalsFit, GlobalSought, SoughtAsks, LineSought, SeekIs, PairAsks, pairOf};
 
 pub(crate) enum Sought {
     At(Cursor),
@@ -254,4 +256,97 @@ pub fn find(
         });
     };
     SeekAnswer::At(cursor)
+}
+
+// The test that a cursor stands at, or the end mark.
+fn pair_of(
+    cursor: Cursor,
+    grid: Grid,
+    offsets: &[u32],
+    items: &[u32],
+    globals: &[u32],
+    global_count: usize,
+) -> PairAnswer
+    requires { ⌜ PairAsks (grid .rows * grid .cols) (now offsets) (now items) (now globals) «global_count» cursor ⌝ }
+    ensures { λ r. ⌜ r ≡ pairOf (grid .rows * grid .cols) (grid .cols) (now (offsets .entry)) (now (items .entry)) (now (globals .entry)) «global_count» cursor ⌝ }
+{
+    let cells = wide(grid.rows) * wide(grid.cols);
+    let cell = cursor.cell;
+    let p = cursor.p;
+    if cell < cells {
+        let from = wide(offsets[cell]);
+        let i = from + cursor.i;
+        let j = from + cursor.j;
+        let n = cell as u32;
+        let place = Place::Cell {
+            row: n / grid.cols,
+            col: n % grid.cols,
+        };
+        return PairAnswer::Made {
+            place,
+            first: items[i],
+            second: items[j],
+        };
+    }
+    if p < global_count {
+        let place = Place::Global(p);
+        return PairAnswer::Made {
+            place,
+            first: globals[p],
+            second: cursor.k,
+        };
+    }
+    PairAnswer::End
+}
+
+// The test at a bookmark, or the end mark at the total. Refusals as for `find`.
+pub fn pair_at(
+    start_x: &[f64],
+    start_y: &[f64],
+    end_x: &[f64],
+    end_y: &[f64],
+    grid: Grid,
+    offsets: &[u32],
+    items: &[u32],
+    globals: &[u32],
+    global_count: usize,
+    bookmark: u64,
+) -> PairAnswer
+    ensures { λ r. let ls = lines (now («start_x» .entry)) (now («start_y» .entry)) (now («end_x» .entry)) (now («end_y» .entry)) in
+        let t = beside ls grid (now (offsets .entry)) (now (items .entry)) (now (globals .entry)) «global_count» in
+        ⌜ r ≡ pairAt ls grid t bookmark ⌝ }
+{
+    let check = check_visit(
+        start_x,
+        start_y,
+        end_x,
+        end_y,
+        grid,
+        offsets,
+        items,
+        globals,
+        global_count,
+    );
+    if let Check::Refused(r) = check {
+        return PairAnswer::Refused(r);
+    }
+    let sought = seek(
+        bookmark,
+        start_x,
+        start_y,
+        end_x,
+        end_y,
+        grid,
+        offsets,
+        items,
+        globals,
+        global_count,
+    );
+    let Sought::At(cursor) = sought else {
+        return PairAnswer::Refused(Refusal {
+            number: 9,
+            value: bookmark,
+        });
+    };
+    pair_of(cursor, grid, offsets, items, globals, global_count)
 }

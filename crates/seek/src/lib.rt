@@ -26,3 +26,14 @@ pub enum SeekAnswer {
     At(Cursor),
     Refused(Refusal),
 }
+
+// What stands at a bookmark: the place and the two lines of a test, the end mark, or a refusal.
+pub enum PairAnswer {
+    Made {
+        place: Place,
+        first: u32,
+        second: u32,
+    },
+    End,
+    Refused(Refusal),
+}

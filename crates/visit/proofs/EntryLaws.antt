@@ -5,66 +5,100 @@ use mathlib.Core.List.{List, [], _∷_, _++_}
 use Prim.Native.Nat.{ℕ, _+_, _-_, _≤_, _<_, _^_}
 use native.Mathlib.Omega.{arith}
 use lib.ListN.{length, take, drop, replicate, length-drop, length-map}
-use borrow.Author.Tests.{eqb-true}
+use borrow.Author.Tests.{eqb-true, eq-eqb, ne-eqb}
 use Rattle.slices.specs.Slices.{clearedFrom}
 use Rattle.refusals.specs.declared.Refusal.{Refusal}
 use Rattle.refusals.specs.declared.Check.the-variants.{Fine, Refused}
-use Rattle.refusals.specs.Refusals.{Answer, refused, gives, answerBy, clears, leftIn, zeroBeyond}
+use Rattle.refusals.specs.Refusals.{refusal, unless, Answer, refused, gives, answerBy, clears, leftIn, zeroBeyond}
 use Rattle.refusals.proofs.Checks.{unless-fine}
 use Rattle.refusals.proofs.Answers.{then-refused, then-fine, then-passed}
 use Rattle.refusals.proofs.Leaving.{left-same, clearing-unless}
 use Rattle.grid.specs.declared.Grid.{Grid}
-use Rattle.grid.specs.Domain.{Lines}
+use Rattle.grid.specs.Domain.{Lines, count}
 use Rattle.tables.specs.Tables.{Tables}
 use Rattle.visit.specs.declared.Test.{Test}
+use Rattle.visit.specs.declared.TestAnswer.{TestAnswer}
 use Rattle.visit.specs.declared.TestAnswer.the-variants as answer
 use Rattle.visit.specs.declared.Tally.{Tally}
 use Rattle.visit.specs.declared.BatchAnswer.{BatchAnswer}
 use Rattle.visit.specs.declared.BatchAnswer.the-variants as batch
 use Rattle.seek.specs.declared.Cursor.{Cursor}
+use Rattle.seek.specs.declared.Place.{Place}
+use Rattle.seek.specs.declared.PairAnswer.{PairAnswer}
+use Rattle.seek.specs.declared.PairAnswer.the-variants as one
+use Rattle.visit.specs.declared.scan.Row.{Row}
 use Rattle.visit.specs.declared.scan.Ran.{Ran}
-use Rattle.visit.specs.declared.scan.Step.{Step}
-use Rattle.visit.specs.declared.scan.Step.the-variants as step
-use Rattle.seek.specs.Tests.{Pair, testsOf}
+use Rattle.seek.specs.Tests.{Pair, pair, testsOf}
 use Rattle.visit.specs.Batches.{made, handed, firsts, seconds, placeNumbers}
 use Rattle.visit.specs.Places.{numberOf}
-use Rattle.seek.specs.Bookmarks.{beside, visitCheck, bookmarkCheck, fromCheck, testsFrom}
-use Rattle.visit.specs.Entries.{outputsCheck, nextTest, testAt, tallyOf, batchTests, batchOf, batchAnswer, pairsLeft, BatchIs, placesCheck, placedTests, PlacedBatchIs}
+use Rattle.seek.specs.Bookmarks.{beside, visitCheck, bookmarkCheck, fromCheck, testsFrom, firstOf, pairAt}
+use Rattle.visit.specs.Entries.{outputsCheck, testOf, nextTest, testAt, tallyOf, batchTests, batchOf, batchAnswer, pairsLeft, BatchIs, placesCheck, placedTests, PlacedBatchIs}
 use Rattle.seek.specs.Cursors.{restOf, CursorIs}
-use Rattle.visit.specs.Inside.{nextStep, RunAsks, RanAll, BatchMade}
+use Rattle.visit.specs.Inside.{LineAsks, rowOf, TestAsks, RunAsks, RanAll, BatchMade}
 use Rattle.seek.proofs.Lengths.{total-fits}
 use Rattle.seek.proofs.Passed.{here}
 use Rattle.seek.proofs.FindLaws.{from-none, from-cursor, from-spares}
+use Rattle.seek.proofs.PairLines.{pair-lines}
 
 -- ---- one test
 
-steps-same : (ls : Lines) (ps : List Pair) (x : Test) → step.Made x ≡ nextStep ls ps → answer.Made x ≡ nextTest ls ps
-unfolding nextStep nextTest
-steps-same ls [] x e = let z : _≡_ {A = ℕ} 0 1 = cc in absurd (omega arith)
-steps-same ls (p ∷ ps) x e = cc
-
-steps-end : (ls : Lines) (ps : List Pair) → step.End ≡ nextStep ls ps → answer.End ≡ nextTest ls ps
-unfolding nextStep nextTest
-steps-end ls [] e = refl
-steps-end ls (p ∷ ps) e = let z : _≡_ {A = ℕ} 0 1 = cc in absurd (omega arith)
+-- the test of a pair
+testBy : Lines → PairAnswer → TestAnswer
+testBy ls (one.Made pl a b) = answer.Made (testOf ls (pair pl a b))
+testBy ls one.End = answer.End
+testBy ls (one.Refused r) = answer.Refused r
 
 module _ (ls : Lines) (g : Grid) (t : Tables) (b : ℕ) where
-  pub test-refused : (r : Refusal) → fromCheck ls g t b ≡ Refused r → answer.Refused r ≡ testAt ls g t b
-  unfolding testAt answerBy
-  test-refused r e = rw (from-none ls g t b r e)
+  test-by : testBy ls (pairAt ls g t b) ≡ testAt ls g t b
+  unfolding testBy testAt pairAt answerBy firstOf nextTest
+  test-by = go (testsFrom ls g t b)
+    where
+      go : (o : Answer (List Pair)) → testBy ls (answerBy one.Refused firstOf o) ≡ answerBy answer.Refused (nextTest ls) o
+      go (refused r) = refl
+      go (gives []) = refl
+      go (gives (p ∷ ps)) = refl
 
-  module _ (c : Cursor) (k : CursorIs ls g t b c) where
-    test-is : nextTest ls (drop b (testsOf t)) ≡ testAt ls g t b
-    unfolding testAt answerBy
-    test-is = rw (from-cursor ls g t b c k)
+  pub test-refused : (r : Refusal) → one.Refused r ≡ pairAt ls g t b → answer.Refused r ≡ testAt ls g t b
+  unfolding testBy
+  test-refused r e = ap (testBy ls) e ∙ test-by
 
-    pub test-made : (x : Test) → step.Made x ≡ nextStep ls (restOf t c) → answer.Made x ≡ testAt ls g t b
-    test-made x e = steps-same ls (drop b (testsOf t)) x (e ∙ ap (nextStep ls) (k .rest)) ∙ test-is
+  pub test-end : one.End ≡ pairAt ls g t b → answer.End ≡ testAt ls g t b
+  unfolding testBy
+  test-end e = ap (testBy ls) e ∙ test-by
 
-    pub test-end : step.End ≡ nextStep ls (restOf t c) → answer.End ≡ testAt ls g t b
-    test-end e = steps-end ls (drop b (testsOf t)) (e ∙ ap (nextStep ls) (k .rest)) ∙ test-is
+  module _ (pl : Place) (x y : ℕ) (e : one.Made pl x y ≡ pairAt ls g t b) where
+    pub first-asks : t .lines ≡ count ls → LineAsks ls x
+    first-asks l = let k = pair-lines ls g t b pl x y e in record { fine = k .fine; one = rw l at (k .first) }
+
+    module _ (row : Row) (er : row ≡ rowOf ls pl x) where
+      pub second-asks : t .lines ≡ count ls → TestAsks ls row y
+      second-asks l =
+          let k = pair-lines ls g t b pl x y e in
+          record { row-fits = record { fine = k .fine; held = rw er }; one = rw l at (k .second) }
+
+      pub test-made : (v : Test) → v ≡ testOf ls (pair (row .place) (row .first) y) → answer.Made v ≡ testAt ls g t b
+      unfolding testBy
+      test-made v d = ap answer.Made (d ∙ rw er) ∙ ap (testBy ls) e ∙ test-by
 
 -- ---- a batch
+
+-- two slices of one length, and of two
+module _ (xs ys : List ℕ) where
+  pub outputs-alike : length xs ≡ length ys → outputsCheck xs ys ≡ Fine
+  unfolding outputsCheck unless
+  outputs-alike e = rw (eq-eqb (length xs) (length ys) e)
+
+  pub outputs-unlike : (length xs ≡ length ys → ⊥) → outputsCheck xs ys ≡ Refused (refusal 3 0)
+  unfolding outputsCheck unless
+  outputs-unlike e = rw (ne-eqb (length xs) (length ys) e)
+
+  pub places-alike : length xs ≡ length ys → placesCheck xs ys ≡ Fine
+  unfolding placesCheck unless
+  places-alike e = rw (eq-eqb (length xs) (length ys) e)
+
+  pub places-unlike : (length xs ≡ length ys → ⊥) → placesCheck xs ys ≡ Refused (refusal 3 0)
+  unfolding placesCheck unless
+  places-unlike e = rw (ne-eqb (length xs) (length ys) e)
 
 -- a batch that was made: its tests are those from the bookmark on
 module _ {ls : Lines} {g : Grid} {t : Tables} {b : ℕ} {fs ss fs′ ss′ : List ℕ} {a : Tally} (h : BatchIs ls g t b fs ss fs′ ss′ (batch.Done a)) where

@@ -1,5 +1,4 @@
--- A run from a cursor is what the run through the cells and the run through the globals are together; and the one test at a cursor.
--- Assumes nothing.
+-- A run from a cursor is what the run through the cells and the run through the globals are together. Assumes nothing.
 use mathlib.Core.Path.{_≡_, refl, sym, ap, _∙_}
 use mathlib.Core.List.{List, [], _∷_, _++_, append-nil, map}
 use Prim.Native.Nat.{ℕ, zero, suc, _+_, _-_, _*_, _≤_, _<_, _^_}
@@ -7,33 +6,21 @@ use native.Mathlib.Nat.{sub-zero, mul-zero}
 use native.Mathlib.Decide.{decLt}
 use native.Mathlib.Omega.{arith}
 use lib.ListN.{length, getD, take, drop, length-append, length-map, length-drop}
-use lib.Seq.{length-take-le, drop-cons}
-use Rattle.slices.specs.Lists.{Below}
-use Rattle.slices.proofs.Members.{below-at}
+use lib.Seq.{length-take-le}
 use Rattle.refusals.specs.declared.Check.the-variants.{Fine}
 use Rattle.grid.specs.declared.Grid.{Grid}
 use Rattle.grid.specs.Domain.{Lines, count}
 use Rattle.tables.specs.Tables.{Tables, cells, listIn}
-use Rattle.seek.specs.declared.Place.the-variants.{Global}
 use Rattle.seek.specs.declared.Cursor.{Cursor}
-use Rattle.visit.specs.declared.scan.Row.{Row}
 use Rattle.visit.specs.declared.scan.Ran.{Ran}
-use Rattle.visit.specs.declared.scan.Step.{Step}
-use Rattle.visit.specs.declared.scan.Step.the-variants as step
-use Rattle.seek.specs.Tests.{Pair, withEach, placeOf, pairs, cellTests, others, globalTests}
+use Rattle.seek.specs.Tests.{Pair}
 use Rattle.visit.specs.Batches.{made, handed, firsts, seconds, placeNumbers}
 use Rattle.visit.specs.Places.{numberIn}
 use Rattle.seek.specs.Bookmarks.{beside, visitCheck}
-use Rattle.seek.specs.Cursors.{cellsRest, globalsRest, restIn, restOf, Ready}
-use Rattle.seek.specs.Inside.{numbers, CellsFit}
-use Rattle.visit.specs.Inside.{rowOf, nextStep, CellAsks, CellIs, GlobalAsks, GlobalIs, Moved, Placed, RunAsks, CellsAsk, CellsRan, GlobalsAsk, GlobalsRan, RanAll, RowAsks, LineAsks, TestInAsks, TestBeforeAsks}
-use Rattle.seek.proofs.Clauses.{with-cons}
+use Rattle.seek.specs.Cursors.{cellsRest, globalsRest, restOf}
+use Rattle.visit.specs.Inside.{Moved, Placed, RunAsks, CellsAsk, CellsRan, GlobalsAsk, GlobalsRan, RanAll}
 use Rattle.visit.proofs.Clauses.{made-full, handed-full}
-use Rattle.seek.proofs.CellRests.{rest-at}
-use Rattle.seek.proofs.GlobalRests.{grest-run, stop-most}
 use Rattle.visit.proofs.Moves.{none-made, none-handed}
-use Rattle.visit.proofs.RowTurns.{numbers-some}
-use Rattle.seek.proofs.Clauses.{regroup}
 use Rattle.seek.proofs.Standing.{globals-fit}
 use Rattle.seek.proofs.Passed.{here, m-fits, m-below, m-wide, m-few, m-few-both}
 
@@ -188,90 +175,3 @@ module _ (ls : Lines) (g : Grid) (offsets items globals : List ℕ) (count-of : 
             second-long = run-long-2;
             place-long = run-long-3;
           }
-
--- ---- the one test at a cursor
-
--- the first of a row that has one is the first of all that follows too
-row-next : (ls : Lines) (row : Row) (b : ℕ) (ys bs : List ℕ) (later : List Pair) → ys ≡ b ∷ bs
-    → nextStep ls (withEach (row .place) (row .first) ys) ≡ nextStep ls (withEach (row .place) (row .first) ys ++ later)
-unfolding nextStep withEach
-row-next ls row b ys bs later e = rw e
-
-module _ (ls : Lines) (g : Grid) (offsets items globals : List ℕ) (count-of : ℕ) (c : Cursor)
-    (a : Ready ls g (beside ls g offsets items globals count-of) c) (m : ℕ) (e : m ≡ g .rows * g .cols) where
-  in-cells : List Pair
-  in-cells = cellsRest (g .cols) offsets items (m - c .cell) (c .cell) (c .i) (c .j)
-
-  in-globals : List Pair
-  in-globals = globalsRest (count ls) globals (count-of - c .p) (c .p) (c .k)
-
-  both : restOf (beside ls g offsets items globals count-of) c ≡ in-cells ++ in-globals
-  unfolding restOf in-cells in-globals
-  both = rw e
-
-  pub settle-asks : CellAsks m offsets items (c .cell) (c .i) (c .j)
-  settle-asks = record { table = m-fits ls g offsets items globals count-of (a .fine) m e; place = rw e (a .fits .in-cells) }
-
-  pub glide-asks : GlobalAsks (count ls) count-of globals (c .p) (c .q) (c .k)
-  glide-asks =
-      record {
-        table = globals-fit (beside ls g offsets items globals count-of) ((here ls g offsets items globals count-of (a .fine)) .tables);
-        place = a .fits .in-globals;
-      }
-
-  module _ (x y z : ℕ) (f : CellIs m offsets items (c .cell) (c .i) (c .j) x y z) where
-    pub one-row : (v : ℕ) → v ≡ getD (listIn offsets items x) y 0 → y < length (listIn offsets items x) → LineAsks ls v
-    one-row v q h =
-        record { fine = (here ls g offsets items globals count-of (a .fine)) .lines-fine; one = rw q (below-at (count ls) (listIn offsets items x) y (m-below ls g offsets items globals count-of (a .fine) m e x (f .inside)) h) }
-
-    module _ (row : Row) (er : row ≡ rowOf ls (placeOf (g .cols) x) (getD (listIn offsets items x) y 0)) (xs : List ℕ) (ex : xs ≡ listIn offsets items x) where
-      pub one-in : TestInAsks ls row xs
-      one-in =
-          record {
-            row-fits = record { fine = (here ls g offsets items globals count-of (a .fine)) .lines-fine; held = rw er };
-            below = rw ex (m-below ls g offsets items globals count-of (a .fine) m e x (f .inside));
-          }
-
-      pub one-cell : z < length (listIn offsets items x) → nextStep ls (withEach (row .place) (row .first) (drop z xs)) ≡ nextStep ls (restOf (beside ls g offsets items globals count-of) c)
-      unfolding in-cells in-globals restIn
-      one-cell h =
-          let later : List Pair = pairs (placeOf (g .cols) x) (drop (suc y) (listIn offsets items x)) ++ (cellTests (g .cols) offsets items (m - suc x) (suc x) ++ in-globals) in
-          let d : drop z xs ≡ getD xs z 0 ∷ drop (suc z) xs = drop-cons xs z 0 (rw ex h) in
-          row-next ls row (getD xs z 0) (drop z xs) (drop (suc z) xs) later d
-          ∙ ap (nextStep ls)
-          (rw (er, ex)
-          (sym (both ∙ ap (λ (l : List Pair). l ++ in-globals) (f .same (g .cols) ∙ rest-at (g .cols) offsets items m x (f .inside) y z)
-          ∙ regroup (withEach (placeOf (g .cols) x) (getD (listIn offsets items x) y 0) (drop z (listIn offsets items x))) (pairs (placeOf (g .cols) x) (drop (suc y) (listIn offsets items x)))
-          (cellTests (g .cols) offsets items (m - suc x) (suc x)) in-globals)))
-
-  -- none is left in the cells
-  module _ (none : (cols : ℕ) → cellsRest cols offsets items (m - c .cell) (c .cell) (c .i) (c .j) ≡ []) where
-    only : restOf (beside ls g offsets items globals count-of) c ≡ in-globals
-    unfolding in-cells
-    only = both ∙ rw (none (g .cols))
-
-    pub one-none : globalsRest (count ls) globals (count-of - c .p) (c .p) (c .k) ≡ [] → step.End ≡ nextStep ls (restOf (beside ls g offsets items globals count-of) c)
-    unfolding nextStep in-globals
-    one-none e = rw (only, e)
-
-    module _ (x y z stop : ℕ) (f : GlobalIs (count ls) count-of globals (c .p) (c .q) (c .k) x y z stop) where
-      pub one-in-globals : x < length globals
-      one-in-globals = omega (arith, f .inside, glide-asks .table .long)
-
-      pub one-global-row : LineAsks ls (getD globals x 0)
-      one-global-row = record { fine = (here ls g offsets items globals count-of (a .fine)) .lines-fine; one = glide-asks .table .below x (f .inside) }
-
-      most-stop : stop ≤ count ls
-      most-stop = omega (arith, f .stops, stop-most (count ls) count-of globals (glide-asks .table) x y z (f .fits) (f .inside))
-
-      module _ (row : Row) (er : row ≡ rowOf ls (Global x) (getD globals x 0)) where
-        pub one-before : TestBeforeAsks ls row stop
-        one-before = record { row-fits = record { fine = (here ls g offsets items globals count-of (a .fine)) .lines-fine; held = rw er }; below = most-stop }
-
-        pub one-global : nextStep ls (withEach (row .place) (row .first) (numbers (stop - z) z)) ≡ nextStep ls (restOf (beside ls g offsets items globals count-of) c)
-        unfolding in-globals
-        one-global =
-            let later : List Pair = withEach (Global x) (getD globals x 0) (others (take (suc x) globals) (count ls - stop) stop) ++ globalTests (count ls) globals (count-of - suc x) (suc x) in
-            row-next ls row z (numbers (stop - z) z) (numbers (stop - (z + 1)) (z + 1)) later (numbers-some stop z (f .one))
-            ∙ ap (nextStep ls)
-            (rw er (sym (only ∙ f .same ∙ grest-run (count ls) count-of globals (glide-asks .table) x y z (f .fits) (f .inside) stop z (f .stops) (omega arith) (omega (arith, f .one)))))

@@ -18,7 +18,6 @@ ghost use Rattle.seek.specs.Tests.{pair, withEach, placeOf};
 ghost use Rattle.seek.specs.Bookmarks.{beside};
 ghost use Rattle.visit.specs.Entries.{testOf};
 ghost use Rattle.seek.specs.Inside.{numbers};
-ghost use Rattle.seek.specs.Cursors.{Ready, restOf};
 ghost use Rattle.visit.specs.Inside.{LineAsks, rowOf, nextStep, TestAsks, TestInAsks, TestBeforeAsks, ListAsks, InList, LinesAsk, InLines, PutIs, CellsAsk, CellsRan, GlobalsAsk, GlobalsRan, RunAsks, RanAll};
 
 // The first line of a row, with its box.
@@ -60,7 +59,7 @@ fn place_of(cols: u32, cell: u32) -> Place
     }
 }
 
-fn row_of(
+pub(crate) fn row_of(
     place: Place,
     first: u32,
     start_x: &[f64],
@@ -80,7 +79,7 @@ fn row_of(
 }
 
 // The test of a row with one line more.
-fn test_with(
+pub(crate) fn test_with(
     row: Row,
     second: u32,
     start_x: &[f64],
@@ -243,7 +242,10 @@ fn run_cells(
 ) -> Ran
     requires { ⌜ CellsAsk (lines (now «start_x») (now «start_y») (now «end_x») (now «end_y»)) cols cells (now offsets) (now items) cell i j (now first) (now second) ⌝ }
     ensures { λ r. let ls = lines (now («start_x» .entry)) (now («start_y» .entry)) (now («end_x» .entry)) (now («end_y» .entry)) in
-        ⌜ CellsRan ls cols cells (now (offsets .entry)) (now (items .entry)) cell i j (now (first .entry)) (now (second .entry)) (now (places .entry)) (now (first .exit)) (now (second .exit)) (now (places .exit)) r ⌝ }
+        let fs = now (first .entry) in
+        let ss = now (second .entry) in
+        let ps = now (places .entry) in
+        ⌜ CellsRan ls cols cells (now (offsets .entry)) (now (items .entry)) cell i j fs ss ps (now (first .exit)) (now (second .exit)) (now (places .exit)) r ⌝ }
 {
     let mut cell = cell;
     let mut i = i;
@@ -305,7 +307,10 @@ fn run_globals(
 ) -> Ran
     requires { ⌜ GlobalsAsk (lines (now «start_x») (now «start_y») (now «end_x») (now «end_y»)) cells count (now globals) p q k (now first) (now second) hits ⌝ }
     ensures { λ r. let ls = lines (now («start_x» .entry)) (now («start_y» .entry)) (now («end_x» .entry)) (now («end_y» .entry)) in
-        ⌜ GlobalsRan ls cells count (now (globals .entry)) p k (now (first .entry)) (now (second .entry)) (now (places .entry)) hits (now (first .exit)) (now (second .exit)) (now (places .exit)) r ⌝ }
+        let fs = now (first .entry) in
+        let ss = now (second .entry) in
+        let ps = now (places .entry) in
+        ⌜ GlobalsRan ls cells count (now (globals .entry)) p k fs ss ps hits (now (first .exit)) (now (second .exit)) (now (places .exit)) r ⌝ }
 {
     let n = start_x.len() as u32;
     let mut p = p;
@@ -406,43 +411,4 @@ pub(crate) fn run(
         tests: listed.tests + global.tests,
         hits: global.hits,
     }
-}
-
-// The one test at a cursor, or the end mark.
-pub(crate) fn test_from(
-    cursor: Cursor,
-    start_x: &[f64],
-    start_y: &[f64],
-    end_x: &[f64],
-    end_y: &[f64],
-    grid: Grid,
-    offsets: &[u32],
-    items: &[u32],
-    globals: &[u32],
-    global_count: usize,
-) -> Step
-    requires { let ls = lines (now «start_x») (now «start_y») (now «end_x») (now «end_y») in
-        let t = beside ls grid (now offsets) (now items) (now globals) «global_count» in
-        ⌜ Ready ls grid t cursor ⌝ }
-    ensures { λ r. let ls = lines (now («start_x» .entry)) (now («start_y» .entry)) (now («end_x» .entry)) (now («end_y» .entry)) in
-        let t = beside ls grid (now (offsets .entry)) (now (items .entry)) (now (globals .entry)) «global_count» in
-        ⌜ r ≡ nextStep ls (restOf t cursor) ⌝ }
-{
-    let cells = wide(grid.rows) * wide(grid.cols);
-    let found = cursor::settle_cell(cells, offsets, items, cursor.cell, cursor.i, cursor.j);
-    if let CellAt::At { cell, i, j } = found {
-        let from = wide(offsets[cell]);
-        let to = wide(offsets[cell + 1]);
-        let list = &items[from..to];
-        let place = place_of(grid.cols, cell as u32);
-        let row = row_of(place, list[i], start_x, start_y, end_x, end_y);
-        return test_in(list, j, row, start_x, start_y, end_x, end_y);
-    }
-    let n = start_x.len() as u32;
-    let line = cursor::settle_global(n, global_count, globals, cursor.p, cursor.q, cursor.k);
-    if let GlobalAt::At { p, q: _, k, stop } = line {
-        let row = row_of(Place::Global(p), globals[p], start_x, start_y, end_x, end_y);
-        return test_before(stop, k, row, start_x, start_y, end_x, end_y);
-    }
-    Step::End
 }

@@ -4,9 +4,9 @@ use crate::BatchAnswer;
 use crate::Tally;
 use crate::TestAnswer;
 use crate::scan;
-use crate::scan::Step;
 use grid::Grid;
-use refusals::Check;
+use refusals::Refusal;
+use seek::PairAnswer;
 use seek::SeekAnswer;
 ghost use mathlib.Core.Path.{_≡_};
 ghost use Rattle.grid.specs.Domain.{lines};
@@ -31,7 +31,7 @@ pub fn test_at(
         let t = beside ls grid (now (offsets .entry)) (now (items .entry)) (now (globals .entry)) «global_count» in
         ⌜ r ≡ testAt ls grid t bookmark ⌝ }
 {
-    let found = seek::bookmarks::find(
+    let pair = seek::bookmarks::pair_at(
         start_x,
         start_y,
         end_x,
@@ -43,25 +43,16 @@ pub fn test_at(
         global_count,
         bookmark,
     );
-    match found {
-        SeekAnswer::Refused(r) => TestAnswer::Refused(r),
-        SeekAnswer::At(cursor) => {
-            let step = scan::test_from(
-                cursor,
-                start_x,
-                start_y,
-                end_x,
-                end_y,
-                grid,
-                offsets,
-                items,
-                globals,
-                global_count,
-            );
-            let Step::Made(test) = step else {
-                return TestAnswer::End;
-            };
-            TestAnswer::Made(test)
+    match pair {
+        PairAnswer::Refused(r) => TestAnswer::Refused(r),
+        PairAnswer::End => TestAnswer::End,
+        PairAnswer::Made {
+            place,
+            first,
+            second,
+        } => {
+            let row = scan::row_of(place, first, start_x, start_y, end_x, end_y);
+            TestAnswer::Made(scan::test_with(row, second, start_x, start_y, end_x, end_y))
         }
     }
 }
@@ -87,9 +78,11 @@ fn make_batch(
         let t = beside ls grid (now (offsets .entry)) (now (items .entry)) (now (globals .entry)) «global_count» in
         ⌜ BatchMade ls grid t bookmark (now (first .entry)) (now (second .entry)) (now (places .entry)) (now (first .exit)) (now (second .exit)) (now (places .exit)) r ⌝ }
 {
-    let lent = refusals::refuse_unless(first.len() == second.len(), 3, 0);
-    if let Check::Refused(r) = lent {
-        return BatchAnswer::Refused(r);
+    if first.len() != second.len() {
+        return BatchAnswer::Refused(Refusal {
+            number: 3,
+            value: 0,
+        });
     }
     let found = seek::bookmarks::find(
         start_x,
@@ -191,9 +184,11 @@ pub fn batch_with_places(
         let t = beside ls grid (now (offsets .entry)) (now (items .entry)) (now (globals .entry)) «global_count» in
         ⌜ PlacedBatchIs ls grid t bookmark (now (first .entry)) (now (second .entry)) (now (places .entry)) (now (first .exit)) (now (second .exit)) (now (places .exit)) r ⌝ }
 {
-    let lent = refusals::refuse_unless(first.len() == places.len(), 3, 0);
-    if let Check::Refused(r) = lent {
-        return BatchAnswer::Refused(r);
+    if first.len() != places.len() {
+        return BatchAnswer::Refused(Refusal {
+            number: 3,
+            value: 0,
+        });
     }
     make_batch(
         start_x,

@@ -16,7 +16,8 @@ use Rattle.seek.specs.declared.Place.{Place}
 use Rattle.seek.specs.declared.Place.the-variants.{Global}
 use Rattle.seek.specs.Tests.{Pair, withEach, pairs, placeOf, cellTests, others, globalTests, testsOf}
 use Rattle.seek.specs.Inside.{GlobalsFit}
-use Rattle.seek.proofs.Clauses.{with-nil, with-cons, pairs-nil, pairs-cons, cells-zero, cells-suc, globals-zero, globals-suc, others-zero, others-in, others-out}
+use Rattle.seek.proofs.Clauses.{with-nil, with-cons, pairs-nil, pairs-cons, cells-zero, cells-suc, globals-zero, globals-suc}
+use Rattle.seek.proofs.PairLines.{others-below}
 use Rattle.seek.proofs.Standing.{globals-fit}
 use Rattle.visit_laws.specs.Words.{Different}
 use Rattle.visit_laws.proofs.Often.{elem-over, elem-others}
@@ -49,14 +50,6 @@ module _ (n : ℕ) where
       let here : Increasing n (listIn offsets items c) = f c (omega arith) (omega arith) in
       rw cells-suc (append (pairs (placeOf cols c) (listIn offsets items c)) (cellTests cols offsets items left (suc c)) (cell (placeOf cols c) 0 (listIn offsets items c) (here .rises) (here .below)) (all-cells cols offsets items left (suc c) (λ x p q. f x (omega arith) (omega arith))))
 
-  others-below : (xs : List ℕ) (left k : ℕ) → k + left ≡ n → Below n (others xs left k)
-  others-below xs zero k e = rw others-zero tt
-  others-below xs (suc left) k e = go (elem k xs) refl (others-below xs left (suc k) (omega arith))
-    where
-      go : (b : Bool) → elem k xs ≡ b → Below n (others xs left (suc k)) → Below n (others xs (suc left) k)
-      go true i h = rw (others-in xs left k i) h
-      go false i h = rw (others-out xs left k i) (omega arith, h)
-
   -- the globals: none is among the lines that are left for it
   module _ (m : ℕ) (globals : List ℕ) (f : GlobalsFit n m globals) where
     itself : (p : ℕ) → p < m → elem (getD globals p 0) (take (suc p) globals) ≡ true
@@ -74,7 +67,7 @@ module _ (n : ℕ) where
         let l : v < n = f .below p h in
         let rest : List ℕ = others (take (suc p) globals) n 0 in
         let none : elem v rest ≡ false = elem-others (take (suc p) globals) v n 0 (omega arith) (omega arith) ∙ ap not (itself p h) in
-        rw globals-suc (append (withEach (Global p) v rest) (globalTests n globals left (suc p)) (row (Global p) v l rest (others-below (take (suc p) globals) n 0 (omega arith)) none) (all-globals left (suc p) (omega arith)))
+        rw globals-suc (append (withEach (Global p) v rest) (globalTests n globals left (suc p)) (row (Global p) v l rest (others-below n (take (suc p) globals) n 0 (omega arith)) none) (all-globals left (suc p) (omega arith)))
 
 -- TWO DIFFERENT LINES THAT THERE ARE
 pub tests-different : (t : Tables) → TablesFit t → Different (t .lines) (testsOf t)

@@ -52,7 +52,7 @@ returns-3 c =
     let a = c .before .before .before .before .before .before .before .before .before .before .before .before .before .before .args in
     let ls = lines (a .start-x .now) (a .start-y .now) (a .end-x .now) (a .end-y .now) in
     let t = beside ls (a .grid) (a .offsets .now) (a .items .now) (a .globals .now) (a .global-count) in
-    seek-at ls (a .grid) t (a .bookmark) _ (c .before .before .before .seek .ensures) (c .before .sought .given .0 .0) (c .before .sought .given .1)
+    seek-at ls (a .grid) t (a .bookmark) _ (c .before .before .before .seek .ensures) (c .before .sought .given .0 .0) (c .before .sought .given .1) .is
 
 pub find-spec : {M : Type 1} → statement M
 find-spec =

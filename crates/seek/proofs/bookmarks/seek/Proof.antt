@@ -4,7 +4,7 @@ use Prim.Native.Nat.{_*_}
 use native.Mathlib.Omega.{arith}
 use Rattle.grid.specs.Domain.{lines}
 use Rattle.seek.proofs.Passed.{rows-cols, lines-few, m-fits}
-use Rattle.seek.proofs.Founds.{table-globals, row-asks, row-up, row-in, row-most, found-cell, line-asks, found-beyond, found-end, found-global}
+use Rattle.seek.proofs.Founds.{table-globals, row-asks, row-up, row-in, row-most, sought-cell, line-asks, found-beyond, sought-end, sought-global}
 use borrow.Author.Needs.{needs}
 use Rattle.seek.proofs.bookmarks.seek.Statement.{statement}
 use Rattle.seek.proofs.bookmarks.seek.Tie as tie
@@ -92,7 +92,7 @@ returns : tie.Need-returns
 returns c =
     let a = c .before .before .before .before .before .before .before .before .before .before .before .before .before .before .args in
     let ls = lines (a .start-x .now) (a .start-y .now) (a .end-x .now) (a .end-y .now) in
-    found-cell ls (a .grid) (a .offsets .now) (a .items .now) (a .globals .now) (a .global-count) (c .before .before .before .before .before .before .before .before .before .before .before .before .before .before .pre) (c .before .before .before .before .before .before .wide .result * c .before .before .before .before .before .wide2 .result) (rw (c .before .before .before .before .before .before .wide .ensures, c .before .before .before .before .before .wide2 .ensures)) (a .bookmark) (c .before .before .before .before .seek-cell .result .at) (c .before .before .before .before .seek-cell .result .left) (c .before .before .before .before .seek-cell .ensures) (c .before .before .before .if1 .taken) (c .seek-row .result .at) (c .seek-row .result .left) (c .seek-row .ensures)
+    sought-cell ls (a .grid) (a .offsets .now) (a .items .now) (a .globals .now) (a .global-count) (c .before .before .before .before .before .before .before .before .before .before .before .before .before .before .pre) (c .before .before .before .before .before .before .wide .result * c .before .before .before .before .before .wide2 .result) (rw (c .before .before .before .before .before .before .wide .ensures, c .before .before .before .before .before .wide2 .ensures)) (a .bookmark) (c .before .before .before .before .seek-cell .result .at) (c .before .before .before .before .seek-cell .result .left) (c .before .before .before .before .seek-cell .ensures) (c .before .before .before .if1 .taken) (c .seek-row .result .at) (c .seek-row .result .left) (c .seek-row .ensures)
 
 cast-n : tie.Need-cast-n
 cast-n c =
@@ -122,7 +122,7 @@ returns-2 : tie.Need-returns-2
 returns-2 c =
     let a = c .before .before .before .before .before .before .before .before .before .before .before .before .before .before .before .args in
     let ls = lines (a .start-x .now) (a .start-y .now) (a .end-x .now) (a .end-y .now) in
-    found-global ls (a .grid) (a .offsets .now) (a .items .now) (a .globals .now) (a .global-count) (c .before .before .before .before .before .before .before .before .before .before .before .before .before .before .before .pre) (c .before .before .before .before .before .before .before .wide .result * c .before .before .before .before .before .before .wide2 .result) (rw (c .before .before .before .before .before .before .before .wide .ensures, c .before .before .before .before .before .before .wide2 .ensures)) (a .bookmark) (c .before .before .before .before .before .seek-cell .result .at) (c .before .before .before .before .before .seek-cell .result .left) (c .before .before .before .before .before .seek-cell .ensures) (c .before .before .before .before .if1 .left) (c .before .before .before .seek-global .result .at) (c .before .before .before .seek-global .result .left) (c .before .before .before .seek-global .ensures) (c .before .before .if2 .taken) (c .seek-line .result .q) (c .seek-line .result .k) (c .seek-line .ensures)
+    sought-global ls (a .grid) (a .offsets .now) (a .items .now) (a .globals .now) (a .global-count) (c .before .before .before .before .before .before .before .before .before .before .before .before .before .before .before .pre) (c .before .before .before .before .before .before .before .wide .result * c .before .before .before .before .before .before .wide2 .result) (rw (c .before .before .before .before .before .before .before .wide .ensures, c .before .before .before .before .before .before .wide2 .ensures)) (a .bookmark) (c .before .before .before .before .before .seek-cell .result .at) (c .before .before .before .before .before .seek-cell .result .left) (c .before .before .before .before .before .seek-cell .ensures) (c .before .before .before .before .if1 .left) (c .before .before .before .seek-global .result .at) (c .before .before .before .seek-global .result .left) (c .before .before .before .seek-global .ensures) (c .before .before .if2 .taken) (c .seek-line .result .q) (c .seek-line .result .k) (c .seek-line .ensures)
 
 returns-3 : tie.Need-returns-3
 returns-3 c =
@@ -134,7 +134,7 @@ returns-4 : tie.Need-returns-4
 returns-4 c =
     let a = c .before .before .before .before .before .before .before .before .before .before .before .before .before .before .before .args in
     let ls = lines (a .start-x .now) (a .start-y .now) (a .end-x .now) (a .end-y .now) in
-    found-end ls (a .grid) (a .offsets .now) (a .items .now) (a .globals .now) (a .global-count) (c .before .before .before .before .before .before .before .before .before .before .before .before .before .before .before .pre) (c .before .before .before .before .before .before .before .wide .result * c .before .before .before .before .before .before .wide2 .result) (rw (c .before .before .before .before .before .before .before .wide .ensures, c .before .before .before .before .before .before .wide2 .ensures)) (a .bookmark) (c .before .before .before .before .before .seek-cell .result .at) (c .before .before .before .before .before .seek-cell .result .left) (c .before .before .before .before .before .seek-cell .ensures) (c .before .before .before .before .if1 .left) (c .before .before .before .seek-global .result .at) (c .before .before .before .seek-global .result .left) (c .before .before .before .seek-global .ensures) (c .before .before .if2 .left) (c .if3 .left)
+    sought-end ls (a .grid) (a .offsets .now) (a .items .now) (a .globals .now) (a .global-count) (c .before .before .before .before .before .before .before .before .before .before .before .before .before .before .before .pre) (c .before .before .before .before .before .before .before .wide .result * c .before .before .before .before .before .before .wide2 .result) (rw (c .before .before .before .before .before .before .before .wide .ensures, c .before .before .before .before .before .before .wide2 .ensures)) (a .bookmark) (c .before .before .before .before .before .seek-cell .result .at) (c .before .before .before .before .before .seek-cell .result .left) (c .before .before .before .before .before .seek-cell .ensures) (c .before .before .before .before .if1 .left) (c .before .before .before .seek-global .result .at) (c .before .before .before .seek-global .result .left) (c .before .before .before .seek-global .ensures) (c .before .before .if2 .left) (c .if3 .left)
 
 pub seek-spec : {M : Type 1} → statement M
 seek-spec =

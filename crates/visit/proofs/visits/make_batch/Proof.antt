@@ -1,14 +1,13 @@
 -- `visit::visits::make_batch` meets its contract. Assumes nothing.
 use mathlib.Core.Path.{_≡_, refl, sym, ap, _∙_}
 use Rattle.refusals.specs.declared.Check.the-variants.{Fine}
-use Rattle.refusals.proofs.refuse_unless.Reads as refuse-unless-reads
 use Rattle.grid.specs.Domain.{lines}
 use Rattle.seek.specs.Bookmarks.{beside}
 use Rattle.seek.specs.Cursors.{CursorIs}
 use Rattle.seek.proofs.FindLaws.{found-at, found-none}
 use Rattle.seek.proofs.bookmarks.find.Reads as find-reads
 use Rattle.visit.specs.Entries.{outputsCheck}
-use Rattle.visit.proofs.EntryLaws.{batch-unlike, batch-refused, batch-done, run-asks, bookmark-fits}
+use Rattle.visit.proofs.EntryLaws.{outputs-alike, outputs-unlike, batch-unlike, batch-refused, batch-done, run-asks, bookmark-fits}
 use borrow.Author.Needs.{needs}
 use Rattle.visit.proofs.visits.make_batch.Statement.{statement}
 use Rattle.visit.proofs.visits.make_batch.Tie as tie
@@ -18,53 +17,51 @@ use Rattle.slices.proofs.clear_from.Reads as clear-from-reads
 use Rattle.visit.proofs.scan.run.Reads as run-reads
 
 -- the outputs have one length
-same : (c : tie.After-enum-told) → let a = c .before .before .before .before .before .before .before .before .before .before .before .before .before .args in outputsCheck (a .first .now) (a .second .now) ≡ Fine
-unfolding outputsCheck
-same c = sym (c .before .before .refuse-unless .ensures) ∙ c .enum-told .given .1
+same : (c : tie.Else1) → let a = c .before .before .before .before .before .before .before .before .before .before .before .args in outputsCheck (a .first .now) (a .second .now) ≡ Fine
+same c = let a = c .before .before .before .before .before .before .before .before .before .before .before .args in outputs-alike (a .first .now) (a .second .now) (c .if1 .left)
 
 returns : tie.Need-returns
-unfolding outputsCheck
 returns c =
-    let a = c .before .before .before .before .before .before .before .before .before .before .before .before .before .before .args in
+    let a = c .before .before .before .before .before .before .before .before .before .before .before .args in
     let ls = lines (a .start-x .now) (a .start-y .now) (a .end-x .now) (a .end-y .now) in
     let t = beside ls (a .grid) (a .offsets .now) (a .items .now) (a .globals .now) (a .global-count) in
-    batch-unlike ls (a .grid) t (a .bookmark) (a .first .now) (a .second .now) (a .places .now) _ (sym (c .before .before .before .refuse-unless .ensures) ∙ c .before .lent .given .1)
+    batch-unlike ls (a .grid) t (a .bookmark) (a .first .now) (a .second .now) (a .places .now) _ (outputs-unlike (a .first .now) (a .second .now) (c .if1 .taken))
 
 -- the cursor that was found
 found : (c : tie.After-found2)
-    → let a = c .before .before .before .before .before .before .before .before .before .before .before .before .before .before .before .before .args in
+    → let a = c .before .before .before .before .before .before .before .before .before .before .before .before .before .before .args in
     let ls = lines (a .start-x .now) (a .start-y .now) (a .end-x .now) (a .end-y .now) in
     CursorIs ls (a .grid) (beside ls (a .grid) (a .offsets .now) (a .items .now) (a .globals .now) (a .global-count)) (a .bookmark) (c .found2 .given .0 .0)
 found c =
-    let a = c .before .before .before .before .before .before .before .before .before .before .before .before .before .before .before .before .args in
+    let a = c .before .before .before .before .before .before .before .before .before .before .before .before .before .before .args in
     let ls = lines (a .start-x .now) (a .start-y .now) (a .end-x .now) (a .end-y .now) in
     let t = beside ls (a .grid) (a .offsets .now) (a .items .now) (a .globals .now) (a .global-count) in
     found-at ls (a .grid) t (a .bookmark) _ (c .before .before .find .ensures) (c .found2 .given .0 .0) (c .found2 .given .1)
 
 returns-2 : tie.Need-returns-2
 returns-2 c =
-    let a = c .before .before .before .before .before .before .before .before .before .before .before .before .before .before .before .before .before .args in
+    let a = c .before .before .before .before .before .before .before .before .before .before .before .before .before .before .before .args in
     let ls = lines (a .start-x .now) (a .start-y .now) (a .end-x .now) (a .end-y .now) in
     let t = beside ls (a .grid) (a .offsets .now) (a .items .now) (a .globals .now) (a .global-count) in
     batch-refused ls (a .grid) t (a .bookmark) (a .first .now) (a .second .now) (a .places .now) (same (c .before .before .before .before)) _ (found-none ls (a .grid) t (a .bookmark) _ (c .before .before .before .find .ensures) _ (c .before .found .given .1))
 
 run-requires : tie.Need-run-requires
 run-requires c κs =
-    let a = c .before .before .before .before .before .before .before .before .before .before .before .before .before .before .before .before .before .before .before .before .args in
+    let a = c .before .before .before .before .before .before .before .before .before .before .before .before .before .before .before .before .before .before .args in
     let ls = lines (a .start-x .now) (a .start-y .now) (a .end-x .now) (a .end-y .now) in
     let t = beside ls (a .grid) (a .offsets .now) (a .items .now) (a .globals .now) (a .global-count) in
     run-asks ls (a .grid) (a .offsets .now) (a .items .now) (a .globals .now) (a .global-count) (a .bookmark) (c .before .before .before .before .found2 .given .0 .0) (found (c .before .before .before .before)) (a .first .now) (a .second .now) (a .places .now) (same (c .before .before .before .before .before .before .before))
 
-add-t38 : tie.Need-add-t38
-add-t38 c =
-    let a = c .before .before .before .before .before .before .before .before .before .before .before .before .before .before .before .before .before .before .before .before .before .before .before .before .before .before .before .before .before .before .before .before .before .before .before .before .before .before .before .before .args in
+add-t37 : tie.Need-add-t37
+add-t37 c =
+    let a = c .before .before .before .before .before .before .before .before .before .before .before .before .before .before .before .before .before .before .before .before .before .before .before .before .before .before .before .before .before .before .before .before .before .before .before .before .before .before .args in
     let ls = lines (a .start-x .now) (a .start-y .now) (a .end-x .now) (a .end-y .now) in
     let t = beside ls (a .grid) (a .offsets .now) (a .items .now) (a .globals .now) (a .global-count) in
     record { fits = bookmark-fits ls (a .grid) (a .offsets .now) (a .items .now) (a .globals .now) (a .global-count) (a .bookmark) (c .before .before .before .before .before .before .before .before .before .before .before .before .before .before .before .before .before .before .before .before .before .before .before .before .found2 .given .0 .0) (found (c .before .before .before .before .before .before .before .before .before .before .before .before .before .before .before .before .before .before .before .before .before .before .before .before)) (a .first .now) (a .second .now) (a .places .now) _ _ _ (c .before .before .before .before .before .before .before .before .before .before .before .before .before .before .before .before .before .before .before .run .result) (c .before .before .before .before .before .before .before .before .before .before .before .before .before .before .before .before .before .before .before .run .ensures) }
 
 returns-3 : tie.Need-returns-3
 returns-3 c =
-    let a = c .before .before .before .before .before .before .before .before .before .before .before .before .before .before .before .before .before .before .before .before .before .before .before .before .before .before .before .before .before .before .before .before .before .before .before .before .before .before .before .before .args in
+    let a = c .before .before .before .before .before .before .before .before .before .before .before .before .before .before .before .before .before .before .before .before .before .before .before .before .before .before .before .before .before .before .before .before .before .before .before .before .before .before .args in
     let ls = lines (a .start-x .now) (a .start-y .now) (a .end-x .now) (a .end-y .now) in
     let t = beside ls (a .grid) (a .offsets .now) (a .items .now) (a .globals .now) (a .global-count) in
     batch-done ls (a .grid) t (a .bookmark) (a .first .now) (a .second .now) (a .places .now) (same (c .before .before .before .before .before .before .before .before .before .before .before .before .before .before .before .before .before .before .before .before .before .before .before .before .before .before .before)) (c .before .before .before .before .before .before .before .before .before .before .before .before .before .before .before .before .before .before .before .before .before .before .before .before .found2 .given .0 .0) (found (c .before .before .before .before .before .before .before .before .before .before .before .before .before .before .before .before .before .before .before .before .before .before .before .before)) _ _ _ (c .before .before .before .before .before .before .before .before .before .before .before .before .before .before .before .before .before .before .before .run .result) (c .before .before .before .before .before .before .before .before .before .before .before .before .before .before .before .before .before .before .before .run .ensures) _ _ _ (c .before .before .before .before .before .before .before .before .before .before .before .clear-from .ensures) (c .before .before .before .before .before .before .before .clear-from2 .ensures) (c .before .before .before .clear-from3 .ensures)
@@ -73,10 +70,7 @@ pub make-batch-spec : {M : Type 1} → statement M
 make-batch-spec =
     tie.close
     (tie.spec
-    (λ c κs. search needs)
-    (λ c. search needs)
     returns
-    (λ c. search needs)
     (λ c κs. search needs)
     (λ c. search needs)
     (λ c. search needs)
@@ -84,7 +78,7 @@ make-batch-spec =
     (λ c κs. search needs)
     (λ c κs. search needs)
     (λ c κs. search needs)
-    add-t38
+    add-t37
     returns-2
     (λ c. search needs)
     (λ c. search needs)

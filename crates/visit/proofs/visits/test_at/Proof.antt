@@ -1,78 +1,87 @@
 -- `visit::visits::test_at` meets its contract. Assumes nothing.
-use mathlib.Core.Path.{_≡_, refl, sym, ap, _∙_}
+use mathlib.Core.Path.{_≡_, refl, sym, _∙_}
 use Rattle.grid.specs.Domain.{lines}
-use Rattle.seek.specs.Bookmarks.{beside}
-use Rattle.seek.specs.Cursors.{CursorIs}
-use Rattle.seek.proofs.FindLaws.{found-at, found-none}
-use Rattle.visit.proofs.EntryLaws.{test-refused, test-made, test-end}
+use Rattle.seek.specs.declared.PairAnswer.the-variants as one
+use Rattle.seek.specs.Bookmarks.{beside, pairAt}
+use Rattle.visit.proofs.EntryLaws.{test-refused, test-end, first-asks, second-asks, test-made}
 use borrow.Author.Needs.{needs}
 use Rattle.visit.proofs.visits.test_at.Statement.{statement}
 use Rattle.visit.proofs.visits.test_at.Tie as tie
 use Rattle.visit.proofs.visits.test_at.Reads as reads
 use Rattle.visit.proofs.visits.test_at.Lts as lts
-use Rattle.seek.proofs.bookmarks.find.Reads as find-reads
-use Rattle.visit.proofs.scan.test_from.Reads as test-from-reads
+use Rattle.seek.proofs.bookmarks.pair_at.Reads as pair-at-reads
+use Rattle.visit.proofs.scan.row_of.Reads as row-of-reads
+use Rattle.visit.proofs.scan.test_with.Reads as test-with-reads
 
--- the cursor that was found
-found : (c : tie.After-found2)
+-- the test that stands there
+stands : (c : tie.After-pair2)
     → let a = c .before .before .before .before .before .before .before .before .before .before .args in
     let ls = lines (a .start-x .now) (a .start-y .now) (a .end-x .now) (a .end-y .now) in
-    CursorIs ls (a .grid) (beside ls (a .grid) (a .offsets .now) (a .items .now) (a .globals .now) (a .global-count)) (a .bookmark) (c .found2 .given .0 .0)
-found c =
-    let a = c .before .before .before .before .before .before .before .before .before .before .args in
-    let ls = lines (a .start-x .now) (a .start-y .now) (a .end-x .now) (a .end-y .now) in
     let t = beside ls (a .grid) (a .offsets .now) (a .items .now) (a .globals .now) (a .global-count) in
-    found-at ls (a .grid) t (a .bookmark) _ (c .before .before .find .ensures) (c .found2 .given .0 .0) (c .found2 .given .1)
+    let f = c .pair2 .given .0 in
+    one.Made (f .0) (f .1 .0) (f .1 .1 .0) ≡ pairAt ls (a .grid) t (a .bookmark)
+stands c = sym (c .pair2 .given .1) ∙ c .before .before .pair-at .ensures
 
-find-requires : tie.Need-find-requires
-find-requires c κs = search needs
+pair-at-requires : tie.Need-pair-at-requires
+pair-at-requires c κs = search needs
 
-enum-known-found : tie.Need-enum-known-found
-enum-known-found c = search needs
-
-enum-known-found-2 : tie.Need-enum-known-found-2
-enum-known-found-2 c = search needs
-
-test-from-requires : tie.Need-test-from-requires
-test-from-requires c κs = (found (c .before)) .ready
-
-enum-known-step : tie.Need-enum-known-step
-enum-known-step c = search needs
+enum-known-pair : tie.Need-enum-known-pair
+enum-known-pair c = search needs
 
 enum-told : tie.Need-enum-told
 enum-told c = search needs
 
-returns : tie.Need-returns
-returns c =
-    let a = c .before .before .before .before .before .before .before .before .before .before .before .before .before .before .args in
-    let ls = lines (a .start-x .now) (a .start-y .now) (a .end-x .now) (a .end-y .now) in
-    let t = beside ls (a .grid) (a .offsets .now) (a .items .now) (a .globals .now) (a .global-count) in
-    test-end ls (a .grid) t (a .bookmark) (c .before .before .before .before .found2 .given .0 .0) (found (c .before .before .before .before)) (sym (c .enum-told .given .1) ∙ c .before .before .test-from .ensures)
+enum-known-pair-2 : tie.Need-enum-known-pair-2
+enum-known-pair-2 c = search needs
 
-returns-2 : tie.Need-returns-2
-returns-2 c =
+row-of-requires : tie.Need-row-of-requires
+row-of-requires c κs =
     let a = c .before .before .before .before .before .before .before .before .before .before .before .args in
     let ls = lines (a .start-x .now) (a .start-y .now) (a .end-x .now) (a .end-y .now) in
     let t = beside ls (a .grid) (a .offsets .now) (a .items .now) (a .globals .now) (a .global-count) in
-    test-refused ls (a .grid) t (a .bookmark) _ (found-none ls (a .grid) t (a .bookmark) _ (c .before .before .before .find .ensures) _ (c .before .found .given .1))
+    let f = c .before .pair2 .given .0 in
+    first-asks ls (a .grid) t (a .bookmark) (f .0) (f .1 .0) (f .1 .1 .0) (stands (c .before)) refl
+
+test-with-requires : tie.Need-test-with-requires
+test-with-requires c κs =
+    let a = c .before .before .before .before .before .before .before .before .before .before .before .before .args in
+    let ls = lines (a .start-x .now) (a .start-y .now) (a .end-x .now) (a .end-y .now) in
+    let t = beside ls (a .grid) (a .offsets .now) (a .items .now) (a .globals .now) (a .global-count) in
+    let f = c .before .before .pair2 .given .0 in
+    second-asks ls (a .grid) t (a .bookmark) (f .0) (f .1 .0) (f .1 .1 .0) (stands (c .before .before)) (c .row-of .result) (c .row-of .ensures) refl
+
+returns : tie.Need-returns
+returns c =
+    let a = c .before .before .before .before .before .before .before .before .before .before .before .args in
+    let ls = lines (a .start-x .now) (a .start-y .now) (a .end-x .now) (a .end-y .now) in
+    let t = beside ls (a .grid) (a .offsets .now) (a .items .now) (a .globals .now) (a .global-count) in
+    test-refused ls (a .grid) t (a .bookmark) _ (sym (c .before .pair .given .1) ∙ c .before .before .before .pair-at .ensures)
+
+returns-2 : tie.Need-returns-2
+returns-2 c =
+    let a = c .before .before .before .before .before .before .before .before .before .before .args in
+    let ls = lines (a .start-x .now) (a .start-y .now) (a .end-x .now) (a .end-y .now) in
+    let t = beside ls (a .grid) (a .offsets .now) (a .items .now) (a .globals .now) (a .global-count) in
+    test-end ls (a .grid) t (a .bookmark) (sym (c .enum-told .given .1) ∙ c .before .before .pair-at .ensures)
 
 returns-3 : tie.Need-returns-3
 returns-3 c =
-    let a = c .before .before .before .before .before .before .before .before .before .before .before .before .before .before .before .args in
+    let a = c .before .before .before .before .before .before .before .before .before .before .before .before .before .args in
     let ls = lines (a .start-x .now) (a .start-y .now) (a .end-x .now) (a .end-y .now) in
     let t = beside ls (a .grid) (a .offsets .now) (a .items .now) (a .globals .now) (a .global-count) in
-    test-made ls (a .grid) t (a .bookmark) (c .before .before .before .before .before .found2 .given .0 .0) (found (c .before .before .before .before .before)) (c .before .step .given .0 .0) (sym (c .before .step .given .1) ∙ c .before .before .before .test-from .ensures)
+    let f = c .before .before .before .pair2 .given .0 in
+    test-made ls (a .grid) t (a .bookmark) (f .0) (f .1 .0) (f .1 .1 .0) (stands (c .before .before .before)) (c .before .row-of .result) (c .before .row-of .ensures) (c .test-with .result) (c .test-with .ensures)
 
 pub test-at-spec : {M : Type 1} → statement M
 test-at-spec =
     tie.close
     (tie.spec
-    find-requires
-    enum-known-found
-    enum-known-found-2
-    test-from-requires
-    enum-known-step
+    pair-at-requires
+    enum-known-pair
     enum-told
+    enum-known-pair-2
+    row-of-requires
+    test-with-requires
     returns
     returns-2
     returns-3)

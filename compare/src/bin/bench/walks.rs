@@ -98,8 +98,8 @@ fn compared(clock: &Clock, r: &mut Random, walk: Walk, covers: bool, bar: Option
 
 pub fn times(clock: &Clock, r: &mut Random) {
     clock.head(
-        "Walk, as a build takes it (mt_inner_walk): the port also checks the segment and the grid, and neither side clears anything. In brackets the \
-         cells of a line on average.",
+        "Walk, as a build takes it (mt_inner_walk): the port also checks the counts of the grid and the scratch, and neither side clears anything. In \
+         brackets the cells of a line on average.",
     );
     compared(clock, r, |g, x0, y0, x1, y1, scratch, out| inner::inner_walk(&g.sizes, g.cols, g.rows, x0, y0, x1, y1, scratch, out), false, BAR);
     clock.head("Walk of one segment (mt_segment_cells): the port also clears 16,384 entries of scratch.");

@@ -16,31 +16,6 @@ use Rattle.tables.specs.Tables.{Tables, cells, listIn, listOf, globalsOf
 use Rattle.tables.specs.Fit.{Increasing, ListsFit, TablesFit, increases, every, listsFit, tablesFit}
 use Rattle.tables.proofs.Facts.{part-slice, not-true, lists-facts, facts-lists, all-within, says-increases, increases-says}
 
--- ---- a list: entry i is v, which has to be at least `low` and below n
-
-regroup : (a b d e : Bool) → (a && (b && (d && e))) ≡ ((a && (b && d)) && e)
-regroup true true d e = refl
-regroup true false d e = refl
-regroup false b d e = refl
-
-and-true : (a : Bool) → (a && true) ≡ a
-and-true true = refl
-and-true false = refl
-
-module _ (low n : ℕ) (xs : List ℕ) (i v : ℕ) (h : i < length xs) (e : v ≡ getD xs i 0) where
-  at-i : drop i xs ≡ v ∷ drop (i + 1) xs
-  at-i = rw (add-one, e) (drop-cons xs i 0 h)
-
-  pub entry-more : (fits : Bool) (next : ℕ) → next ≡ getD xs i 0 + 1 → (fits && increases low n (drop i xs)) ≡ ((fits && (leb low v && ltb v n)) && increases next n (drop (i + 1) xs))
-  unfolding increases
-  entry-more fits next k =
-      ap (λ (l : List ℕ). fits && increases low n l) at-i
-      ∙ rw (k, ← e, add-one v) (regroup fits (leb low v) (ltb v n) (increases (suc v) n (drop (i + 1) xs)))
-
-pub list-over : (fits : Bool) (low n : ℕ) (xs : List ℕ) (i : ℕ) → length xs ≤ i → (fits && increases low n (drop i xs)) ≡ fits
-unfolding increases
-list-over fits low n xs i h = rw (drop-of-length-le xs {i = i} h) (and-true fits)
-
 -- ---- the cells before `cell` fit
 
 pub record ListsSeen (m n : ℕ) (offsets items : List ℕ) (cell : ℕ) : Type 0 where

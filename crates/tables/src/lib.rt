@@ -2,10 +2,10 @@
 use grid::Grid;
 use refusals::Check;
 ghost use mathlib.Core.Path.{_≡_};
-ghost use Prim.Native.Nat.{_+_, _<_, _≤_};
+ghost use Prim.Native.Nat.{ℕ, _-_, _<_, _≤_};
 ghost use mathlib.Core.Bool.{_&&_};
-ghost use lib.ListN.{length, take};
-ghost use lib.Dec.{leb};
+ghost use lib.ListN.{length, getD, take};
+ghost use lib.Dec.{leb, ltb};
 ghost use Rattle.tables.specs.Tables.{tables};
 ghost use Rattle.tables.specs.Fit.{increases, listsFit, tablesFit, standingCheck};
 
@@ -15,26 +15,30 @@ fn wide(x: u32) -> usize
     x as usize
 }
 
-fn after(x: u32) -> usize
-    ensures { λ r. ⌜ r ≡ x + 1 ⌝ }
+// Each entry of a list is above the one before it: then it increases below every number that its last entry is below. All are looked at and none is
+// a branch, in 32 bits, so that several are looked at at once.
+fn rises(list: &[u32]) -> bool
+    requires { ⌜ 0 < length (now list) ⌝ }
+    ensures { λ r. let xs = now (list .entry) in ⌜ ((n : ℕ) → increases 0 n xs ≡ (r && ltb (getD xs (length xs - 1) 0) n)) ⌝ }
 {
-    wide(x) + 1
+    let mut all = true;
+    let mut i = 1;
+    while i < list.len() {
+        all = all & (list[i - 1] < list[i]);
+        i = i + 1;
+    }
+    all
 }
 
-// A list strictly increases below the number of lines. Every entry is looked at and none is a branch, so that several are looked at at once.
+// A list strictly increases below the number of lines.
 pub fn is_increasing(lines: usize, list: &[u32]) -> bool
     ensures { λ r. ⌜ r ≡ increases 0 lines (now (list .entry)) ⌝ }
 {
-    let mut fits = true;
-    let mut next = 0;
-    let mut i = 0;
-    while i < list.len() {
-        let v = wide(list[i]);
-        fits = fits & ((next <= v) & (v < lines));
-        next = after(list[i]);
-        i = i + 1;
+    if list.len() == 0 {
+        return true;
     }
-    fits
+    let last = wide(list[list.len() - 1]);
+    rises(list) & (last < lines)
 }
 
 // One pass over the offsets and the items between them.

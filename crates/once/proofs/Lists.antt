@@ -17,7 +17,7 @@ use Rattle.seek.specs.declared.Place.{Place}
 use Rattle.seek.specs.declared.Place.the-variants.{Global}
 use Rattle.seek.specs.Tests.{Pair, pair, withEach, pairs, placeOf, cellTests}
 use Rattle.seek.specs.Inside.{tri}
-use Rattle.seek.proofs.Clauses.{length-with, pairs-nil, pairs-cons, cells-zero, cells-suc}
+use Rattle.seek.proofs.Clauses.{with-nil, length-with, pairs-nil, pairs-cons, cells-zero, cells-suc}
 use Rattle.seek.proofs.Lengths.{tri-suc, tri-mono, tri-twice}
 use Rattle.by_line.proofs.Turns.{line-of}
 use Rattle.once.specs.Once.{keptBy}
@@ -112,6 +112,13 @@ module _ {chosen : ℕ → ℕ → Bool} {N : ℕ} {xs starts listing counts fs�
             first-long = lf ∙ s .first-long;
             second-long = lg ∙ s .second-long;
           }
+
+-- a list of fewer than two entries has no test
+pub rows-none : {chosen : ℕ → ℕ → Bool} {N : ℕ} {starts listing counts : List ℕ} (xs : List ℕ) {fs ss : List ℕ} {hits : ℕ} → length xs < 2
+    → RowsDone chosen N starts listing counts xs fs ss hits fs ss hits
+rows-none [] l = record { made = λ h pl keep k. rw pairs-nil grown-none; few = omega arith }
+rows-none (a ∷ []) l = record { made = λ h pl keep k. rw (pairs-cons, with-nil, pairs-nil) grown-none; few = omega arith }
+rows-none (a ∷ b ∷ bs) l = absurd (omega arith)
 
 -- ---- cells
 

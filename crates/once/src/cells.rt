@@ -1,4 +1,6 @@
 // The cells of a visit: the pairs of each list, and the cells that are behind.
+use crate::boxes;
+use crate::few;
 use crate::rows;
 ghost use Prim.Native.Nat.{_+_, _-_};
 ghost use mathlib.Core.Path.{_≡_};
@@ -137,11 +139,13 @@ fn back(from: u32, by: u32) -> u32
     from - by
 }
 
-// The list of a cell, by marks where there is room for them. The marks tell of the cell before, and of those about the cell one row back.
+// The list of a cell, by marks where there is room for them, and with boxes that stand ready where there is room for those too. The marks tell of the
+// cell before, and of those about the cell one row back. A list of one line has no test.
 fn scan_cell(
     cell: u32,
     cols: u32,
     marks: &mut [u32],
+    room: &mut [f64],
     list: &[u32],
     start_x: &[f64],
     start_y: &[f64],
@@ -160,6 +164,9 @@ fn scan_cell(
         ⌜ RowsDone (overlap ls) (count ls) (now (starts .entry)) (now (listing .entry)) (now (counts .entry)) (now (list .entry))
         (now (first .entry)) (now (second .entry)) hits (now (first .exit)) (now (second .exit)) r ⌝ }
 {
+    if list.len() < 2 {
+        return hits;
+    }
     if marks.len() < list.len() {
         return scan_rows(
             list,
@@ -177,13 +184,27 @@ fn scan_cell(
     }
     let low = back(back(cell, cols), 8);
     by_line::marks::mark_list(list, back(cell, 1), low, starts, listing, counts, marks);
-    scan_marked_rows(
+    if room.len() / 4 < list.len() {
+        return scan_marked_rows(
+            list,
+            marks,
+            start_x,
+            start_y,
+            end_x,
+            end_y,
+            starts,
+            listing,
+            counts,
+            first,
+            second,
+            hits,
+        );
+    }
+    boxes::gather(list, start_x, start_y, end_x, end_y, room);
+    few::scan_rows(
         list,
         marks,
-        start_x,
-        start_y,
-        end_x,
-        end_y,
+        room,
         starts,
         listing,
         counts,
@@ -216,6 +237,7 @@ pub(crate) fn scan_cells(
         (now (first .entry)) (now (second .entry)) (now (first .exit)) (now (second .exit)) r ⌝ }
 {
     let mut marks = [0u32; 4096];
+    let mut room = [0.0; 256];
     let mut hits = 0;
     let mut cell = 0;
     while cell < cells {
@@ -224,6 +246,7 @@ pub(crate) fn scan_cells(
             cell as u32,
             cols,
             &mut marks,
+            &mut room,
             list,
             start_x,
             start_y,

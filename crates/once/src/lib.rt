@@ -16,6 +16,7 @@ ghost use Rattle.once.specs.Inside.{Checked};
 mod boxes;
 mod cells;
 pub mod ending;
+mod few;
 mod globals;
 mod rows;
 

@@ -33,7 +33,7 @@ pub(crate) fn row_of(
 }
 
 // Writes an entry; one beyond the end is not written.
-fn put(s: &mut [u32], at: usize, v: u32)
+pub(crate) fn put(s: &mut [u32], at: usize, v: u32)
     ensures { λ _. ⌜ now (s .exit) ≡ set (now (s .entry)) at v ⌝ }
 {
     if s.len() <= at {
@@ -123,41 +123,6 @@ fn keeps_marked(
     false
 }
 
-// The same, with the boxes first: where rows are short, no branch goes by what cannot be foreseen.
-fn keeps_brief(
-    row: Row,
-    common: u32,
-    b: u32,
-    start_x: &[f64],
-    start_y: &[f64],
-    end_x: &[f64],
-    end_y: &[f64],
-    starts: &[u32],
-    listing: &[u32],
-    counts: &[u32],
-) -> bool
-    requires { let ls = lines (now «start_x») (now «start_y») (now «end_x») (now «end_y») in
-        ⌜ Held ls row (MarkedPair (count ls) (row .first) b common (now starts) (now listing) (now counts)) ⌝ }
-    ensures { λ r. let ls = lines (now («start_x» .entry)) (now («start_y» .entry)) (now («end_x» .entry)) (now («end_y» .entry)) in
-        ⌜ ((h : PlaceAsks (count ls) (now (starts .entry)) (now (listing .entry)) (now (counts .entry))) → r ≡ keepAt (overlap ls) (h .W) (h .c) (row .first) b) ⌝ }
-{
-    let near = overlaps_line(row, b, start_x, start_y, end_x, end_y);
-    if common == 1 {
-        return keeps_pair(
-            row,
-            b,
-            start_x,
-            start_y,
-            end_x,
-            end_y,
-            starts,
-            listing,
-            counts,
-        );
-    }
-    near & (common == 0)
-}
-
 // The row with each line of a list.
 pub(crate) fn scan_list(
     row: Row,
@@ -203,57 +168,8 @@ pub(crate) fn scan_list(
     hits
 }
 
-// The row with each line of a short list, by marks. Each pair is written; one that is not handed out is written over.
-fn scan_brief(
-    row: Row,
-    mark: u32,
-    list: &[u32],
-    marks: &[u32],
-    start_x: &[f64],
-    start_y: &[f64],
-    end_x: &[f64],
-    end_y: &[f64],
-    starts: &[u32],
-    listing: &[u32],
-    counts: &[u32],
-    first: &mut [u32],
-    second: &mut [u32],
-    hits: usize,
-) -> usize
-    requires { let ls = lines (now «start_x») (now «start_y») (now «end_x») (now «end_y») in
-        ⌜ Held ls row (MarkedRow (count ls) (row .first) mark (now list) (now marks) (now starts) (now listing) (now counts) hits) ⌝ }
-    ensures { λ r. let ls = lines (now («start_x» .entry)) (now («start_y» .entry)) (now («end_x» .entry)) (now («end_y» .entry)) in
-        ⌜ RowGrown (overlap ls) (count ls) (row .first) (now (starts .entry)) (now (listing .entry)) (now (counts .entry)) (now (list .entry))
-        (now (first .entry)) (now (second .entry)) hits (now (first .exit)) (now (second .exit)) r ⌝ }
-{
-    let mut hits = hits;
-    let mut j = 0;
-    while j < list.len() {
-        let common = mark & marks[j];
-        let b = list[j];
-        j = j + 1;
-        put(first, hits, row.first);
-        put(second, hits, b);
-        if keeps_brief(
-            row,
-            common,
-            b,
-            start_x,
-            start_y,
-            end_x,
-            end_y,
-            starts,
-            listing,
-            counts,
-        ) {
-            hits = hits + 1;
-        }
-    }
-    hits
-}
-
 // The row with each line of a list, by marks: a line whose mark has a bit above the lowest in common with that of the row's line is passed over.
-fn scan_long(
+pub(crate) fn scan_marked(
     row: Row,
     mark: u32,
     list: &[u32],
@@ -299,65 +215,6 @@ fn scan_long(
         }
     }
     hits
-}
-
-// The row with each line of a list, by marks.
-pub(crate) fn scan_marked(
-    row: Row,
-    mark: u32,
-    list: &[u32],
-    marks: &[u32],
-    start_x: &[f64],
-    start_y: &[f64],
-    end_x: &[f64],
-    end_y: &[f64],
-    starts: &[u32],
-    listing: &[u32],
-    counts: &[u32],
-    first: &mut [u32],
-    second: &mut [u32],
-    hits: usize,
-) -> usize
-    requires { let ls = lines (now «start_x») (now «start_y») (now «end_x») (now «end_y») in
-        ⌜ Held ls row (MarkedRow (count ls) (row .first) mark (now list) (now marks) (now starts) (now listing) (now counts) hits) ⌝ }
-    ensures { λ r. let ls = lines (now («start_x» .entry)) (now («start_y» .entry)) (now («end_x» .entry)) (now («end_y» .entry)) in
-        ⌜ RowGrown (overlap ls) (count ls) (row .first) (now (starts .entry)) (now (listing .entry)) (now (counts .entry)) (now (list .entry))
-        (now (first .entry)) (now (second .entry)) hits (now (first .exit)) (now (second .exit)) r ⌝ }
-{
-    if list.len() < 16 {
-        return scan_brief(
-            row,
-            mark,
-            list,
-            marks,
-            start_x,
-            start_y,
-            end_x,
-            end_y,
-            starts,
-            listing,
-            counts,
-            first,
-            second,
-            hits,
-        );
-    }
-    scan_long(
-        row,
-        mark,
-        list,
-        marks,
-        start_x,
-        start_y,
-        end_x,
-        end_y,
-        starts,
-        listing,
-        counts,
-        first,
-        second,
-        hits,
-    )
 }
 
 // The row with each line from k to before `stop`.

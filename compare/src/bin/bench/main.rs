@@ -50,7 +50,7 @@ fn main() {
     if wanted("orderings") {
         orderings::times(clock, &mut Random::new(seed));
     }
-    if ["builds", "visits", "memory"].into_iter().any(wanted) {
+    if ["builds", "visits", "once", "memory"].into_iter().any(wanted) {
         let years = [1023, 8192, 65536].map(|n| year::Year::new(r, n));
         if wanted("builds") {
             year::builds(clock, &years);
@@ -58,6 +58,8 @@ fn main() {
         }
         if wanted("visits") {
             year::visits(clock, &years);
+        }
+        if wanted("once") {
             year::once(clock, &years, seed);
         }
         if wanted("memory") {
@@ -95,8 +97,8 @@ fn main() {
     clock.end();
 }
 
-const STAGES: [&str; 16] =
-    ["numbers", "walks", "covers", "orderings", "builds", "visits", "memory", "points", "sizings", "members", "added", "blocks", "window", "crossings", "resume", "trees"];
+const STAGES: [&str; 17] =
+    ["numbers", "walks", "covers", "orderings", "builds", "visits", "once", "memory", "points", "sizings", "members", "added", "blocks", "window", "crossings", "resume", "trees"];
 
 fn stop() -> ! {
     eprintln!("bench [--seed S] [--rounds R] [STAGE..], with STAGE one of {}", STAGES.join(" "));

@@ -15,7 +15,7 @@ const BAR: Option<f64> = Some(1.0);
 const MEMORY_BAR: Option<f64> = Some(0.5);
 /// Of a visit that hands out each pair once, by a Rust that takes the repeats out of what it is handed.
 const ONCE_BAR: Option<f64> = Some(1.0);
-/// The same by a plain visit of the port.
+/// The same by a plain visit of the port, and by the Rust's callback that only counts.
 const PLAIN_BAR: Option<f64> = Some(1.07);
 
 /// Of a visit that pays for its checks once, by the Rust's callback.
@@ -216,12 +216,14 @@ fn rust_once(y: &Year) -> usize {
     black_box(&pairs).len()
 }
 
-/// A visit that hands out each pair once, beside a Rust that takes the repeats out of what it is handed, and beside the plain visit in one batch. The port's
-/// outputs just hold the pairs, so there is nothing to clear in them. Where the Rust would hold more than 2^24 pairs it is left out.
+/// A visit that hands out each pair once, beside the plain visit in one batch, beside the Rust's callback that only counts, and beside a Rust that takes the
+/// repeats out of what it is handed. The port's outputs just hold the pairs, so there is nothing to clear in them. Where that Rust would hold more than 2^24
+/// pairs it is left out.
 pub fn once(clock: &Clock, years: &[Year], seed: u64) {
     clock.head(
-        "Each pair once: lists by line, the visit, and zero in the scratch, beside one batch of the port that hands out every test's pair, and beside the Rust's \
-         visit,\n  whose pairs are collected, sorted and rid of repeats. The last two: 12 legs an orbit.",
+        "Each pair once: lists by line, the visit, and zero in the scratch. Plain: one batch of the port that hands out every test's pair. Counted: the Rust's \
+         callback, which only counts\n  every test's pair. Sorted: the Rust's visit, whose pairs are collected, sorted and rid of repeats. The last two: 12 legs an orbit. \
+         Nanoseconds a test.",
     );
     let long = [8192, 65536].map(|n| Year::of(&cases::orbits(&mut Random::new(seed), n, 12.0)));
     for y in years.iter().chain(&long) {
@@ -232,22 +234,21 @@ pub fn once(clock: &Clock, years: &[Year], seed: u64) {
         let mut out = [0u64];
         // with no room the refusal says how many pairs there are
         port::pairs_once(&standing, &mut lent(0), &mut out);
-        let (mut each, mut plain) = (lent(out[0] as usize), Pairs::new(y.overlaps as usize));
+        let (mut each, mut all) = (lent(out[0] as usize), Pairs::new(y.overlaps as usize));
         let mut once = || assert_eq!(port::pairs_once(&standing, &mut each, &mut [0]), 0);
-        let mut visit = || assert_eq!(port_visit(y, &mut plain), y.overlaps);
-        let mut rust = || assert_eq!(rust_once(y) as u64, out[0]);
+        let mut plain = || assert_eq!(port_visit(y, &mut all), y.overlaps);
+        let mut counted = || assert_eq!(black_box(rust_counted(y)), y.overlaps);
+        let mut sorted = || assert_eq!(rust_once(y) as u64, out[0]);
         let held = y.overlaps <= 1 << 24;
-        let parties: &mut [&mut dyn FnMut()] = if held { &mut [&mut once, &mut visit, &mut rust] } else { &mut [&mut once, &mut visit] };
+        let others: &[(&str, Option<f64>)] = &[("plain", PLAIN_BAR), ("counted", PLAIN_BAR), ("sorted", ONCE_BAR)][..if held { 3 } else { 2 }];
+        let parties: &mut [&mut dyn FnMut()] =
+            if held { &mut [&mut once, &mut plain, &mut counted, &mut sorted] } else { &mut [&mut once, &mut plain, &mut counted] };
         let times = clock.turns(parties);
         let of_a_test = |party: usize| times.of(party) * 1e9 / y.tests as f64;
-        let plain = times.ratio(0, 1);
-        print!(
-            "  {:<64} once {:>7.2}  plain {:>7.2} ns a test  once/plain {plain:.3}{}",
-            format!("{} lines: {} tests, {} overlaps, {} pairs", y.n, y.tests, y.overlaps, out[0]), of_a_test(0), of_a_test(1), clock.held(plain, PLAIN_BAR),
-        );
-        if held {
-            let ratio = times.ratio(0, 2);
-            print!("  Rust {:>7.2}  once/Rust {ratio:.3}{}", of_a_test(2), clock.held(ratio, ONCE_BAR));
+        print!("  {:<64} once {:>6.2}", format!("{} lines: {} tests, {} overlaps, {} pairs", y.n, y.tests, y.overlaps, out[0]), of_a_test(0));
+        for (&(name, bar), party) in others.iter().zip(1..) {
+            let ratio = times.ratio(0, party);
+            print!("  {name} {:>6.2} once/{name} {ratio:.3}{}", of_a_test(party), clock.held(ratio, bar));
         }
         println!();
     }

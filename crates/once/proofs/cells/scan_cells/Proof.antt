@@ -7,6 +7,7 @@ use Rattle.visit.specs.Overlap.{overlap}
 use Rattle.once.specs.Inside.{Checked}
 use Rattle.once.proofs.Lists.{Cells, cells-begin, cells-done, cell-rows, cell-counts, cells-next}
 use Rattle.once.proofs.Passing.{Beside}
+use Rattle.once.proofs.Shorts.{Ready}
 use Rattle.once.proofs.cells.scan_cells.Statement.{statement}
 use Rattle.once.proofs.cells.scan_cells.Tie as tie
 use Rattle.once.proofs.cells.scan_cells.Reads as reads
@@ -16,33 +17,36 @@ use Rattle.once.proofs.cells.list_of.Reads as list-of-reads
 use Rattle.once.proofs.cells.scan_cell.Reads as scan-cell-reads
 
 abbrev Inv-loop : tie.InvT-loop
-Inv-loop cells cols offsets items start-x start-y end-x end-y starts listing counts₀ first₀ second₀ marks₀ hits₀ cell₀ counts first second marks hits cell =
+Inv-loop cells cols offsets items start-x start-y end-x end-y starts listing counts₀ first₀ second₀ marks₀ room₀ hits₀ cell₀ counts first second marks room hits cell =
     let ls = lines start-x start-y end-x end-y in
-    Beside 4096 marks (Checked ls (Cells (overlap ls) (count ls) cells offsets items starts listing counts₀ first₀ second₀ counts first second hits cell))
+    Beside 4096 marks (Ready 256 room (Checked ls (Cells (overlap ls) (count ls) cells offsets items starts listing counts₀ first₀ second₀ counts first second hits cell)))
 
 abbrev μ-loop : tie.MeasureT-loop
-μ-loop cells cols offsets items start-x start-y end-x end-y starts listing counts₀ first₀ second₀ marks₀ hits₀ cell₀ counts first second marks hits cell =
+μ-loop cells cols offsets items start-x start-y end-x end-y starts listing counts₀ first₀ second₀ marks₀ room₀ hits₀ cell₀ counts first second marks room hits cell =
     cells - cell
 
 loop-holds : tie.Need-loop-holds Inv-loop μ-loop
-loop-holds c = let h = c .before .before .before .before .before .before .before .before .before .before .before .pre in record { long = refl; held = record { fine = h .fine; asks = cells-begin (h .asks) } }
+loop-holds c = let h = c .before .before .before .before .before .before .before .before .before .before .before .pre in record { long = refl; held = record { long = refl; held = record { fine = h .fine; asks = cells-begin (h .asks) } } }
 
 list-of-requires : tie.Need-list-of-requires Inv-loop μ-loop
-list-of-requires c κs = c .before .loop .inv .held .asks .asks .table .lists _ (c .loop-test .taken)
+list-of-requires c κs = c .before .loop .inv .held .held .asks .asks .table .lists _ (c .loop-test .taken)
 
 cast-scan-cell : tie.Need-cast-scan-cell Inv-loop μ-loop
-cast-scan-cell c = omega (arith, c .before .before .loop .inv .held .asks .asks .few-cells)
+cast-scan-cell c = omega (arith, c .before .before .loop .inv .held .held .asks .asks .few-cells)
 
 slice-aggregate-scan-cell : tie.Need-slice-aggregate-scan-cell Inv-loop μ-loop
 slice-aggregate-scan-cell c = omega (arith, c .before .before .before .loop .inv .long)
 
+slice-aggregate-scan-cell-2 : tie.Need-slice-aggregate-scan-cell-2 Inv-loop μ-loop
+slice-aggregate-scan-cell-2 c = omega (arith, c .before .before .before .before .loop .inv .held .long)
+
 scan-cell-requires : tie.Need-scan-cell-requires Inv-loop μ-loop
 scan-cell-requires c κs =
-    let h = c .before .before .before .before .before .before .loop .inv .held in
-    record { fine = h .fine; asks = cell-rows (h .asks) (c .before .before .before .before .before .loop-test .taken) (c .before .before .before .before .list-of .ensures) }
+    let h = c .before .before .before .before .before .before .before .loop .inv .held .held in
+    record { fine = h .fine; asks = cell-rows (h .asks) (c .before .before .before .before .before .before .loop-test .taken) (c .before .before .before .before .before .list-of .ensures) }
 
 count-list-requires : tie.Need-count-list-requires Inv-loop μ-loop
-count-list-requires c κs = cell-counts (c .before .before .before .before .before .before .before .before .before .before .before .before .before .loop .inv .held .asks) (c .before .before .before .before .before .before .before .before .before .before .before .before .loop-test .taken) (c .before .before .before .before .before .before .before .before .before .before .before .list-of .ensures)
+count-list-requires c κs = cell-counts (c .before .before .before .before .before .before .before .before .before .before .before .before .before .before .before .loop .inv .held .held .asks) (c .before .before .before .before .before .before .before .before .before .before .before .before .before .before .loop-test .taken) (c .before .before .before .before .before .before .before .before .before .before .before .before .before .list-of .ensures)
 
 add-cell : tie.Need-add-cell Inv-loop μ-loop
 add-cell c = omega arith
@@ -52,22 +56,31 @@ loop-less c = omega arith
 
 loop-again : tie.Need-loop-again Inv-loop μ-loop
 loop-again c =
-    let d = c .before .before .before .before .before .before .before .before .before .scan-cell in
+    let d = c .before .before .before .before .before .before .before .before .before .before .scan-cell in
     let k = c .before .before .count-list in
-    let h = c .before .before .before .before .before .before .before .before .before .before .before .before .before .before .before .before .loop .inv in
-    record { long = d .kept .1 .1 .0 ∙ h .long; held = record { fine = h .held .fine; asks = cells-next (h .held .asks) (c .before .before .before .before .before .before .before .before .before .before .before .before .before .before .before .loop-test .taken) (c .before .before .before .before .before .before .before .before .before .before .before .before .before .before .list-of .ensures) (d .ensures) (k .ensures) (k .kept .1 .0) (d .kept .1 .1 .1 .1 .1 .1 .1 .1 .1 .1 .1 .0) (d .kept .1 .1 .1 .1 .1 .1 .1 .1 .1 .1 .1 .1 .0) } }
+    let h = c .before .before .before .before .before .before .before .before .before .before .before .before .before .before .before .before .before .before .loop .inv in
+    record {
+      long = d .kept .1 .1 .0 ∙ h .long;
+      held = record {
+        long = d .kept .1 .1 .1 .0 ∙ h .held .long;
+        held = record {
+          fine = h .held .held .fine;
+          asks = cells-next (h .held .held .asks) (c .before .before .before .before .before .before .before .before .before .before .before .before .before .before .before .before .before .loop-test .taken) (c .before .before .before .before .before .before .before .before .before .before .before .before .before .before .before .before .list-of .ensures) (d .ensures) (k .ensures) (k .kept .1 .0) (d .kept .1 .1 .1 .1 .1 .1 .1 .1 .1 .1 .1 .1 .0) (d .kept .1 .1 .1 .1 .1 .1 .1 .1 .1 .1 .1 .1 .1 .0);
+        };
+      };
+    }
 
 same-length : tie.Need-same-length Inv-loop μ-loop
-same-length c = c .before .loop .inv .held .asks .counts-long
+same-length c = c .before .loop .inv .held .held .asks .counts-long
 
 same-length-2 : tie.Need-same-length-2 Inv-loop μ-loop
-same-length-2 c = c .before .loop .inv .held .asks .first-long
+same-length-2 c = c .before .loop .inv .held .held .asks .first-long
 
 same-length-3 : tie.Need-same-length-3 Inv-loop μ-loop
-same-length-3 c = c .before .loop .inv .held .asks .second-long
+same-length-3 c = c .before .loop .inv .held .held .asks .second-long
 
 returns : tie.Need-returns Inv-loop μ-loop
-returns c = cells-done (c .before .loop .inv .held .asks) (c .loop-test .left)
+returns c = cells-done (c .before .loop .inv .held .held .asks) (c .loop-test .left)
 
 pub scan-cells-spec : {M : Type 1} → statement M
 scan-cells-spec =
@@ -79,6 +92,7 @@ scan-cells-spec =
     list-of-requires
     cast-scan-cell
     slice-aggregate-scan-cell
+    slice-aggregate-scan-cell-2
     scan-cell-requires
     count-list-requires
     add-cell

@@ -1,45 +1,101 @@
 -- `once::rows::scan_marked` meets its contract. Assumes nothing.
+use Prim.Native.Nat.{_-_}
+use native.Mathlib.Omega.{arith}
+use lib.ListN.{length}
+use Rattle.grid.specs.Domain.{lines, count}
+use Rattle.visit.specs.Overlap.{overlap}
+use Rattle.once.specs.Inside.{Held}
+use Rattle.once.proofs.Boxed.{held-other}
+use Rattle.once.proofs.Scans.{list-done, list-fits}
+use Rattle.once.proofs.Passing.{MarkScan, marked-begin, marked-pair, marked-yes, marked-no}
 use borrow.Author.Needs.{needs}
 use Rattle.once.proofs.rows.scan_marked.Statement.{statement}
 use Rattle.once.proofs.rows.scan_marked.Tie as tie
 use Rattle.once.proofs.rows.scan_marked.Reads as reads
 use Rattle.once.proofs.rows.scan_marked.Lts as lts
-use Rattle.once.proofs.rows.scan_brief.Reads as scan-brief-reads
-use Rattle.once.proofs.rows.scan_long.Reads as scan-long-reads
+use Rattle.once.proofs.rows.keeps_marked.Reads as keeps-marked-reads
+use Rattle.once.proofs.rows.put.Reads as put-reads
 
-scan-brief-requires : tie.Need-scan-brief-requires
-scan-brief-requires c κs = search needs
+abbrev Inv-loop : tie.InvT-loop
+Inv-loop row mark list marks start-x start-y end-x end-y starts listing counts first₀ second₀ hits hits₀ j₀ first second hits' j =
+    let ls = lines start-x start-y end-x end-y in
+    Held ls row (MarkScan (overlap ls) (count ls) (row .first) mark list marks starts listing counts first₀ second₀ hits first second hits' j)
 
-same-length : tie.Need-same-length
-same-length c = search needs
+abbrev μ-loop : tie.MeasureT-loop
+μ-loop row mark list marks start-x start-y end-x end-y starts listing counts first₀ second₀ hits hits₀ j₀ first second hits' j =
+    length list - j
 
-same-length-2 : tie.Need-same-length-2
-same-length-2 c = search needs
+loop-holds : tie.Need-loop-holds Inv-loop μ-loop
+loop-holds c = let h = c .before .before .before .before .before .before .before .before .before .before .before .pre in held-other h (marked-begin (h .asks))
 
-returns : tie.Need-returns
-returns c = search needs
+mul-common : tie.Need-mul-common Inv-loop μ-loop
+mul-common c = omega arith
 
-scan-long-requires : tie.Need-scan-long-requires
-scan-long-requires c κs = search needs
+shared-slice-read-common : tie.Need-shared-slice-read-common Inv-loop μ-loop
+shared-slice-read-common c = omega (arith, c .before .before .loop .inv .asks .asks .long)
 
-same-length-3 : tie.Need-same-length-3
-same-length-3 c = search needs
+mul-b : tie.Need-mul-b Inv-loop μ-loop
+mul-b c = omega arith
 
-same-length-4 : tie.Need-same-length-4
-same-length-4 c = search needs
+shared-slice-read-b : tie.Need-shared-slice-read-b Inv-loop μ-loop
+shared-slice-read-b c = omega arith
 
-returns-2 : tie.Need-returns-2
-returns-2 c = search needs
+add-j : tie.Need-add-j Inv-loop μ-loop
+add-j c = omega arith
+
+keeps-marked-requires : tie.Need-keeps-marked-requires Inv-loop μ-loop
+keeps-marked-requires c κs = let h = c .before .before .before .loop .inv in held-other h (marked-pair (h .asks) (c .before .before .loop-test .taken))
+
+put-requires : tie.Need-put-requires Inv-loop μ-loop
+put-requires c κs = search needs
+
+put-requires-2 : tie.Need-put-requires-2 Inv-loop μ-loop
+put-requires-2 c κs = search needs
+
+add-hits : tie.Need-add-hits Inv-loop μ-loop
+add-hits c = record { fits = list-fits (c .before .before .before .before .before .before .before .before .before .before .before .before .before .loop .inv .asks .list) (c .before .before .before .before .before .before .before .before .before .before .before .before .loop-test .taken) }
+
+loop-less : tie.Need-loop-less Inv-loop μ-loop
+loop-less c = omega arith
+
+loop-again : tie.Need-loop-again Inv-loop μ-loop
+loop-again c = let h = c .before .before .before .before .before .before .before .before .before .before .before .before .before .loop .inv in held-other h (marked-yes (h .asks) (c .before .before .before .before .before .before .before .before .before .before .before .before .loop-test .taken) (c .before .before .before .before .before .before .before .before .before .keeps-marked .ensures) (c .before .before .before .before .before .before .before .before .if1 .taken) (c .before .before .before .before .before .before .put .ensures) (c .before .before .put2 .ensures))
+
+loop-less-2 : tie.Need-loop-less-2 Inv-loop μ-loop
+loop-less-2 c = omega arith
+
+loop-again-2 : tie.Need-loop-again-2 Inv-loop μ-loop
+loop-again-2 c = let h = c .before .before .before .before .before .loop .inv in held-other h (marked-no (h .asks) (c .before .before .before .before .loop-test .taken) (c .before .keeps-marked .ensures) (c .if1 .left))
+
+same-length : tie.Need-same-length Inv-loop μ-loop
+same-length c = c .before .loop .inv .asks .list .scan .first-long
+
+same-length-2 : tie.Need-same-length-2 Inv-loop μ-loop
+same-length-2 c = c .before .loop .inv .asks .list .scan .second-long
+
+returns : tie.Need-returns Inv-loop μ-loop
+returns c = list-done (c .before .loop .inv .asks .list) (c .loop-test .left)
 
 pub scan-marked-spec : {M : Type 1} → statement M
 scan-marked-spec =
     tie.close
     (tie.spec
-    scan-brief-requires
+    Inv-loop
+    μ-loop
+    loop-holds
+    mul-common
+    shared-slice-read-common
+    mul-b
+    shared-slice-read-b
+    add-j
+    keeps-marked-requires
+    put-requires
+    put-requires-2
+    add-hits
+    loop-less
+    loop-again
+    loop-less-2
+    loop-again-2
     same-length
     same-length-2
-    returns
-    scan-long-requires
-    same-length-3
-    same-length-4
-    returns-2)
+    returns)

@@ -1,16 +1,19 @@
--- What `whole_part` computes: v + 2 ^ 52 is rounded to a whole number, which is 2 ^ 52 more than the whole part of v or than the next. Assumes nothing.
+-- What `whole_part` and `whole_index` compute: v + 2 ^ 52 is rounded to a whole number, which is 2 ^ 52 more than the whole part of v or than the next. Assumes nothing.
 use mathlib.Core.Path.{_≡_, refl, sym, ap, _∙_, subst}
-use Prim.Native.Nat.{ℕ, _+_, _-_, _*_, _/_, _^_, _≤_, _<_}
-use native.Mathlib.Nat.{le-trans, le-of-eq, lt-of-not-le, mul-one, add-mul, zero-lt-suc, div-mul-le-self, lt-div-mul-add, mul-le-mul-right}
+use Prim.Native.Nat.{ℕ, _+_, _-_, _*_, _/_, _%_, _^_, _≤_, _<_}
+use native.Mathlib.Nat.{le-trans, le-of-eq, lt-of-not-le, not-le-of-lt, lt-of-lt-of-le, mul-one, add-mul, zero-lt-suc, div-one, mul-div-cancel, div-mul-le-self, lt-div-mul-add, mul-le-mul-right, mul-lt-mul-of-pos-right}
 use native.Mathlib.Omega.{arith}
-use mathlib.Core.Bool.{Bool, true, false, cond}
+use mathlib.Core.Bool.{Bool, true, false, not, cond}
 use lib.IntN.{pos}
 use lib.Dec.{T}
-use lib.Ieee.{Float, fin, binary64, round, lt, le, add, sub, fits}
+use lib.Pow.{pow-pos, pow-mono}
+use lib.Ieee.{Float, nan, inf, fin, binary64, round, isNan, lt, le, add, sub, fits, size, toBits}
+use lib.Ieee.Digits.{size-lt, size-le}
 use lib.Ieee.Exact.{HasValue}
 use lib.Ieee.Fits.{round-fits}
 use lib.Ieee.Order.{round-mono}
 use lib.Ieee.Positive.{num, den, positive, den-pos, own-value, positive-of-value, values-of-le, between}
+use Rattle.numbers.proofs.Values.{toBits-value}
 use Rattle.numbers.proofs.Tests.{holds, fails, under-whole, not-under-whole}
 use Rattle.numbers.proofs.Sums.{sum-at}
 use Rattle.numbers.proofs.WholeLaws.{Small, counted, counted-value, counted-less, cut-small, whole-beyond}
@@ -80,19 +83,31 @@ moved v s =
     high q d a e f h = rw (mul-one d) (omega arith)
 
 -- moved back, it is the whole part of v, or one more, and then it is above v
-pub part-of : (v near : Float) → Small v → near ≡ sub binary64 (add binary64 v (fin false 1 (pos 52))) (fin false 1 (pos 52))
-    → sub binary64 near (cond (lt v near) (fin false 1 (pos 0)) (fin false 0 (pos 0))) ≡ counted false (num v / den v)
-part-of v near s h =
+record Near (v near : Float) : Type 0 where
+  pub k : ℕ
+  pub value : HasValue near false k 1
+  pub moved-to : HasValue (add binary64 v (fin false 1 (pos 52))) false (2 ^ 52 + k) 1
+  pub above : lt v near ≡ true → k ≡ num v / den v + 1
+  pub not-above : lt v near ≡ false → k ≡ num v / den v
+
+near-is : (v near : Float) → Small v → near ≡ sub binary64 (add binary64 v (fin false 1 (pos 52))) (fin false 1 (pos 52)) → Near v near
+near-is v near s h =
     let m = moved v s in
     let q = num v / den v in
     let small : q < 2 ^ 52 = cut-small v s in
     let k = m .n - 2 ^ 52 in
     let e : near ≡ counted false k = h ∙ counted-less (m .n) (2 ^ 52) _ (fin false 1 (pos 52)) (omega arith) (m .value) (refl, refl) in
     let val : HasValue near false k 1 = subst (λ (x : Float). HasValue x false k 1) (sym e) (counted-value false k (omega arith)) in
-    go q k (omega arith) (omega arith) val (lt v near)
-    (λ (t : lt v near ≡ true). under-whole v near k (s .above-zero) val (holds _ t))
-    (λ (t : lt v near ≡ false). not-under-whole v near k (s .above-zero) val (fails _ t))
-    (div-mul-le-self (num v) (den v)) (lt-div-mul-add (den-pos v))
+    let back : m .n ≡ 2 ^ 52 + k = omega arith in
+    let l : q ≤ k = omega arith in
+    let g : k ≤ q + 1 = omega arith in
+    record {
+      k = k;
+      value = val;
+      moved-to = subst (λ (n : ℕ). HasValue (add binary64 v (fin false 1 (pos 52))) false n 1) back (m .value);
+      above = λ (t : lt v near ≡ true). next q k (den v) (num v) l g (under-whole v near k (s .above-zero) val (holds _ t)) (div-mul-le-self (num v) (den v));
+      not-above = λ (t : lt v near ≡ false). same q k (den v) (num v) l g (not-under-whole v near k (s .above-zero) val (fails _ t)) (lt-div-mul-add (den-pos v));
+    }
   where
     same : (q k d a : ℕ) → q ≤ k → k ≤ q + 1 → k * d ≤ a → a < q * d + d → k ≡ q
     same q k d a l h x y = let f : k < q + 1 = lt-of-not-le (λ (g : q + 1 ≤ k). far q k d a (add-mul q 1 d) (mul-le-mul-right d g) x y) in omega arith
@@ -106,13 +121,55 @@ part-of v near s h =
         far : (k q a : ℕ) → k ≤ q → a < k → q ≤ a → ⊥
         far k q a g x y = omega arith
 
-    go : (q k : ℕ) → q ≤ k → k ≤ q + 1 → HasValue near false k 1 → (b : Bool) → (b ≡ true → num v < k * den v) → (b ≡ false → k * den v ≤ num v) → q * den v ≤ num v → num v < q * den v + den v
+pub part-of : (v near : Float) → Small v → near ≡ sub binary64 (add binary64 v (fin false 1 (pos 52))) (fin false 1 (pos 52))
+    → sub binary64 near (cond (lt v near) (fin false 1 (pos 0)) (fin false 0 (pos 0))) ≡ counted false (num v / den v)
+part-of v near s h = let n = near-is v near s h in go (num v / den v) (n .k) (n .value) (lt v near) (n .above) (n .not-above)
+  where
+    go : (q k : ℕ) → HasValue near false k 1 → (b : Bool) → (b ≡ true → k ≡ q + 1) → (b ≡ false → k ≡ q)
         → sub binary64 near (cond b (fin false 1 (pos 0)) (fin false 0 (pos 0))) ≡ counted false q
-    go q k l h val true y n x z =
-        let e : k ≡ q + 1 = next q k (den v) (num v) l h (y refl) x in
+    go q k val true y n =
+        let e : k ≡ q + 1 = y refl in
         let i : k - 1 ≡ q = omega arith in
         counted-less k 1 near (fin false 1 (pos 0)) (omega arith) val (refl, refl) ∙ ap (λ (i : ℕ). counted false i) i
-    go q k l h val false y n x z =
-        let e : k ≡ q = same q k (den v) (num v) l h (n refl) z in
+    go q k val false y n =
+        let e : k ≡ q = n refl in
         let i : k - 0 ≡ q = omega arith in
         counted-less k 0 near (fin false 0 (pos 0)) (omega arith) val (refl, refl) ∙ ap (λ (i : ℕ). counted false i) i
+
+-- ---- the bits of the sum
+
+-- a whole number from 2 ^ 52 on has itself in its lowest bits: 1074 is the exponent of the least value, and 52 digits are kept
+whole-bits : (x : Float) (n : ℕ) → 2 ^ 52 ≤ n → n < 2 ^ 53 → HasValue x false n 1 → toBits binary64 x ≡ 1074 * 2 ^ 52 + n
+whole-bits x n l h v =
+    let w = n * 2 ^ 1074 in
+    let most : size w ≤ 1127 = size-le w 1127 (mul-lt-mul-of-pos-right h (pow-pos 1074)) in
+    let least : 1126 < size w = lt-of-not-le (λ (g : size w ≤ 1126). not-le-of-lt (lt-of-lt-of-le (size-lt w) (pow-mono g)) (mul-le-mul-right (2 ^ 1074) l)) in
+    toBits-value binary64 x false n 1 (zero-lt-suc 0) v ∙ rw (div-one w) (shape (size w) (omega arith) n)
+  where
+    shape : (z : ℕ) → z ≡ 1127 → (n : ℕ) → 0 + (z - 53) * 4503599627370496 + n * 2 ^ 1074 / 2 ^ (z - 53) ≡ 1074 * 4503599627370496 + n
+    shape z e n = rw (e, mul-div-cancel n (pow-pos 1074)) refl
+
+number-of : (x : Float) (n : ℕ) → HasValue x false n 1 → T (not (isNan x))
+unfolding isNan
+number-of nan n h = absurd h
+number-of (inf s) n h = absurd h
+number-of (fin s m e) n h = tt
+
+pub moved-number : (v : Float) → Small v → T (not (isNan (add binary64 v (fin false 1 (pos 52)))))
+moved-number v s = let m = moved v s in number-of _ (m .n) (m .value)
+
+-- so 2 ^ 52 more than v has the whole part of v there, or one more
+pub index-of : (v near : Float) → Small v → near ≡ sub binary64 (add binary64 v (fin false 1 (pos 52))) (fin false 1 (pos 52)) → num v / den v < 4294967295
+    → (lt v near ≡ true → toBits binary64 (add binary64 v (fin false 1 (pos 52))) % 4294967296 ≡ num v / den v + 1)
+    × (lt v near ≡ false → toBits binary64 (add binary64 v (fin false 1 (pos 52))) % 4294967296 ≡ num v / den v)
+index-of v near s h few =
+    let n = near-is v near s h in (
+      λ (t : lt v near ≡ true). at _ (num v / den v + 1) (n .k) (omega arith) (n .above t) (n .moved-to),
+      λ (t : lt v near ≡ false). at _ (num v / den v) (n .k) (omega arith) (n .not-above t) (n .moved-to),
+    )
+  where
+    low : (k : ℕ) → k < 4294967296 → (1074 * 4503599627370496 + (4503599627370496 + k)) % 4294967296 ≡ k
+    low k l = omega arith
+
+    at : (x : Float) (j k : ℕ) → j < 4294967296 → k ≡ j → HasValue x false (4503599627370496 + k) 1 → toBits binary64 x % 4294967296 ≡ j
+    at x j k l e h = ap (λ (b : ℕ). b % 4294967296) (whole-bits x (4503599627370496 + k) (omega arith) (omega arith) h) ∙ low k (omega arith) ∙ e

@@ -4,6 +4,7 @@ ghost use Rattle.numbers.specs.Floor.{floorOf, clampedFloor};
 use super::order::magnitude;
 use super::whole::one_if_above;
 use super::whole::unit;
+use super::whole::whole_index;
 use super::whole::whole_part;
 
 // From 2^52 on every float is a whole number. Below that v is cut toward zero, and where the cut went up it comes down by one.
@@ -30,7 +31,7 @@ pub fn clamped_floor(v: f64, count: u32) -> u32
         }
         let last = count - 1;
         if v < last as f64 {
-            return whole_part(v) as u32;
+            return whole_index(v);
         }
         return last;
     }

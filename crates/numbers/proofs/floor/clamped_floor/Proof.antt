@@ -1,13 +1,11 @@
 -- `numbers::floor::clamped_floor` meets its contract. Assumes nothing.
 use mathlib.Core.Path.{_≡_, sym, _∙_, subst}
-use Prim.Native.Nat.{ℕ, _/_}
+use Prim.Native.Nat.{ℕ}
 use native.Mathlib.Omega.{arith}
-use lib.Dec.{T}
-use lib.Ieee.{binary64, ofBits, inUnsigned, toUnsigned}
-use lib.Ieee.Positive.{num, den}
+use lib.Ieee.{ofBits}
 use Rattle.numbers.specs.Floor.{clampedFloor}
 use Rattle.numbers.proofs.Tests.{holds}
-use Rattle.numbers.proofs.WholeLaws.{cast-back, whole-value}
+use Rattle.numbers.proofs.WholeLaws.{whole-value}
 use Rattle.numbers.proofs.FloorCases.{Within, within, clamped-none, clamped-low, clamped-high, clamped-within}
 use borrow.Author.Needs.{needs}
 use Rattle.numbers.proofs.floor.clamped_floor.Statement.{statement}
@@ -16,12 +14,6 @@ use Rattle.numbers.proofs.floor.clamped_floor.Tie as tie
 fine : (c : tie.Then3) → Within (c .before .before .before .before .args .v) (c .before .before .before .before .args .count)
 unfolding ofBits
 fine c = within _ _ (omega arith) (c .before .before .before .if1 .taken) (c .if3 .taken)
-
-back : (c : tie.After-whole-part)
-    → T (inUnsigned binary64 32 (c .whole-part .result)) × (toUnsigned 32 (c .whole-part .result) ≡ num (c .before .before .before .before .before .args .v) / den (c .before .before .before .before .before .args .v))
-back c =
-    let w = fine (c .before) in
-    cast-back 32 _ _ (c .whole-part .ensures) (omega arith) (omega arith)
 
 returns : tie.Need-returns
 returns c = subst (λ (n : ℕ). 0 ≡ clampedFloor (c .before .before .args .v) n) (sym (c .if2 .taken)) (clamped-none _)
@@ -32,15 +24,12 @@ sub-last c = search needs
 int-to-float-if3 : tie.Need-int-to-float-if3
 int-to-float-if3 c = search needs
 
-whole-part-requires : tie.Need-whole-part-requires
+whole-index-requires : tie.Need-whole-index-requires
 unfolding ofBits
-whole-part-requires c κs = (holds _ (c .before .before .before .if1 .taken), fine c .small)
-
-float-to-int-result : tie.Need-float-to-int-result
-float-to-int-result c = back (c .before) .0
+whole-index-requires c κs = let w = fine c in (holds _ (c .before .before .before .if1 .taken), (w .small, omega arith))
 
 returns-2 : tie.Need-returns-2
-returns-2 c = let w = fine (c .before .before) in back (c .before) .1 ∙ clamped-within _ _ (w .above-zero) (omega arith)
+returns-2 c = let w = fine (c .before) in c .whole-index .ensures ∙ clamped-within _ _ (w .above-zero) (omega arith)
 
 returns-3 : tie.Need-returns-3
 unfolding ofBits
@@ -57,8 +46,7 @@ clamped-floor-spec =
     returns
     sub-last
     int-to-float-if3
-    whole-part-requires
-    float-to-int-result
+    whole-index-requires
     returns-2
     returns-3
     returns-4)

@@ -1,4 +1,5 @@
-//! The inner walk, as a build takes it, and the covering walk: they leave the scratch beyond the cells as it comes. And the ordering of a walk's cells.
+//! The walk of one line by the function that a build calls, in the Rust's mode and in the covering mode: it leaves the scratch beyond the cells as it comes.
+//! And the ordering of a walk's cells.
 //! They are no part of the library, and their archive stands apart. `tools/declarations` writes what stands between the marks.
 
 #![allow(clippy::too_many_arguments)]

@@ -1,9 +1,9 @@
 -- What the functions of `rows` need: a line's slope and its sideways way by the code, the columns of a row, and the loop over the rows. Assumes nothing.
-use mathlib.Core.Path.{_≡_, refl, sym, ap, ap₂, _∙_}
+use mathlib.Core.Path.{_≡_, refl, sym, ap, ap₂, _∙_, subst}
 use mathlib.Core.Logic.{inl, inr}
 use mathlib.Core.List.{List, _++_, append-nil, append-assoc}
 use Prim.Native.Nat.{ℕ, suc, _+_, _-_, _*_, _/_, _≤_, _<_, min, max}
-use native.Mathlib.Nat.{mul-le-mul-right, div-mul-le-self, div-zero}
+use native.Mathlib.Nat.{mul-le-mul-right, div-mul-le-self, div-zero, zero-mul, zero-div}
 use native.Mathlib.Omega.{arith}
 use lib.Dec.{lit<}
 use lib.ListN.{length, take, length-append}
@@ -11,9 +11,9 @@ use lib.Seq.{length-take-le}
 use Rattle.slices.proofs.Laws.{le-or}
 use Rattle.cover.specs.declared.Ends.{Ends}
 use Rattle.cover.specs.Rule.{cellOf, bottomOf, topOf, spanOf, slopeOf, asideOf, leftOf, rightOf, firstRow, lastRow, run, rowCells, rowsFrom, cellsBetween}
-use Rattle.cover.specs.Inside.{Grown, Front, Across, Level, Rises, Row, ColumnsAre}
-use Rattle.cover.proofs.Slope.{aside-under}
-use Rattle.cover.proofs.Sides.{top-before, top-last, first-level, last-level, first-rising, last-rising, first-in, last-in}
+use Rattle.cover.specs.Inside.{Grown, Front, Across, Level, Rises, Row, ColumnsAre, RowRoom}
+use Rattle.cover.proofs.Slope.{aside-under, aside-over}
+use Rattle.cover.proofs.Sides.{top-before, top-last, left-at-start, right-at-start, left-at-end, right-at-end, left-by-bottom, right-by-bottom, first-level, last-level, first-rising, last-rising, first-in, last-in}
 use Rattle.cover.proofs.Growing.{length-run}
 use Rattle.cover.proofs.Few.{cells-few}
 
@@ -59,6 +59,13 @@ module _ {cols rows : ℕ} {e : Ends} {s last r : ℕ} (p : Row cols rows e s la
   steep : e .«from_y» < e .«to_y»
   steep = omega (arith, p .rises)
 
+  pub last-few : last < 4096
+  last-few = omega (arith, p .last-is, p .some-rows, p .few-rows)
+
+  -- the first row is not the last
+  pub starts : r ≡ firstRow rows e → r < last
+  starts h = omega (arith, p .rises, p .last-is)
+
   pub across-bottom : (y : ℕ) → y ≡ bottomOf e r → Across e s y
   unfolding bottomOf
   across-bottom y k =
@@ -82,24 +89,70 @@ module _ {cols rows : ℕ} {e : Ends} {s last r : ℕ} (p : Row cols rows e s la
         last-is = k ∙ ap (cellOf cols) (rw (h, b, d, a, c, p .last-is)) ∙ sym (last-rising cols rows e r (p .rises));
       }
 
+  -- the line begins in the first row, and has come no way there
+  pub start-near : r ≡ firstRow rows e → asideOf e (bottomOf e r) ≡ 0
+  unfolding asideOf bottomOf
+  start-near k =
+      let d = div-mul-le-self (e .«from_y») 1048576 in
+      let l : r * 1048576 ≤ e .«from_y» / 1048576 * 1048576 = mul-le-mul-right 1048576 (omega arith) in
+      let z : max (r * 1048576 - 3) (e .«from_y») - e .«from_y» ≡ 0 = omega arith in
+      rw (z, zero-mul, zero-div)
+
+  pub columns-start-right : {top far right first to : ℕ} → r ≡ firstRow rows e → top ≡ topOf e last r → far ≡ asideOf e top → e .«from_x» ≤ e .«to_x»
+      → first ≡ cellOf cols (e .«from_x») → right ≡ rightOf e 0 far → to ≡ cellOf cols right → ColumnsAre cols rows e r first to
+  columns-start-right {far} k a b h f g i =
+      let z = start-near k in
+      columns-rising refl (sym z) a b (sym (left-at-start e far h)) f g i
+
+  pub columns-start-left : {top far left first to : ℕ} → r ≡ firstRow rows e → top ≡ topOf e last r → far ≡ asideOf e top → e .«to_x» < e .«from_x»
+      → left ≡ leftOf e 0 far → first ≡ cellOf cols left → to ≡ cellOf cols (e .«from_x») → ColumnsAre cols rows e r first to
+  columns-start-left {far} k a b h f g i =
+      let z = start-near k in
+      columns-rising refl (sym z) a b f g (sym (right-at-start e far h)) i
+
+-- the last row of such a line
+module _ {cols rows : ℕ} {e : Ends} {s r : ℕ} (p : Row cols rows e s r r) where
+  -- it ends there, and has come all the way but for less than 2
+  all-far : spanOf e ≤ asideOf e (topOf e r r) + 5
+  unfolding asideOf slopeOf
+  all-far =
+      let a = p .small in
+      let dy = e .«to_y» - e .«from_y» in
+      let k : 1 * spanOf e ≤ (dy * (spanOf e * 4294967296 / dy) / 4294967296 + 2) * 1 =
+      aside-over 4294967296 (spanOf e) dy dy 1 1 (omega (arith, p .rises)) (lit< tt) (omega arith) (omega arith) in
+      rw (top-last e r r (omega arith)) (omega arith)
+
+  pub columns-end-right : {bottom near left first to : ℕ} → bottom ≡ bottomOf e r → near ≡ asideOf e bottom → e .«from_x» ≤ e .«to_x»
+      → left ≡ leftOf e near 0 → first ≡ cellOf cols left → to ≡ cellOf cols (e .«to_x») → ColumnsAre cols rows e r first to
+  columns-end-right {near} a b h f g i =
+      columns-rising p a b refl refl (f ∙ left-by-bottom e near 0 _ h) g (sym (right-at-end e near _ all-far h)) i
+
+  pub columns-end-left : {bottom near right first to : ℕ} → bottom ≡ bottomOf e r → near ≡ asideOf e bottom → e .«to_x» < e .«from_x»
+      → first ≡ cellOf cols (e .«to_x») → right ≡ rightOf e near 0 → to ≡ cellOf cols right → ColumnsAre cols rows e r first to
+  columns-end-left {near} a b h f g i =
+      columns-rising p a b refl refl (sym (left-at-end e near _ all-far h)) f (g ∙ right-by-bottom e near 0 _ h) i
+
 -- ---- a row, written
 
+pub grown-by : {xs ys : List ℕ} {n m k j : ℕ} (first : ℕ) → k ≡ j → Grown xs ys n m (run k first) → Grown xs ys n m (run j first)
+grown-by first e g = rw (← e) g
+
 module _ (cols rows : ℕ) (e : Ends) (r : ℕ) where
-  -- the number of the row's cells, and what is written for it
-  module _ {first last k : ℕ} (c : ColumnsAre cols rows e r first last) (z : k ≡ last + 1 - first) where
-    row-is : run k (r * cols + first) ≡ rowCells cols rows e r
+  -- what is written for it, and the number of its cells
+  module _ {first last : ℕ} (c : ColumnsAre cols rows e r first last) where
+    row-is : run (last + 1 - first) (r * cols + first) ≡ rowCells cols rows e r
     unfolding rowCells
-    row-is = rw (z, c .first-is, c .last-is)
+    row-is = rw (c .first-is, c .last-is)
 
-    row-length : length (rowCells cols rows e r) ≡ k
-    row-length = ap length (sym row-is) ∙ length-run k (r * cols + first)
+    row-length : length (rowCells cols rows e r) ≡ last + 1 - first
+    row-length = ap length (sym row-is) ∙ length-run (last + 1 - first) (r * cols + first)
 
-    pub row-fits : r < 4096 → 0 < cols → cols < 4096 → (r * cols + first + k < 16777216) × (first < 4096) × (last < 4096)
-    row-fits h C F =
+    row-room : {n room : ℕ} → r < 4096 → 0 < cols → cols < 4096 → n + 8 ≤ room → n + (last + 1 - first) ≤ room → RowRoom cols r first last n room
+    row-room h C F a b =
         let u : first < cols = rw (c .first-is) (first-in cols rows e C r) in
         let v : last < cols = rw (c .last-is) (last-in cols rows e C r) in
         let w : r * cols ≤ 4095 * cols = mul-le-mul-right cols (omega arith) in
-        (omega arith, omega arith, omega arith)
+        record { eight = a; all = b; few = omega arith; narrow = omega arith }
 
 -- ---- the loop over the rows, from the row r on with n cells written
 
@@ -149,27 +202,22 @@ module _ {cols rows : ℕ} {e : Ends} {first last s : ℕ} where
           to = omega (arith, b .last-is);
         }
 
-    module _ (h : r ≤ last) {a b k : ℕ} (c : ColumnsAre cols rows e r a b) (z : k ≡ b + 1 - a) where
+    module _ (h : r ≤ last) {a b : ℕ} (c : ColumnsAre cols rows e r a b) where
       abbrev rest : List ℕ
       rest = rowsFrom (last + 1 - (r + 1)) cols rows e (r + 1)
 
       -- the cells of a line are few, so there is room for those of the row
-      pub climbing-room : (n + 8 ≤ length ys) × (n + k ≤ length ys)
+      pub climbing-room : RowRoom cols r a b n (length ys)
       climbing-room =
           let f = p .base .frame in
+          let l : last < 4096 = omega (arith, p .base .last-is, f .some-rows, f .few-rows) in
           let m = cells-few cols rows e (f .small) (f .some-cols) (f .some-rows) in
           let c1 : length (cellsBetween cols rows e) ≡ length (take n ys) + length (rowsFrom (last + 1 - r) cols rows e r) = ap length (p .left) ∙ length-append (take n ys) (rowsFrom (last + 1 - r) cols rows e r) in
           let c2 : length (rowsFrom (last + 1 - r) cols rows e r) ≡ length (rowCells cols rows e r) + length rest = ap length (rows-step cols rows e last r h) ∙ length-append (rowCells cols rows e r) rest in
-          let c3 = row-length cols rows e r c z in
-          (omega (arith, f .holds, p .len, p .count), omega (arith, f .holds, p .len, p .count))
+          let c3 = row-length cols rows e r c in
+          row-room cols rows e r c (omega arith) (f .some-cols) (f .few-cols) (omega (arith, f .holds, p .len, p .count)) (omega (arith, f .holds, p .len, p .count))
 
-      pub climbing-fits : (r * cols + a + k < 16777216) × (a < 4096) × (b < 4096)
-      climbing-fits =
-          let f = p .base .frame in
-          let l : last < 4096 = omega (arith, p .base .last-is, f .some-rows, f .few-rows) in
-          row-fits cols rows e r c z (omega arith) (f .some-cols) (f .few-cols)
-
-      pub climbing-more : {zs : List ℕ} {m : ℕ} → Grown ys zs n m (run k (r * cols + a)) → Climbing cols rows e first last s xs zs (r + 1) m
+      pub climbing-more : {zs : List ℕ} {m : ℕ} → Grown ys zs n m (run (b + 1 - a) (r * cols + a)) → Climbing cols rows e first last s xs zs (r + 1) m
       climbing-more {zs} {m} g =
           record {
             base = p .base;
@@ -181,8 +229,25 @@ module _ {cols rows : ℕ} {e : Ends} {first last s : ℕ} where
             left =
                 p .left ∙ ap (λ (l : List ℕ). take n ys ++ l) (rows-step cols rows e last r h)
                 ∙ sym (append-assoc (take n ys) (rowCells cols rows e r) rest)
-                ∙ ap (λ (l : List ℕ). l ++ rest) (ap (λ (l : List ℕ). take n ys ++ l) (sym (row-is cols rows e r c z)) ∙ sym (g .is));
+                ∙ ap (λ (l : List ℕ). l ++ rest) (ap (λ (l : List ℕ). take n ys ++ l) (sym (row-is cols rows e r c)) ∙ sym (g .is));
           }
+
+    -- the rows before the last are written
+    pub climbing-last : r ≤ last → last ≤ r → Climbing cols rows e first last s xs ys last n
+    climbing-last h k = let q : r ≡ last = omega arith in subst (λ (z : ℕ). Climbing cols rows e first last s xs ys z n) q p
+
+    -- the loop begins with what is written by then
+    pub climbing-on : Climbing cols rows e first last s ys ys r n
+    climbing-on =
+        record {
+          base = rw (p .len) (p .base);
+          slope-is = p .slope-is;
+          len = refl;
+          count = p .count;
+          from = p .from;
+          to = p .to;
+          left = p .left;
+        }
 
     pub climbing-done : last < r → Front (cellsBetween cols rows e) ys n
     unfolding rowsFrom
@@ -193,8 +258,8 @@ module _ {cols rows : ℕ} {e : Ends} {first last s : ℕ} where
 
 -- ---- a line in one row
 
-module _ {cols rows : ℕ} {e : Ends} {r room : ℕ} (p : Level cols rows e r room) {least most a b k : ℕ}
-    (f : least ≡ min (e .«from_x») (e .«to_x»)) (g : a ≡ cellOf cols least) (h : most ≡ max (e .«from_x») (e .«to_x»)) (i : b ≡ cellOf cols most) (z : k ≡ b + 1 - a) where
+module _ {cols rows : ℕ} {e : Ends} {r room : ℕ} (p : Level cols rows e r room) {least most a b : ℕ}
+    (f : least ≡ min (e .«from_x») (e .«to_x»)) (g : a ≡ cellOf cols least) (h : most ≡ max (e .«from_x») (e .«to_x»)) (i : b ≡ cellOf cols most) where
   one-row : lastRow rows e ≤ firstRow rows e
   one-row = rw (← p .first-is) (p .one-row)
 
@@ -205,11 +270,6 @@ module _ {cols rows : ℕ} {e : Ends} {r room : ℕ} (p : Level cols rows e r ro
         last-is = i ∙ ap (cellOf cols) h ∙ sym (last-level cols rows e r one-row);
       }
 
-  pub level-fits : (r * cols + a + k < 16777216) × (a < 4096) × (b < 4096)
-  level-fits =
-      let q = p .frame in
-      row-fits cols rows e r columns-level z (omega (arith, p .first-is, q .some-rows, q .few-rows)) (q .some-cols) (q .few-cols)
-
   -- the cells of the row are those of the line
   line-is : cellsBetween cols rows e ≡ rowCells cols rows e r
   unfolding cellsBetween rowsFrom
@@ -218,16 +278,24 @@ module _ {cols rows : ℕ} {e : Ends} {r room : ℕ} (p : Level cols rows e r ro
       let o : lastRow rows e + 1 - firstRow rows e ≡ 1 = omega (arith, one-row) in
       ap (λ (m : ℕ). rowsFrom m cols rows e (firstRow rows e)) o ∙ append-nil (rowCells cols rows e (firstRow rows e)) ∙ ap (rowCells cols rows e) (sym (p .first-is))
 
-  pub level-room : (8 ≤ room) × (k ≤ room)
+  pub level-room : RowRoom cols r a b 0 room
   level-room =
       let q = p .frame in
+      let t : r < 4096 = omega (arith, p .first-is, q .some-rows, q .few-rows) in
       let m = cells-few cols rows e (q .small) (q .some-cols) (q .some-rows) in
-      let l : length (cellsBetween cols rows e) ≡ k = ap length line-is ∙ row-length cols rows e r columns-level z in
-      (omega (arith, q .holds), omega (arith, q .holds))
+      let l : length (cellsBetween cols rows e) ≡ b + 1 - a = ap length line-is ∙ row-length cols rows e r columns-level in
+      row-room cols rows e r columns-level t (q .some-cols) (q .few-cols)
+      (beyond (2 * cols + 2 * rows) 8 room (q .holds)) (within (b + 1 - a) (2 * cols + 2 * rows) room (rw (← l) m) (q .holds))
+    where
+      beyond : (m k n : ℕ) → m + k ≤ n → 0 + k ≤ n
+      beyond m k n h = omega arith
 
-  pub level-done : {xs ys : List ℕ} {m : ℕ} → Grown xs ys 0 m (run k (r * cols + a)) → Front (cellsBetween cols rows e) ys m
+      within : (k m n : ℕ) → k ≤ m → m + 8 ≤ n → 0 + k ≤ n
+      within k m n h l = omega arith
+
+  pub level-done : {xs ys : List ℕ} {m : ℕ} → Grown xs ys 0 m (run (b + 1 - a) (r * cols + a)) → Front (cellsBetween cols rows e) ys m
   level-done w =
-      let t : run k (r * cols + a) ≡ cellsBetween cols rows e = row-is cols rows e r columns-level z ∙ sym line-is in
+      let t : run (b + 1 - a) (r * cols + a) ≡ cellsBetween cols rows e = row-is cols rows e r columns-level ∙ sym line-is in
       let n = w .count in
       let k = ap length t in
       record { count = omega arith; is = w .is ∙ t }

@@ -1,11 +1,11 @@
 -- The definitions of the rule by cases: the last row and the rows before it, a line that goes right and one that goes left, one row and several.
 -- Assumes nothing.
-use mathlib.Core.Path.{_≡_}
+use mathlib.Core.Path.{_≡_, sym, _∙_}
 use Prim.Native.Nat.{ℕ, _+_, _-_, _*_, _≤_, _<_, min, max}
 use native.Mathlib.Omega.{arith}
 use borrow.Author.Tests.{le-leb, lt-leb}
 use Rattle.cover.specs.declared.Ends.{Ends}
-use Rattle.cover.specs.Rule.{cellOf, topOf, leftOf, rightOf, firstRow, lastRow, nearIn, farIn, firstCol, lastCol}
+use Rattle.cover.specs.Rule.{cellOf, topOf, spanOf, leftOf, rightOf, firstRow, lastRow, nearIn, farIn, firstCol, lastCol}
 
 -- ---- the top of a row
 
@@ -48,6 +48,30 @@ module _ (e : Ends) (near far : ℕ) {x r : ℕ} where
 
   pub right-by-left : e .«to_x» < e .«from_x» → x ≡ e .«from_x» + 3 - near → r ≡ min x (e .«from_x») → r ≡ rightOf e near far
   right-by-left h k l = rw (right-going-left e near far h) (omega arith)
+
+-- in the first row the line has come no way at the bottom: one side is its lower end
+module _ (e : Ends) (far : ℕ) where
+  pub left-at-start : e .«from_x» ≤ e .«to_x» → leftOf e 0 far ≡ e .«from_x»
+  left-at-start h = left-going-right e 0 far h ∙ omega arith
+
+  pub right-at-start : e .«to_x» < e .«from_x» → rightOf e 0 far ≡ e .«from_x»
+  right-at-start h = right-going-left e 0 far h ∙ omega arith
+
+-- in the last row it has come all the way at the top, but for less than the margin: one side is its upper end
+module _ (e : Ends) (near far : ℕ) (k : spanOf e ≤ far + 5) where
+  pub left-at-end : e .«to_x» < e .«from_x» → leftOf e near far ≡ e .«to_x»
+  left-at-end h = left-going-left e near far h ∙ omega arith
+
+  pub right-at-end : e .«from_x» ≤ e .«to_x» → rightOf e near far ≡ e .«to_x»
+  right-at-end h = right-going-right e near far h ∙ omega arith
+
+-- and the other side goes by the bottom alone
+module _ (e : Ends) (near far other : ℕ) where
+  pub left-by-bottom : e .«from_x» ≤ e .«to_x» → leftOf e near far ≡ leftOf e near other
+  left-by-bottom h = left-going-right e near far h ∙ sym (left-going-right e near other h)
+
+  pub right-by-bottom : e .«to_x» < e .«from_x» → rightOf e near far ≡ rightOf e near other
+  right-by-bottom h = right-going-left e near far h ∙ sym (right-going-left e near other h)
 
 -- ---- the columns of a row
 

@@ -1,7 +1,7 @@
 -- What the private functions ask of one another and promise. Definitions only.
 use mathlib.Core.Path.{_≡_}
 use mathlib.Core.List.{List, _++_}
-use Prim.Native.Nat.{ℕ, _+_, _*_, _≤_, _<_}
+use Prim.Native.Nat.{ℕ, _+_, _-_, _*_, _≤_, _<_}
 use lib.ListN.{length, take}
 use Rattle.cover.specs.declared.Ends.{Ends}
 use Rattle.cover.specs.Rule.{slopeOf, firstRow, lastRow, firstCol, lastCol}
@@ -77,3 +77,10 @@ pub record Row (cols rows : ℕ) (e : Ends) (s last r : ℕ) : Type 0 where
 pub record ColumnsAre (cols rows : ℕ) (e : Ends) (r first last : ℕ) : Type 0 where
   pub first-is : first ≡ firstCol cols rows e r
   pub last-is : last ≡ lastCol cols rows e r
+
+-- room for the cells from the column `first` to the column `last` of the row r, in a scratch of so many entries with n written
+pub record RowRoom (cols r first last n room : ℕ) : Type 0 where
+  pub eight : n + 8 ≤ room
+  pub all : n + (last + 1 - first) ≤ room
+  pub few : r * cols + first + (last + 1 - first) < 16777216
+  pub narrow : last < 4096

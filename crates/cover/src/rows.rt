@@ -3,10 +3,10 @@ use crate::Columns;
 use crate::Ends;
 use crate::runs::put_run;
 ghost use mathlib.Core.Path.{_≡_};
-ghost use Prim.Native.Nat.{_-_, _<_, _≤_, min, max};
+ghost use Prim.Native.Nat.{_+_, _-_, _*_, _<_, _≤_, min, max};
 ghost use lib.ListN.{length};
-ghost use Rattle.cover.specs.Rule.{cellOf, bottomOf, topOf, slopeOf, asideOf, leftOf, rightOf, cellsBetween};
-ghost use Rattle.cover.specs.Inside.{Small, Across, Row, ColumnsAre, Frame, Level, Rises, Front};
+ghost use Rattle.cover.specs.Rule.{cellOf, bottomOf, topOf, slopeOf, asideOf, leftOf, rightOf, firstRow, run, cellsBetween};
+ghost use Rattle.cover.specs.Inside.{Small, Across, Row, ColumnsAre, RowRoom, Frame, Level, Rises, Front, Grown};
 
 fn lesser(a: u64, b: u64) -> u64
     ensures { λ r. ⌜ r ≡ min a b ⌝ }
@@ -44,7 +44,7 @@ fn cell(n: u64, fine: u64) -> u64
     lesser(fine / 1048576, n - 1)
 }
 
-// The least and the greatest height of the line in the row r.
+// The least height of the line in the row r, and the greatest in a row before the last.
 fn bottom(e: Ends, r: u64) -> u64
     requires { ⌜ r < 4096 ⌝ }
     ensures { λ y. ⌜ y ≡ bottomOf e r ⌝ }
@@ -53,13 +53,10 @@ fn bottom(e: Ends, r: u64) -> u64
 }
 
 fn top(e: Ends, last: u64, r: u64) -> u64
-    requires { ⌜ r < 4096 ⌝ }
+    requires { ⌜ r < last ⌝ ∗ ⌜ last < 4096 ⌝ }
     ensures { λ y. ⌜ y ≡ topOf e last r ⌝ }
 {
-    if r < last {
-        return lesser((r + 1) * 1048576 + 3, e.to_y);
-    }
-    e.to_y
+    lesser((r + 1) * 1048576 + 3, e.to_y)
 }
 
 // How far the line goes sideways for a unit of height, in 2^-32 of a unit.
@@ -102,9 +99,9 @@ fn right(e: Ends, near: u64, far: u64) -> u64
     lesser(e.from_x + far + 5, e.to_x)
 }
 
-// The columns of the row r, of a line with the slope s that crosses rows.
+// The columns of a row r before the last, of a line with the slope s that crosses rows.
 fn columns(e: Ends, s: u64, cols: u64, rows: u64, last: u64, r: u64) -> Columns
-    requires { ⌜ Row cols rows e s last r ⌝ }
+    requires { ⌜ Row cols rows e s last r ⌝ ∗ ⌜ r < last ⌝ }
     ensures { λ c. ⌜ ColumnsAre cols rows e r (c .first) (c .last) ⌝ }
 {
     let near = aside(e, s, bottom(e, r));
@@ -117,30 +114,85 @@ fn columns(e: Ends, s: u64, cols: u64, rows: u64, last: u64, r: u64) -> Columns
     }
 }
 
+// The columns of the first row: the line begins in it, so it has come no way at its bottom.
+fn start_columns(e: Ends, s: u64, cols: u64, rows: u64, last: u64, r: u64) -> Columns
+    requires { ⌜ Row cols rows e s last r ⌝ ∗ ⌜ r ≡ firstRow rows e ⌝ }
+    ensures { λ c. ⌜ ColumnsAre cols rows e r (c .first) (c .last) ⌝ }
+{
+    let far = aside(e, s, top(e, last, r));
+    if e.to_x < e.from_x {
+        let to = cell(cols, left(e, 0, far));
+        return Columns {
+            first: to,
+            last: cell(cols, e.from_x),
+        };
+    }
+    let to = cell(cols, right(e, 0, far));
+    Columns {
+        first: cell(cols, e.from_x),
+        last: to,
+    }
+}
+
+// The columns of the last row: the line ends in it, so at its top it has come all the way.
+fn end_columns(e: Ends, s: u64, cols: u64, rows: u64, r: u64) -> Columns
+    requires { ⌜ Row cols rows e s r r ⌝ }
+    ensures { λ c. ⌜ ColumnsAre cols rows e r (c .first) (c .last) ⌝ }
+{
+    let near = aside(e, s, bottom(e, r));
+    if e.to_x < e.from_x {
+        let from = cell(cols, right(e, near, 0));
+        return Columns {
+            first: cell(cols, e.to_x),
+            last: from,
+        };
+    }
+    let from = cell(cols, left(e, near, 0));
+    Columns {
+        first: from,
+        last: cell(cols, e.to_x),
+    }
+}
+
+// Writes the cells of the row r, at n.
+fn put_row(scratch: &mut [u32], n: usize, cols: u64, r: u64, c: Columns) -> usize
+    requires { ⌜ RowRoom cols r (c .first) (c .last) n (length (now scratch)) ⌝ }
+    ensures { λ m. ⌜ Grown (now (scratch .entry)) (now (scratch .exit)) n m (run (c .last + 1 - c .first) (r * cols + c .first)) ⌝ }
+{
+    put_run(scratch, n, r * cols + c.first, less(c.last + 1, c.first))
+}
+
 // A line whose ends are both in the row r.
 fn level(scratch: &mut [u32], e: Ends, cols: u64, rows: u64, r: u64) -> usize
     requires { ⌜ Level cols rows e r (length (now scratch)) ⌝ }
     ensures { λ n. ⌜ Front (cellsBetween cols rows e) (now (scratch .exit)) n ⌝ }
 {
-    let first = cell(cols, lesser(e.from_x, e.to_x));
-    let last = cell(cols, larger(e.from_x, e.to_x));
-    put_run(scratch, 0, r * cols + first, less(last + 1, first))
+    let c = Columns {
+        first: cell(cols, lesser(e.from_x, e.to_x)),
+        last: cell(cols, larger(e.from_x, e.to_x)),
+    };
+    put_row(scratch, 0, cols, r, c)
 }
 
-// A line that crosses rows, from the row `first` to the row `last`.
+// A line that crosses rows, from the row `first` to the row `last`. Most lines of many legs cross two, so these two are made by themselves.
 fn climb(scratch: &mut [u32], e: Ends, cols: u64, rows: u64, first: u64, last: u64) -> usize
     requires { ⌜ Rises cols rows e first last (length (now scratch)) ⌝ }
     ensures { λ n. ⌜ Front (cellsBetween cols rows e) (now (scratch .exit)) n ⌝ }
 {
     let s = slope(e);
-    let mut r = first;
-    let mut n = 0;
-    while r <= last {
-        let c = columns(e, s, cols, rows, last, r);
-        n = put_run(scratch, n, r * cols + c.first, less(c.last + 1, c.first));
+    let mut n = put_row(
+        scratch,
+        0,
+        cols,
+        first,
+        start_columns(e, s, cols, rows, last, first),
+    );
+    let mut r = first + 1;
+    while r < last {
+        n = put_row(scratch, n, cols, r, columns(e, s, cols, rows, last, r));
         r += 1;
     }
-    n
+    put_row(scratch, n, cols, last, end_columns(e, s, cols, rows, last))
 }
 
 // The cells that cover a line at the start of the scratch, increasing, none twice.

@@ -1,7 +1,6 @@
-// The walk of one line as a build takes it, the ordering of its cells, and the covering walk, for whoever times or compares them. They are no part of the
-// library.
+// The walk of one line by the function that a build calls, in the Rust's mode and in the covering mode, and the ordering of its cells, for whoever times or
+// compares them. They are no part of the library.
 use grid::Grid;
-use grid::Segment;
 use walk::Mode;
 use walk::Reached;
 ghost use mathlib.Core.Path.{_≡_};
@@ -92,13 +91,15 @@ pub extern "C" fn mt_inner_walk(
         let line = segmentBy «start_x» «start_y» «end_x» «end_y» in
         ⌜ WalkReplies Rust g line (now (scratch .entry)) (now (out .entry)) r (now (scratch .exit)) (now (out .exit)) ⌝ }
 {
-    let line = Segment {
+    let r = walk::cells_between(
+        Mode::Rust,
+        grid_of(sizes, cols, rows),
         start_x,
         start_y,
         end_x,
         end_y,
-    };
-    let r = walk::cells_by_turns(Mode::Rust, grid_of(sizes, cols, rows), line, scratch);
+        scratch,
+    );
     answer(r, out)
 }
 
@@ -119,12 +120,14 @@ pub extern "C" fn mt_inner_cover(
         let line = segmentBy «start_x» «start_y» «end_x» «end_y» in
         ⌜ WalkReplies Covering g line (now (scratch .entry)) (now (out .entry)) r (now (scratch .exit)) (now (out .exit)) ⌝ }
 {
-    let line = Segment {
+    let r = walk::cells_between(
+        Mode::Covering,
+        grid_of(sizes, cols, rows),
         start_x,
         start_y,
         end_x,
         end_y,
-    };
-    let r = walk::cells_covered(grid_of(sizes, cols, rows), line, scratch);
+        scratch,
+    );
     answer(r, out)
 }

@@ -131,7 +131,7 @@ fn by_turns(mode: Mode, grid: Grid, line: Segment, scratch: &mut [u32]) -> Reach
 }
 
 // The same on a grid as it is, behind refusals 3, and 8 by the counts of the grid alone. A grid of 0 columns visits nothing.
-pub fn cells_by_turns(mode: Mode, grid: Grid, line: Segment, scratch: &mut [u32]) -> Reached
+fn cells_by_turns(mode: Mode, grid: Grid, line: Segment, scratch: &mut [u32]) -> Reached
     ensures { λ r. let o = roomCheck (length (now (scratch .entry))) grid then turnsOf mode grid line in
         ⌜ Walked false o (now (scratch .entry)) r (now (scratch .exit)) ⌝ }
 {
@@ -146,7 +146,7 @@ pub fn cells_by_turns(mode: Mode, grid: Grid, line: Segment, scratch: &mut [u32]
 }
 
 // The covering walk on a grid as it is, which makes the same checks itself.
-pub fn cells_covered(grid: Grid, line: Segment, scratch: &mut [u32]) -> Reached
+fn cells_covered(grid: Grid, line: Segment, scratch: &mut [u32]) -> Reached
     ensures { λ r. let o = roomCheck (length (now (scratch .entry))) grid then gives (coveringOf grid line) in
         ⌜ Walked (everywhere grid line) o (now (scratch .entry)) r (now (scratch .exit)) ⌝ }
 {

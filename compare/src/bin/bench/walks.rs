@@ -98,7 +98,7 @@ fn compared(clock: &Clock, r: &mut Random, walk: Walk, covers: bool, bar: Option
 
 pub fn times(clock: &Clock, r: &mut Random) {
     clock.head(
-        "Walk, as a build takes it (mt_inner_walk): the port also checks the counts of the grid and the scratch, and neither side clears anything. In \
+        "Walk, by the function that a build calls (mt_inner_walk): the port also checks the counts of the grid and the scratch, and neither side clears anything. In \
          brackets the cells of a line on average.",
     );
     compared(clock, r, |g, x0, y0, x1, y1, scratch, out| inner::inner_walk(&g.sizes, g.cols, g.rows, x0, y0, x1, y1, scratch, out), false, BAR);

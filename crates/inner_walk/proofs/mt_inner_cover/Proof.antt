@@ -1,7 +1,5 @@
 -- `inner_walk::mt_inner_cover` meets its contract. Assumes nothing.
-use mathlib.Core.Path.{refl, sym}
 use borrow.Author.Needs.{needs}
-use Rattle.walk.proofs.Reaching.{reached-covers, turns-not}
 use Rattle.inner_walk.proofs.Reply.{replies}
 use Rattle.inner_walk.proofs.mt_inner_cover.Statement.{statement}
 use Rattle.inner_walk.proofs.mt_inner_cover.Tie as tie
@@ -9,7 +7,7 @@ use Rattle.inner_walk.proofs.mt_inner_cover.Tie as tie
 returns : tie.Need-returns
 returns c =
     rw (← c .before .before .before .before .before .before .before .before .grid-of .ensures)
-    (replies (reached-covers _ _ _ _ (sym (turns-not refl)) (c .before .before .before .before .before .before .cells-covered .ensures)) (c .before .before .answer .ensures))
+    (replies (c .before .before .before .before .before .before .cells-between .ensures) (c .before .before .answer .ensures))
 
 pub mt-inner-cover-spec : {M : Type 1} → statement M
 mt-inner-cover-spec =

@@ -1,7 +1,5 @@
 -- `inner_walk::mt_inner_walk` meets its contract. Assumes nothing.
-use mathlib.Core.Path.{refl, sym}
 use borrow.Author.Needs.{needs}
-use Rattle.walk.proofs.Reaching.{reached-turns, turns-rust}
 use Rattle.inner_walk.proofs.Reply.{replies}
 use Rattle.inner_walk.proofs.mt_inner_walk.Statement.{statement}
 use Rattle.inner_walk.proofs.mt_inner_walk.Tie as tie
@@ -9,7 +7,7 @@ use Rattle.inner_walk.proofs.mt_inner_walk.Tie as tie
 returns : tie.Need-returns
 returns c =
     rw (← c .before .before .before .before .before .before .before .before .grid-of .ensures)
-    (replies (reached-turns _ _ _ _ (sym (turns-rust refl)) (c .before .before .before .before .before .before .cells-by-turns .ensures)) (c .before .before .answer .ensures))
+    (replies (c .before .before .before .before .before .before .cells-between .ensures) (c .before .before .answer .ensures))
 
 pub mt-inner-walk-spec : {M : Type 1} → statement M
 mt-inner-walk-spec =

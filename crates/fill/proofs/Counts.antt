@@ -5,7 +5,7 @@ use mathlib.Core.List.{List}
 use Prim.Native.Nat.{ℕ, zero, suc, _+_, _-_, _≤_, _<_, _^_}
 use native.Mathlib.Numerals.{add-one}
 use native.Mathlib.Omega.{arith}
-use borrow.Author.Tests.{le-leb, lt-leb}
+use borrow.Author.Tests.{le-leb, lt-leb, leb-true}
 use lib.ListN.{length, getD, replicate, length-append}
 use mir.Val.{Fits}
 use mir.Syntax.{w64}
@@ -13,18 +13,20 @@ use Rattle.refusals.specs.declared.Refusal.{Refusal}
 use Rattle.refusals.specs.declared.Check.{Check}
 use Rattle.refusals.specs.declared.Check.the-variants.{Fine, Refused}
 use Rattle.refusals.specs.Refusals.{refusal, unless, andThen, eachFrom}
-use Rattle.refusals.proofs.Checks.{each-good, each-bad, each-over, each-says}
+use Rattle.refusals.proofs.Checks.{unless-fine, each-good, each-bad, each-over, each-says}
 use Rattle.grid.specs.declared.Grid.{Grid}
 use Rattle.grid.specs.Domain.{Lines, count}
 use Rattle.walk.specs.declared.Mode.{Mode}
 use Rattle.tables.specs.Lists.{long, only, globalLines}
+use Rattle.tables.specs.States.{CanCount}
 use Rattle.tables.proofs.Laws.{counted-none}
-use Rattle.fill.specs.declared.Count.{Count}
+use Rattle.fill.specs.declared.passes.Walked.{Walked}
 use Rattle.fill.specs.declared.Count.the-variants as counted
 use Rattle.fill.specs.OnGrid.{cells, walkOn, ends, cellsOn, globalsOn, oneIf}
-use Rattle.fill.specs.Checks.{roomCheck, walkCheck, turnsCheck, triedCheck}
-use Rattle.fill.specs.Inside.{CountAs, Walkable, localOn, CountedTo, CountAsks, LineCounted, PassAsks, AllCounted}
-use Rattle.fill.proofs.Walks.{walk-ends, walk-refused}
+use Rattle.fill.specs.Checks.{roomCheck, turnsCheck}
+use Rattle.fill.specs.Inside.{CountAs, Walkable, WalkAsks, WalkedIs, localOn, VisitsCounted, CountedTo, CountAsks, LineCounted, PassAsks, AllCounted}
+use Rattle.fill.proofs.Walks.{walk-ends}
+use Rattle.fill.proofs.Lines.{can-count, line-counted}
 
 -- the number of global lines grows by one where a line is global
 pub globals-count : (W : ℕ → List ℕ) (i : ℕ) → length (globalLines W (i + 1)) ≡ length (globalLines W i) + oneIf (long (W i))
@@ -59,30 +61,40 @@ pub walkable-again : {g : Grid} {ls : Lines} {s s′ : List ℕ} → Walkable g 
 walkable-again w e = record { same = w .same; few = w .few; each = w .each; fits = w .fits; space = omega (arith, w .space) }
 
 module _ {mode : Mode} {g : Grid} {ls : Lines} {o₀ s₀ o s : List ℕ} {globals i : ℕ} (k : CountingAll mode g ls o₀ s₀ o s globals i) (l : i < count ls) where
-  pub counting-asks : CountAsks mode g ls i o s
+  pub counting-walk : WalkAsks g ls i s
+  counting-walk = record { at = l; walkable = k .walkable }
+
+  counting-asks : CountAsks mode g ls i o s
   counting-asks = record { at = l; walkable = k .walkable; counted = k .counted }
 
-  module _ {o′ : List ℕ} {more : ℕ} (h : CountAs (walkCheck mode g ls i) (LineCounted mode g ls i o′) (counted.Of more)) where
-    pub counting-most : Fits w64 (globals + more)
-    counting-most = record { fits = omega (arith, k .most, h .1 .kind, one-if (long (cellsOn mode g ls i)), k .walkable .few) }
+  module _ {s′ : List ℕ} {w : Walked} (v : WalkedIs mode g ls i s′ w) where
+    pub counting-over : w .over ≡ true → turnsCheck mode g ls ≡ Refused (refusal 7 i)
+    counting-over e = k .turns ∙ each-bad (λ i. ends (walkOn mode g ls i)) 7 (count ls) i l (walk-ends mode g ls i (w .over) false (v .over-is) e)
 
-    pub counting-next : {s′ : List ℕ} → length o′ ≡ length o → length s′ ≡ length s → CountingAll mode g ls o₀ s₀ o′ s′ (globals + more) (i + 1)
-    counting-next a b =
-        record {
-          walkable = walkable-again (k .walkable) b;
-          at = omega arith;
-          len = a ∙ k .len;
-          len-scratch = b ∙ k .len-scratch;
-          turns = k .turns ∙ each-good (λ i. ends (walkOn mode g ls i)) 7 (count ls) i l (walk-ends mode g ls i (h .0));
-          found = omega (arith, k .found, h .1 .kind, globals-count (cellsOn mode g ls) i);
-          most = omega (arith, k .most, h .1 .kind, one-if (long (cellsOn mode g ls i)));
-          counted = h .1 .next;
-        }
+    module _ (e : w .over ≡ false) where
+      pub counting-can : w .cells ≤ 2048 → CanCount o s′ (w .cells)
+      counting-can b = can-count counting-asks (v .cells-are e) b
 
-  pub counting-over : (r : Refusal) → walkCheck mode g ls i ≡ Refused r → turnsCheck mode g ls ≡ Refused r
-  counting-over r h =
-      let q = walk-refused mode g ls i r h in
-      k .turns ∙ each-bad (λ i. ends (walkOn mode g ls i)) 7 (count ls) i l (q .0) ∙ ap Refused (sym (q .1))
+      module _ {o′ : List ℕ} {more : ℕ} (q : VisitsCounted o s′ (w .cells) o′ more) (a : length o′ ≡ length o) where
+        counting-line : LineCounted mode g ls i o′ more
+        counting-line = line-counted counting-asks (v .cells-are e) q a
+
+        pub counting-most : Fits w64 (globals + more)
+        counting-most = record { fits = omega (arith, k .most, counting-line .kind, one-if (long (cellsOn mode g ls i)), k .walkable .few) }
+
+        pub counting-next : length s′ ≡ length s → CountingAll mode g ls o₀ s₀ o′ s′ (globals + more) (i + 1)
+        counting-next b =
+            let h = counting-line in
+            record {
+              walkable = walkable-again (k .walkable) b;
+              at = omega arith;
+              len = a ∙ k .len;
+              len-scratch = b ∙ k .len-scratch;
+              turns = k .turns ∙ each-good (λ i. ends (walkOn mode g ls i)) 7 (count ls) i l (walk-ends mode g ls i (w .over) true (v .over-is) e);
+              found = omega (arith, k .found, h .kind, globals-count (cellsOn mode g ls) i);
+              most = omega (arith, k .most, h .kind, one-if (long (cellsOn mode g ls i)));
+              counted = h .next;
+            }
 
 pub counting-end : {mode : Mode} {g : Grid} {ls : Lines} {o₀ s₀ o s : List ℕ} {globals i : ℕ} → CountingAll mode g ls o₀ s₀ o s globals i → count ls ≤ i → CountAs (turnsCheck mode g ls) (AllCounted mode g ls o) (counted.Of globals)
 unfolding globalsOn
@@ -95,19 +107,17 @@ pub turns-all : (mode : Mode) (g : Grid) (ls : Lines) → turnsCheck mode g ls �
 unfolding turnsCheck
 turns-all mode g ls h i l = each-says (λ i. ends (walkOn mode g ls i)) 7 (count ls) 0 i h (omega arith) (omega arith)
 
--- ---- from the start: 4, then what the pass finds
+-- ---- from the start
 
-module _ (mode : Mode) (g : Grid) (ls : Lines) (room n : ℕ) (e : n ≡ cells g) where
-  pub try-short : room < n + 1 → triedCheck mode g ls room ≡ Refused (refusal 4 (n + 1))
-  unfolding triedCheck roomCheck unless andThen
-  try-short l = let k : room < cells g + 1 = omega arith in rw (lt-leb (cells g + 1) room k, e)
+-- 4: the offsets hold a grid's cells and one more
+module _ (g : Grid) (room n : ℕ) (e : n ≡ cells g) where
+  pub room-short : room < n + 1 → Refused (refusal 4 (n + 1)) ≡ roomCheck g room
+  unfolding roomCheck unless
+  room-short l = let k : room < cells g + 1 = omega arith in rw (lt-leb (cells g + 1) room k, e)
 
-  try-on : n + 1 ≤ room → triedCheck mode g ls room ≡ turnsCheck mode g ls
-  unfolding triedCheck roomCheck unless andThen
-  try-on l = let k : cells g + 1 ≤ room = omega arith in rw (le-leb (cells g + 1) room k)
-
-  pub try-counted : (P : ℕ → Type 0) (r : Count) → n + 1 ≤ room → CountAs (turnsCheck mode g ls) P r → CountAs (triedCheck mode g ls room) P r
-  try-counted P r l h = subst (λ (k : Check). CountAs k P r) (sym (try-on l)) h
+  pub room-fine : n + 1 ≤ room → Fine ≡ roomCheck g room
+  unfolding roomCheck unless
+  room-fine l = let k : cells g + 1 ≤ room = omega arith in rw (le-leb (cells g + 1) room k)
 
 pub zeros-at : (n k : ℕ) → getD (replicate {A = ℕ} n 0) k 0 ≡ 0
 zeros-at zero k = refl
@@ -115,6 +125,8 @@ zeros-at (suc n) zero = refl
 zeros-at (suc n) (suc k) = zeros-at n k
 
 -- cleared offsets count no line
-pub counted-clear : (mode : Mode) (g : Grid) (ls : Lines) (o o′ : List ℕ) (n : ℕ) → o′ ≡ replicate (length o) 0 → length o′ ≡ length o → n ≡ cells g → n + 1 ≤ length o → CountedTo mode g ls 0 o′
-counted-clear mode g ls o o′ n e s d l =
+pub counted-clear : (mode : Mode) (g : Grid) (ls : Lines) (o o′ : List ℕ) → o′ ≡ replicate (length o) 0 → length o′ ≡ length o → roomCheck g (length o) ≡ Fine → CountedTo mode g ls 0 o′
+unfolding roomCheck
+counted-clear mode g ls o o′ e s f =
+    let l : cells g + 1 ≤ length o = leb-true (cells g + 1) (length o) (unless-fine _ 4 _ f) in
     record { room = omega arith; counts = counted-none (localOn mode g ls) o′ (λ k. rw e (zeros-at (length o) k)) }

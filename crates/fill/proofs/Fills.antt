@@ -23,7 +23,7 @@ use Rattle.fill.specs.declared.Filled.the-variants as filled
 use Rattle.fill.specs.OnGrid.{cells, listOn, globalsOn, total}
 use Rattle.fill.specs.Checks.{spaceCheck}
 use Rattle.fill.specs.Fill.{above, Filling, crowded, made, filledOf, writtenIn, FillIs}
-use Rattle.fill.specs.Inside.{localOn, PlaceAsks, AllPlaced, Summed, ShiftedBack, FillAsks}
+use Rattle.fill.specs.Inside.{localOn, PlaceAsks, AllPlaced, Summed, ShiftedBack, FillAsks, LayAsks}
 use Rattle.fill.proofs.Walks.{all-walks}
 use Rattle.fill.proofs.Lines.{total-small}
 use Rattle.fill.proofs.Counts.{zeros-at}
@@ -60,82 +60,64 @@ module _ (mode : Mode) (g : Grid) (ls : Lines) (items globals all found : ℕ) (
   unfolding spaceCheck unless andThen
   space-globals l m = rw (← e, ← d, le-leb all items l, lt-leb found globals m)
 
-  space-fine : all ≤ items → found ≤ globals → spaceCheck mode g ls items globals ≡ Fine
+  pub space-fine : all ≤ items → found ≤ globals → spaceCheck mode g ls items globals ≡ Fine
   unfolding spaceCheck unless andThen
   space-fine l m = rw (← e, ← d, le-leb all items l, le-leb found globals m)
 
+-- ---- the counts, once all lines are counted
+
 module _ {mode : Mode} {g : Grid} {ls : Lines} {found : ℕ} {o s : List ℕ} (a : FillAsks mode g ls found o s) where
-  -- a refusal by which every slice is cleared; the offsets were summed before
-  pub lay-refused : (number value : ℕ) {o₁ t gs o′ t′ gs′ s′ : List ℕ} {r : Filled} → 4 ≤ number → number ≤ 7 → spaceCheck mode g ls (length t) (length gs) ≡ Refused (refusal number value)
-      → ((mode : Mode) (g : Grid) (ls : Lines) → FillIs mode g ls o₁ t gs s r o′ t′ gs′ s′ (refused (refusal number value))) → length o₁ ≡ length o
-      → FillIs mode g ls o t gs s r o′ t′ gs′ s′ (spaceCheck mode g ls (length t) (length gs) then gives made)
-  unfolding _then_ answerBy leftIn
-  lay-refused number value {o₁} low high h all e =
-      let k = all mode g ls in
-      let z = left-alike 0 (refusal number value) o o₁ (numbers-clear number low high) e in
-      rw h (record { answer = k .answer; offsets-are = k .offsets-are ∙ z; items-are = k .items-are; globals-are = k .globals-are; scratch-is = k .scratch-is })
+  sums-to : sum (λ k. getD o k 0) (cells g) ≡ total mode g ls
+  unfolding total listOn
+  sums-to = counts-sum (a .all .counted .counts) (cells g)
 
-  module _ (n : ℕ) (e : n ≡ cells g) where
-    sums-to : sum (λ k. getD o k 0) n ≡ total mode g ls
-    unfolding total listOn
-    sums-to = rw e (counts-sum (a .all .counted .counts) (cells g))
+  pub sum-total : {o₁ : List ℕ} {all : ℕ} → Summed o o₁ (cells g) all → all ≡ total mode g ls
+  sum-total k = k .total ∙ sums-to
 
-    pub lay-sums : (n < length o) × (sum (λ k. getD o k 0) n < 2 ^ 32)
-    lay-sums = (omega (arith, a .all .counted .room), rw sums-to (total-small mode g ls (a .walkable .few) (a .walkable .fits)))
+  pub sum-asks : (n : ℕ) → n ≡ cells g → (n < length o) × (sum (λ k. getD o k 0) n < 2 ^ 32)
+  sum-asks n e = rw e (a .all .counted .room, rw sums-to (total-small mode g ls (a .walkable .few) (a .walkable .fits)))
 
-    module _ {o₁ : List ℕ} {all : ℕ} (k : Summed o o₁ n all) where
-      pub lay-total : all ≡ total mode g ls
-      lay-total = k .total ∙ sums-to
+  pub counts-above : (most n : ℕ) → n ≡ cells g → above most (λ c. getD o c 0) n ≡ above most (λ c. length (listOn mode g ls c)) (cells g)
+  unfolding listOn
+  counts-above most n e = rw e (ap (λ (f : ℕ → ℕ). above most f (cells g)) (fun-ext (a .all .counted .counts .count-is)))
 
-      lay-start : all ≡ start (linesAt (localOn mode g ls) (count ls)) (cells g)
-      unfolding total listOn
-      lay-start = lay-total
+-- ---- the tables
 
-      pub lay-place : (t₀ : List ℕ) {t gs : List ℕ} {items globals : ℕ} → length o₁ ≡ length o → t ≡ clearedFrom all t₀ → length t ≡ items → gs ≡ replicate globals 0 → length gs ≡ globals
-          → all ≤ items → found ≤ globals → PlaceAsks mode g ls o₁ t gs s
-      unfolding listOn
-      lay-place t₀ b z x y w l m =
-          record {
-            walkable = a .walkable;
-            turns = a .turns;
-            first = record {
-              room = omega (arith, a .all .counted .room);
-              space = omega (arith, lay-total);
-              placed =
-                  placed-cleared (all-walks mode g ls (a .walkable .fits)) (a .all .counted .counts) (rw e at (k .sums)) (rw e at (k .beyond))
-                  (λ p h. rw z (cleared-at all t₀ p (omega (arith, lay-start))));
-            };
-            clear = y ∙ ap (λ (n : ℕ). replicate {A = ℕ} n 0) (sym w);
-            fits = omega (arith, a .all .found);
-          }
+module _ {mode : Mode} {g : Grid} {ls : Lines} {all found items globals : ℕ} {o s : List ℕ} (p : LayAsks mode g ls all found items globals o s) where
+  lay-start : all ≡ start (linesAt (localOn mode g ls) (count ls)) (cells g)
+  unfolding total listOn
+  lay-start = sum-total (p .asks) (p .summed)
 
-      pub lay-made : {t gs o₂ o₃ t₂ gs₂ s₃ : List ℕ} {room long : ℕ} → AllPlaced mode g ls o₂ t₂ room gs₂ → ShiftedBack o₂ o₃ n → s₃ ≡ replicate long 0
-          → length o₃ ≡ length o → length t₂ ≡ length t → room ≡ length gs → long ≡ length s → all ≤ length t → found ≤ length gs
-          → FillIs mode g ls o t gs s (filled.Tables all found) o₃ t₂ gs₂ s₃ (spaceCheck mode g ls (length t) (length gs) then gives made)
-      unfolding _then_ answerBy leftIn filledOf writtenIn zeroBeyond listOn total
-      lay-made {t} {gs} {o₂} {o₃} {t₂} p q z b d f h l m =
-          let w = all-walks mode g ls (a .walkable .fits) in
-          let tab : Table (linesAt (localOn mode g ls) (count ls)) (cells g) o₃ t₂ =
-          table-of w (omega (arith, a .all .counted .room)) (p .last .space) (p .last .placed) (q .first) (rw e at (q .moved)) (rw e at (q .beyond)) in
-          rw (space-fine mode g ls (length t) (length gs) all found lay-total (a .all .found) l m)
-          (record {
-            answer = rw (lay-total, a .all .found);
-            offsets-are = tab .offsets-are ∙ ap (λ (n : ℕ). offsetsOf (linesAt (localOn mode g ls) (count ls)) (cells g) n) b;
-            items-are = tab .items-are ∙ ap (λ (n : ℕ). itemsOf (linesAt (localOn mode g ls) (count ls)) (cells g) n) d;
-            globals-are = p .globals ∙ ap (λ (n : ℕ). globalsOn mode g ls ++ replicate (n - length (globalsOn mode g ls)) 0) f;
-            scratch-is = z ∙ ap (λ (n : ℕ). replicate {A = ℕ} n 0) h;
-          })
+  pub lay-place : (t₀ : List ℕ) {t gs : List ℕ} → t ≡ clearedFrom all t₀ → length t ≡ items → gs ≡ replicate globals 0 → length gs ≡ globals → PlaceAsks mode g ls o t gs s
+  unfolding listOn
+  lay-place t₀ z x y w =
+      let a = p .asks in
+      record {
+        walkable = a .walkable;
+        turns = a .turns;
+        first = record {
+          room = omega (arith, a .all .counted .room, p .same);
+          space = omega (arith, sum-total a (p .summed), p .space);
+          placed =
+              placed-cleared (all-walks mode g ls (a .walkable .fits)) (a .all .counted .counts) (p .summed .sums) (p .summed .beyond)
+              (λ q h. rw z (cleared-at all t₀ q (omega (arith, lay-start))));
+        };
+        clear = y ∙ ap (λ (n : ℕ). replicate {A = ℕ} n 0) (sym w);
+        fits = omega (arith, a .all .found, p .listing);
+      }
 
-    -- ---- a crowded cell
-
-    counts-above : (most : ℕ) → above most (λ c. getD o c 0) n ≡ above most (λ c. length (listOn mode g ls c)) (cells g)
-    unfolding listOn
-    counts-above most = rw e (ap (λ (f : ℕ → ℕ). above most f (cells g)) (fun-ext (a .all .counted .counts .count-is)))
-
-    module _ (most : ℕ) {b : Bool} (h : b ≡ above most (λ c. getD o c 0) n) {t gs : List ℕ} {r : Filled} {o′ t′ gs′ s′ : List ℕ} (next : Answer Filling) where
-      pub fill-crowded : b ≡ true → ((mode : Mode) (g : Grid) (ls : Lines) → FillIs mode g ls o t gs s r o′ t′ gs′ s′ (gives crowded))
-          → FillIs mode g ls o t gs s r o′ t′ gs′ s′ (cond (above most (λ c. length (listOn mode g ls c)) (cells g)) (gives crowded) next)
-      fill-crowded q k = rw (sym (counts-above most) ∙ sym h ∙ q) (k mode g ls)
-
-      pub fill-laid : b ≡ false → FillIs mode g ls o t gs s r o′ t′ gs′ s′ next → FillIs mode g ls o t gs s r o′ t′ gs′ s′ (cond (above most (λ c. length (listOn mode g ls c)) (cells g)) (gives crowded) next)
-      fill-laid q k = rw (sym (counts-above most) ∙ sym h ∙ q) k
+  pub lay-made : {t gs o₂ o₃ t₂ gs₂ s₃ : List ℕ} {n room long : ℕ} → n ≡ cells g → AllPlaced mode g ls o₂ t₂ room gs₂ → ShiftedBack o₂ o₃ n → s₃ ≡ replicate long 0
+      → length o₃ ≡ length o → length t₂ ≡ length t → room ≡ length gs → long ≡ length s → FillIs mode g ls o t gs s (filled.Tables all found) o₃ t₂ gs₂ s₃ (gives made)
+  unfolding answerBy leftIn filledOf writtenIn zeroBeyond listOn total
+  lay-made {o₂ = o₂} {o₃} {t₂} e q k z b d f h =
+      let a = p .asks in
+      let w = all-walks mode g ls (a .walkable .fits) in
+      let tab : Table (linesAt (localOn mode g ls) (count ls)) (cells g) o₃ t₂ =
+      table-of w (omega (arith, a .all .counted .room, p .same)) (q .last .space) (q .last .placed) (k .first) (rw e at (k .moved)) (rw e at (k .beyond)) in
+      record {
+        answer = rw (sum-total a (p .summed), a .all .found);
+        offsets-are = tab .offsets-are ∙ ap (λ (n : ℕ). offsetsOf (linesAt (localOn mode g ls) (count ls)) (cells g) n) b;
+        items-are = tab .items-are ∙ ap (λ (n : ℕ). itemsOf (linesAt (localOn mode g ls) (count ls)) (cells g) n) d;
+        globals-are = q .globals ∙ ap (λ (n : ℕ). globalsOn mode g ls ++ replicate (n - length (globalsOn mode g ls)) 0) f;
+        scratch-is = z ∙ ap (λ (n : ℕ). replicate {A = ℕ} n 0) h;
+      }

@@ -11,11 +11,14 @@ use Rattle.walk.specs.declared.Mode.{Mode}
 use Rattle.fill.specs.OnGrid.{cells, walkOn, ends, globalsOn, total}
 use Rattle.fill.specs.Checks.{roomCheck, turnsCheck, triedCheck, spaceCheck}
 
+pub turns-clear : (mode : Mode) (g : Grid) (ls : Lines) → Clearing true (turnsCheck mode g ls)
+unfolding turnsCheck
+turns-clear mode g ls = clearing-each (λ i. ends (walkOn mode g ls i)) 7 (count ls) 0 (numbers-clear 7 (omega arith) (omega arith))
+
 pub tried-clears : (mode : Mode) (g : Grid) (ls : Lines) (room : ℕ) → Clearing true (triedCheck mode g ls room)
-unfolding triedCheck roomCheck turnsCheck
+unfolding triedCheck roomCheck
 tried-clears mode g ls room =
-    clearing-then (clearing-unless _ 4 _ (numbers-clear 4 (omega arith) (omega arith)))
-    (clearing-each (λ i. ends (walkOn mode g ls i)) 7 (count ls) 0 (numbers-clear 7 (omega arith) (omega arith)))
+    clearing-then (clearing-unless _ 4 _ (numbers-clear 4 (omega arith) (omega arith))) (turns-clear mode g ls)
 
 pub space-clears : (mode : Mode) (g : Grid) (ls : Lines) (items globals : ℕ) → Clearing true (spaceCheck mode g ls items globals)
 unfolding spaceCheck

@@ -1,6 +1,6 @@
 -- The second pass over all lines, with the global lines listed on the way. Assumes nothing.
 use mathlib.Core.Path.{_≡_, refl, sym, ap, _∙_}
-use mathlib.Core.Bool.{Bool, true, false}
+use mathlib.Core.Bool.{Bool, true, false, not}
 use mathlib.Core.List.{List, [], _∷_, _++_, append-nil, append-assoc}
 use Prim.Native.Nat.{ℕ, zero, suc, _+_, _-_, _≤_, _<_, _^_}
 use native.Mathlib.Nat.{suc-add, zero-add}
@@ -13,12 +13,12 @@ use Rattle.grid.specs.declared.Grid.{Grid}
 use Rattle.grid.specs.Domain.{Lines, count}
 use Rattle.walk.specs.declared.Mode.{Mode}
 use Rattle.tables.specs.Lists.{long, only, globalLines}
+use Rattle.tables.specs.States.{CanPlace}
+use Rattle.fill.specs.declared.passes.Walked.{Walked}
 use Rattle.fill.specs.OnGrid.{walkOn, ends, cellsOn, globalsOn, oneIf}
-use Rattle.fill.specs.Inside.{Walkable, PlacedTo, LineAsks, LinePlaced, listed, PlaceAsks, AllPlaced}
+use Rattle.fill.specs.Inside.{Walkable, WalkAsks, Front, WalkedIs, VisitsPlaced, PlacedTo, LineAsks, LinePlaced, listed, PlaceAsks, AllPlaced}
+use Rattle.fill.proofs.Lines.{can-place, line-placed}
 use Rattle.fill.proofs.Counts.{globals-count, one-if, walkable-again, turns-all}
-
-pub never : (b : Bool) → b ≡ true → b ≡ false → ⊥
-never b h k = let z : _≡_ {A = Bool} true false = sym h ∙ k in let y : _≡_ {A = ℕ} 0 1 = cc in omega arith
 
 pub listed-some : (more : ℕ) (xs : List ℕ) (at i : ℕ) → (more ≡ 0 → ⊥) → set xs at i ≡ listed more xs at i
 listed-some zero xs at i h = absurd (h refl)
@@ -90,36 +90,50 @@ placing-all {mode} {g} {ls} {gs = gs} h =
     }
 
 module _ {mode : Mode} {g : Grid} {ls : Lines} {o₀ t₀ gs₀ s₀ o t gs s : List ℕ} {found i : ℕ} (k : PlacingAll mode g ls o₀ t₀ gs₀ s₀ o t gs s found i) (l : i < count ls) where
-  pub placing-line : LineAsks mode g ls i o t s
+  pub placing-walk : WalkAsks g ls i s
+  placing-walk = record { at = l; walkable = k .walkable }
+
+  placing-line : LineAsks mode g ls i o t s
   placing-line = record { at = l; walkable = k .walkable; ended = k .ended i l; placed = k .placed }
 
   next-fits : length (globalLines (cellsOn mode g ls) (i + 1)) ≤ length gs₀
   next-fits = omega (arith, globals-within mode g ls (i + 1) (omega arith), k .fits)
 
-  module _ {o′ t′ : List ℕ} {more : ℕ} (h : LinePlaced mode g ls i o′ t′ more) where
-    pub placing-asks : (i < 65536) × (0 < more → found < length gs)
-    placing-asks =
-        (omega (arith, k .walkable .few), λ p. omega (arith, next-fits, globals-count (cellsOn mode g ls) i, h .kind, k .so-far, k .len-globals))
+  module _ {s′ : List ℕ} {w : Walked} (v : WalkedIs mode g ls i s′ w) where
+    front : Front mode g ls i s′ (w .cells)
+    front = v .cells-are (v .over-is ∙ ap not (k .ended i l))
 
-    pub placing-found : Fits w64 (found + more)
-    placing-found = record { fits = omega (arith, h .kind, k .so-far, one-if (long (cellsOn mode g ls i)), globals-few (cellsOn mode g ls) i, k .walkable .few) }
+    pub placing-can : w .cells ≤ 2048 → CanPlace i o t s′ (w .cells)
+    placing-can b = can-place placing-line front b
 
-    pub placing-next : {gs′ s′ : List ℕ} → gs′ ≡ listed more gs found i → length o′ ≡ length o → length t′ ≡ length t → length gs′ ≡ length gs → length s′ ≡ length s
-        → PlacingAll mode g ls o₀ t₀ gs₀ s₀ o′ t′ gs′ s′ (found + more) (i + 1)
-    placing-next q a b d f =
-        record {
-          walkable = walkable-again (k .walkable) f;
-          ended = k .ended;
-          at = omega arith;
-          len = a ∙ k .len;
-          len-items = b ∙ k .len-items;
-          len-globals = d ∙ k .len-globals;
-          len-scratch = f ∙ k .len-scratch;
-          placed = h .next;
-          fits = k .fits;
-          so-far = omega (arith, k .so-far, h .kind, globals-count (cellsOn mode g ls) i);
-          listing = q ∙ rw (h .kind, k .so-far, k .listing) (listed-next (cellsOn mode g ls) i (length gs₀) next-fits);
-        }
+    module _ {o′ t′ : List ℕ} {more : ℕ} (p : VisitsPlaced i o t s′ (w .cells) o′ t′ more) (a : length o′ ≡ length o) (b : length t′ ≡ length t) where
+      placing-done : LinePlaced mode g ls i o′ t′ more
+      placing-done = line-placed placing-line front p a b
+
+      pub placing-asks : (i < 65536) × (0 < more → found < length gs)
+      placing-asks =
+          (omega (arith, k .walkable .few), λ p. omega (arith, next-fits, globals-count (cellsOn mode g ls) i, placing-done .kind, k .so-far, k .len-globals))
+
+      pub placing-found : Fits w64 (found + more)
+      placing-found =
+          record { fits = omega (arith, placing-done .kind, k .so-far, one-if (long (cellsOn mode g ls i)), globals-few (cellsOn mode g ls) i, k .walkable .few) }
+
+      pub placing-next : {gs′ : List ℕ} → gs′ ≡ listed more gs found i → length gs′ ≡ length gs → length s′ ≡ length s → PlacingAll mode g ls o₀ t₀ gs₀ s₀ o′ t′ gs′ s′ (found + more) (i + 1)
+      placing-next q d f =
+          let h = placing-done in
+          record {
+            walkable = walkable-again (k .walkable) f;
+            ended = k .ended;
+            at = omega arith;
+            len = a ∙ k .len;
+            len-items = b ∙ k .len-items;
+            len-globals = d ∙ k .len-globals;
+            len-scratch = f ∙ k .len-scratch;
+            placed = h .next;
+            fits = k .fits;
+            so-far = omega (arith, k .so-far, h .kind, globals-count (cellsOn mode g ls) i);
+            listing = q ∙ rw (h .kind, k .so-far, k .listing) (listed-next (cellsOn mode g ls) i (length gs₀) next-fits);
+          }
 
 pub placing-end : {mode : Mode} {g : Grid} {ls : Lines} {o₀ t₀ gs₀ s₀ o t gs s : List ℕ} {found i : ℕ} → PlacingAll mode g ls o₀ t₀ gs₀ s₀ o t gs s found i → count ls ≤ i → AllPlaced mode g ls o t (length gs₀) gs
 unfolding globalsOn

@@ -1,6 +1,6 @@
 -- The walks of lines on a fit grid. Assumes nothing.
 use mathlib.Core.Path.{_≡_, refl, sym, ap, _∙_}
-use mathlib.Core.Bool.{Bool, true, false, true≢false}
+use mathlib.Core.Bool.{Bool, true, false, not, true≢false}
 use mathlib.Core.List.{List, []}
 use Prim.Native.Nat.{ℕ, _+_, _*_, _≤_, _<_, _^_}
 use native.Mathlib.Omega.{arith}
@@ -8,9 +8,7 @@ use borrow.Author.Tests.{le-leb, lt-leb}
 use lib.ListN.{length, take}
 use Rattle.slices.specs.Lists.{Rising, Below}
 use Rattle.refusals.specs.declared.Refusal.{Refusal}
-use Rattle.refusals.specs.declared.Check.the-variants.{Fine, Refused}
-use Rattle.refusals.specs.Refusals.{refusal, unless, refused, gives, answerBy}
-use Rattle.refusals.proofs.Checks.{unless-fine}
+use Rattle.refusals.specs.Refusals.{refused, gives, answerBy}
 use Rattle.grid.specs.declared.Grid.{Grid}
 use Rattle.grid.specs.Domain.{Lines, count, segmentAt, lineFits, fit}
 use Rattle.grid.proofs.Shapes.{shape-says, fit-shape}
@@ -24,10 +22,8 @@ use Rattle.walk.proofs.Checked.{as-is}
 use Rattle.tables.specs.Lists.{Walks, long, local}
 use Rattle.tables.specs.States.{Line}
 use Rattle.tables.proofs.Lists.{local-walks, local-short}
-use Rattle.fill.specs.declared.Count.the-variants as counted
 use Rattle.fill.specs.OnGrid.{cells, walkOn, ends, visited, cellsOn}
-use Rattle.fill.specs.Checks.{walkCheck}
-use Rattle.fill.specs.Inside.{CountAs, Walkable, WalkAsks, Front, localOn}
+use Rattle.fill.specs.Inside.{Walkable, WalkAsks, Front, WalkedIs, localOn}
 
 -- ---- what the walk answers, as a count
 
@@ -82,38 +78,35 @@ module _ (mode : Mode) (g : Grid) (ls : Lines) (i : ℕ) where
     unfolding walkOn
     inner = let w = a .walkable in rw (as-is (length s) g mode _ (w .space) (w .fits)) at h
 
-    pub walk-found : (n : ℕ) → r ≡ reached.Found n → CountAs (walkCheck mode g ls i) (Front mode g ls i s′) (counted.Of n)
-    unfolding cellsOn walkCheck unless
+    pub walk-found : (n : ℕ) → r ≡ reached.Found n → WalkedIs mode g ls i s′ (record { over = false; cells = n })
+    unfolding cellsOn
     walk-found n e =
         let k = walked-found (walkOn mode g ls i) all s n s′ (rw e at inner) in
         let few : n ≤ length s′ = omega (arith, line-cells (a .walkable .fits) (k .0) .few (k .1), a .walkable .space, inner .size, k .2) in
-        (rw (k .0), record { size = k .2; front = λ _. (few, k .3) })
+        record { over-is = sym (ap not (k .0)); cells-are = λ _. record { size = k .2; front = λ _. (few, k .3) } }
 
-    pub walk-everywhere : (n : ℕ) → r ≡ reached.Everywhere → n ≡ cells g → CountAs (walkCheck mode g ls i) (Front mode g ls i s′) (counted.Of n)
-    unfolding walkCheck unless
+    pub walk-everywhere : (n : ℕ) → r ≡ reached.Everywhere → n ≡ cells g → WalkedIs mode g ls i s′ (record { over = false; cells = n })
     walk-everywhere n e d =
         let k = walked-everywhere (walkOn mode g ls i) all s s′ (rw e at inner) in
         let v = line-cells (a .walkable .fits) (k .0) .all (k .1) in
-        (rw (k .0), record { size = d ∙ sym (v .0); front = λ l. absurd (omega (arith, v .1)) })
+        record { over-is = sym (ap not (k .0)); cells-are = λ _. record { size = d ∙ sym (v .0); front = λ l. absurd (omega (arith, v .1)) } }
 
-    pub walk-over : (q : Refusal) → r ≡ reached.Refused q → CountAs (walkCheck mode g ls i) (Front mode g ls i s′) (counted.Refused (refusal 7 i))
-    unfolding walkCheck unless
-    walk-over q e = rw (walked-refused (walkOn mode g ls i) all s q s′ (rw e at inner))
+    pub walk-over : (q : Refusal) → r ≡ reached.Refused q → WalkedIs mode g ls i s′ (record { over = true; cells = 0 })
+    walk-over q e =
+        record { over-is = sym (ap not (walked-refused (walkOn mode g ls i) all s q s′ (rw e at inner))); cells-are = λ z. absurd (true≢false z) }
 
 -- ---- what a pass learns of a line
 
 module _ (mode : Mode) (g : Grid) (ls : Lines) (i : ℕ) where
-  pub walk-ends : walkCheck mode g ls i ≡ Fine → ends (walkOn mode g ls i) ≡ true
-  unfolding walkCheck
-  walk-ends h = unless-fine (ends (walkOn mode g ls i)) 7 i h
-
-  pub walk-refused : (r : Refusal) → walkCheck mode g ls i ≡ Refused r → (ends (walkOn mode g ls i) ≡ false) × (r ≡ refusal 7 i)
-  unfolding walkCheck unless
-  walk-refused r h = go (ends (walkOn mode g ls i)) h
+  -- whether it ends, by what it answers
+  pub walk-ends : (b c : Bool) → b ≡ not (ends (walkOn mode g ls i)) → b ≡ not c → ends (walkOn mode g ls i) ≡ c
+  walk-ends b c h k = go (ends (walkOn mode g ls i)) c (sym h ∙ k)
     where
-      go : (b : Bool) → unless b 7 i ≡ Refused r → (b ≡ false) × (r ≡ refusal 7 i)
-      go true k = let z : _≡_ {A = ℕ} 0 1 = cc in absurd (omega arith)
-      go false k = (refl, cc)
+      go : (x y : Bool) → not x ≡ not y → x ≡ y
+      go true true e = refl
+      go true false e = absurd (true≢false (sym e))
+      go false true e = absurd (true≢false e)
+      go false false e = refl
 
   module _ {n : ℕ} {s : List ℕ} (k : Front mode g ls i s n) where
     pub is-long : 2048 < n → long (cellsOn mode g ls i) ≡ true

@@ -18,11 +18,7 @@ lentCheck g ls scratch = andThen (scratchCheck scratch) (andThen (linesCheck ls)
 unfoldable pub roomCheck : Grid → ℕ → Check
 roomCheck g room = unless (leb (cells g + 1) room) 4 (cells g + 1)
 
--- 7: the walk of line i made 5,000 turns and would make another
-unfoldable pub walkCheck : Mode → Grid → Lines → ℕ → Check
-walkCheck mode g ls i = unless (ends (walkOn mode g ls i)) 7 i
-
--- of all lines; the first such line
+-- 7: the walk of a line made 5,000 turns and would make another; the first such line
 unfoldable pub turnsCheck : Mode → Grid → Lines → Check
 turnsCheck mode g ls = eachFrom (λ i. ends (walkOn mode g ls i)) 7 (count ls) 0
 

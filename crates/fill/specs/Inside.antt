@@ -1,22 +1,26 @@
 -- What the private functions ask and promise. Definitions only.
 use mathlib.Core.Path.{_≡_}
-use mathlib.Core.Bool.{Bool, true, false}
+use mathlib.Core.Bool.{Bool, true, false, not}
 use mathlib.Core.List.{List, _++_}
 use Prim.Native.Nat.{ℕ, zero, suc, _+_, _-_, _≤_, _<_}
 use lib.ListN.{length, take, getD, set, replicate}
 use Rattle.refusals.specs.declared.Refusal.{Refusal}
 use Rattle.refusals.specs.declared.Check.{Check}
 use Rattle.refusals.specs.declared.Check.the-variants.{Fine, Refused}
-use Rattle.refusals.specs.Refusals.{leftBy}
+use Rattle.refusals.specs.Refusals.{refusal, Answer, refused, gives, leftBy}
 use Rattle.grid.specs.declared.Grid.{Grid}
 use Rattle.grid.specs.Domain.{Lines, count, Alike, lineFits, fit}
 use Rattle.walk.specs.declared.Mode.{Mode}
 use Rattle.tables.specs.Lists.{long, local, linesAt, sum}
-use Rattle.tables.specs.States.{Counted, Placed}
+use Rattle.tables.specs.States.{Counted, Placed, CanCount, CanPlace}
 use Rattle.fill.specs.declared.Count.{Count}
 use Rattle.fill.specs.declared.Count.the-variants as counted
+use Rattle.fill.specs.declared.passes.Walked.{Walked}
+use Rattle.fill.specs.declared.Filled.{Filled}
+use Rattle.fill.specs.declared.Filled.the-variants as filled
 use Rattle.fill.specs.OnGrid.{cells, walkOn, ends, cellsOn, listOn, globalsOn, total, oneIf}
 use Rattle.fill.specs.Checks.{turnsCheck, countingCheck}
+use Rattle.fill.specs.Fill.{Filling, crowded, made}
 
 -- ---- a number, or refused
 
@@ -40,6 +44,11 @@ pub record Front (mode : Mode) (g : Grid) (ls : Lines) (i : ℕ) (s : List ℕ) 
   pub size : n ≡ length (cellsOn mode g ls i)
   pub front : n ≤ 2048 → (n ≤ length s) × (take n s ≡ cellsOn mode g ls i)
 
+-- the walk of line i: whether it does not end, and else its cells
+pub record WalkedIs (mode : Mode) (g : Grid) (ls : Lines) (i : ℕ) (s : List ℕ) (r : Walked) : Type 0 where
+  pub over-is : r .over ≡ not (ends (walkOn mode g ls i))
+  pub cells-are : r .over ≡ false → Front mode g ls i s (r .cells)
+
 -- a line that a walk can work on
 pub record WalkAsks (g : Grid) (ls : Lines) (i : ℕ) (s : List ℕ) : Type 0 where
   pub at : i < count ls
@@ -55,6 +64,11 @@ localOn mode g ls = local (cellsOn mode g ls)
 pub record CountedTo (mode : Mode) (g : Grid) (ls : Lines) (i : ℕ) (o : List ℕ) : Type 0 where
   pub room : cells g < length o
   pub counts : Counted (linesAt (localOn mode g ls) i) o
+
+-- the n cells at the front of s counted in o, where they are not too many; k is 1 where they are
+pub record VisitsCounted (o s : List ℕ) (n : ℕ) (o′ : List ℕ) (k : ℕ) : Type 0 where
+  pub many : 2048 < n → (k ≡ 1) × (o′ ≡ o)
+  pub few : n ≤ 2048 → (k ≡ 0) × ((h : CanCount o s n) → Counted (linesAt (h .W) (h .i + 1)) o′)
 
 pub record CountAsks (mode : Mode) (g : Grid) (ls : Lines) (i : ℕ) (o s : List ℕ) : Type 0 where
   pub at : i < count ls
@@ -88,6 +102,11 @@ pub record PlacedTo (mode : Mode) (g : Grid) (ls : Lines) (i : ℕ) (o t : List 
   pub room : cells g < length o
   pub space : total mode g ls ≤ length t
   pub placed : Placed (listOn mode g ls) (cells g) (linesAt (localOn mode g ls) i) o t
+
+-- the line i written to the lists of the n cells at the front of s, where they are not too many; k is 1 where they are
+pub record VisitsPlaced (i : ℕ) (o t s : List ℕ) (n : ℕ) (o′ t′ : List ℕ) (k : ℕ) : Type 0 where
+  pub many : 2048 < n → (k ≡ 1) × ((o′ ≡ o) × (t′ ≡ t))
+  pub few : n ≤ 2048 → (k ≡ 0) × ((h : CanPlace i o t s n) → Placed (linesAt (h .W) (h .lines)) (h .cells) (linesAt (h .W) (i + 1)) o′ t′)
 
 pub record LineAsks (mode : Mode) (g : Grid) (ls : Lines) (i : ℕ) (o t s : List ℕ) : Type 0 where
   pub at : i < count ls
@@ -139,3 +158,33 @@ pub record FillAsks (mode : Mode) (g : Grid) (ls : Lines) (found : ℕ) (o s : L
   pub walkable : Walkable g ls s
   pub turns : turnsCheck mode g ls ≡ Fine
   pub all : AllCounted mode g ls o found
+
+-- the offsets o are the running sums of the counts, and the tables have room
+pub record LayAsks (mode : Mode) (g : Grid) (ls : Lines) (all found items globals : ℕ) (o s : List ℕ) : Type 0 where
+  pub counts : List ℕ
+  pub asks : FillAsks mode g ls found counts s
+  pub summed : Summed counts o (cells g) all
+  pub same : length o ≡ length counts
+  pub space : all ≤ items
+  pub listing : found ≤ globals
+
+-- a refusal is due, by whose rule both slices are as they were
+pub record DueRefusal (o s o′ s′ : List ℕ) (f : Answer Filling) (q : Refusal) : Type 0 where
+  pub due : f ≡ refused q
+  pub offsets : leftBy 0 q o′ ≡ leftBy 0 q o
+  pub scratch : leftBy 0 q s′ ≡ leftBy 0 q s
+
+-- by the answer: the tables are due, and can be laid out; some cell is crowded; or a refusal is due
+abbrev pub PlanAs : Mode → Grid → Lines → ℕ → ℕ → List ℕ → List ℕ → List ℕ → List ℕ → Answer Filling → Filled → Type 0
+PlanAs mode g ls items globals o s o′ s′ f (filled.Tables all found) = (f ≡ gives made) × LayAsks mode g ls all found items globals o′ s′
+PlanAs mode g ls items globals o s o′ s′ f filled.Crowded = f ≡ gives crowded
+PlanAs mode g ls items globals o s o′ s′ f (filled.Refused q) = DueRefusal o s o′ s′ f q
+
+pub record PlanIs (mode : Mode) (g : Grid) (ls : Lines) (items globals : ℕ) (o s o′ s′ : List ℕ) (f : Answer Filling) (r : Filled) : Type 0 where
+  pub by : PlanAs mode g ls items globals o s o′ s′ f r
+
+-- the refusal whose rule says what is left where no tables are made
+abbrev pub ruleOf : Filled → Refusal
+ruleOf (filled.Refused q) = q
+ruleOf filled.Crowded = refusal 4 0
+ruleOf (filled.Tables all found) = refusal 4 0

@@ -1,17 +1,32 @@
 // The checks of what is lent, and what a refusal leaves of it.
 ghost use mathlib.Core.Path.{_≡_};
-ghost use Rattle.refusals.specs.Refusals.{refused, gives, leftBy};
-ghost use Rattle.walk.specs.declared.Mode.{Mode};
-ghost use Rattle.grid.specs.declared.Grid.{Grid};
-ghost use Rattle.grid.specs.Domain.{Lines, lines};
-ghost use Rattle.fill.specs.Checks.{lentCheck};
-ghost use Rattle.fill.specs.Fill.{crowded, FillIs};
+ghost use mathlib.Core.Bool.{true};
+ghost use Rattle.refusals.specs.Refusals.{andThen, leftBy};
+ghost use Rattle.grid.specs.Domain.{lines, fit};
+ghost use Rattle.fill.specs.Checks.{lentCheck, roomCheck};
+ghost use Rattle.fill.specs.Inside.{ruleOf};
 use crate::Filled;
+use crate::passes::cell_count;
 use grid::Grid;
 use refusals::Check;
 use refusals::Refusal;
 
-// 3, 2, 1, 8: before anything is written.
+// 4: the offsets have room for the cells and one more.
+fn check_room(grid: Grid, room: usize) -> Check
+    requires { ⌜ fit grid ≡ true ⌝ }
+    ensures { λ r. ⌜ r ≡ roomCheck grid room ⌝ }
+{
+    let asked = cell_count(grid) + 1;
+    if room < asked {
+        return Check::Refused(Refusal {
+            number: 4,
+            value: asked as u64,
+        });
+    }
+    Check::Fine
+}
+
+// 3, 2, 1, 8, then 4: before anything is written.
 pub(crate) fn check(
     start_x: &[f64],
     start_y: &[f64],
@@ -19,19 +34,24 @@ pub(crate) fn check(
     end_y: &[f64],
     grid: Grid,
     scratch: usize,
+    room: usize,
 ) -> Check
     ensures { λ r. let ls = lines (now («start_x» .entry)) (now («start_y» .entry)) (now («end_x» .entry)) (now («end_y» .entry)) in
-        ⌜ r ≡ lentCheck grid ls scratch ⌝ }
+        ⌜ r ≡ andThen (lentCheck grid ls scratch) (roomCheck grid room) ⌝ }
 {
-    let room = grid::checks::check_scratch(scratch);
-    if let Check::Refused(r) = room {
-        return Check::Refused(r);
+    let space = grid::checks::check_scratch(scratch);
+    if let Check::Refused(_) = space {
+        return space;
     }
     let lines = grid::checks::check_lines(start_x, start_y, end_x, end_y);
-    if let Check::Refused(r) = lines {
-        return Check::Refused(r);
+    if let Check::Refused(_) = lines {
+        return lines;
     }
-    grid::checks::check_grid(grid)
+    let shape = grid::checks::check_grid(grid);
+    if let Check::Refused(_) = shape {
+        return shape;
+    }
+    check_room(grid, room)
 }
 
 // Document 01's rule: refusals 4 to 7 leave zeros in what the call is lent to write, all others change nothing.
@@ -47,42 +67,15 @@ pub(crate) fn leave(why: Refusal, s: &mut [u32])
     slices::clear(s);
 }
 
-pub(crate) fn refuse(
-    why: Refusal,
-    offsets: &mut [u32],
-    items: &mut [u32],
-    globals: &mut [u32],
-    scratch: &mut [u32],
-) -> Filled
-    ensures { λ r. let o = now (offsets .entry) in
-        let t = now (items .entry) in
-        let gs = now (globals .entry) in
-        let s = now (scratch .entry) in
-        ⌜ ((mode : Mode) (g : Grid) (ls : Lines) → FillIs mode g ls o t gs s r (now (offsets .exit)) (now (items .exit)) (now (globals .exit)) (now (scratch .exit)) (refused why)) ⌝ }
+// The refusal whose rule says what is left where no tables are made. Where some cell is crowded nothing is kept of the count, as by 4.
+pub(crate) fn rule_of(why: Filled) -> Refusal
+    ensures { λ r. ⌜ r ≡ ruleOf why ⌝ }
 {
-    leave(why, offsets);
-    leave(why, items);
-    leave(why, globals);
-    leave(why, scratch);
-    Filled::Refused(why)
-}
-
-// Some cell is crowded: nothing is kept of the count.
-pub(crate) fn give_up(
-    offsets: &mut [u32],
-    items: &mut [u32],
-    globals: &mut [u32],
-    scratch: &mut [u32],
-) -> Filled
-    ensures { λ r. let o = now (offsets .entry) in
-        let t = now (items .entry) in
-        let gs = now (globals .entry) in
-        let s = now (scratch .entry) in
-        ⌜ ((mode : Mode) (g : Grid) (ls : Lines) → FillIs mode g ls o t gs s r (now (offsets .exit)) (now (items .exit)) (now (globals .exit)) (now (scratch .exit)) (gives crowded)) ⌝ }
-{
-    slices::clear(offsets);
-    slices::clear(items);
-    slices::clear(globals);
-    slices::clear(scratch);
-    Filled::Crowded
+    let Filled::Refused(r) = why else {
+        return Refusal {
+            number: 4,
+            value: 0,
+        };
+    };
+    r
 }

@@ -10,11 +10,12 @@ ghost use lib.ListN.{length};
 ghost use Rattle.grid.specs.Domain.{lines};
 ghost use Rattle.fill.specs.Fill.{countOf, CountIs, fillingOf, FillIs};
 ghost use Rattle.fill.specs.Inside.{CountLent};
-use crate::filling::fill_counted;
+use crate::filling::lay_out;
+use crate::filling::plan;
 use crate::lent::check;
 use crate::lent::leave;
-use crate::lent::refuse;
-use crate::passes::count_all;
+use crate::lent::rule_of;
+use crate::passes::count_lines;
 use grid::Grid;
 use refusals::Check;
 use refusals::Refusal;
@@ -34,7 +35,7 @@ pub enum Filled {
 }
 
 // The checks, and the count. A refusal is not cleared up after yet.
-fn count_lent(
+pub(crate) fn count_lent(
     mode: Mode,
     start_x: &[f64],
     start_y: &[f64],
@@ -47,11 +48,20 @@ fn count_lent(
     ensures { λ r. let ls = lines (now («start_x» .entry)) (now («start_y» .entry)) (now («end_x» .entry)) (now («end_y» .entry)) in
         ⌜ CountLent mode grid ls (now (offsets .entry)) (now (scratch .entry)) r (now (offsets .exit)) (now (scratch .exit)) ⌝ }
 {
-    let checked = check(start_x, start_y, end_x, end_y, grid, scratch.len());
+    let checked = check(
+        start_x,
+        start_y,
+        end_x,
+        end_y,
+        grid,
+        scratch.len(),
+        offsets.len(),
+    );
     if let Check::Refused(r) = checked {
         return Count::Refused(r);
     }
-    count_all(mode, start_x, start_y, end_x, end_y, grid, offsets, scratch)
+    slices::clear(offsets);
+    count_lines(mode, start_x, start_y, end_x, end_y, grid, offsets, scratch)
 }
 
 // Counts the lines of each cell, and answers how many lines are global: those that visit more than 2,048 cells, which are counted in none.
@@ -70,17 +80,13 @@ pub fn count_on(
         ⌜ CountIs mode grid ls (now (counts .entry)) (now (scratch .entry)) r (now (counts .exit)) (now (scratch .exit)) a ⌝ }
 {
     let counted = count_lent(mode, start_x, start_y, end_x, end_y, grid, counts, scratch);
-    match counted {
-        Count::Of(n) => {
-            slices::clear(scratch);
-            Count::Of(n)
-        },
-        Count::Refused(r) => {
-            leave(r, counts);
-            leave(r, scratch);
-            Count::Refused(r)
-        },
+    if let Count::Refused(r) = counted {
+        leave(r, counts);
+        leave(r, scratch);
+        return counted;
     }
+    slices::clear(scratch);
+    counted
 }
 
 // Fills the tables of a grid, unless some cell would list more than `most` lines. `offsets[c] .. offsets[c + 1]` is the range in the items of the
@@ -106,22 +112,42 @@ pub fn fill_on(
         let f = fillingOf mode grid ls most (length o) (length t) (length gs) (length s) in
         ⌜ FillIs mode grid ls o t gs s r (now (offsets .exit)) (now (items .exit)) (now (globals .exit)) (now (scratch .exit)) f ⌝ }
 {
-    let counted = count_lent(mode, start_x, start_y, end_x, end_y, grid, offsets, scratch);
-    match counted {
-        Count::Of(found) => fill_counted(
+    let planned = plan(
+        mode,
+        start_x,
+        start_y,
+        end_x,
+        end_y,
+        grid,
+        most,
+        items.len(),
+        globals.len(),
+        offsets,
+        scratch,
+    );
+    if let Filled::Tables {
+        items: total,
+        globals: found,
+    } = planned {
+        return lay_out(
             mode,
             start_x,
             start_y,
             end_x,
             end_y,
             grid,
+            total,
             found,
-            most,
             offsets,
             items,
             globals,
             scratch,
-        ),
-        Count::Refused(r) => refuse(r, offsets, items, globals, scratch),
+        );
     }
+    let rule = rule_of(planned);
+    leave(rule, offsets);
+    leave(rule, items);
+    leave(rule, globals);
+    leave(rule, scratch);
+    planned
 }

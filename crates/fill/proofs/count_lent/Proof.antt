@@ -1,20 +1,20 @@
 -- `fill::count_lent` meets its contract. Assumes nothing.
 use borrow.Author.Needs.{needs}
 use mathlib.Core.Path.{sym, _∙_}
-use Rattle.fill.proofs.Entries.{lent-walkable, lent-refused, lent-counted}
+use Rattle.fill.proofs.Entries.{lent-refused, lent-asks, lent-counted}
 use Rattle.fill.proofs.count_lent.Statement.{statement}
 use Rattle.fill.proofs.count_lent.Tie as tie
 
 returns : tie.Need-returns
-returns c = lent-refused (sym (c .before .before .before .check .ensures) ∙ c .before .checked .given .1)
+returns c = lent-refused _ (sym (c .before .before .before .check .ensures) ∙ c .before .checked .given .1)
 
-count-all-requires : tie.Need-count-all-requires
-count-all-requires c κs = lent-walkable (sym (c .before .before .before .before .check .ensures) ∙ c .before .before .enum-told .given .1)
+count-lines-requires : tie.Need-count-lines-requires
+count-lines-requires c κs = lent-asks (c .before .before .before .before .before .before .before .before .before .before .before .before .before .before .before .args .offsets .now) (sym (c .before .before .before .before .before .before .before .before .check .ensures) ∙ c .before .before .before .before .before .before .enum-told .given .1) (c .before .before .before .before .clear .ensures) (c .before .before .before .before .clear .kept .0)
 
 returns-2 : tie.Need-returns-2
 returns-2 c =
-    let k = c .before .before .before .before .count-all in
-    lent-counted (sym (c .before .before .before .before .before .before .before .before .before .check .ensures) ∙ c .before .before .before .before .before .before .before .enum-told .given .1) (k .ensures) (k .kept .1 .1 .1 .1 .1 .1 .0) (k .kept .1 .1 .1 .1 .1 .1 .1 .0)
+    let k = c .before .before .before .before .count-lines in
+    lent-counted _ (sym (c .before .before .before .before .before .before .before .before .before .before .before .before .before .check .ensures) ∙ c .before .before .before .before .before .before .before .before .before .before .before .enum-told .given .1) (k .ensures) (k .kept .1 .1 .1 .1 .1 .1 .0 ∙ c .before .before .before .before .before .before .before .before .before .clear .kept .0) (k .kept .1 .1 .1 .1 .1 .1 .1 .0)
 
 pub count-lent-spec : {M : Type 1} → statement M
 count-lent-spec =
@@ -24,7 +24,8 @@ count-lent-spec =
     (λ c. search needs)
     returns
     (λ c. search needs)
-    count-all-requires
+    (λ c κs. search needs)
+    count-lines-requires
     (λ c. search needs)
     (λ c. search needs)
     returns-2)

@@ -5,12 +5,12 @@ use Rattle.fill.proofs.count_on.Statement.{statement}
 use Rattle.fill.proofs.count_on.Tie as tie
 
 returns : tie.Need-returns
-returns c =
-    let k = c .before .before .before .before .before .before .before .before .before .before .before .count-lent in
-    count-done (k .ensures) _ (c .before .before .before .before .before .counted .given .1) (k .kept .1 .1 .1 .1 .1 .1 .0) (c .before .before .clear .ensures) (k .kept .1 .1 .1 .1 .1 .1 .1 .0)
+returns c = count-refused (c .before .before .before .before .before .before .before .before .before .before .before .before .before .before .before .count-lent .ensures) _ (c .before .before .before .before .before .before .before .before .before .counted .given .1) (c .before .before .before .before .before .before .leave .ensures) (c .before .before .leave2 .ensures)
 
 returns-2 : tie.Need-returns-2
-returns-2 c = count-refused (c .before .before .before .before .before .before .before .before .before .before .before .before .before .before .before .count-lent .ensures) _ (c .before .before .before .before .before .before .before .before .before .counted2 .given .1) (c .before .before .before .before .before .before .leave .ensures) (c .before .before .leave2 .ensures)
+returns-2 c =
+    let k = c .before .before .before .before .before .before .before .before .before .before .count-lent in
+    count-done (k .ensures) _ (c .before .before .before .before .enum-told .given .1) (k .kept .1 .1 .1 .1 .1 .1 .0) (c .before .before .clear .ensures) (k .kept .1 .1 .1 .1 .1 .1 .1 .0)
 
 pub count-on-spec : {M : Type 1} → statement M
 count-on-spec =
@@ -19,12 +19,12 @@ count-on-spec =
     (λ c κs. search needs)
     (λ c. search needs)
     (λ c κs. search needs)
-    (λ c. search needs)
-    (λ c κs. search needs)
     (λ c κs. search needs)
     (λ c. search needs)
     (λ c. search needs)
     returns
+    (λ c. search needs)
+    (λ c κs. search needs)
     (λ c. search needs)
     (λ c. search needs)
     returns-2)

@@ -3,7 +3,7 @@ use native.Mathlib.Omega.{arith}
 use Prim.Native.Nat.{_-_}
 use lib.ListN.{length}
 use Rattle.grid.specs.Domain.{lines}
-use Rattle.fill.proofs.Places.{PlacingAll, placing-all, placing-line, placing-asks, placing-found, placing-next, placing-end}
+use Rattle.fill.proofs.Places.{PlacingAll, placing-all, placing-walk, placing-can, placing-asks, placing-found, placing-next, placing-end}
 use Rattle.fill.proofs.passes.place_lines.Statement.{statement}
 use Rattle.fill.proofs.passes.place_lines.Tie as tie
 
@@ -18,22 +18,29 @@ abbrev μ-loop : tie.MeasureT-loop
 loop-holds : tie.Need-loop-holds Inv-loop μ-loop
 loop-holds c = placing-all (c .before .before .before .before .before .before .before .before .pre)
 
-place-line-requires : tie.Need-place-line-requires Inv-loop μ-loop
-place-line-requires c κs = placing-line (c .before .before .before .before .loop .inv) (c .before .before .before .loop-test .taken)
+walk-line-requires : tie.Need-walk-line-requires Inv-loop μ-loop
+walk-line-requires c κs = placing-walk (c .before .before .loop .inv) (c .before .loop-test .taken)
+
+place-visits-requires : tie.Need-place-visits-requires Inv-loop μ-loop
+place-visits-requires c κs = placing-can (c .before .before .before .before .before .before .before .before .loop .inv) (c .before .before .before .before .before .before .before .loop-test .taken) (c .before .before .before .before .before .walk-line .ensures)
 
 list-global-requires : tie.Need-list-global-requires Inv-loop μ-loop
-list-global-requires c κs = placing-asks (c .before .before .before .before .before .before .before .before .before .before .before .before .loop .inv) (c .before .before .before .before .before .before .before .before .before .before .before .loop-test .taken) (c .before .before .before .before .before .before .before .place-line .ensures)
+list-global-requires c κs =
+    let p = c .before .before .before .before .before .place-visits in
+    placing-asks (c .before .before .before .before .before .before .before .before .before .before .before .before .before .before .loop .inv) (c .before .before .before .before .before .before .before .before .before .before .before .before .before .loop-test .taken) (c .before .before .before .before .before .before .before .before .before .before .before .walk-line .ensures) (p .ensures) (p .kept .1 .1 .1 .0) (p .kept .1 .1 .1 .1 .0)
 
 add-found : tie.Need-add-found Inv-loop μ-loop
-add-found c = placing-found (c .before .before .before .before .before .before .before .before .before .before .before .before .before .before .before .loop .inv) (c .before .before .before .before .before .before .before .before .before .before .before .before .before .before .loop-test .taken) (c .before .before .before .before .before .before .before .before .before .before .place-line .ensures)
+add-found c =
+    let p = c .before .before .before .before .before .before .before .before .place-visits in
+    placing-found (c .before .before .before .before .before .before .before .before .before .before .before .before .before .before .before .before .before .loop .inv) (c .before .before .before .before .before .before .before .before .before .before .before .before .before .before .before .before .loop-test .taken) (c .before .before .before .before .before .before .before .before .before .before .before .before .before .before .walk-line .ensures) (p .ensures) (p .kept .1 .1 .1 .0) (p .kept .1 .1 .1 .1 .0)
 
 loop-less : tie.Need-loop-less Inv-loop μ-loop
-loop-less c = let l = c .before .before .before .before .before .before .before .before .before .before .before .before .before .before .loop-test .taken in omega arith
+loop-less c = let l = c .before .before .before .before .before .before .before .before .before .before .before .before .before .before .before .before .loop-test .taken in omega arith
 
 loop-again : tie.Need-loop-again Inv-loop μ-loop
 loop-again c =
-    let p = c .before .before .before .before .before .before .before .before .before .before .place-line in
-    placing-next (c .before .before .before .before .before .before .before .before .before .before .before .before .before .before .before .loop .inv) (c .before .before .before .before .before .before .before .before .before .before .before .before .before .before .loop-test .taken) (p .ensures) (c .before .before .list-global .ensures) (p .kept .1 .1 .1 .1 .1 .1 .1 .0) (p .kept .1 .1 .1 .1 .1 .1 .1 .1 .0) (c .before .before .list-global .kept .1 .1 .1 .0) (p .kept .1 .1 .1 .1 .1 .1 .1 .1 .1 .0)
+    let p = c .before .before .before .before .before .before .before .before .place-visits in
+    placing-next (c .before .before .before .before .before .before .before .before .before .before .before .before .before .before .before .before .before .loop .inv) (c .before .before .before .before .before .before .before .before .before .before .before .before .before .before .before .before .loop-test .taken) (c .before .before .before .before .before .before .before .before .before .before .before .before .before .before .walk-line .ensures) (p .ensures) (p .kept .1 .1 .1 .0) (p .kept .1 .1 .1 .1 .0) (c .before .before .list-global .ensures) (c .before .before .list-global .kept .1 .1 .1 .0) (c .before .before .before .before .before .before .before .before .before .before .before .before .before .before .walk-line .kept .1 .1 .1 .1 .1 .1 .1 .0)
 
 pub place-lines-spec : {M : Type 1} → statement M
 place-lines-spec =
@@ -42,7 +49,8 @@ place-lines-spec =
     Inv-loop
     μ-loop
     loop-holds
-    place-line-requires
+    walk-line-requires
+    place-visits-requires
     list-global-requires
     add-found
     (λ c. omega arith)

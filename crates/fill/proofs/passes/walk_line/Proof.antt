@@ -8,7 +8,7 @@ returns : tie.Need-returns
 returns c =
     let w = c .before .before .before .before .before .cells-between in
     let h = rw (c .before .before .before .before .before .before .before .segment-at .ensures) at (w .ensures) in
-    walk-found _ _ _ _ (c .before .before .before .before .before .before .before .before .before .before .before .before .before .pre) (w .result) h _ (c .before .cells .given .1)
+    walk-found _ _ _ _ (c .before .before .before .before .before .before .before .before .before .before .before .before .before .pre) (w .result) h _ (c .before .reached .given .1)
 
 returns-2 : tie.Need-returns-2
 returns-2 c =

@@ -25,14 +25,16 @@ use Rattle.seek.proofs.CellRests.{pair-taken}
 use Rattle.visit.proofs.RowTurns.{numbers-some}
 use Rattle.seek.proofs.GlobalRests.{grest-run}
 use Rattle.resume.specs.declared.Cursor.{Cursor}
-use Rattle.resume.specs.declared.settle.CellAt.{CellAt}
-use Rattle.resume.specs.declared.settle.CellAt.the-variants as cellat
-use Rattle.resume.specs.AsTheyAre.{reachOf, reach, listBy, listAs, globalsAs}
-use Rattle.resume.specs.Cursors.{countOn, indexOf, cursor, cellsOf, cellsFrom, globalsFrom, spotOf, cursorOf}
-use Rattle.resume.specs.Inside.{CellIs, CellFound, SpotAsks}
-use Rattle.resume.proofs.AsIs.{list-increases}
-use Rattle.resume.proofs.ListLaws.{from-later}
-use Rattle.resume.proofs.CellTurns.{from-at}
+use Rattle.through.specs.declared.CellAt.{CellAt}
+use Rattle.through.specs.declared.CellAt.the-variants as cellat
+use Rattle.through.specs.Lists.{listBy, cellsOf}
+use Rattle.through.specs.Runs.{FirstAt, LeftAt}
+use Rattle.through.proofs.AsIs.{list-increases}
+use Rattle.through.proofs.ListLaws.{from-later}
+use Rattle.through.proofs.CellTurns.{from-at}
+use Rattle.resume.specs.AsTheyAre.{reachOf, reach, listAs, globalsAs}
+use Rattle.resume.specs.Cursors.{countOn, indexOf, cursor, globalsFrom, spotOf, cursorOf}
+use Rattle.resume.specs.Inside.{SpotAsks}
 
 index-nil : (v : ℕ) → indexOf v [] ≡ 0
 unfolding indexOf
@@ -116,11 +118,12 @@ global-begins n globals p q k g a b d stop f =
 
 module _ (t : Tables) (m : ℕ) (em : m ≡ reach t) where
   -- what was found in the cells, taken apart
-  pub cell-is : (w : ℕ) → w ≡ t .lines → (cell i j : ℕ) (r : CellAt) → CellFound w m (t .offsets) (t .items) cell i j r → (c a b : ℕ) → r ≡ cellat.At c a b → CellIs (t .lines) m (t .offsets) (t .items) cell i j c a b
-  cell-is w e cell i j r f c a b k = rw e at (subst (CellFound w m (t .offsets) (t .items) cell i j) k f)
+  pub cell-is : (rest : List Pair) (r : CellAt) → LeftAt (t .cols) (t .lines) m (t .offsets) (t .items) rest r → (c a b : ℕ) → r ≡ cellat.At c a b
+      → FirstAt (t .cols) (t .lines) m (t .offsets) (t .items) rest c a b
+  cell-is rest r f c a b k = subst (LeftAt (t .cols) (t .lines) m (t .offsets) (t .items) rest) k f
 
-  pub cell-none : (w : ℕ) → w ≡ t .lines → (cell i j : ℕ) (r : CellAt) → CellFound w m (t .offsets) (t .items) cell i j r → r ≡ cellat.Past → (cols : ℕ) → cellsFrom cols (listAs t) (m - cell) cell i j ≡ []
-  cell-none w e cell i j r f k = rw e at (subst (CellFound w m (t .offsets) (t .items) cell i j) k f)
+  pub cell-none : (rest : List Pair) (r : CellAt) → LeftAt (t .cols) (t .lines) m (t .offsets) (t .items) rest r → r ≡ cellat.Past → rest ≡ []
+  cell-none rest r f k = subst (LeftAt (t .cols) (t .lines) m (t .offsets) (t .items) rest) k f
 
   spot-cell : (c a b : ℕ) → c < m → a < length (listAs t c) → b < length (listAs t c)
       → cursor c a b ≡ spotOf t (placeOf (t .cols) c) (getD (listAs t c) a 0) (getD (listAs t c) b 0)
@@ -131,30 +134,29 @@ module _ (t : Tables) (m : ℕ) (em : m ≡ reach t) where
       sym (rw (e, index-at 0 (listAs t c) a r ha, index-at 0 (listAs t c) b r hb))
 
   -- in a cell
-  pub settled-cell : (cell i j c a b : ℕ) → CellIs (t .lines) m (t .offsets) (t .items) cell i j c a b → (later : List Pair)
-      → cursor c a b ≡ cursorOf t (cellsFrom (t .cols) (listAs t) (m - cell) cell i j ++ later)
-  settled-cell cell i j c a b f later =
+  pub settled-cell : (rest : List Pair) (c a b : ℕ) → FirstAt (t .cols) (t .lines) m (t .offsets) (t .items) rest c a b → (later : List Pair) → cursor c a b ≡ cursorOf t (rest ++ later)
+  settled-cell rest c a b f later =
       let x : ℕ = getD (listAs t c) a 0 in
       let y : ℕ = getD (listAs t c) b 0 in
-      spot-cell c a b (f .inside) (omega (arith, f .later, f .within)) (f .within)
+      spot-cell c a b (f .inside) (omega (arith, f .later, f .among)) (f .among)
       ∙ sym (cursor-at t (placeOf (t .cols) c) x y ((restIn (placeOf (t .cols) c) (listAs t c) a (suc b) ++ cellsOf (t .cols) (listAs t) (m - suc c) (suc c)) ++ later))
       ∙ ap (cursorOf t)
       (sym
       (ap (λ (l : List Pair). l ++ later)
-      (f .same (t .cols) ∙ from-at (t .cols) (listAs t) m c (f .inside) a b
-      ∙ ap (λ (l : List Pair). l ++ cellsOf (t .cols) (listAs t) (m - suc c) (suc c)) (from-later (placeOf (t .cols) c) (listAs t c) a b (f .later) ∙ pair-taken (placeOf (t .cols) c) (listAs t c) a b (f .within)))))
+      (f .is ∙ from-at (t .cols) (listAs t) m c (f .inside) a b
+      ∙ ap (λ (l : List Pair). l ++ cellsOf (t .cols) (listAs t) (m - suc c) (suc c)) (from-later (placeOf (t .cols) c) (listAs t c) a b (f .later) ∙ pair-taken (placeOf (t .cols) c) (listAs t c) a b (f .among)))))
 
-  module _ (cell i j : ℕ) (none : (cols : ℕ) → cellsFrom cols (listAs t) (m - cell) cell i j ≡ []) (n : ℕ) (en : n ≡ t .lines) (globals : List ℕ) (eg : globals ≡ globalsAs t) (p q k : ℕ) where
+  module _ (rest : List Pair) (none : rest ≡ []) (n : ℕ) (en : n ≡ t .lines) (globals : List ℕ) (eg : globals ≡ globalsAs t) (p q k : ℕ) where
     -- at a global
     pub settled-global : GlobalAsks n (length globals) globals p q k → (a b d stop : ℕ) → GlobalIs n (length globals) globals p q k a b d stop → (w : ℕ) → w ≡ d
-        → cursor (m + a) 0 w ≡ cursorOf t (cellsFrom (t .cols) (listAs t) (m - cell) cell i j ++ globalsFrom n globals p k)
+        → cursor (m + a) 0 w ≡ cursorOf t (rest ++ globalsFrom n globals p k)
     settled-global g a b d stop f w ew =
         let e : globalsFrom n globals p k ≡ pair (Global a) (getD globals a 0) d ∷ rest-of n globals a d stop = global-begins n globals p q k g a b d stop f in
-        rw (ew, em) (sym (cursor-global t a (getD globals a 0) d (rest-of n globals a d stop))) ∙ ap (cursorOf t) (sym (ap (λ (l : List Pair). l ++ globalsFrom n globals p k) (none (t .cols)) ∙ e))
+        rw (ew, em) (sym (cursor-global t a (getD globals a 0) d (rest-of n globals a d stop))) ∙ ap (cursorOf t) (sym (ap (λ (l : List Pair). l ++ globalsFrom n globals p k) none ∙ e))
 
     -- at the end
-    pub settled-end : globalsFrom n globals p k ≡ [] → cursor (m + length globals) 0 0 ≡ cursorOf t (cellsFrom (t .cols) (listAs t) (m - cell) cell i j ++ globalsFrom n globals p k)
-    settled-end e = rw (none (t .cols), e, eg, em) (sym (cursor-end t))
+    pub settled-end : globalsFrom n globals p k ≡ [] → cursor (m + length globals) 0 0 ≡ cursorOf t (rest ++ globalsFrom n globals p k)
+    settled-end e = rw (none, e, eg, em) (sym (cursor-end t))
 
 -- ---- as the code finds them
 

@@ -20,8 +20,9 @@ use Rattle.resume.specs.declared.settle.GlobalAt.{GlobalAt}
 use Rattle.resume.specs.declared.settle.GlobalAt.the-variants as globalat
 use Rattle.resume.specs.declared.globals.GlobalsRan.{GlobalsRan}
 use Rattle.resume.specs.Cursors.{globalsFrom}
-use Rattle.resume.specs.Inside.{Goes, Lent, LinesAsk, LinesScanned, Passed, GlobalFound, GlobalsAsk, GlobalsRanIs}
-use Rattle.resume.proofs.Goings.{goes-none, goes-then, goes-row}
+use Rattle.through.specs.Inside.{Goes, Lent}
+use Rattle.resume.specs.Inside.{ZeroAfter, LinesAsk, LinesScanned, Passed, GlobalFound, GlobalsAsk, GlobalsRanIs}
+use Rattle.through.proofs.Goings.{goes-none, goes-then, goes-row}
 
 -- what was found, taken apart
 module _ (n : ℕ) (globals : List ℕ) (p q k : ℕ) (r : GlobalAt) (f : GlobalFound n globals p q k r) where
@@ -72,11 +73,13 @@ pub record GlobalsRun (ls : Lines) (globals : List ℕ) (p₀ q₀ k₀ : ℕ) (
   pub n-is : n ≡ count ls
   pub place : LineFits (count ls) (length globals) globals p q k
   pub goes : Goes ls (globalsFrom (count ls) globals p₀ k₀) (globalsFrom (count ls) globals p k) tests (length fs) fs ss hits₀ fs′ ss′ hits
+  pub first-zero : ZeroAfter hits₀ fs → ZeroAfter hits fs′
+  pub second-zero : ZeroAfter hits₀ ss → ZeroAfter hits ss′
 
 pub globals-run : (ls : Lines) (globals : List ℕ) (p q k : ℕ) (fs ss : List ℕ) (hits n : ℕ) → GlobalsAsk ls globals p q k fs ss hits → n ≡ count ls
     → GlobalsRun ls globals p q k fs ss hits n fs ss p q k 0 hits
 globals-run ls globals p q k fs ss hits n a e =
-    record { asks = a; n-is = e; place = a .place .place; goes = goes-none ls (length fs) (globalsFrom (count ls) globals p k) fs ss hits (a .lent .in-room) }
+    record { asks = a; n-is = e; place = a .place .place; goes = goes-none ls (length fs) (globalsFrom (count ls) globals p k) fs ss hits (a .lent .in-room); first-zero = λ z. z; second-zero = λ z. z }
 
 module _ (ls : Lines) (globals : List ℕ) (p₀ q₀ k₀ : ℕ) (fs ss : List ℕ) (hits₀ n : ℕ) (fs′ ss′ : List ℕ) (p q k tests hits : ℕ)
     (s : GlobalsRun ls globals p₀ q₀ k₀ fs ss hits₀ n fs′ ss′ p q k tests hits) where
@@ -90,10 +93,10 @@ module _ (ls : Lines) (globals : List ℕ) (p₀ q₀ k₀ : ℕ) (fs ss : List 
   globals-place = rw (s .n-is) (record { table = s .asks .place .table; place = s .place })
 
   pub globals-full : length fs ≤ hits → GlobalsRanIs ls globals p₀ k₀ fs ss hits₀ fs′ ss′ (record { p = p; q = q; k = k; tests = tests; hits = hits })
-  globals-full h = record { place = s .place; goes = s .goes; ends = λ l. absurd (omega arith) }
+  globals-full h = record { place = s .place; goes = s .goes; ends = λ l. absurd (omega arith); first-zero = s .first-zero; second-zero = s .second-zero }
 
   pub globals-over : globalsFrom n globals p k ≡ [] → GlobalsRanIs ls globals p₀ k₀ fs ss hits₀ fs′ ss′ (record { p = p; q = q; k = k; tests = tests; hits = hits })
-  globals-over e = record { place = s .place; goes = s .goes; ends = λ l. rw (s .n-is) at e }
+  globals-over e = record { place = s .place; goes = s .goes; ends = λ l. rw (s .n-is) at e; first-zero = s .first-zero; second-zero = s .second-zero }
 
   pub globals-stop : (a b d stop : ℕ) → GlobalIs n (length globals) globals p q k a b d stop → stop < 2 ^ 32
   globals-stop a b d stop g =
@@ -157,6 +160,8 @@ module _ (ls : Lines) (globals : List ℕ) (p₀ q₀ k₀ : ℕ) (fs ss : List 
             n-is = s .n-is;
             place = line-further (count ls) (length globals) globals (s .asks .place .table) a b d (f .fits) (f .inside) (d + many) (omega arith) (omega (arith, f .stops, f .one));
             goes = goes-then ls (length fs) (s .goes) step;
+            first-zero = λ z. w .first-zero (s .first-zero z);
+            second-zero = λ z. w .second-zero (s .second-zero z);
           }
 
       pub globals-less : length (globalsFrom (count ls) globals a (d + many)) < length (globalsFrom (count ls) globals p k)

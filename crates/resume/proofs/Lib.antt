@@ -1,12 +1,7 @@
 -- Laws of `resume`. `Outcomes` says that the promise of `next` settles its answer and both outputs; the others are laws of its parts.
-pub mod BoxTurns
-pub mod BriefTurns
-pub mod ScanTurns
-pub mod ListLaws
-pub mod Goings
-pub mod RowTurns
 pub mod AsIs
-pub mod CellTurns
+pub mod Zeros
+pub mod LineTurns
 pub mod GlobalTurns
 pub mod CursorLaws
 pub mod Bounds

@@ -8,8 +8,8 @@ use native.Mathlib.Decide.{decLt}
 use native.Mathlib.Omega.{arith}
 use lib.ListN.{length, getD, take, drop, length-append, length-map}
 use lib.Seq.{drop-drop, length-take-le}
-use lib.Dec.{eqb, ltb, leb}
-use borrow.Author.Tests.{eqb-true, leb-true}
+use lib.Dec.{ltb}
+use borrow.Author.Tests.{lt-ltb, ltb-false}
 use Rattle.refusals.specs.declared.Refusal.{Refusal}
 use Rattle.refusals.specs.declared.Check.{Check}
 use Rattle.refusals.specs.declared.Check.the-variants.{Fine, Refused}
@@ -22,7 +22,7 @@ use Rattle.visit.specs.Batches.{made, handed, firsts, seconds}
 use Rattle.visit.specs.Entries.{outputsCheck}
 use Rattle.seek.specs.Cursors.{globalsRest}
 use Rattle.visit.specs.Inside.{Moved}
-use Rattle.visit.proofs.Clauses.{made-full, handed-full}
+use Rattle.visit.proofs.Clauses.{made-full, handed-full, handed-none}
 use Rattle.visit.proofs.Moves.{none-made, none-handed}
 use Rattle.slices.specs.Slices.{clearedFrom}
 use Rattle.refusals.specs.Refusals.{clears, zeroBeyond, _then_, answerBy, leftIn}
@@ -32,44 +32,32 @@ use Rattle.grid.specs.declared.Grid.{Grid}
 use Rattle.tables.specs.Tables.{Tables}
 use Rattle.seek.specs.Bookmarks.{beside}
 use Rattle.visit.specs.Entries.{pairsLeft}
+use Rattle.through.specs.declared.CellsMade.{CellsMade}
+use Rattle.through.specs.Lists.{listBy, cellsFrom}
+use Rattle.through.specs.Runs.{lentCheck, within, alsoIf, runs, runTests, RanIs, CellsMadeIs}
+use Rattle.through.specs.Inside.{Goes}
+use Rattle.through.proofs.CellTurns.{from-done}
+use Rattle.through.proofs.Bounds.{cells-few}
+use Rattle.through.proofs.RunLaws.{lent-fine}
+use Rattle.through.proofs.Onward.{counts, ends-on, goes-on}
 use Rattle.resume.specs.declared.Cursor.{Cursor}
 use Rattle.resume.specs.declared.Went.{Went}
 use Rattle.resume.specs.declared.nexts.Ran.{Ran}
-use Rattle.resume.specs.declared.rows.CellsRan.{CellsRan}
 use Rattle.resume.specs.declared.globals.GlobalsRan.{GlobalsRan}
 use Rattle.resume.specs.declared.NextAnswer.the-variants as next
-use Rattle.resume.specs.AsTheyAre.{reach, listBy, listAs, globalsAs}
-use Rattle.resume.specs.Cursors.{cellsFrom, globalsFrom, leftFrom, cursorOf}
-use Rattle.resume.specs.Answers.{nextCheck, nextTests, nextAnswer, NextIs}
-use Rattle.resume.specs.Inside.{Goes, Passed, GlobalsAsk, GlobalsRanIs, CellsRanIs, GoAsks, FromAsks, RunAsks, leftBy, RunIs, SettleAsks, Gone}
+use Rattle.resume.specs.AsTheyAre.{reach, listAs, globalsAs}
+use Rattle.resume.specs.Cursors.{globalsFrom, leftFrom, cursorOf}
+use Rattle.resume.specs.Answers.{nextTests, nextAnswer, NextIs}
+use Rattle.resume.specs.Inside.{Passed, GlobalsAsk, GlobalsRanIs, GoAsks, RunAsks, leftBy, RunIs, SettleAsks, Gone}
 use Rattle.resume.proofs.AsIs.{globals-increase}
-use Rattle.resume.proofs.Bounds.{cells-few, globals-few, globals-table, globals-start, clip}
+use Rattle.resume.proofs.Zeros.{Kept, kept}
+use Rattle.resume.proofs.Bounds.{globals-few, globals-table, globals-start, clip}
 use Rattle.resume.proofs.CursorLaws.{reach-most}
 
-module _ (ls : Lines) (first second : List ℕ) where
-  pub next-outputs : (r : Refusal) → unless (eqb (length first) (length second)) 3 0 ≡ Refused r → Refused r ≡ nextCheck ls first second
-  unfolding nextCheck outputsCheck
-  next-outputs r e = sym (andThen-refused _ _ r e)
-
-  module _ (a : unless (eqb (length first) (length second)) 3 0 ≡ Fine) where
-    pub next-lengths : (r : Refusal) → lengthsCheck ls ≡ Refused r → Refused r ≡ nextCheck ls first second
-    unfolding nextCheck outputsCheck
-    next-lengths r e = sym (andThen-fine _ _ a ∙ andThen-refused _ _ r e)
-
-    pub next-count : lengthsCheck ls ≡ Fine → countCheck (count ls) ≡ nextCheck ls first second
-    unfolding nextCheck outputsCheck
-    next-count e = sym (andThen-fine _ _ a ∙ andThen-fine _ _ e)
-
-  pub next-fine : nextCheck ls first second ≡ Fine → GoAsks ls first second
-  unfolding nextCheck outputsCheck countCheck
-  next-fine h =
-      let o = andThen-left _ _ h in
-      let b = andThen-right _ _ h in
-      record {
-        alike = lengths-fine ls (andThen-left _ _ b);
-        few = leb-true (count ls) 65536 (unless-fine (leb (count ls) 65536) 2 (count ls) (andThen-right _ _ b));
-        same = sym (eqb-true (length first) (length second) (unless-fine (eqb (length first) (length second)) 3 0 o));
-      }
+pub next-fine : (ls : Lines) (first second : List ℕ) → lentCheck ls first second ≡ Fine → GoAsks ls first second
+next-fine ls first second h =
+    let a = lent-fine ls first second h 0 (omega arith) in
+    record { fine = h; alike = a .alike; few = a .few; same = a .same }
 
 -- ---- both runs
 
@@ -140,94 +128,130 @@ module _ (ls : Lines) (C C′ G G′ : List Pair) (t₁ t₂ : ℕ) (fs ss fs₁
 -- ---- a run from a cursor
 
 module _ (ls : Lines) (cols m : ℕ) (offsets items globals : List ℕ) (c : Cursor) (fs ss : List ℕ) (a : RunAsks ls m globals fs ss) where
-  pub run-cells : FromAsks ls cols m offsets items (c .place) (c .i) (c .j) fs ss
-  run-cells =
-      record {
-        lent = record { alike = a .asks .alike; same = a .asks .same; in-room = omega arith };
-        small = omega (arith, cells-few (count ls) (a .asks .few) offsets items cols m (c .place) (c .i) (c .j) (a .most));
-      }
+  C : List Pair
+  C = cellsFrom cols (listBy (count ls) offsets items) (m - c .place) (c .place) (c .i) (c .j)
 
-  module _ (fs₁ ss₁ : List ℕ) (r₁ : CellsRan) (w₁ : CellsRanIs ls cols m offsets items (c .place) (c .i) (c .j) fs ss fs₁ ss₁ r₁)
-      (p₀ p k q : ℕ) (e₀ : p₀ ≡ c .place - m) (ep : p ≡ min p₀ (length globals)) (ek : k ≡ min (cond (ltb (c .place) m) 0 (c .j)) (count ls)) (s : Passed globals p k q) where
-    pub run-globals : GlobalsAsk ls globals p q k fs₁ ss₁ (r₁ .hits)
-    run-globals =
-        let g = w₁ .goes [] in
-        record {
-          lent = record { alike = a .asks .alike; same = g .moved .second-long ∙ a .asks .same ∙ sym (g .moved .first-long); in-room = omega (arith, g .moved .in-room, g .moved .first-long) };
-          few = omega (arith, a .asks .few);
-          place = globals-start (count ls) (a .asks .few) globals (a .increase) p k q (omega arith) (omega arith) s;
-          small = omega (arith, globals-few (count ls) (a .asks .few) globals (a .increase) p k);
-        }
+  all-within : within m ≡ m
+  all-within = omega (arith, a .most)
 
-    module _ (fs₂ ss₂ : List ℕ) (r₂ : GlobalsRan) (w₂ : GlobalsRanIs ls globals p k fs₁ ss₁ (r₁ .hits) fs₂ ss₂ r₂) where
-      C : List Pair
-      C = cellsFrom cols (listBy (count ls) offsets items) (m - c .place) (c .place) (c .i) (c .j)
+  runs-here : runs ls m (c .place) fs ss ≡ ltb (c .place) m
+  unfolding runs alsoIf
+  runs-here = rw (a .asks .fine, all-within)
 
-      C′ : List Pair
-      C′ = cellsFrom cols (listBy (count ls) offsets items) (m - r₁ .cell) (r₁ .cell) (r₁ .i) (r₁ .j)
+  none-beyond : ltb (c .place) m ≡ false → C ≡ []
+  unfolding C
+  none-beyond h = from-done cols (listBy (count ls) offsets items) m (c .place) (c .i) (c .j) (ltb-false (c .place) m h)
 
-      G : List Pair
-      G = globalsFrom (count ls) globals p k
+  tests-by : (b : Bool) → ltb (c .place) m ≡ b → cond b (cellsFrom cols (listBy (count ls) offsets items) (m - c .place) (c .place) (c .i) (c .j)) [] ≡ C
+  unfolding C
+  tests-by true e = refl
+  tests-by false e = sym (none-beyond e)
 
-      G′ : List Pair
-      G′ = globalsFrom (count ls) globals (r₂ .p) (r₂ .k)
+  tests-are : runTests ls cols m offsets items (c .place) (c .i) (c .j) fs ss ≡ C
+  unfolding runTests
+  tests-are = rw (runs-here, all-within) (tests-by (ltb (c .place) m) refl)
 
-      first-same : length fs₁ ≡ length fs
-      first-same = w₁ .goes [] .moved .first-long
+  module _ (fs₁ ss₁ : List ℕ) (r₁ : CellsMade) (w₀ : CellsMadeIs ls cols m offsets items (c .place) (c .i) (c .j) fs ss fs₁ ss₁ r₁) where
+    w₁ : RanIs ls cols m offsets items C (ltb (c .place) m) fs ss fs₁ ss₁ r₁
+    w₁ = rw (tests-are, runs-here) at w₀
 
-      whole : leftBy (count ls) cols m offsets items globals c ≡ C ++ G
-      unfolding C G
-      whole = ap (λ (l : List Pair). cellsFrom cols (listBy (count ls) offsets items) (m - c .place) (c .place) (c .i) (c .j) ++ l) (sym (rw (ep, e₀, ek) (clip (count ls) globals (c .place - m) (cond (ltb (c .place) m) 0 (c .j)))))
+    pairs-fit : length (handed ls C (length fs)) ≤ length fs
+    pairs-fit = counts ls C (length fs) .most
 
-      goes₁ : (later : List Pair) → Goes ls (C ++ later) (C′ ++ later) (r₁ .tests) (length fs) fs ss 0 fs₁ ss₁ (r₁ .hits)
-      unfolding C C′
-      goes₁ = w₁ .goes
+    first-kept : Kept (ltb (c .place) m) (r₁ .overlaps) (firsts (handed ls C (length fs))) fs fs₁
+    first-kept =
+        let l = length-map (handed ls C (length fs)) (λ (p : Pair). p .first) in
+        kept (ltb (c .place) m) (r₁ .overlaps) (firsts (handed ls C (length fs))) fs fs₁ (w₁ .overlaps ∙ sym l) (w₁ .first-is) (omega (arith, pairs-fit, l))
+        (λ e. rw (none-beyond e, handed-none ls (length fs)))
 
-      ends₁ : r₁ .hits < length fs → C′ ≡ []
-      unfolding C′
-      ends₁ = w₁ .ends
+    second-kept : Kept (ltb (c .place) m) (r₁ .overlaps) (seconds (handed ls C (length fs))) ss ss₁
+    second-kept =
+        let l = length-map (handed ls C (length fs)) (λ (p : Pair). p .second) in
+        kept (ltb (c .place) m) (r₁ .overlaps) (seconds (handed ls C (length fs))) ss ss₁ (w₁ .overlaps ∙ sym l) (w₁ .second-is) (omega (arith, pairs-fit, l, a .asks .same))
+        (λ e. rw (none-beyond e, handed-none ls (length fs)))
 
-      goes₂ : Goes ls G G′ (r₂ .tests) (length fs) fs₁ ss₁ (r₁ .hits) fs₂ ss₂ (r₂ .hits)
-      unfolding G G′
-      goes₂ = rw first-same at (w₂ .goes)
+    C′ : List Pair
+    C′ = drop (r₁ .tests) C
 
-      ends₂ : r₂ .hits < length fs → G′ ≡ []
-      unfolding G′
-      ends₂ h = w₂ .ends (rw first-same h)
+    goes₁ : (later : List Pair) → Goes ls (C ++ later) (C′ ++ later) (r₁ .tests) (length fs) fs ss 0 fs₁ ss₁ (r₁ .overlaps)
+    unfolding C′
+    goes₁ =
+        goes-on ls C (length fs) (r₁ .tests) (r₁ .overlaps) (w₁ .tests) (w₁ .overlaps) fs ss fs₁ ss₁ (first-kept .taken) (second-kept .taken) (first-kept .long) (second-kept .long)
 
-      few-tests : length (C ++ G) < 2 ^ 64
-      unfolding C G
-      few-tests =
-          omega (
-            arith,
-            length-append (cellsFrom cols (listBy (count ls) offsets items) (m - c .place) (c .place) (c .i) (c .j)) (globalsFrom (count ls) globals p k),
-            cells-few (count ls) (a .asks .few) offsets items cols m (c .place) (c .i) (c .j) (a .most),
-            globals-few (count ls) (a .asks .few) globals (a .increase) p k,
-          )
+    ends₁ : r₁ .overlaps < length fs → C′ ≡ []
+    unfolding C′
+    ends₁ = ends-on ls C (length fs) (r₁ .tests) (r₁ .overlaps) (w₁ .tests) (w₁ .overlaps)
 
-      pub run-small : r₁ .tests + r₂ .tests < 2 ^ 64
-      run-small = omega (arith, both-most ls C C′ G G′ (r₁ .tests) (r₂ .tests) fs ss fs₁ ss₁ fs₂ ss₂ (r₁ .hits) (r₂ .hits) goes₁ ends₁ goes₂ ends₂, few-tests)
-
-      pub run-first-long : length fs₂ ≡ length fs
-      run-first-long = goes₂ .moved .first-long ∙ first-same
-
-      pub run-second-long : length ss₂ ≡ length ss
-      run-second-long = goes₂ .moved .second-long ∙ w₁ .goes [] .moved .second-long
-
-      pub run-is : RunIs ls cols m offsets items globals c fs ss fs₂ ss₂
-          (record { cell = r₁ .cell; i = r₁ .i; j = r₁ .j; p = r₂ .p; q = r₂ .q; k = r₂ .k; tests = r₁ .tests + r₂ .tests; hits = r₂ .hits })
-      unfolding C′ G′
-      run-is =
+    module _ (p₀ p k q : ℕ) (e₀ : p₀ ≡ c .place - m) (ep : p ≡ min p₀ (length globals)) (ek : k ≡ min (cond (ltb (c .place) m) 0 (c .j)) (count ls)) (s : Passed globals p k q) where
+      pub run-globals : GlobalsAsk ls globals p q k fs₁ ss₁ (r₁ .overlaps)
+      run-globals =
+          let g = goes₁ [] in
           record {
-            tests = rw whole (both-tests ls C C′ G G′ (r₁ .tests) (r₂ .tests) fs ss fs₁ ss₁ fs₂ ss₂ (r₁ .hits) (r₂ .hits) goes₁ ends₁ goes₂ ends₂);
-            hits = rw whole (both-hits ls C C′ G G′ (r₁ .tests) (r₂ .tests) fs ss fs₁ ss₁ fs₂ ss₂ (r₁ .hits) (r₂ .hits) goes₁ ends₁ goes₂ ends₂);
-            first-is = rw whole (both-firsts ls C C′ G G′ (r₁ .tests) (r₂ .tests) fs ss fs₁ ss₁ fs₂ ss₂ (r₁ .hits) (r₂ .hits) goes₁ ends₁ goes₂ ends₂);
-            second-is = rw whole (both-seconds ls C C′ G G′ (r₁ .tests) (r₂ .tests) fs ss fs₁ ss₁ fs₂ ss₂ (r₁ .hits) (r₂ .hits) goes₁ ends₁ goes₂ ends₂);
-            first-long = run-first-long;
-            second-long = run-second-long;
-            left = rw whole (both-left ls C C′ G G′ (r₁ .tests) (r₂ .tests) fs ss fs₁ ss₁ fs₂ ss₂ (r₁ .hits) (r₂ .hits) goes₁ ends₁ goes₂ ends₂);
-            place = w₂ .place;
+            lent = record { alike = a .asks .alike; same = g .moved .second-long ∙ a .asks .same ∙ sym (g .moved .first-long); in-room = omega (arith, g .moved .in-room, g .moved .first-long) };
+            few = omega (arith, a .asks .few);
+            place = globals-start (count ls) (a .asks .few) globals (a .increase) p k q (omega arith) (omega arith) s;
+            small = omega (arith, globals-few (count ls) (a .asks .few) globals (a .increase) p k);
           }
+
+      module _ (fs₂ ss₂ : List ℕ) (r₂ : GlobalsRan) (w₂ : GlobalsRanIs ls globals p k fs₁ ss₁ (r₁ .overlaps) fs₂ ss₂ r₂) where
+        G : List Pair
+        G = globalsFrom (count ls) globals p k
+
+        G′ : List Pair
+        G′ = globalsFrom (count ls) globals (r₂ .p) (r₂ .k)
+
+        first-same : length fs₁ ≡ length fs
+        first-same = goes₁ [] .moved .first-long
+
+        whole : leftBy (count ls) cols m offsets items globals c ≡ C ++ G
+        unfolding C G
+        whole = ap (λ (l : List Pair). cellsFrom cols (listBy (count ls) offsets items) (m - c .place) (c .place) (c .i) (c .j) ++ l) (sym (rw (ep, e₀, ek) (clip (count ls) globals (c .place - m) (cond (ltb (c .place) m) 0 (c .j)))))
+
+        goes₂ : Goes ls G G′ (r₂ .tests) (length fs) fs₁ ss₁ (r₁ .overlaps) fs₂ ss₂ (r₂ .hits)
+        unfolding G G′
+        goes₂ = rw first-same at (w₂ .goes)
+
+        ends₂ : r₂ .hits < length fs → G′ ≡ []
+        unfolding G′
+        ends₂ h = w₂ .ends (rw first-same h)
+
+        few-tests : length (C ++ G) < 2 ^ 64
+        unfolding C G
+        few-tests =
+            omega (
+              arith,
+              length-append (cellsFrom cols (listBy (count ls) offsets items) (m - c .place) (c .place) (c .i) (c .j)) (globalsFrom (count ls) globals p k),
+              cells-few (count ls) (a .asks .few) offsets items cols m (c .place) (c .i) (c .j) (a .most),
+              globals-few (count ls) (a .asks .few) globals (a .increase) p k,
+            )
+
+        pub run-small : r₁ .tests + r₂ .tests < 2 ^ 64
+        run-small = omega (arith, both-most ls C C′ G G′ (r₁ .tests) (r₂ .tests) fs ss fs₁ ss₁ fs₂ ss₂ (r₁ .overlaps) (r₂ .hits) goes₁ ends₁ goes₂ ends₂, few-tests)
+
+        pub run-first-long : length fs₂ ≡ length fs
+        run-first-long = goes₂ .moved .first-long ∙ first-same
+
+        pub run-second-long : length ss₂ ≡ length ss
+        run-second-long = goes₂ .moved .second-long ∙ goes₁ [] .moved .second-long
+
+        pub run-is : RunIs ls cols m offsets items globals c fs ss fs₂ ss₂
+            (record { found = r₁ .at; p = r₂ .p; q = r₂ .q; k = r₂ .k; tests = r₁ .tests + r₂ .tests; hits = r₂ .hits })
+        unfolding C′ G′
+        run-is =
+            record {
+              tests = rw whole (both-tests ls C C′ G G′ (r₁ .tests) (r₂ .tests) fs ss fs₁ ss₁ fs₂ ss₂ (r₁ .overlaps) (r₂ .hits) goes₁ ends₁ goes₂ ends₂);
+              hits = rw whole (both-hits ls C C′ G G′ (r₁ .tests) (r₂ .tests) fs ss fs₁ ss₁ fs₂ ss₂ (r₁ .overlaps) (r₂ .hits) goes₁ ends₁ goes₂ ends₂);
+              first-is = rw whole (both-firsts ls C C′ G G′ (r₁ .tests) (r₂ .tests) fs ss fs₁ ss₁ fs₂ ss₂ (r₁ .overlaps) (r₂ .hits) goes₁ ends₁ goes₂ ends₂);
+              second-is = rw whole (both-seconds ls C C′ G G′ (r₁ .tests) (r₂ .tests) fs ss fs₁ ss₁ fs₂ ss₂ (r₁ .overlaps) (r₂ .hits) goes₁ ends₁ goes₂ ends₂);
+              first-long = run-first-long;
+              second-long = run-second-long;
+              left = rw whole (both-left ls C C′ G G′ (r₁ .tests) (r₂ .tests) fs ss fs₁ ss₁ fs₂ ss₂ (r₁ .overlaps) (r₂ .hits) goes₁ ends₁ goes₂ ends₂);
+              rest = C′;
+              at = rw all-within at (w₁ .at);
+              first-zero = λ h. w₂ .first-zero (first-kept .zeros (lt-ltb (c .place) m h));
+              second-zero = λ h. w₂ .second-zero (second-kept .zeros (lt-ltb (c .place) m h));
+              place = w₂ .place;
+            }
 
 -- ---- what `go` and `next` come to
 
@@ -254,12 +278,12 @@ module _ (ls : Lines) (g : Grid) (offsets items globals : List ℕ) (count-of : 
           }
 
       pub go-is : (fs₂ ss₂ : List ℕ) (after : Cursor) → fs₂ ≡ clearedFrom (r .hits) fs₁ → ss₂ ≡ clearedFrom (r .hits) ss₁
-          → after ≡ cursorOf (beside ls g offsets items globals count-of) (cellsFrom (g .cols) (listAs (beside ls g offsets items globals count-of)) (m - r .cell) (r .cell) (r .i) (r .j) ++ globalsFrom (count ls) listed (r .p) (r .k))
+          → after ≡ cursorOf (beside ls g offsets items globals count-of) (w .rest ++ globalsFrom (count ls) listed (r .p) (r .k))
           → Gone ls (beside ls g offsets items globals count-of) c fs ss fs₂ ss₂ (record { tests = r .tests; overlaps = r .hits; cursor = after })
       go-is fs₂ ss₂ after ef es ea =
           let hits : r .hits ≡ length (handed ls (leftFrom (beside ls g offsets items globals count-of) c) (length fs)) = rw left-is at (w .hits) in
           let tests : r .tests ≡ length (made ls (leftFrom (beside ls g offsets items globals count-of) c) (length fs)) = rw left-is at (w .tests) in
-          let cut : drop (r .tests) (leftFrom (beside ls g offsets items globals count-of) c) ≡ cellsFrom (g .cols) (listBy (count ls) offsets items) (m - r .cell) (r .cell) (r .i) (r .j) ++ globalsFrom (count ls) listed (r .p) (r .k) =
+          let cut : drop (r .tests) (leftFrom (beside ls g offsets items globals count-of) c) ≡ w .rest ++ globalsFrom (count ls) listed (r .p) (r .k) =
           rw left-is at (w .left) in
           let end : after ≡ cursorOf (beside ls g offsets items globals count-of) (drop (length (made ls (leftFrom (beside ls g offsets items globals count-of) c) (length fs))) (leftFrom (beside ls g offsets items globals count-of) c)) =
           ea ∙ ap (cursorOf (beside ls g offsets items globals count-of)) (sym cut ∙ ap (λ (n : ℕ). drop n (leftFrom (beside ls g offsets items globals count-of) c)) tests) in
@@ -271,15 +295,15 @@ module _ (ls : Lines) (g : Grid) (offsets items globals : List ℕ) (count-of : 
 
 module _ (ls : Lines) (t : Tables) (c : Cursor) (fs ss : List ℕ) where
   -- a refusal by 3 or 2 leaves the outputs as they were
-  pub next-refused : (r : Refusal) → nextCheck ls fs ss ≡ Refused r → clears (r .number) ≡ false → NextIs ls t c fs ss fs ss (next.Refused r)
+  pub next-refused : (r : Refusal) → lentCheck ls fs ss ≡ Refused r → clears (r .number) ≡ false → NextIs ls t c fs ss fs ss (next.Refused r)
   unfolding nextAnswer nextTests _then_ answerBy pairsLeft leftIn refusals-words.leftBy
   next-refused r e k = record { answers = rw e; first-is = rw (e, k); second-is = rw (e, k) }
 
-  pub next-went : nextCheck ls fs ss ≡ Fine → (fs′ ss′ : List ℕ) (w : Went) → Gone ls t c fs ss fs′ ss′ w → NextIs ls t c fs ss fs′ ss′ (next.Went w)
+  pub next-went : lentCheck ls fs ss ≡ Fine → (fs′ ss′ : List ℕ) (w : Went) → Gone ls t c fs ss fs′ ss′ w → NextIs ls t c fs ss fs′ ss′ (next.Went w)
   unfolding nextAnswer nextTests _then_ answerBy pairsLeft leftIn
   next-went e fs′ ss′ w g = record { answers = rw (e, g .is); first-is = rw e (g .first-is); second-is = rw e (g .second-is) }
 
-pub next-clears : (ls : Lines) (fs ss : List ℕ) (r : Refusal) → nextCheck ls fs ss ≡ Refused r → clears (r .number) ≡ false
-unfolding nextCheck outputsCheck lengthsCheck countCheck
+pub next-clears : (ls : Lines) (fs ss : List ℕ) (r : Refusal) → lentCheck ls fs ss ≡ Refused r → clears (r .number) ≡ false
+unfolding lentCheck outputsCheck lengthsCheck countCheck
 next-clears ls fs ss r e =
     clearing-then (clearing-unless _ 3 0 (numbers-below 3 (omega arith))) (clearing-then (clearing-unless _ 3 0 (numbers-below 3 (omega arith))) (clearing-unless _ 2 (count ls) (numbers-below 2 (omega arith)))) .says r e

@@ -3,15 +3,15 @@ use Prim.Native.Nat.{ℕ}
 use mathlib.Core.Path.{_≡_}
 use mathlib.Core.List.{List}
 use lib.ListN.{length, drop}
-use Rattle.refusals.specs.declared.Check.{Check}
-use Rattle.refusals.specs.Refusals.{andThen, Answer, gives, _then_, answerBy}
+use Rattle.refusals.specs.Refusals.{Answer, gives, _then_, answerBy}
 use Rattle.grid.specs.declared.Grid.{Grid}
-use Rattle.grid.specs.Domain.{Lines, count, lengthsCheck, countCheck}
+use Rattle.grid.specs.Domain.{Lines}
 use Rattle.tables.specs.Tables.{Tables}
 use Rattle.seek.specs.Tests.{Pair}
 use Rattle.visit.specs.Batches.{made, handed, firsts, seconds}
 use Rattle.seek.specs.Bookmarks.{testsFrom}
-use Rattle.visit.specs.Entries.{outputsCheck, pairsLeft}
+use Rattle.visit.specs.Entries.{pairsLeft}
+use Rattle.through.specs.Runs.{lentCheck}
 use Rattle.resume.specs.declared.Cursor.{Cursor}
 use Rattle.resume.specs.declared.Went.{Went}
 use Rattle.resume.specs.declared.StartAnswer.{StartAnswer}
@@ -24,12 +24,9 @@ use Rattle.resume.specs.Cursors.{leftFrom, cursorOf}
 unfoldable pub startAnswer : Lines → Grid → Tables → ℕ → StartAnswer
 startAnswer ls g t b = answerBy start.Refused (λ rest. start.At (cursorOf t rest)) (testsFrom ls g t b)
 
--- 3 of the outputs, 3 and 2 of the lines: what `next` refuses
-unfoldable pub nextCheck : Lines → List ℕ → List ℕ → Check
-nextCheck ls first second = andThen (outputsCheck first second) (andThen (lengthsCheck ls) (countCheck (count ls)))
-
+-- what `next` goes through: the tests that are left, where lines and outputs are not refused
 unfoldable pub nextTests : Lines → Tables → Cursor → List ℕ → List ℕ → Answer (List Pair)
-nextTests ls t c first second = nextCheck ls first second then gives (leftFrom t c)
+nextTests ls t c first second = lentCheck ls first second then gives (leftFrom t c)
 
 -- of the tests that are left, with room for as many pairs as the outputs are long: how many are made, how many overlap, and the cursor of those
 -- that are left then

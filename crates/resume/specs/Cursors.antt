@@ -1,6 +1,6 @@
 -- A cursor: the number of a place, which is a cell or, from the number of cells on, a global by its position; in a cell two entries of its list,
 -- at a global 0 and a line. The tests that are left from a cursor, whatever its numbers are, and the cursor of the first of some tests. Definitions only.
-use Prim.Native.Nat.{ℕ, zero, suc, _+_, _-_, _*_}
+use Prim.Native.Nat.{ℕ, suc, _+_, _-_, _*_}
 use mathlib.Core.Bool.{Bool, true, false, cond}
 use mathlib.Core.List.{List, [], _∷_, _++_}
 use lib.ListN.{length}
@@ -8,8 +8,9 @@ use lib.Dec.{ltb, eqb}
 use Rattle.tables.specs.Tables.{Tables}
 use Rattle.seek.specs.declared.Place.{Place}
 use Rattle.seek.specs.declared.Place.the-variants.{Cell, Global}
-use Rattle.seek.specs.Tests.{Pair, pairs, placeOf}
-use Rattle.seek.specs.Cursors.{restIn, globalsRest}
+use Rattle.seek.specs.Tests.{Pair}
+use Rattle.seek.specs.Cursors.{globalsRest}
+use Rattle.through.specs.Lists.{cellsFrom}
 use Rattle.resume.specs.declared.Cursor.{Cursor}
 use Rattle.resume.specs.AsTheyAre.{reach, listAs, globalsAs}
 
@@ -17,20 +18,6 @@ abbrev pub cursor : ℕ → ℕ → ℕ → Cursor
 cursor place i j = record { place = place; i = i; j = j }
 
 -- ---- the tests that are left
-
--- of a list: entry i with each from j on, but only with later ones, and the later rows
-unfoldable pub listFrom : Place → List ℕ → ℕ → ℕ → List Pair
-listFrom pl xs i j = restIn pl xs i (cond (ltb i j) j (suc i))
-
--- the lists L of `left` cells from cell c on
-unfoldable pub cellsOf : ℕ → (ℕ → List ℕ) → ℕ → ℕ → List Pair
-cellsOf cols L zero c = []
-cellsOf cols L (suc left) c = pairs (placeOf cols c) (L c) ++ cellsOf cols L left (suc c)
-
--- of `left` cells from c on: of the list of c, and of the later cells
-unfoldable pub cellsFrom : ℕ → (ℕ → List ℕ) → ℕ → ℕ → ℕ → ℕ → List Pair
-cellsFrom cols L zero c i j = []
-cellsFrom cols L (suc left) c i j = listFrom (placeOf cols c) (L c) i j ++ cellsOf cols L left (suc c)
 
 -- of the globals: from line k of the one at position p on
 abbrev pub globalsFrom : ℕ → List ℕ → ℕ → ℕ → List Pair

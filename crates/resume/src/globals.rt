@@ -1,5 +1,5 @@
 // From run to run of lines through the globals, until the outputs are full or no test is left.
-use crate::scan;
+use crate::lines;
 use crate::settle;
 use crate::settle::GlobalAt;
 use slices::least;
@@ -65,7 +65,7 @@ pub(crate) fn run_globals(
             break;
         };
         let count = least((stop - d) as usize, first.len() - hits) as u32;
-        hits = scan::scan_lines(
+        hits = lines::scan_lines(
             globals[a],
             d,
             count,

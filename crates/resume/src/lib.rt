@@ -2,12 +2,10 @@
 // from a cursor, over tables as they are.
 use refusals::Refusal;
 
-mod boxes;
 mod globals;
+mod lines;
 mod lists;
 pub mod nexts;
-mod rows;
-mod scan;
 mod settle;
 pub mod starts;
 

@@ -1,9 +1,8 @@
-// Lists as they are, and how many cells are looked at.
+// How many cells are looked at, and the globals as they are.
 use slices::least;
 ghost use mathlib.Core.Path.{_≡_};
 ghost use Prim.Native.Nat.{_-_};
-ghost use Rattle.resume.specs.AsTheyAre.{reachOf, listBy, globalsBy};
-ghost use Rattle.resume.specs.Inside.{CellsPassed};
+ghost use Rattle.resume.specs.AsTheyAre.{reachOf, globalsBy};
 
 pub(crate) fn wide(x: u32) -> usize
     ensures { λ r. ⌜ r ≡ x ⌝ }
@@ -25,42 +24,6 @@ pub(crate) fn reach(cells: usize, told: usize) -> usize
     ensures { λ r. ⌜ r ≡ reachOf cells told ⌝ }
 {
     least(least(cells, less_one(told)), 1002001)
-}
-
-// The list of a cell: empty where the offsets do not tell of it, it is no part of the items, or does not increase below the number of lines.
-pub(crate) fn list_of<'a>(lines: usize, offsets: &[u32], items: &'a [u32], cell: usize) -> &'a [u32]
-    ensures { λ r. ⌜ now r ≡ listBy lines (now (offsets .entry)) (now (items .entry)) cell ⌝ }
-{
-    if less_one(offsets.len()) <= cell {
-        return &items[0..0];
-    }
-    let from = wide(offsets[cell]);
-    let to = wide(offsets[cell + 1]);
-    if to < from {
-        return &items[0..0];
-    }
-    if items.len() < to {
-        return &items[0..0];
-    }
-    if tables::is_increasing(lines, &items[from..to]) {
-        return &items[from..to];
-    }
-    &items[0..0]
-}
-
-// The first cell from a cell on that has two lines, by its offsets alone. A list of fewer has no test, so it is not looked at.
-pub(crate) fn next_cell(reach: usize, offsets: &[u32], cell: usize) -> usize
-    ensures { λ r. ⌜ CellsPassed reach (now (offsets .entry)) cell r ⌝ }
-{
-    let last = least(reach, less_one(offsets.len()));
-    let mut cell = cell;
-    while cell < last {
-        if wide(offsets[cell]) + 2 <= wide(offsets[cell + 1]) {
-            return cell;
-        }
-        cell = cell + 1;
-    }
-    cell
 }
 
 // The globals: none where the count is beyond their slice, or they do not increase below the number of lines.

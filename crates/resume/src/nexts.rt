@@ -5,43 +5,21 @@ use crate::Went;
 use crate::globals;
 use crate::lists;
 use crate::lists::wide;
-use crate::rows;
-use crate::rows::CellsRan;
 use crate::settle;
 use grid::Grid;
 use refusals::Check;
 use slices::least;
+use through::CellAt;
+use through::cells::check_lent;
 ghost use mathlib.Core.Path.{_≡_};
-ghost use mathlib.Core.Bool.{cond};
-ghost use Prim.Native.Nat.{_-_, min, _≤_};
+ghost use mathlib.Core.Bool.{cond, true};
+ghost use Prim.Native.Nat.{_-_, min};
 ghost use lib.Dec.{ltb};
+ghost use Rattle.slices.specs.Slices.{clearedFrom};
 ghost use Rattle.grid.specs.Domain.{lines};
 ghost use Rattle.seek.specs.Bookmarks.{beside};
-ghost use Rattle.resume.specs.Answers.{nextCheck, NextIs};
-ghost use Rattle.resume.specs.Inside.{FromAsks, CellsRanIs, RunAsks, RunIs, GoAsks, Gone};
-
-// Refusals 3, of the outputs and of the lines, and 2.
-fn check_next(
-    start_x: &[f64],
-    start_y: &[f64],
-    end_x: &[f64],
-    end_y: &[f64],
-    first: &[u32],
-    second: &[u32],
-) -> Check
-    ensures { λ r. let ls = lines (now («start_x» .entry)) (now («start_y» .entry)) (now («end_x» .entry)) (now («end_y» .entry)) in
-        ⌜ r ≡ nextCheck ls (now (first .entry)) (now (second .entry)) ⌝ }
-{
-    let lent = refusals::refuse_unless(first.len() == second.len(), 3, 0);
-    if let Check::Refused(r) = lent {
-        return Check::Refused(r);
-    }
-    let alike = grid::checks::check_lengths(start_x, start_y, end_x, end_y);
-    if let Check::Refused(r) = alike {
-        return Check::Refused(r);
-    }
-    grid::checks::check_count(start_x.len())
-}
+ghost use Rattle.resume.specs.Answers.{NextIs};
+ghost use Rattle.resume.specs.Inside.{ZeroAfter, RunAsks, RunIs, GoAsks, Gone};
 
 // The position of the global where a place is beyond the cells; else the first.
 fn position(place: usize, reach: usize) -> usize
@@ -65,60 +43,12 @@ fn line_at(lines: u32, place: usize, reach: usize, j: usize) -> u32
 
 // Where the runs through the cells and through the globals stopped.
 pub(crate) struct Ran {
-    pub cell: usize,
-    pub i: usize,
-    pub j: usize,
+    pub found: CellAt,
     pub p: usize,
     pub q: usize,
     pub k: u32,
     pub tests: u64,
     pub hits: usize,
-}
-
-// The run through the cells, with room of its own for boxes and bytes.
-fn cells_from(
-    cursor: Cursor,
-    cols: u32,
-    reach: usize,
-    offsets: &[u32],
-    items: &[u32],
-    start_x: &[f64],
-    start_y: &[f64],
-    end_x: &[f64],
-    end_y: &[f64],
-    first: &mut [u32],
-    second: &mut [u32],
-) -> CellsRan
-    requires { ⌜ FromAsks (lines (now «start_x») (now «start_y») (now «end_x») (now «end_y»)) cols reach (now offsets) (now items) (cursor .place) (cursor .i) (cursor .j) (now first) (now second) ⌝ }
-    ensures { λ r. let ls = lines (now («start_x» .entry)) (now («start_y» .entry)) (now («end_x» .entry)) (now («end_y» .entry)) in
-        ⌜ CellsRanIs ls cols reach (now (offsets .entry)) (now (items .entry)) (cursor .place) (cursor .i) (cursor .j) (now (first .entry)) (now (second .entry))
-        (now (first .exit)) (now (second .exit)) r ⌝ }
-{
-    let mut low_x = [0.0; 513];
-    let mut low_y = [0.0; 513];
-    let mut high_x = [0.0; 513];
-    let mut high_y = [0.0; 513];
-    let mut marks = [0u8; 512];
-    rows::run_cells(
-        cols,
-        reach,
-        offsets,
-        items,
-        cursor.place,
-        cursor.i,
-        cursor.j,
-        start_x,
-        start_y,
-        end_x,
-        end_y,
-        &mut low_x,
-        &mut low_y,
-        &mut high_x,
-        &mut high_y,
-        &mut marks,
-        first,
-        second,
-    )
 }
 
 // From a cursor on: the cells, and then the globals.
@@ -141,12 +71,14 @@ fn run(
         ⌜ RunIs ls cols reach (now (offsets .entry)) (now (items .entry)) (now (listed .entry)) cursor (now (first .entry)) (now (second .entry)) (now (first .exit)) (now (second .exit)) r ⌝ }
 {
     let n = start_x.len() as u32;
-    let ran = cells_from(
-        cursor,
+    let ran = through::cells::run(
         cols,
         reach,
         offsets,
         items,
+        cursor.place,
+        cursor.i,
+        cursor.j,
         start_x,
         start_y,
         end_x,
@@ -168,18 +100,32 @@ fn run(
         end_y,
         first,
         second,
-        ran.hits,
+        ran.overlaps,
     );
+    let found = ran.at;
     Ran {
-        cell: ran.cell,
-        i: ran.i,
-        j: ran.j,
+        found,
         p: last.p,
         q: last.q,
         k: last.k,
         tests: ran.tests + last.tests,
         hits: last.hits,
     }
+}
+
+// Zero beyond the pairs. Where nothing else stands beyond the entry after them, that one alone is written.
+fn finish(out: &mut [u32], hits: usize, clean: bool)
+    requires { ⌜ (clean ≡ true → ZeroAfter hits (now out)) ⌝ }
+    ensures { λ _. ⌜ now (out .exit) ≡ clearedFrom hits (now (out .entry)) ⌝ }
+{
+    if clean {
+        if hits < out.len() {
+            out[hits] = 0;
+            return;
+        }
+        return;
+    }
+    slices::clear_from(out, hits);
 }
 
 fn go(
@@ -218,8 +164,9 @@ fn go(
         first,
         second,
     );
-    slices::clear_from(first, ran.hits);
-    slices::clear_from(second, ran.hits);
+    let found = ran.found;
+    finish(first, ran.hits, cursor.place < reach);
+    finish(second, ran.hits, cursor.place < reach);
     let after = settle::cursor_at(
         n,
         grid,
@@ -229,9 +176,7 @@ fn go(
         globals,
         global_count,
         listed,
-        ran.cell,
-        ran.i,
-        ran.j,
+        found,
         ran.p,
         ran.q,
         ran.k,
@@ -263,7 +208,7 @@ pub fn next(
         let t = beside ls grid (now (offsets .entry)) (now (items .entry)) (now (globals .entry)) «global_count» in
         ⌜ NextIs ls t cursor (now (first .entry)) (now (second .entry)) (now (first .exit)) (now (second .exit)) r ⌝ }
 {
-    let check = check_next(start_x, start_y, end_x, end_y, first, second);
+    let check = check_lent(start_x, start_y, end_x, end_y, first, second);
     if let Check::Refused(r) = check {
         return NextAnswer::Refused(r);
     }

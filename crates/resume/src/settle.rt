@@ -1,29 +1,18 @@
-// The first test at or after a place: in a list, in the cells, among the globals.
+// The first test at or after a place: among the globals, and in all.
 use crate::Cursor;
 use crate::lists;
 use grid::Grid;
+use through::CellAt;
 ghost use mathlib.Core.Path.{_≡_};
-ghost use mathlib.Core.Bool.{cond};
-ghost use Prim.Native.Nat.{suc, _<_, _-_};
-ghost use mathlib.Core.List.{_++_};
-ghost use lib.Dec.{ltb};
+ghost use mathlib.Core.List.{List, _++_};
 ghost use lib.ListN.{length};
 ghost use Rattle.tables.specs.Tables.{tables};
 ghost use Rattle.seek.specs.Inside.{stopOf};
+ghost use Rattle.seek.specs.Tests.{Pair};
 ghost use Rattle.visit.specs.Inside.{StopAsks, GlobalAsks};
-ghost use Rattle.resume.specs.Cursors.{cellsFrom, globalsFrom, cursorOf};
-ghost use Rattle.resume.specs.AsTheyAre.{listAs, reach};
-ghost use Rattle.resume.specs.Inside.{RowFound, CellFound, GlobalFound, SettleAsks};
-
-pub(crate) enum RowAt {
-    At { i: usize, j: usize },
-    Past,
-}
-
-pub(crate) enum CellAt {
-    At { cell: usize, i: usize, j: usize },
-    Past,
-}
+ghost use Rattle.through.specs.Runs.{LeftAt};
+ghost use Rattle.resume.specs.Cursors.{globalsFrom, cursorOf};
+ghost use Rattle.resume.specs.Inside.{GlobalFound, SettleAsks};
 
 pub(crate) enum GlobalAt {
     At {
@@ -33,61 +22,6 @@ pub(crate) enum GlobalAt {
         stop: u32,
     },
     Past,
-}
-
-// The later entry that entry i is tested with next: j, but none before the one after i.
-fn later(i: usize, j: usize, len: usize) -> usize
-    requires { ⌜ i < len ⌝ }
-    ensures { λ r. ⌜ r ≡ cond (ltb i j) j (suc i) ⌝ }
-{
-    if i < j {
-        return j;
-    }
-    i + 1
-}
-
-// In a list of `len` entries.
-pub(crate) fn row_at(len: usize, i: usize, j: usize) -> RowAt
-    ensures { λ r. ⌜ RowFound len i j r ⌝ }
-{
-    if len <= i {
-        return RowAt::Past;
-    }
-    let at = later(i, j, len);
-    if at < len {
-        return RowAt::At { i, j: at };
-    }
-    if len - i <= 2 {
-        return RowAt::Past;
-    }
-    RowAt::At { i: i + 1, j: i + 2 }
-}
-
-// In the cells.
-pub(crate) fn cell_at(
-    lines: usize,
-    reach: usize,
-    offsets: &[u32],
-    items: &[u32],
-    cell: usize,
-    i: usize,
-    j: usize,
-) -> CellAt
-    ensures { λ r. ⌜ CellFound lines reach (now (offsets .entry)) (now (items .entry)) cell i j r ⌝ }
-{
-    let mut cell = cell;
-    let mut i = i;
-    let mut j = j;
-    while cell < reach {
-        let list = lists::list_of(lines, offsets, items, cell);
-        if let RowAt::At { i: a, j: b } = row_at(list.len(), i, j) {
-            return CellAt::At { cell, i: a, j: b };
-        }
-        cell = lists::next_cell(reach, offsets, cell + 1);
-        i = 0;
-        j = 1;
-    }
-    CellAt::Past
 }
 
 // The line that the next global stands at, or the number of lines where none is left to pass over.
@@ -126,7 +60,7 @@ pub(crate) fn global_at(lines: u32, globals: &[u32], p: usize, q: usize, k: u32)
     GlobalAt::Past
 }
 
-// The cursor of the first test at or after a place in the cells and one among the globals, or the end.
+// The cursor of the first test that is left, by where that of the cells stands and by a place among the globals, or the end.
 pub(crate) fn cursor_at(
     lines: u32,
     grid: Grid,
@@ -136,18 +70,16 @@ pub(crate) fn cursor_at(
     whole: &[u32],
     global_count: usize,
     globals: &[u32],
-    cell: usize,
-    i: usize,
-    j: usize,
+    found: CellAt,
     p: usize,
     q: usize,
     k: u32,
 ) -> Cursor
     requires { let t = tables grid lines (now offsets) (now items) (now whole) «global_count» in ⌜ SettleAsks t reach (now globals) p q k ⌝ }
     ensures { λ r. let t = tables grid lines (now (offsets .entry)) (now (items .entry)) (now (whole .entry)) «global_count» in
-        ⌜ r ≡ cursorOf t (cellsFrom (grid .cols) (listAs t) (reach - cell) cell i j ++ globalsFrom lines (now (globals .entry)) p k) ⌝ }
+        ⌜ ((rest : List Pair) → LeftAt (grid .cols) lines reach (now (offsets .entry)) (now (items .entry)) rest found
+        → r ≡ cursorOf t (rest ++ globalsFrom lines (now (globals .entry)) p k)) ⌝ }
 {
-    let found = cell_at(lists::wide(lines), reach, offsets, items, cell, i, j);
     if let CellAt::At {
         cell: c,
         i: a,

@@ -31,14 +31,16 @@ use Rattle.visit.specs.Entries.{outputsCheck, batchTests, pairsLeft, tallyOf}
 use Rattle.visit.specs.Batches.{made, firsts, seconds}
 use Rattle.seek.proofs.Standing.{stands, cells-few}
 use Rattle.seek.proofs.GlobalRests.{globals-begin, globals-done}
-use Rattle.resume.specs.Answers.{nextCheck, nextTests, NextIs}
+use Rattle.through.specs.Lists.{listIf, listBy, listFrom, cellsOf, cellsFrom}
+use Rattle.through.specs.Runs.{lentCheck}
+use Rattle.resume.specs.Answers.{nextTests, NextIs}
 use Rattle.resume.specs.declared.NextAnswer.{NextAnswer}
 use Rattle.resume.specs.declared.Cursor.{Cursor}
-use Rattle.resume.specs.AsTheyAre.{reachOf, reach, listIf, listBy, listAs, globalsBy, globalsAs}
-use Rattle.resume.specs.Cursors.{cursor, listFrom, cellsOf, cellsFrom, globalsFrom, leftFrom, spotOf, cursorOf}
+use Rattle.resume.specs.AsTheyAre.{reachOf, reach, listAs, globalsBy, globalsAs}
+use Rattle.resume.specs.Cursors.{cursor, globalsFrom, leftFrom, spotOf, cursorOf}
 use Rattle.resume_laws.specs.Words.{cursorAt}
-use Rattle.resume.proofs.ListLaws.{from-later}
-use Rattle.resume.proofs.CellTurns.{of-zero, of-suc, from-at, from-done}
+use Rattle.through.proofs.ListLaws.{from-later}
+use Rattle.through.proofs.CellTurns.{of-zero, of-suc, from-at, from-done}
 use Rattle.resume.proofs.CursorLaws.{settled-cell, cursor-global, cursor-end}
 
 -- ---- tables that fit are all looked at, as they stand
@@ -294,7 +296,7 @@ module _ (t : Tables) (f : TablesFit t) (few : cells t ≤ 1002001) where
           ≡ cellsFrom (t .cols) (listAs t) (reach t - s .c) (s .c) (s .i) (s .j) ++ globalTests (t .lines) (globalsAs t) (length (globalsAs t)) 0 =
           drop-append-le b (cellsOf (t .cols) (listAs t) (reach t) 0) (globalTests (t .lines) (globalsAs t) (length (globalsAs t)) 0) (omega arith) ∙ ap (λ (l : List Pair). l ++ globalTests (t .lines) (globalsAs t) (length (globalsAs t)) 0) (s .is) in
           let k : cursor (s .c) (s .i) (s .j) ≡ cursorOf t (cellsFrom (t .cols) (listAs t) (reach t - s .c) (s .c) (s .i) (s .j) ++ globalTests (t .lines) (globalsAs t) (length (globalsAs t)) 0) =
-          settled-cell t (reach t) refl (s .c) (s .i) (s .j) (s .c) (s .i) (s .j) (record { inside = s .cell; later = s .later; within = s .inside; same = λ cols. refl }) (globalTests (t .lines) (globalsAs t) (length (globalsAs t)) 0) in
+          settled-cell t (reach t) refl (cellsFrom (t .cols) (listAs t) (reach t - s .c) (s .c) (s .i) (s .j)) (s .c) (s .i) (s .j) (record { inside = s .cell; later = s .later; among = s .inside; is = refl }) (globalTests (t .lines) (globalsAs t) (length (globalsAs t)) 0) in
           ap (leftFrom t) (ap (cursorOf t) e ∙ sym k) ∙ left-inside t (s .c) (s .i) (s .j) (s .cell) ∙ sym e
 
   in-globals : (b : ℕ) → b < length G → leftFrom t (cursorOf t (drop b G)) ≡ drop b G
@@ -352,7 +354,7 @@ module _ (ls : Lines) (g : Grid) (t : Tables) (b : ℕ) (same : cells t ≡ g .r
 
   -- THE TESTS of `next` from the cursor of a bookmark are those of a batch from the bookmark. The answer and both outputs of each are one function of them.
   pub join : nextTests ls t (cursorAt t b) first second ≡ batchTests ls g t b first second
-  unfolding nextTests nextCheck batchTests testsFrom
+  unfolding nextTests lentCheck batchTests testsFrom
   join =
       let e : gives (leftFrom t (cursorAt t b)) ≡ (visitCheck ls g t then bookmarkCheck t b then gives (drop b (testsOf t))) =
       ap gives rest-is ∙ sym (passed-all (visitCheck ls g t) (bookmarkCheck t b) (gives (drop b (testsOf t))) fine bookmark-passes) in

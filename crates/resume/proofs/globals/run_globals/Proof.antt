@@ -12,7 +12,7 @@ use Rattle.resume.proofs.globals.run_globals.Statement.{statement}
 use Rattle.resume.proofs.globals.run_globals.Tie as tie
 use Rattle.resume.proofs.globals.run_globals.Reads as reads
 use Rattle.resume.proofs.globals.run_globals.Lts as lts
-use Rattle.resume.proofs.scan.scan_lines.Reads as scan-lines-reads
+use Rattle.resume.proofs.lines.scan_lines.Reads as scan-lines-reads
 use Rattle.resume.proofs.settle.global_at.Reads as global-at-reads
 use Rattle.slices.proofs.least.Reads as least-reads
 

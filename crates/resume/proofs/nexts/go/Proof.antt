@@ -1,12 +1,11 @@
 -- `resume::nexts::go` meets its contract. Assumes nothing.
 use native.Mathlib.Omega.{arith}
-use mathlib.Core.Path.{_≡_, refl, sym, ap, _∙_}
-use Prim.Native.Nat.{ℕ, _+_, _-_, _*_, _≤_, _<_}
-use lib.ListN.{length, getD}
+use borrow.Author.Tests.{ltb-true}
+use lib.ListN.{length}
 use Rattle.grid.specs.Domain.{lines}
-use Rattle.tables.proofs.Turns.{cells-fit}
 use Rattle.resume.proofs.CursorLaws.{reach-here}
 use Rattle.resume.proofs.NextLaws.{go-runs, go-settles, go-is}
+use Rattle.tables.proofs.Turns.{cells-fit}
 use borrow.Author.Needs.{needs}
 use Rattle.resume.proofs.nexts.go.Statement.{statement}
 use Rattle.resume.proofs.nexts.go.Tie as tie
@@ -15,9 +14,9 @@ use Rattle.resume.proofs.nexts.go.Lts as lts
 use Rattle.resume.proofs.lists.globals_of.Reads as globals-of-reads
 use Rattle.resume.proofs.lists.reach.Reads as reach-reads
 use Rattle.resume.proofs.lists.wide.Reads as wide-reads
+use Rattle.resume.proofs.nexts.finish.Reads as finish-reads
 use Rattle.resume.proofs.nexts.run.Reads as run-reads
 use Rattle.resume.proofs.settle.cursor_at.Reads as cursor-at-reads
-use Rattle.slices.proofs.clear_from.Reads as clear-from-reads
 
 cast-n : tie.Need-cast-n
 cast-n c = search needs
@@ -44,18 +43,18 @@ run-requires c κs =
     let m = reach-here (a .grid .rows) (a .grid .cols) (length (a .offsets .now)) _ _ _ (c .before .before .before .before .before .wide .ensures) (c .before .before .before .before .wide2 .ensures) (c .before .before .before .reach .ensures) in
     go-runs ls (a .grid) (a .offsets .now) (a .items .now) (a .globals .now) (a .global-count) (a .cursor) (a .first .now) (a .second .now) _ m _ (c .before .before .globals-of .ensures) (c .before .before .before .before .before .before .before .before .before .before .before .before .before .before .before .pre)
 
-clear-from-requires : tie.Need-clear-from-requires
-clear-from-requires c κs = search needs
+finish-requires : tie.Need-finish-requires
+finish-requires c κs = λ h. c .before .before .before .before .before .before .run .ensures .first-zero (ltb-true _ _ h)
 
-clear-from-requires-2 : tie.Need-clear-from-requires-2
-clear-from-requires-2 c κs = search needs
+finish-requires-2 : tie.Need-finish-requires-2
+finish-requires-2 c κs = λ h. c .before .before .before .before .before .before .before .before .before .before .before .run .ensures .second-zero (ltb-true _ _ h)
 
 cursor-at-requires : tie.Need-cursor-at-requires
 cursor-at-requires c κs =
-    let a = c .before .before .before .before .before .before .before .before .before .before .before .before .before .before .before .before .before .before .before .before .before .before .before .before .before .before .before .before .args in
+    let a = c .before .before .before .before .before .before .before .before .before .before .before .before .before .before .before .before .before .before .before .before .before .before .before .before .before .before .before .before .before .before .args in
     let ls = lines (a .start-x .now) (a .start-y .now) (a .end-x .now) (a .end-y .now) in
-    let m = reach-here (a .grid .rows) (a .grid .cols) (length (a .offsets .now)) _ _ _ (c .before .before .before .before .before .before .before .before .before .before .before .before .before .before .before .before .before .before .wide .ensures) (c .before .before .before .before .before .before .before .before .before .before .before .before .before .before .before .before .before .wide2 .ensures) (c .before .before .before .before .before .before .before .before .before .before .before .before .before .before .before .before .reach .ensures) in
-    go-settles ls (a .grid) (a .offsets .now) (a .items .now) (a .globals .now) (a .global-count) (a .cursor) (a .first .now) (a .second .now) _ m _ (c .before .before .before .before .before .before .before .before .before .before .before .before .before .before .before .globals-of .ensures) _ _ _ (c .before .before .before .before .before .before .before .before .before .before .before .before .run .ensures) (c .before .before .before .before .before .before .before .before .before .before .before .before .before .before .before .before .before .before .before .before .before .before .before .before .before .before .before .before .pre)
+    let m = reach-here (a .grid .rows) (a .grid .cols) (length (a .offsets .now)) _ _ _ (c .before .before .before .before .before .before .before .before .before .before .before .before .before .before .before .before .before .before .before .before .wide .ensures) (c .before .before .before .before .before .before .before .before .before .before .before .before .before .before .before .before .before .before .before .wide2 .ensures) (c .before .before .before .before .before .before .before .before .before .before .before .before .before .before .before .before .before .before .reach .ensures) in
+    go-settles ls (a .grid) (a .offsets .now) (a .items .now) (a .globals .now) (a .global-count) (a .cursor) (a .first .now) (a .second .now) _ m _ (c .before .before .before .before .before .before .before .before .before .before .before .before .before .before .before .before .before .globals-of .ensures) _ _ _ (c .before .before .before .before .before .before .before .before .before .before .before .before .before .before .run .ensures) (c .before .before .before .before .before .before .before .before .before .before .before .before .before .before .before .before .before .before .before .before .before .before .before .before .before .before .before .before .before .before .pre)
 
 same-length : tie.Need-same-length
 same-length c = search needs
@@ -65,10 +64,11 @@ same-length-2 c = search needs
 
 returns : tie.Need-returns
 returns c =
-    let a = c .before .before .before .before .before .before .before .before .before .before .before .before .before .before .before .before .before .before .before .before .before .before .before .before .before .before .before .before .before .args in
+    let a = c .before .before .before .before .before .before .before .before .before .before .before .before .before .before .before .before .before .before .before .before .before .before .before .before .before .before .before .before .before .before .before .args in
     let ls = lines (a .start-x .now) (a .start-y .now) (a .end-x .now) (a .end-y .now) in
-    let m = reach-here (a .grid .rows) (a .grid .cols) (length (a .offsets .now)) _ _ _ (c .before .before .before .before .before .before .before .before .before .before .before .before .before .before .before .before .before .before .before .wide .ensures) (c .before .before .before .before .before .before .before .before .before .before .before .before .before .before .before .before .before .before .wide2 .ensures) (c .before .before .before .before .before .before .before .before .before .before .before .before .before .before .before .before .before .reach .ensures) in
-    go-is ls (a .grid) (a .offsets .now) (a .items .now) (a .globals .now) (a .global-count) (a .cursor) (a .first .now) (a .second .now) _ m _ (c .before .before .before .before .before .before .before .before .before .before .before .before .before .before .before .before .globals-of .ensures) _ _ _ (c .before .before .before .before .before .before .before .before .before .before .before .before .before .run .ensures) _ _ _ (c .before .before .before .before .before .before .before .clear-from .ensures) (c .before .before .before .clear-from2 .ensures) (c .cursor-at .ensures)
+    let m = reach-here (a .grid .rows) (a .grid .cols) (length (a .offsets .now)) _ _ _ (c .before .before .before .before .before .before .before .before .before .before .before .before .before .before .before .before .before .before .before .before .before .wide .ensures) (c .before .before .before .before .before .before .before .before .before .before .before .before .before .before .before .before .before .before .before .before .wide2 .ensures) (c .before .before .before .before .before .before .before .before .before .before .before .before .before .before .before .before .before .before .before .reach .ensures) in
+    let w = c .before .before .before .before .before .before .before .before .before .before .before .before .before .before .before .run .ensures in
+    go-is ls (a .grid) (a .offsets .now) (a .items .now) (a .globals .now) (a .global-count) (a .cursor) (a .first .now) (a .second .now) _ m _ (c .before .before .before .before .before .before .before .before .before .before .before .before .before .before .before .before .before .before .globals-of .ensures) _ _ _ w _ _ _ (c .before .before .before .before .before .before .before .before .finish .ensures) (c .before .before .before .finish2 .ensures) (c .cursor-at .ensures (w .rest) (w .at))
 
 pub go-spec : {M : Type 1} → statement M
 go-spec =
@@ -81,8 +81,8 @@ go-spec =
     reach-requires
     globals-of-requires
     run-requires
-    clear-from-requires
-    clear-from-requires-2
+    finish-requires
+    finish-requires-2
     cursor-at-requires
     same-length
     same-length-2

@@ -10,11 +10,11 @@ use Rattle.resume.proofs.nexts.next.Statement.{statement}
 use Rattle.resume.proofs.nexts.next.Tie as tie
 use Rattle.resume.proofs.nexts.next.Reads as reads
 use Rattle.resume.proofs.nexts.next.Lts as lts
-use Rattle.resume.proofs.nexts.check_next.Reads as check-next-reads
+use Rattle.through.proofs.cells.check_lent.Reads as check-lent-reads
 use Rattle.resume.proofs.nexts.go.Reads as go-reads
 
-check-next-requires : tie.Need-check-next-requires
-check-next-requires c κs = search needs
+check-lent-requires : tie.Need-check-lent-requires
+check-lent-requires c κs = search needs
 
 enum-known-check : tie.Need-enum-known-check
 enum-known-check c = search needs
@@ -30,7 +30,7 @@ returns c =
     let a = c .before .before .before .before .before .before .before .before .before .before .before .before .before .before .before .args in
     let ls = lines (a .start-x .now) (a .start-y .now) (a .end-x .now) (a .end-y .now) in
     let t = beside ls (a .grid) (a .offsets .now) (a .items .now) (a .globals .now) (a .global-count) in
-    let e = sym (c .before .before .before .check-next .ensures) ∙ c .before .check .given .1 in
+    let e = sym (c .before .before .before .check-lent .ensures) ∙ c .before .check .given .1 in
     next-refused ls t (a .cursor) (a .first .now) (a .second .now) _ e (next-clears ls (a .first .now) (a .second .now) _ e)
 
 enum-told : tie.Need-enum-told
@@ -41,7 +41,7 @@ go-requires c κs =
     let a = c .before .before .before .before .before .before .before .before .before .before .before .before .before .before .before .before .args in
     let ls = lines (a .start-x .now) (a .start-y .now) (a .end-x .now) (a .end-y .now) in
     let t = beside ls (a .grid) (a .offsets .now) (a .items .now) (a .globals .now) (a .global-count) in
-    next-fine ls (a .first .now) (a .second .now) (sym (c .before .before .before .before .check-next .ensures) ∙ c .before .before .enum-told .given .1)
+    next-fine ls (a .first .now) (a .second .now) (sym (c .before .before .before .before .check-lent .ensures) ∙ c .before .before .enum-told .given .1)
 
 same-length-3 : tie.Need-same-length-3
 same-length-3 c = search needs
@@ -54,13 +54,13 @@ returns-2 c =
     let a = c .before .before .before .before .before .before .before .before .before .before .before .before .before .before .before .before .before .before .before .before .before .args in
     let ls = lines (a .start-x .now) (a .start-y .now) (a .end-x .now) (a .end-y .now) in
     let t = beside ls (a .grid) (a .offsets .now) (a .items .now) (a .globals .now) (a .global-count) in
-    next-went ls t (a .cursor) (a .first .now) (a .second .now) (sym (c .before .before .before .before .before .before .before .before .before .check-next .ensures) ∙ c .before .before .before .before .before .before .before .enum-told .given .1) _ _ _ (c .before .before .before .before .go .ensures)
+    next-went ls t (a .cursor) (a .first .now) (a .second .now) (sym (c .before .before .before .before .before .before .before .before .before .check-lent .ensures) ∙ c .before .before .before .before .before .before .before .enum-told .given .1) _ _ _ (c .before .before .before .before .go .ensures)
 
 pub next-spec : {M : Type 1} → statement M
 next-spec =
     tie.close
     (tie.spec
-    check-next-requires
+    check-lent-requires
     enum-known-check
     same-length
     same-length-2

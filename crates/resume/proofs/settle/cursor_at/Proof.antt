@@ -1,36 +1,28 @@
 -- `resume::settle::cursor_at` meets its contract. Assumes nothing.
 use native.Mathlib.Omega.{arith}
-use mathlib.Core.Path.{_≡_, refl, sym, ap, _∙_}
-use Prim.Native.Nat.{ℕ, _+_, _-_, _*_, _≤_, _<_}
-use borrow.Author.Needs.{needs}
-use lib.ListN.{length, getD}
-use Rattle.grid.specs.Domain.{lines}
+use mathlib.Core.Path.{refl}
+use Prim.Native.Nat.{_*_}
+use lib.ListN.{length}
 use Rattle.tables.specs.Tables.{tables}
 use Rattle.resume.proofs.CursorLaws.{reach-most, cell-is, cell-none, settled-cell, settled-global, settled-end}
 use Rattle.resume.proofs.GlobalTurns.{global-is, global-past}
+use borrow.Author.Needs.{needs}
 use Rattle.resume.proofs.settle.cursor_at.Statement.{statement}
 use Rattle.resume.proofs.settle.cursor_at.Tie as tie
 use Rattle.resume.proofs.settle.cursor_at.Reads as reads
 use Rattle.resume.proofs.settle.cursor_at.Lts as lts
 use Rattle.resume.proofs.lists.wide.Reads as wide-reads
-use Rattle.resume.proofs.settle.cell_at.Reads as cell-at-reads
 use Rattle.resume.proofs.settle.global_at.Reads as global-at-reads
-
-wide-requires : tie.Need-wide-requires
-wide-requires c κs = search needs
-
-cell-at-requires : tie.Need-cell-at-requires
-cell-at-requires c κs = search needs
 
 enum-known-found : tie.Need-enum-known-found
 enum-known-found c = search needs
 
 returns : tie.Need-returns
 returns c =
-    let a = c .before .before .before .before .before .before .before .before .before .args in
+    let a = c .before .before .before .before .before .before .before .args in
     let t = tables (a .grid) (a .lines) (a .offsets .now) (a .items .now) (a .whole .now) (a .global-count) in
-    let s = c .before .before .before .before .before .before .before .before .before .pre in
-    settled-cell t (a .reach) (s .reach-is) (a .cell) (a .i) (a .j) _ _ _ (cell-is t (a .reach) (s .reach-is) _ (c .before .before .before .before .wide .ensures) (a .cell) (a .i) (a .j) _ (c .before .before .before .cell-at .ensures) _ _ _ (c .before .found .given .1)) _
+    let s = c .before .before .before .before .before .before .before .pre in
+    λ rest f. settled-cell t (a .reach) (s .reach-is) rest _ _ _ (cell-is t (a .reach) (s .reach-is) rest _ f _ _ _ (c .before .found .given .1)) _
 
 enum-told : tie.Need-enum-told
 enum-told c = search needs
@@ -41,54 +33,52 @@ global-at-requires c κs = search needs
 enum-known-line : tie.Need-enum-known-line
 enum-known-line c = search needs
 
-add-t23 : tie.Need-add-t23
-add-t23 c =
-    let a = c .before .before .before .before .before .before .before .before .before .before .before .before .args in
+add-t19 : tie.Need-add-t19
+add-t19 c =
+    let a = c .before .before .before .before .before .before .before .before .before .before .args in
     let t = tables (a .grid) (a .lines) (a .offsets .now) (a .items .now) (a .whole .now) (a .global-count) in
-    let s = c .before .before .before .before .before .before .before .before .before .before .before .before .pre in
-    omega (arith, s .reach-is, reach-most (t .rows * t .cols) (length (t .offsets)), global-is _ _ _ _ _ _ (c .before .before .before .global-at .ensures) _ _ _ _ (c .before .line .given .1) .inside, c .before .before .before .before .before .before .before .before .before .before .before .before)
+    let s = c .before .before .before .before .before .before .before .before .before .before .pre in
+    omega (arith, s .reach-is, reach-most (t .rows * t .cols) (length (t .offsets)), global-is _ _ _ _ _ _ (c .before .before .before .global-at .ensures) _ _ _ _ (c .before .line .given .1) .inside, c .before .before .before .before .before .before .before .before .before .before)
 
-wide-requires-2 : tie.Need-wide-requires-2
-wide-requires-2 c κs = search needs
+wide-requires : tie.Need-wide-requires
+wide-requires c κs = search needs
 
 returns-2 : tie.Need-returns-2
 returns-2 c =
-    let a = c .before .before .before .before .before .before .before .before .before .before .before .before .before .args in
+    let a = c .before .before .before .before .before .before .before .before .before .before .before .args in
     let t = tables (a .grid) (a .lines) (a .offsets .now) (a .items .now) (a .whole .now) (a .global-count) in
-    let s = c .before .before .before .before .before .before .before .before .before .before .before .before .before .pre in
-    settled-global t (a .reach) (s .reach-is) (a .cell) (a .i) (a .j) (cell-none t (a .reach) (s .reach-is) _ (c .before .before .before .before .before .before .before .before .wide .ensures) (a .cell) (a .i) (a .j) _ (c .before .before .before .before .before .before .before .cell-at .ensures) (c .before .before .before .before .before .enum-told .given .1)) (a .lines) refl (a .globals .now) (s .globals-are) (a .p) (a .q) (a .k) (s .place) _ _ _ _ (global-is _ _ _ _ _ _ (c .before .before .before .before .global-at .ensures) _ _ _ _ (c .before .before .line .given .1)) _ (c .wide2 .ensures)
+    let s = c .before .before .before .before .before .before .before .before .before .before .before .pre in
+    λ rest f. settled-global t (a .reach) (s .reach-is) rest (cell-none t (a .reach) (s .reach-is) rest _ f (c .before .before .before .before .before .enum-told .given .1)) (a .lines) refl (a .globals .now) (s .globals-are) (a .p) (a .q) (a .k) (s .place) _ _ _ _ (global-is _ _ _ _ _ _ (c .before .before .before .before .global-at .ensures) _ _ _ _ (c .before .before .line .given .1)) _ (c .wide .ensures)
 
 enum-told-2 : tie.Need-enum-told-2
 enum-told-2 c = search needs
 
-add-t25 : tie.Need-add-t25
-add-t25 c =
-    let a = c .before .before .before .before .before .before .before .before .before .before .before .args in
+add-t22 : tie.Need-add-t22
+add-t22 c =
+    let a = c .before .before .before .before .before .before .before .before .before .args in
     let t = tables (a .grid) (a .lines) (a .offsets .now) (a .items .now) (a .whole .now) (a .global-count) in
-    let s = c .before .before .before .before .before .before .before .before .before .before .before .pre in
-    omega (arith, s .reach-is, reach-most (t .rows * t .cols) (length (t .offsets)), c .before .before .before .before .before .before .before .before .before .before .before)
+    let s = c .before .before .before .before .before .before .before .before .before .pre in
+    omega (arith, s .reach-is, reach-most (t .rows * t .cols) (length (t .offsets)), c .before .before .before .before .before .before .before .before .before)
 
 returns-3 : tie.Need-returns-3
 returns-3 c =
-    let a = c .before .before .before .before .before .before .before .before .before .before .before .args in
+    let a = c .before .before .before .before .before .before .before .before .before .args in
     let t = tables (a .grid) (a .lines) (a .offsets .now) (a .items .now) (a .whole .now) (a .global-count) in
-    let s = c .before .before .before .before .before .before .before .before .before .before .before .pre in
-    settled-end t (a .reach) (s .reach-is) (a .cell) (a .i) (a .j) (cell-none t (a .reach) (s .reach-is) _ (c .before .before .before .before .before .before .wide .ensures) (a .cell) (a .i) (a .j) _ (c .before .before .before .before .before .cell-at .ensures) (c .before .before .before .enum-told .given .1)) (a .lines) refl (a .globals .now) (s .globals-are) (a .p) (a .q) (a .k) (global-past _ _ _ _ _ _ (c .before .before .global-at .ensures) (c .enum-told2 .given .1))
+    let s = c .before .before .before .before .before .before .before .before .before .pre in
+    λ rest f. settled-end t (a .reach) (s .reach-is) rest (cell-none t (a .reach) (s .reach-is) rest _ f (c .before .before .before .enum-told .given .1)) (a .lines) refl (a .globals .now) (s .globals-are) (a .p) (a .q) (a .k) (global-past _ _ _ _ _ _ (c .before .before .global-at .ensures) (c .enum-told2 .given .1))
 
 pub cursor-at-spec : {M : Type 1} → statement M
 cursor-at-spec =
     tie.close
     (tie.spec
-    wide-requires
-    cell-at-requires
     enum-known-found
     returns
     enum-told
     global-at-requires
     enum-known-line
-    add-t23
-    wide-requires-2
+    add-t19
+    wide-requires
     returns-2
     enum-told-2
-    add-t25
+    add-t22
     returns-3)

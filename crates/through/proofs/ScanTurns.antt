@@ -1,0 +1,295 @@
+-- The turns of the loops over bytes, and of a run of lines. Assumes nothing.
+use mathlib.Core.Path.{_≡_, refl, sym, ap, _∙_}
+use mathlib.Core.Bool.{Bool, true, false, _&&_, true≢false}
+use mathlib.Core.List.{List, [], _∷_, _++_}
+use Prim.Native.Nat.{ℕ, zero, suc, _+_, _-_, _≤_, _<_}
+use native.Mathlib.Nat.{add-zero, sub-zero}
+use native.Mathlib.Numerals.{add-one}
+use native.Mathlib.Decide.{ℕ-discrete}
+use native.Mathlib.Omega.{arith}
+use lib.ListN.{length, getD, take, drop, set, length-set, drop-of-length-le}
+use lib.Seq.{drop-cons, getD-set-same, getD-set-other}
+use lib.Dec.{eqb}
+use borrow.Author.Tests.{eqb-true}
+use lib.Ieee.{Float, nan, le}
+use Rattle.grid.specs.declared.Box.{Box}
+use Rattle.grid.specs.Domain.{Lines, count, Alike, segmentAt}
+use Rattle.grid.specs.Boxes.{boxOf, overlaps}
+use Rattle.seek.specs.declared.Place.{Place}
+use Rattle.seek.specs.Tests.{Pair, pair, withEach}
+use Rattle.visit.specs.Overlap.{overlap}
+use Rattle.visit.specs.Inside.{Moved}
+use Rattle.seek.proofs.Clauses.{with-nil, with-cons}
+use Rattle.visit.proofs.Moves.{moved-none, moved-then, moved-hit, moved-miss}
+use Rattle.through.specs.Inside.{LineAsks, boxIn, Room, markOf, MarkAsks, Marked, Whole, RoomFor, PutAsks, Answers, Put, PutWhole, ScanAsks, Scanned}
+
+pub mark-true : markOf true ≡ 1
+unfolding markOf
+mark-true = refl
+
+pub mark-false : markOf false ≡ 0
+unfolding markOf
+mark-false = refl
+
+pub mark-most : (o : Bool) → markOf o ≤ 1
+mark-most true = rw mark-true (omega arith)
+mark-most false = rw mark-false (omega arith)
+
+-- ---- marking
+
+pub record Marking (bounds : Box) (lx ly hx hy : List Float) (at many : ℕ) (marks : List ℕ) (ax ay bx by : Float) (u : ℕ) (marks′ : List ℕ) : Type 0 where
+  pub asks : MarkAsks lx ly hx hy at many marks
+  pub ax-is : ax ≡ bounds .«min_x»
+  pub ay-is : ay ≡ bounds .«min_y»
+  pub bx-is : bx ≡ bounds .«max_x»
+  pub by-is : by ≡ bounds .«max_y»
+  pub to : u ≤ many
+  pub done : Marked bounds lx ly hx hy at u marks marks′
+
+pub mark-start : (bounds : Box) (lx ly hx hy : List Float) (at many : ℕ) (marks : List ℕ) → MarkAsks lx ly hx hy at many marks
+    → Marking bounds lx ly hx hy at many marks (bounds .«min_x») (bounds .«min_y») (bounds .«max_x») (bounds .«max_y») 0 marks
+mark-start bounds lx ly hx hy at many marks a =
+    record {
+      asks = a;
+      ax-is = refl;
+      ay-is = refl;
+      bx-is = refl;
+      by-is = refl;
+      to = omega arith;
+      done = record { each = λ t h. absurd (omega arith); long = refl };
+    }
+
+module _ (bounds : Box) (lx ly hx hy : List Float) (at many : ℕ) (marks : List ℕ) (ax ay bx by : Float) (u : ℕ) (marks′ : List ℕ)
+    (m : Marking bounds lx ly hx hy at many marks ax ay bx by u marks′) where
+  pub mark-end : many ≤ u → Marked bounds lx ly hx hy at many marks marks′
+  mark-end h = let e : u ≡ many = omega (arith, m .to) in rw e at (m .done)
+
+  pub mark-more : u < many → (v : ℕ)
+      → v ≡ markOf (le (getD lx (at + u) nan) bx && (le ax (getD hx (at + u) nan) && (le (getD ly (at + u) nan) by && le ay (getD hy (at + u) nan))))
+      → Marking bounds lx ly hx hy at many marks ax ay bx by (u + 1) (set marks′ u v)
+  unfolding overlaps
+  mark-more h v e =
+      record {
+        asks = m .asks;
+        ax-is = m .ax-is;
+        ay-is = m .ay-is;
+        bx-is = m .bx-is;
+        by-is = m .by-is;
+        to = omega arith;
+        done = record { each = λ t l. go t l (ℕ-discrete t u); long = length-set marks′ u v ∙ m .done .long };
+      }
+    where
+      here : v ≡ markOf (overlaps bounds (boxIn lx ly hx hy (at + u)))
+      here = e ∙ rw (m .ax-is, m .ay-is, m .bx-is, m .by-is)
+
+      go : (t : ℕ) → t < u + 1 → Dec (t ≡ u) → getD (set marks′ u v) t 0 ≡ markOf (overlaps bounds (boxIn lx ly hx hy (at + t)))
+      go t l (yes q) = rw q (getD-set-same marks′ u v 0 (omega (arith, m .asks .in-marks, m .done .long)) ∙ here)
+      go t l (no q) = getD-set-other marks′ u t v 0 q ∙ m .done .each t (omega arith)
+
+-- ---- whole
+
+pub record Asking (many : ℕ) (marks : List ℕ) (all : Bool) (u : ℕ) : Type 0 where
+  pub inside : many ≤ length marks
+  pub to : u ≤ many
+  pub so-far : all ≡ true → Whole u marks
+
+pub whole-start : (many : ℕ) (marks : List ℕ) → many ≤ length marks → Asking many marks true 0
+whole-start many marks a = record { inside = a; to = omega arith; so-far = λ e. record { each = λ t q. absurd (omega arith) } }
+
+and-left : (a b : Bool) → (a && b) ≡ true → a ≡ true
+and-left true b e = refl
+and-left false b e = e
+
+and-right : (a b : Bool) → (a && b) ≡ true → b ≡ true
+and-right true b e = e
+and-right false b e = absurd (true≢false (sym e))
+
+module _ (many : ℕ) (marks : List ℕ) (all : Bool) (u : ℕ) (s : Asking many marks all u) where
+  pub whole-more : u < many → Asking many marks (all && eqb (getD marks u 0) 1) (u + 1)
+  whole-more h =
+      record {
+        inside = s .inside;
+        to = omega arith;
+        so-far = λ e. record { each = λ t q. go e t q (ℕ-discrete t u) };
+      }
+    where
+      go : (all && eqb (getD marks u 0) 1) ≡ true → (t : ℕ) → t < u + 1 → Dec (t ≡ u) → getD marks t 0 ≡ 1
+      go e t q (yes r) = rw r (eqb-true (getD marks u 0) 1 (and-right all (eqb (getD marks u 0) 1) e))
+      go e t q (no r) = s .so-far (and-left all (eqb (getD marks u 0) 1) e) .each t (omega arith)
+
+  pub whole-end : many ≤ u → all ≡ true → Whole many marks
+  whole-end h e = let q : u ≡ many = omega (arith, s .to) in rw q at (s .so-far e)
+
+-- ---- one test more, by its byte
+
+module _ (ls : Lines) (room : ℕ) (pl : Place) (line b : ℕ) (rest later : List Pair) (fs ss : List ℕ) (hits : ℕ) (h : hits < room) (fl : length fs ≡ room) (sl : length ss ≡ room)
+    (m : ℕ) (o : Bool) (eo : overlap ls line b ≡ o) (em : m ≡ markOf o) (begins : rest ≡ pair pl line b ∷ later) where
+  pub one-test : Moved ls rest later 1 room fs ss hits (set fs hits line) (set ss hits b) (hits + m)
+  one-test = go o eo em
+    where
+      go : (o : Bool) → overlap ls line b ≡ o → m ≡ markOf o → Moved ls rest later 1 room fs ss hits (set fs hits line) (set ss hits b) (hits + m)
+      go true e k =
+          let q : m ≡ 1 = k ∙ mark-true in
+          rw (q, begins) (moved-hit ls room (pair pl line b) later fs ss hits h fl sl e)
+      go false e k =
+          let q : m ≡ 0 = k ∙ mark-false in
+          rw (q, add-zero, begins) (moved-miss ls room (pair pl line b) later fs ss hits h fl sl e)
+
+-- ---- putting
+
+pub with-drop : (pl : Place) (line : ℕ) (xs : List ℕ) (u : ℕ) (later : List Pair) → u < length xs
+    → withEach pl line (drop u xs) ++ later ≡ pair pl line (getD xs u 0) ∷ (withEach pl line (drop (u + 1) xs) ++ later)
+with-drop pl line xs u later h = rw (drop-cons xs u 0 h, with-cons, add-one)
+
+put-none : (line : ℕ) (xs marks fs ss : List ℕ) (hits : ℕ) → hits ≤ length fs → Put line xs marks 0 fs ss hits fs ss hits
+put-none line xs marks fs ss hits h =
+    record {
+      moved = λ ls pl later k. moved-none ls (length fs) (withEach pl line xs ++ later) fs ss hits h;
+      most = omega arith;
+      first-long = refl;
+      second-long = refl;
+    }
+
+module _ (line : ℕ) (xs marks : List ℕ) (u : ℕ) (fs ss : List ℕ) (hits : ℕ) (fs′ ss′ : List ℕ) (hits′ : ℕ) (p : Put line xs marks u fs ss hits fs′ ss′ hits′)
+    (r : RoomFor xs fs ss hits) (inside : u < length xs) (m : ℕ) (e : m ≡ getD marks u 0) (small : m ≤ 1) where
+  in-first : hits′ < length fs
+  in-first = omega (arith, p .most, r .room)
+
+  put-step : Put line xs marks (u + 1) fs ss hits (set fs′ hits′ line) (set ss′ hits′ (getD xs u 0)) (hits′ + m)
+  put-step =
+      record {
+        moved = λ ls pl later k.
+            moved-then ls (length fs) _ _ _ u 1 fs ss hits fs′ ss′ hits′ _ _ _ (p .moved ls pl later k)
+            (one-test ls (length fs) pl line (getD xs u 0) (withEach pl line (drop u xs) ++ later) (withEach pl line (drop (u + 1) xs) ++ later) fs′ ss′ hits′ in-first (p .first-long) (p .second-long ∙ r .same) m (overlap ls line (getD xs u 0)) refl (e ∙ k .each u inside) (with-drop pl line xs u later inside));
+        most = omega (arith, p .most);
+        first-long = length-set fs′ hits′ line ∙ p .first-long;
+        second-long = length-set ss′ hits′ (getD xs u 0) ∙ p .second-long;
+      }
+
+pub record Putting (line : ℕ) (xs marks fs ss : List ℕ) (hits : ℕ) (fs′ ss′ : List ℕ) (hits′ u : ℕ) : Type 0 where
+  pub asks : PutAsks xs marks fs ss hits
+  pub to : u ≤ length xs
+  pub put : Put line xs marks u fs ss hits fs′ ss′ hits′
+
+pub put-start : (line : ℕ) (xs marks fs ss : List ℕ) (hits : ℕ) → PutAsks xs marks fs ss hits → Putting line xs marks fs ss hits fs ss hits 0
+put-start line xs marks fs ss hits a = record { asks = a; to = omega arith; put = put-none line xs marks fs ss hits (omega (arith, a .room .room)) }
+
+module _ (line : ℕ) (xs marks fs ss : List ℕ) (hits : ℕ) (fs′ ss′ : List ℕ) (hits′ u : ℕ) (p : Putting line xs marks fs ss hits fs′ ss′ hits′ u) where
+  pub put-end : length xs ≤ u → Put line xs marks (length xs) fs ss hits fs′ ss′ hits′
+  put-end l = let e : u ≡ length xs = omega (arith, p .to) in rw e at (p .put)
+
+  module _ (l : u < length xs) where
+    pub put-in-first : hits′ < length fs′
+    put-in-first = omega (arith, p .put .most, p .asks .room .room, p .put .first-long)
+
+    pub put-in-second : hits′ < length ss′
+    put-in-second = omega (arith, p .put .most, p .asks .room .room, p .asks .room .same, p .put .second-long)
+
+    pub put-bit : getD marks u 0 ≤ 1
+    put-bit = p .asks .bits u l
+
+    pub put-more : (m : ℕ) → m ≡ getD marks u 0 → Putting line xs marks fs ss hits (set fs′ hits′ line) (set ss′ hits′ (getD xs u 0)) (hits′ + m) (u + 1)
+    put-more m e =
+        record {
+          asks = p .asks;
+          to = omega arith;
+          put = put-step line xs marks u fs ss hits fs′ ss′ hits′ (p .put) (p .asks .room) l m e (rw e put-bit);
+        }
+
+-- ---- all of them
+
+pub record Filling (line : ℕ) (xs fs ss : List ℕ) (hits : ℕ) (fs′ ss′ : List ℕ) (hits′ u : ℕ) : Type 0 where
+  pub asks : RoomFor xs fs ss hits
+  pub to : u ≤ length xs
+  pub put : PutWhole line xs u fs ss hits fs′ ss′ hits′
+
+pub fill-start : (line : ℕ) (xs fs ss : List ℕ) (hits : ℕ) → RoomFor xs fs ss hits → Filling line xs fs ss hits fs ss hits 0
+fill-start line xs fs ss hits a =
+    record {
+      asks = a;
+      to = omega arith;
+      put = record { put = λ marks w. put-none line xs marks fs ss hits (omega (arith, a .room)); most = omega arith; first-long = refl; second-long = refl };
+    }
+
+module _ (line : ℕ) (xs fs ss : List ℕ) (hits : ℕ) (fs′ ss′ : List ℕ) (hits′ u : ℕ) (p : Filling line xs fs ss hits fs′ ss′ hits′ u) where
+  pub fill-end : length xs ≤ u → PutWhole line xs (length xs) fs ss hits fs′ ss′ hits′
+  fill-end l = let e : u ≡ length xs = omega (arith, p .to) in rw e at (p .put)
+
+  module _ (l : u < length xs) where
+    pub fill-in-first : hits′ < length fs′
+    fill-in-first = omega (arith, p .put .most, p .asks .room, p .put .first-long)
+
+    pub fill-in-second : hits′ < length ss′
+    fill-in-second = omega (arith, p .put .most, p .asks .room, p .asks .same, p .put .second-long)
+
+    pub fill-more : Filling line xs fs ss hits (set fs′ hits′ line) (set ss′ hits′ (getD xs u 0)) (hits′ + 1) (u + 1)
+    fill-more =
+        record {
+          asks = p .asks;
+          to = omega arith;
+          put = record {
+            put = λ marks w. put-step line xs marks u fs ss hits fs′ ss′ hits′ (p .put .put marks w) (p .asks) l 1 (sym (w .each u l)) (omega arith);
+            most = omega (arith, p .put .most);
+            first-long = length-set fs′ hits′ line ∙ p .put .first-long;
+            second-long = length-set ss′ hits′ (getD xs u 0) ∙ p .put .second-long;
+          };
+        }
+
+-- ---- a part of a list
+
+abbrev ones : List ℕ → List ℕ
+ones [] = []
+ones (x ∷ xs) = 1 ∷ ones xs
+
+ones-at : (xs : List ℕ) (u : ℕ) → u < length xs → getD (ones xs) u 0 ≡ 1
+ones-at [] u h = absurd (omega arith)
+ones-at (x ∷ xs) zero h = refl
+ones-at (x ∷ xs) (suc u) h = ones-at xs u (omega arith)
+
+module _ (ls : Lines) (line : ℕ) (xs : List ℕ) (lx ly hx hy : List Float) (at : ℕ) (marks fs ss : List ℕ) (hits : ℕ) (a : ScanAsks ls line xs lx ly hx hy at marks fs ss hits) where
+  pub scan-marks : MarkAsks lx ly hx hy at (length xs) marks
+  scan-marks = record { room = a .held; in-marks = a .in-marks }
+
+  -- a line whose box overlaps the inner one
+  module _ (bounds : Box) (e : bounds ≡ boxOf (segmentAt ls line)) (inner : Box) (k : inner ≡ boxIn lx ly hx hy 512) (o : overlaps bounds inner ≡ true) where
+    all-answer : Answers ls line xs (ones xs)
+    unfolding overlap
+    all-answer =
+        record {
+          each = λ u h.
+              let w : overlaps (boxOf (segmentAt ls line)) (boxOf (segmentAt ls (getD xs u 0))) ≡ true = rw (e, a .boxes u h) at (a .says u h bounds (sym (ap (overlaps bounds) k) ∙ o)) in
+              ones-at xs u h ∙ sym (ap markOf w ∙ mark-true);
+        }
+
+    pub scanned-whole : (fs′ ss′ : List ℕ) (hits′ : ℕ) → PutWhole line xs (length xs) fs ss hits fs′ ss′ hits′ → Scanned ls line xs marks fs ss hits marks fs′ ss′ hits′
+    scanned-whole fs′ ss′ hits′ p =
+        record {
+          moved = λ pl later.
+              rw (drop-of-length-le xs {i = length xs} (omega arith), with-nil)
+              at (p .put (ones xs) (record { each = λ u h. ones-at xs u h }) .moved ls pl later all-answer);
+          marks-long = refl;
+          first-long = p .first-long;
+          second-long = p .second-long;
+        }
+
+  module _ (bounds : Box) (e : bounds ≡ boxOf (segmentAt ls line)) (marks′ : List ℕ) (m : Marked bounds lx ly hx hy at (length xs) marks marks′) where
+    pub scan-puts : PutAsks xs marks′ fs ss hits
+    scan-puts =
+        record {
+          in-marks = omega (arith, a .in-marks, m .long);
+          bits = λ u h. rw (m .each u h) (mark-most (overlaps bounds (boxIn lx ly hx hy (at + u))));
+          room = a .room;
+        }
+
+    answers : Answers ls line xs marks′
+    unfolding overlap
+    answers = record { each = λ u h. m .each u h ∙ ap markOf (rw (e, a .boxes u h)) }
+
+    pub scanned : (fs′ ss′ : List ℕ) (hits′ : ℕ) → Put line xs marks′ (length xs) fs ss hits fs′ ss′ hits′ → Scanned ls line xs marks fs ss hits marks′ fs′ ss′ hits′
+    scanned fs′ ss′ hits′ p =
+        record {
+          moved = λ pl later. rw (drop-of-length-le xs {i = length xs} (omega arith), with-nil) at (p .moved ls pl later answers);
+          marks-long = m .long;
+          first-long = p .first-long;
+          second-long = p .second-long;
+        }

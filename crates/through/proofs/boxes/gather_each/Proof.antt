@@ -1,0 +1,123 @@
+-- `through::boxes::gather_each` meets its contract. The invariant: the boxes of the entries before u stand there. Assumes nothing.
+use native.Mathlib.Omega.{arith}
+use mathlib.Core.Path.{_≡_, refl, sym, ap, _∙_}
+use Prim.Native.Nat.{ℕ, _+_, _-_}
+use borrow.Author.Needs.{needs}
+use lib.ListN.{length, getD}
+use Rattle.grid.specs.Domain.{lines}
+use Rattle.through.proofs.BoxTurns.{Gathering, gather-start, gather-asks, gather-more, gather-end}
+use Rattle.through.proofs.boxes.gather_each.Statement.{statement}
+use Rattle.through.proofs.boxes.gather_each.Tie as tie
+use Rattle.through.proofs.boxes.gather_each.Reads as reads
+use Rattle.through.proofs.boxes.gather_each.Lts as lts
+use Rattle.through.proofs.boxes.box_at.Reads as box-at-reads
+
+abbrev Inv-loop : tie.InvT-loop
+Inv-loop list start-x start-y end-x end-y low-x₀ low-y₀ high-x₀ high-y₀ ax₀ ay₀ bx₀ by₀ u₀ low-x low-y high-x high-y ax ay bx by u =
+    Gathering (lines start-x start-y end-x end-y) list low-x₀ low-y₀ high-x₀ high-y₀ u low-x low-y high-x high-y
+
+abbrev μ-loop : tie.MeasureT-loop
+μ-loop list start-x start-y end-x end-y low-x₀ low-y₀ high-x₀ high-y₀ ax₀ ay₀ bx₀ by₀ u₀ low-x low-y high-x high-y ax ay bx by u = length list - u
+
+loop-holds : tie.Need-loop-holds Inv-loop μ-loop
+loop-holds c = gather-start _ _ _ _ _ _ (search needs)
+
+mul-box-at : tie.Need-mul-box-at Inv-loop μ-loop
+mul-box-at c = omega arith
+
+shared-slice-read-box-at : tie.Need-shared-slice-read-box-at Inv-loop μ-loop
+shared-slice-read-box-at c = omega arith
+
+box-at-requires : tie.Need-box-at-requires Inv-loop μ-loop
+box-at-requires c κs = gather-asks _ _ _ _ _ _ _ _ _ _ _ (c .before .before .loop .inv) (c .before .loop-test .taken)
+
+higher-requires : tie.Need-higher-requires Inv-loop μ-loop
+higher-requires c κs = tt
+
+higher-requires-2 : tie.Need-higher-requires-2 Inv-loop μ-loop
+higher-requires-2 c κs = tt
+
+lower-requires : tie.Need-lower-requires Inv-loop μ-loop
+lower-requires c κs = tt
+
+lower-requires-2 : tie.Need-lower-requires-2 Inv-loop μ-loop
+lower-requires-2 c κs = tt
+
+mul-low-x : tie.Need-mul-low-x Inv-loop μ-loop
+mul-low-x c = omega arith
+
+slice-write-low-x : tie.Need-slice-write-low-x Inv-loop μ-loop
+slice-write-low-x c = omega arith
+
+mul-low-y : tie.Need-mul-low-y Inv-loop μ-loop
+mul-low-y c = omega arith
+
+slice-write-low-y : tie.Need-slice-write-low-y Inv-loop μ-loop
+slice-write-low-y c = omega arith
+
+mul-high-x : tie.Need-mul-high-x Inv-loop μ-loop
+mul-high-x c = omega arith
+
+slice-write-high-x : tie.Need-slice-write-high-x Inv-loop μ-loop
+slice-write-high-x c = omega arith
+
+mul-high-y : tie.Need-mul-high-y Inv-loop μ-loop
+mul-high-y c = omega arith
+
+slice-write-high-y : tie.Need-slice-write-high-y Inv-loop μ-loop
+slice-write-high-y c = omega arith
+
+add-u : tie.Need-add-u Inv-loop μ-loop
+add-u c = omega arith
+
+loop-less : tie.Need-loop-less Inv-loop μ-loop
+loop-less c = omega arith
+
+loop-again : tie.Need-loop-again Inv-loop μ-loop
+loop-again c = gather-more _ _ _ _ _ _ _ _ _ _ _ (c .before .before .before .before .before .before .before .loop .inv) (c .before .before .before .before .before .before .loop-test .taken) _ (c .before .before .before .before .box-at .ensures)
+
+same-length : tie.Need-same-length Inv-loop μ-loop
+same-length c = omega arith
+
+same-length-2 : tie.Need-same-length-2 Inv-loop μ-loop
+same-length-2 c = omega arith
+
+same-length-3 : tie.Need-same-length-3 Inv-loop μ-loop
+same-length-3 c = omega arith
+
+same-length-4 : tie.Need-same-length-4 Inv-loop μ-loop
+same-length-4 c = omega arith
+
+returns : tie.Need-returns Inv-loop μ-loop
+returns c = gather-end _ _ _ _ _ _ _ _ _ _ _ (c .before .loop .inv) (c .loop-test .left)
+
+pub gather-each-spec : {M : Type 1} → statement M
+gather-each-spec =
+    tie.close
+    (tie.spec
+    Inv-loop
+    μ-loop
+    loop-holds
+    mul-box-at
+    shared-slice-read-box-at
+    box-at-requires
+    higher-requires
+    higher-requires-2
+    lower-requires
+    lower-requires-2
+    mul-low-x
+    slice-write-low-x
+    mul-low-y
+    slice-write-low-y
+    mul-high-x
+    slice-write-high-x
+    mul-high-y
+    slice-write-high-y
+    add-u
+    loop-less
+    loop-again
+    same-length
+    same-length-2
+    same-length-3
+    same-length-4
+    returns)

@@ -1,0 +1,194 @@
+// One line with each of a part of a list: first the answers as bytes, by a loop in which no turn waits for another, and then the pairs by the
+// bytes.
+use crate::boxes;
+use grid::Box;
+ghost use mathlib.Core.Path.{_≡_};
+ghost use mathlib.Core.Bool.{true};
+ghost use Prim.Native.Nat.{_≤_};
+ghost use lib.ListN.{length};
+ghost use Rattle.grid.specs.Domain.{lines};
+ghost use Rattle.grid.specs.Boxes.{overlaps};
+ghost use Rattle.through.specs.Inside.{markOf, MarkAsks, Marked, Whole, RoomFor, PutAsks, Put, PutWhole, ScanAsks, Scanned, FewAsks, answersIn};
+
+fn mark_of(b: bool) -> u8
+    ensures { λ r. ⌜ r ≡ markOf b ⌝ }
+{
+    if b {
+        return 1;
+    }
+    0
+}
+
+fn wide8(x: u8) -> usize
+    ensures { λ r. ⌜ r ≡ x ⌝ }
+{
+    x as usize
+}
+
+// Byte u becomes the answer of a box with that at entry at + u. None of the comparisons is a branch.
+fn mark(
+    bounds: Box,
+    low_x: &[f64],
+    low_y: &[f64],
+    high_x: &[f64],
+    high_y: &[f64],
+    at: usize,
+    many: usize,
+    marks: &mut [u8],
+)
+    requires { ⌜ MarkAsks (now «low_x») (now «low_y») (now «high_x») (now «high_y») at many (now marks) ⌝ }
+    ensures { λ _. ⌜ Marked bounds (now («low_x» .entry)) (now («low_y» .entry)) (now («high_x» .entry)) (now («high_y» .entry)) at many (now (marks .entry)) (now (marks .exit)) ⌝ }
+{
+    let ax = bounds.min_x;
+    let ay = bounds.min_y;
+    let bx = bounds.max_x;
+    let by = bounds.max_y;
+    let mut u = 0;
+    while u < many {
+        let hit = (low_x[at + u] <= bx)
+            & ((ax <= high_x[at + u]) & ((low_y[at + u] <= by) & (ay <= high_y[at + u])));
+        marks[u] = mark_of(hit);
+        u = u + 1;
+    }
+}
+
+// Whether each of the first bytes is 1. Few are not asked, since the test would cost more than it saves.
+fn whole(many: usize, marks: &[u8]) -> bool
+    requires { ⌜ many ≤ length (now marks) ⌝ }
+    ensures { λ r. ⌜ (r ≡ true → Whole many (now (marks .entry))) ⌝ }
+{
+    if many <= 16 {
+        return false;
+    }
+    let mut all = true;
+    let mut u = 0;
+    while u < many {
+        all = all & (marks[u] == 1);
+        u = u + 1;
+    }
+    all
+}
+
+// Each pair is written; one that does not overlap is written over.
+fn put_some(
+    line: u32,
+    list: &[u32],
+    marks: &[u8],
+    first: &mut [u32],
+    second: &mut [u32],
+    hits: usize,
+) -> usize
+    requires { ⌜ PutAsks (now list) (now marks) (now first) (now second) hits ⌝ }
+    ensures { λ r. ⌜ Put line (now (list .entry)) (now (marks .entry)) (length (now (list .entry))) (now (first .entry)) (now (second .entry)) hits (now (first .exit)) (now (second .exit)) r ⌝ }
+{
+    let mut hits = hits;
+    let mut u = 0;
+    while u < list.len() {
+        first[hits] = line;
+        second[hits] = list[u];
+        hits = hits + wide8(marks[u]);
+        u = u + 1;
+    }
+    hits
+}
+
+// Where all bytes are 1: one fill and one copy.
+fn put_whole(line: u32, list: &[u32], first: &mut [u32], second: &mut [u32], hits: usize) -> usize
+    requires { ⌜ RoomFor (now list) (now first) (now second) hits ⌝ }
+    ensures { λ r. ⌜ PutWhole line (now (list .entry)) (length (now (list .entry))) (now (first .entry)) (now (second .entry)) hits (now (first .exit)) (now (second .exit)) r ⌝ }
+{
+    let mut hits = hits;
+    let mut u = 0;
+    while u < list.len() {
+        first[hits] = line;
+        second[hits] = list[u];
+        hits = hits + 1;
+        u = u + 1;
+    }
+    hits
+}
+
+fn put(
+    line: u32,
+    list: &[u32],
+    marks: &[u8],
+    first: &mut [u32],
+    second: &mut [u32],
+    hits: usize,
+) -> usize
+    requires { ⌜ PutAsks (now list) (now marks) (now first) (now second) hits ⌝ }
+    ensures { λ r. ⌜ Put line (now (list .entry)) (now (marks .entry)) (length (now (list .entry))) (now (first .entry)) (now (second .entry)) hits (now (first .exit)) (now (second .exit)) r ⌝ }
+{
+    if whole(list.len(), marks) {
+        return put_whole(line, list, first, second, hits);
+    }
+    put_some(line, list, marks, first, second, hits)
+}
+
+// Whether two boxes overlap, by the near ends and then by the far ones: each time both axes are asked at once.
+fn meets(a: Box, b: Box) -> bool
+    ensures { λ r. ⌜ r ≡ overlaps a b ⌝ }
+{
+    ((b.min_x <= a.max_x) & (b.min_y <= a.max_y)) & ((a.min_x <= b.max_x) & (a.min_y <= b.max_y))
+}
+
+// The pairs of a line, whose box is lent, with each of a short list. A byte for each answer would cost more than it saves.
+pub(crate) fn scan_few(
+    line: u32,
+    bounds: Box,
+    list: &[u32],
+    flat: &[f64],
+    at: usize,
+    first: &mut [u32],
+    second: &mut [u32],
+    hits: usize,
+) -> usize
+    requires { ⌜ FewAsks (now list) (now flat) at (now first) (now second) hits ⌝ }
+    ensures { λ r. let marks = answersIn bounds (now (flat .entry)) at (length (now (list .entry))) in
+        ⌜ Put line (now (list .entry)) marks (length (now (list .entry))) (now (first .entry)) (now (second .entry)) hits (now (first .exit)) (now (second .exit)) r ⌝ }
+{
+    let mut hits = hits;
+    let mut u = 0;
+    while u < list.len() {
+        let other = boxes::flat_at(flat, at + u);
+        let hit = wide8(mark_of(meets(bounds, other)));
+        first[hits] = line;
+        second[hits] = list[u];
+        hits = hits + hit;
+        u = u + 1;
+    }
+    hits
+}
+
+// The pairs of a line with each of a list, whose boxes stand ready from `at` on, and for which there is room. A line
+// that overlaps the box within all of them overlaps each: then no other is asked.
+pub(crate) fn scan(
+    line: u32,
+    list: &[u32],
+    start_x: &[f64],
+    start_y: &[f64],
+    end_x: &[f64],
+    end_y: &[f64],
+    low_x: &[f64],
+    low_y: &[f64],
+    high_x: &[f64],
+    high_y: &[f64],
+    at: usize,
+    marks: &mut [u8],
+    first: &mut [u32],
+    second: &mut [u32],
+    hits: usize,
+) -> usize
+    requires { let ls = lines (now «start_x») (now «start_y») (now «end_x») (now «end_y») in
+        ⌜ ScanAsks ls line (now list) (now «low_x») (now «low_y») (now «high_x») (now «high_y») at (now marks) (now first) (now second) hits ⌝ }
+    ensures { λ r. let ls = lines (now («start_x» .entry)) (now («start_y» .entry)) (now («end_x» .entry)) (now («end_y» .entry)) in
+        ⌜ Scanned ls line (now (list .entry)) (now (marks .entry)) (now (first .entry)) (now (second .entry)) hits (now (marks .exit)) (now (first .exit)) (now (second .exit)) r ⌝ }
+{
+    let bounds = boxes::box_at(start_x, start_y, end_x, end_y, line);
+    let inner = boxes::inner_in(low_x, low_y, high_x, high_y);
+    if bounds.overlaps_with(inner) {
+        return put_whole(line, list, first, second, hits);
+    }
+    mark(bounds, low_x, low_y, high_x, high_y, at, list.len(), marks);
+    put(line, list, marks, first, second, hits)
+}

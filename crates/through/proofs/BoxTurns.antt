@@ -18,7 +18,7 @@ use Rattle.grid.proofs.Bools.{and-left, and-right}
 use Rattle.grid.specs.declared.Box.{Box}
 use Rattle.grid.specs.Domain.{Lines, count, Alike, segmentAt, segmentBy}
 use Rattle.grid.specs.Boxes.{boxOf, overlaps}
-use Rattle.through.specs.Inside.{LineAsks, boxIn, flatIn, FlatAsks, FlatFilled, Room, Long, GatherAsks, Filled, Gathered, nowhere, Inner}
+use Rattle.through.specs.Inside.{LineAsks, boxIn, withBox, flatIn, FlatAsks, FlatFilled, Room, GatherAsks, Filled, Gathered, nowhere, Inner}
 
 module _ (ls : Lines) (i : ℕ) (h : LineAsks ls i) where
   pub in-start-y : i < length (ls .«start_y»)
@@ -67,69 +67,103 @@ both-axes true true false s = refl
 both-axes true false true s = refl
 both-axes true false false s = refl
 
+-- ---- a box in a room
+
+module _ (bs : List Float) (u : ℕ) (b : Box) where
+  pub with-long : length (withBox bs u b) ≡ length bs
+  unfolding withBox
+  with-long = simp length-set
+
+  away : (q : ℕ) → (q ≡ u → ⊥) → (q ≡ 513 + u → ⊥) → (q ≡ 1026 + u → ⊥) → (q ≡ 1539 + u → ⊥) → getD (withBox bs u b) q nan ≡ getD bs q nan
+  unfolding withBox
+  away q x y z w =
+      getD-set-other (set (set (set bs u (b .«min_x»)) (513 + u) (b .«min_y»)) (1026 + u) (b .«max_x»)) (1539 + u) q (b .«max_y») nan w
+      ∙ getD-set-other (set (set bs u (b .«min_x»)) (513 + u) (b .«min_y»)) (1026 + u) q (b .«max_x») nan z
+      ∙ getD-set-other (set bs u (b .«min_x»)) (513 + u) q (b .«min_y») nan y
+      ∙ getD-set-other bs u q (b .«min_x») nan x
+
+  module _ (h : u ≤ 512) where
+    pub with-other : (t : ℕ) → t ≤ 512 → (t ≡ u → ⊥) → boxIn (withBox bs u b) t ≡ boxIn bs t
+    with-other t k ne =
+        rw (
+          away t ne (λ e. omega arith) (λ e. omega arith) (λ e. omega arith),
+          away (513 + t) (λ e. omega arith) (λ e. ne (omega arith)) (λ e. omega arith) (λ e. omega arith),
+          away (1026 + t) (λ e. omega arith) (λ e. omega arith) (λ e. ne (omega arith)) (λ e. omega arith),
+          away (1539 + t) (λ e. omega arith) (λ e. omega arith) (λ e. omega arith) (λ e. ne (omega arith)),
+        )
+
+    module _ (l : 2052 ≤ length bs) where
+      one-in : length (set bs u (b .«min_x»)) ≡ length bs
+      one-in = length-set bs u (b .«min_x»)
+
+      two-in : length (set (set bs u (b .«min_x»)) (513 + u) (b .«min_y»)) ≡ length bs
+      two-in = simp length-set
+
+      three-in : length (set (set (set bs u (b .«min_x»)) (513 + u) (b .«min_y»)) (1026 + u) (b .«max_x»)) ≡ length bs
+      three-in = simp length-set
+
+      first-in : getD (withBox bs u b) u nan ≡ b .«min_x»
+      unfolding withBox
+      first-in =
+          getD-set-other (set (set (set bs u (b .«min_x»)) (513 + u) (b .«min_y»)) (1026 + u) (b .«max_x»)) (1539 + u) u (b .«max_y») nan (λ e. omega arith)
+          ∙ getD-set-other (set (set bs u (b .«min_x»)) (513 + u) (b .«min_y»)) (1026 + u) u (b .«max_x») nan (λ e. omega arith)
+          ∙ getD-set-other (set bs u (b .«min_x»)) (513 + u) u (b .«min_y») nan (λ e. omega arith)
+          ∙ getD-set-same bs u (b .«min_x») nan (omega arith)
+
+      second-in : getD (withBox bs u b) (513 + u) nan ≡ b .«min_y»
+      unfolding withBox
+      second-in =
+          getD-set-other (set (set (set bs u (b .«min_x»)) (513 + u) (b .«min_y»)) (1026 + u) (b .«max_x»)) (1539 + u) (513 + u) (b .«max_y») nan (λ e. omega arith)
+          ∙ getD-set-other (set (set bs u (b .«min_x»)) (513 + u) (b .«min_y»)) (1026 + u) (513 + u) (b .«max_x») nan (λ e. omega arith)
+          ∙ getD-set-same (set bs u (b .«min_x»)) (513 + u) (b .«min_y») nan (omega (arith, one-in))
+
+      third-in : getD (withBox bs u b) (1026 + u) nan ≡ b .«max_x»
+      unfolding withBox
+      third-in =
+          getD-set-other (set (set (set bs u (b .«min_x»)) (513 + u) (b .«min_y»)) (1026 + u) (b .«max_x»)) (1539 + u) (1026 + u) (b .«max_y») nan (λ e. omega arith)
+          ∙ getD-set-same (set (set bs u (b .«min_x»)) (513 + u) (b .«min_y»)) (1026 + u) (b .«max_x») nan (omega (arith, two-in))
+
+      last-in : getD (withBox bs u b) (1539 + u) nan ≡ b .«max_y»
+      unfolding withBox
+      last-in = getD-set-same (set (set (set bs u (b .«min_x»)) (513 + u) (b .«min_y»)) (1026 + u) (b .«max_x»)) (1539 + u) (b .«max_y») nan (omega (arith, three-in))
+
+      pub with-same : boxIn (withBox bs u b) u ≡ b
+      with-same = rw (first-in, second-in, third-in, last-in)
+
 -- ---- gathering
 
-pub record Gathering (ls : Lines) (xs : List ℕ) (lx ly hx hy : List Float) (u : ℕ) (lx′ ly′ hx′ hy′ : List Float) : Type 0 where
-  pub asks : GatherAsks ls xs lx ly hx hy
+pub record Gathering (ls : Lines) (xs : List ℕ) (bs : List Float) (u : ℕ) (bs′ : List Float) : Type 0 where
+  pub asks : GatherAsks ls xs bs
   pub to : u ≤ length xs
-  pub done : Filled ls xs u lx ly hx hy lx′ ly′ hx′ hy′
+  pub done : Filled ls xs u bs bs′
 
-pub gather-start : (ls : Lines) (xs : List ℕ) (lx ly hx hy : List Float) → GatherAsks ls xs lx ly hx hy → Gathering ls xs lx ly hx hy 0 lx ly hx hy
-gather-start ls xs lx ly hx hy a =
-    record {
-      asks = a;
-      to = omega arith;
-      done = record { each = λ u h. absurd (omega arith); long = record { lx-long = refl; ly-long = refl; hx-long = refl; hy-long = refl } };
-    }
+pub gather-start : (ls : Lines) (xs : List ℕ) (bs : List Float) → GatherAsks ls xs bs → Gathering ls xs bs 0 bs
+gather-start ls xs bs a = record { asks = a; to = omega arith; done = record { each = λ u h. absurd (omega arith); long = refl } }
 
-module _ (ls : Lines) (xs : List ℕ) (lx ly hx hy : List Float) (u : ℕ) (lx′ ly′ hx′ hy′ : List Float) (g : Gathering ls xs lx ly hx hy u lx′ ly′ hx′ hy′) where
-  pub gather-end : length xs ≤ u → Filled ls xs (length xs) lx ly hx hy lx′ ly′ hx′ hy′
+module _ (ls : Lines) (xs : List ℕ) (bs : List Float) (u : ℕ) (bs′ : List Float) (g : Gathering ls xs bs u bs′) where
+  pub gather-end : length xs ≤ u → Filled ls xs (length xs) bs bs′
   gather-end h = let e : u ≡ length xs = omega (arith, g .to) in rw e at (g .done)
 
   module _ (h : u < length xs) where
     pub gather-asks : LineAsks ls (getD xs u 0)
     gather-asks = record { alike = g .asks .alike; one = below-at (count ls) xs u (g .asks .below) h }
 
-    in-lx : u < length lx′
-    in-lx = omega (arith, g .asks .most, g .done .long .lx-long, g .asks .room .in-lx)
+    pub gather-room : Room (u + 1) bs′
+    gather-room = record { few = omega (arith, g .asks .most); long = omega (arith, g .asks .room .long, g .done .long) }
 
-    in-ly : u < length ly′
-    in-ly = omega (arith, g .asks .most, g .done .long .ly-long, g .asks .room .in-ly)
+    module _ (b : Box) (e : b ≡ boxOf (segmentAt ls (getD xs u 0))) (bs″ : List Float) (k : bs″ ≡ withBox bs′ u b) where
+      each : (t : ℕ) → t < u + 1 → Dec (t ≡ u) → boxIn (withBox bs′ u b) t ≡ boxOf (segmentAt ls (getD xs t 0))
+      each t l (yes q) = rw q (with-same bs′ u b (omega (arith, g .asks .most)) (gather-room .long) ∙ e)
+      each t l (no q) = with-other bs′ u b (omega (arith, g .asks .most)) t (omega (arith, g .asks .most)) q ∙ g .done .each t (omega arith)
 
-    in-hx : u < length hx′
-    in-hx = omega (arith, g .asks .most, g .done .long .hx-long, g .asks .room .in-hx)
-
-    in-hy : u < length hy′
-    in-hy = omega (arith, g .asks .most, g .done .long .hy-long, g .asks .room .in-hy)
-
-    module _ (b : Box) (e : b ≡ boxOf (segmentAt ls (getD xs u 0))) where
-      same : boxIn (set lx′ u (b .«min_x»)) (set ly′ u (b .«min_y»)) (set hx′ u (b .«max_x»)) (set hy′ u (b .«max_y»)) u ≡ boxOf (segmentAt ls (getD xs u 0))
-      unfolding boxOf
-      same = rw (getD-set-same lx′ u (b .«min_x») nan in-lx, getD-set-same ly′ u (b .«min_y») nan in-ly, getD-set-same hx′ u (b .«max_x») nan in-hx, getD-set-same hy′ u (b .«max_y») nan in-hy, e)
-
-      other : (t : ℕ) → (t ≡ u → ⊥) → boxIn (set lx′ u (b .«min_x»)) (set ly′ u (b .«min_y»)) (set hx′ u (b .«max_x»)) (set hy′ u (b .«max_y»)) t ≡ boxIn lx′ ly′ hx′ hy′ t
-      other t q = rw (getD-set-other lx′ u t (b .«min_x») nan q, getD-set-other ly′ u t (b .«min_y») nan q, getD-set-other hx′ u t (b .«max_x») nan q, getD-set-other hy′ u t (b .«max_y») nan q)
-
-      each : (t : ℕ) → t < u + 1 → Dec (t ≡ u)
-          → boxIn (set lx′ u (b .«min_x»)) (set ly′ u (b .«min_y»)) (set hx′ u (b .«max_x»)) (set hy′ u (b .«max_y»)) t ≡ boxOf (segmentAt ls (getD xs t 0))
-      each t l (yes q) = rw q same
-      each t l (no q) = other t q ∙ g .done .each t (omega arith)
-
-      pub gather-more : Gathering ls xs lx ly hx hy (u + 1) (set lx′ u (b .«min_x»)) (set ly′ u (b .«min_y»)) (set hx′ u (b .«max_x»)) (set hy′ u (b .«max_y»))
+      pub gather-more : Gathering ls xs bs (u + 1) bs″
       gather-more =
-          record {
+          rw k
+          (record {
             asks = g .asks;
             to = omega arith;
-            done = record {
-              each = λ t l. each t l (ℕ-discrete t u);
-              long = record {
-                lx-long = length-set lx′ u (b .«min_x») ∙ g .done .long .lx-long;
-                ly-long = length-set ly′ u (b .«min_y») ∙ g .done .long .ly-long;
-                hx-long = length-set hx′ u (b .«max_x») ∙ g .done .long .hx-long;
-                hy-long = length-set hy′ u (b .«max_y») ∙ g .done .long .hy-long;
-              };
-            };
-          }
+            done = record { each = λ t l. each t l (ℕ-discrete t u); long = with-long bs′ u b ∙ g .done .long };
+          })
 
 -- ---- gathering one after another
 
@@ -270,30 +304,30 @@ within-one b inner other h =
     (λ t. float-le-trans (other .«min_y») (inner .«min_y») (b .«max_y») (and-l z w m) t)
     (λ t. float-le-trans (b .«min_y») (inner .«max_y») (other .«max_y») t (and-r z w m))
 
-pub inner-none : (m : ℕ) (lx ly hx hy : List Float) (r : Box) → r ≡ nowhere → Inner m lx ly hx hy r
+pub inner-none : (m : ℕ) (bs : List Float) (r : Box) → r ≡ nowhere → Inner m bs r
 unfolding overlaps le
-inner-none m lx ly hx hy r e = rw e (record { each = λ u h b k. absurd (true≢false (sym k)) })
+inner-none m bs r e = rw e (record { each = λ u h b k. absurd (true≢false (sym k)) })
 
-pub record Narrowing (inner : Box) (many : ℕ) (lx ly hx hy : List Float) (ax ay bx by : Float) (all : Bool) (u : ℕ) : Type 0 where
-  pub room : Room many lx ly hx hy
+pub record Narrowing (inner : Box) (many : ℕ) (bs : List Float) (ax ay bx by : Float) (all : Bool) (u : ℕ) : Type 0 where
+  pub room : Room many bs
   pub ax-is : ax ≡ inner .«min_x»
   pub ay-is : ay ≡ inner .«min_y»
   pub bx-is : bx ≡ inner .«max_x»
   pub by-is : by ≡ inner .«max_y»
   pub to : u ≤ many
-  pub so-far : all ≡ true → Inner u lx ly hx hy inner
+  pub so-far : all ≡ true → Inner u bs inner
 
-pub inner-start : (inner : Box) (many : ℕ) (lx ly hx hy : List Float) → Room many lx ly hx hy
-    → Narrowing inner many lx ly hx hy (inner .«min_x») (inner .«min_y») (inner .«max_x») (inner .«max_y») true 0
-inner-start inner many lx ly hx hy r =
+pub inner-start : (inner : Box) (many : ℕ) (bs : List Float) → Room many bs
+    → Narrowing inner many bs (inner .«min_x») (inner .«min_y») (inner .«max_x») (inner .«max_y») true 0
+inner-start inner many bs r =
     record { room = r; ax-is = refl; ay-is = refl; bx-is = refl; by-is = refl; to = omega arith; so-far = λ e. record { each = λ u h. absurd (omega arith) } }
 
-module _ (inner : Box) (many : ℕ) (lx ly hx hy : List Float) (ax ay bx by : Float) (all : Bool) (u : ℕ) (n : Narrowing inner many lx ly hx hy ax ay bx by all u) where
-  pub inner-end : many ≤ u → all ≡ true → Inner many lx ly hx hy inner
+module _ (inner : Box) (many : ℕ) (bs : List Float) (ax ay bx by : Float) (all : Bool) (u : ℕ) (n : Narrowing inner many bs ax ay bx by all u) where
+  pub inner-end : many ≤ u → all ≡ true → Inner many bs inner
   inner-end h e = let q : u ≡ many = omega (arith, n .to) in rw q at (n .so-far e)
 
   pub inner-more : u < many
-      → Narrowing inner many lx ly hx hy ax ay bx by (all && (le (getD lx u nan) ax && (le bx (getD hx u nan) && (le (getD ly u nan) ay && le by (getD hy u nan))))) (u + 1)
+      → Narrowing inner many bs ax ay bx by (all && (le (getD bs u nan) ax && (le bx (getD bs (1026 + u) nan) && (le (getD bs (513 + u) nan) ay && le by (getD bs (1539 + u) nan))))) (u + 1)
   inner-more h =
       record {
         room = n .room;
@@ -306,55 +340,33 @@ module _ (inner : Box) (many : ℕ) (lx ly hx hy : List Float) (ax ay bx by : Fl
       }
     where
       here : Bool
-      here = le (getD lx u nan) ax && (le bx (getD hx u nan) && (le (getD ly u nan) ay && le by (getD hy u nan)))
+      here = le (getD bs u nan) ax && (le bx (getD bs (1026 + u) nan) && (le (getD bs (513 + u) nan) ay && le by (getD bs (1539 + u) nan)))
 
-      go : (all && here) ≡ true → (t : ℕ) → t < u + 1 → Dec (t ≡ u) → (b : Box) → overlaps b inner ≡ true → overlaps b (boxIn lx ly hx hy t) ≡ true
-      go e t q (yes r) = rw r (λ b. within-one b inner (boxIn lx ly hx hy u) (rw (n .ax-is, n .ay-is, n .bx-is, n .by-is) at (said here (and-r all here (so (all && here) e)))))
+      go : (all && here) ≡ true → (t : ℕ) → t < u + 1 → Dec (t ≡ u) → (b : Box) → overlaps b inner ≡ true → overlaps b (boxIn bs t) ≡ true
+      go e t q (yes r) = rw r (λ b. within-one b inner (boxIn bs u) (rw (n .ax-is, n .ay-is, n .bx-is, n .by-is) at (said here (and-r all here (so (all && here) e)))))
       go e t q (no r) = n .so-far (said all (and-l all here (so (all && here) e))) .each t (omega arith)
 
 -- ---- entry 512
 
-module _ (ls : Lines) (xs : List ℕ) (lx ly hx hy lx′ ly′ hx′ hy′ : List Float) (a : GatherAsks ls xs lx ly hx hy) (f : Filled ls xs (length xs) lx ly hx hy lx′ ly′ hx′ hy′) where
-  pub gathered-room : Room (length xs) lx′ ly′ hx′ hy′
-  gathered-room =
-      record {
-        in-lx = omega (arith, a .most, f .long .lx-long, a .room .in-lx);
-        in-ly = omega (arith, a .most, f .long .ly-long, a .room .in-ly);
-        in-hx = omega (arith, a .most, f .long .hx-long, a .room .in-hx);
-        in-hy = omega (arith, a .most, f .long .hy-long, a .room .in-hy);
-      }
+module _ (ls : Lines) (xs : List ℕ) (bs bs′ : List Float) (a : GatherAsks ls xs bs) (f : Filled ls xs (length xs) bs bs′) where
+  pub gathered-room : Room (length xs) bs′
+  gathered-room = record { few = omega (arith, a .most); long = omega (arith, f .long, a .room .long) }
 
-  pub last-lx : 512 < length lx′
-  last-lx = omega (arith, f .long .lx-long, a .room .in-lx)
+  pub last-room : Room 513 bs′
+  last-room = record { few = omega arith; long = omega (arith, f .long, a .room .long) }
 
-  pub last-ly : 512 < length ly′
-  last-ly = omega (arith, f .long .ly-long, a .room .in-ly)
+  module _ (b : Box) (n : Inner (length xs) bs′ b) (bs″ : List Float) (k : bs″ ≡ withBox bs′ 512 b) where
+    last-is : boxIn (withBox bs′ 512 b) 512 ≡ b
+    last-is = with-same bs′ 512 b (omega arith) (last-room .long)
 
-  pub last-hx : 512 < length hx′
-  last-hx = omega (arith, f .long .hx-long, a .room .in-hx)
+    others-are : (t : ℕ) → t < length xs → boxIn (withBox bs′ 512 b) t ≡ boxIn bs′ t
+    others-are t h = with-other bs′ 512 b (omega arith) t (omega (arith, a .most)) (λ e. omega (arith, a .most))
 
-  pub last-hy : 512 < length hy′
-  last-hy = omega (arith, f .long .hy-long, a .room .in-hy)
-
-  module _ (b : Box) (n : Inner (length xs) lx′ ly′ hx′ hy′ b) where
-    last-is : boxIn (set lx′ 512 (b .«min_x»)) (set ly′ 512 (b .«min_y»)) (set hx′ 512 (b .«max_x»)) (set hy′ 512 (b .«max_y»)) 512 ≡ b
-    last-is = rw (getD-set-same lx′ 512 (b .«min_x») nan last-lx, getD-set-same ly′ 512 (b .«min_y») nan last-ly, getD-set-same hx′ 512 (b .«max_x») nan last-hx, getD-set-same hy′ 512 (b .«max_y») nan last-hy)
-
-    others-are : (t : ℕ) → t < length xs
-        → boxIn (set lx′ 512 (b .«min_x»)) (set ly′ 512 (b .«min_y»)) (set hx′ 512 (b .«max_x»)) (set hy′ 512 (b .«max_y»)) t ≡ boxIn lx′ ly′ hx′ hy′ t
-    others-are t h =
-        let q : t ≡ 512 → ⊥ = λ e. omega (arith, a .most) in
-        rw (getD-set-other lx′ 512 t (b .«min_x») nan q, getD-set-other ly′ 512 t (b .«min_y») nan q, getD-set-other hx′ 512 t (b .«max_x») nan q, getD-set-other hy′ 512 t (b .«max_y») nan q)
-
-    pub gathered : Gathered ls xs (length xs) lx ly hx hy (set lx′ 512 (b .«min_x»)) (set ly′ 512 (b .«min_y»)) (set hx′ 512 (b .«max_x»)) (set hy′ 512 (b .«max_y»))
+    pub gathered : Gathered ls xs (length xs) bs bs″
     gathered =
-        record {
+        rw k
+        (record {
           each = λ t h. others-are t h ∙ f .each t h;
-          long = record {
-            lx-long = length-set lx′ 512 (b .«min_x») ∙ f .long .lx-long;
-            ly-long = length-set ly′ 512 (b .«min_y») ∙ f .long .ly-long;
-            hx-long = length-set hx′ 512 (b .«max_x») ∙ f .long .hx-long;
-            hy-long = length-set hy′ 512 (b .«max_y») ∙ f .long .hy-long;
-          };
-          says = record { each = λ t h o k. ap (overlaps o) (others-are t h) ∙ n .each t h o (sym (ap (overlaps o) last-is) ∙ k) };
-        }
+          long = with-long bs′ 512 b ∙ f .long;
+          says = record { each = λ t h o j. ap (overlaps o) (others-are t h) ∙ n .each t h o (sym (ap (overlaps o) last-is) ∙ j) };
+        })

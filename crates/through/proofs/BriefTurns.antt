@@ -20,7 +20,7 @@ use Rattle.visit.specs.Overlap.{overlap}
 use Rattle.visit.specs.Inside.{Moved}
 use Rattle.through.specs.declared.rows.ListRan.{ListRan}
 use Rattle.through.specs.Lists.{listFrom}
-use Rattle.through.specs.Inside.{flatIn, Long, FlatAsks, FlatFilled, markOf, PutAsks, Answers, Put, FewAsks, answersIn, Goes, Brief, BriefAsks, ListAsks, ListRanIs, SameScratch}
+use Rattle.through.specs.Inside.{flatIn, FlatAsks, FlatFilled, markOf, PutAsks, Answers, Put, FewAsks, answersIn, Goes, Brief, BriefAsks, ListAsks, ListRanIs, SameScratch}
 use Rattle.through.proofs.ScanTurns.{mark-most, Putting, put-start, put-more, put-end}
 use Rattle.through.proofs.Goings.{goes-none, goes-then, goes-row}
 use Rattle.through.proofs.ListLaws.{from-begin, row-past}
@@ -222,12 +222,12 @@ module _ (ls : Lines) (xs : List ℕ) (flat : List Float) (fs ss : List ℕ) (hi
 
 -- ---- a list that is short
 
-pub brief-asks : (ls : Lines) (xs : List ℕ) (i j : ℕ) (lx ly hx hy : List Float) (marks fs ss : List ℕ) (hits : ℕ) → Brief (length xs) i j (length fs - hits)
-    → ListAsks ls xs i j lx ly hx hy marks fs ss hits → BriefAsks ls xs lx fs ss hits
-brief-asks ls xs i j lx ly hx hy marks fs ss hits b a =
+pub brief-asks : (ls : Lines) (xs : List ℕ) (i j : ℕ) (bs : List Float) (marks fs ss : List ℕ) (hits : ℕ) → Brief (length xs) i j (length fs - hits)
+    → ListAsks ls xs i j bs marks fs ss hits → BriefAsks ls xs bs fs ss hits
+brief-asks ls xs i j bs marks fs ss hits b a =
     record {
       lent = a .lent;
-      boxes = omega (arith, a .scratch .boxes .in-lx);
+      boxes = omega (arith, a .scratch .boxes .long);
       below = a .below;
       few = b .few;
       fits = omega (arith, b .fits, a .lent .in-room);
@@ -237,5 +237,5 @@ pub brief-ran : (ls : Lines) (xs : List ℕ) (i j room : ℕ) (fs ss : List ℕ)
     → ListRanIs ls xs 0 1 fs ss hits fs′ ss′ r → ListRanIs ls xs i j fs ss hits fs′ ss′ r
 brief-ran ls xs i j room fs ss hits fs′ ss′ r b v = rw (b .first, b .second) v
 
-pub brief-scratch : (lx ly hx hy lx′ : List Float) (marks : List ℕ) → length lx′ ≡ length lx → SameScratch lx ly hx hy marks lx′ ly hx hy marks
-brief-scratch lx ly hx hy lx′ marks l = record { boxes = record { lx-long = l; ly-long = refl; hx-long = refl; hy-long = refl }; bytes = refl }
+pub brief-scratch : (bs bs′ : List Float) (marks : List ℕ) → length bs′ ≡ length bs → SameScratch bs marks bs′ marks
+brief-scratch bs bs′ marks l = record { boxes = l; bytes = refl }

@@ -18,7 +18,7 @@ use Rattle.through.specs.declared.rows.ListRan.{ListRan}
 use Rattle.through.specs.declared.rows.CellsRan.{CellsRan}
 use Rattle.through.specs.Lists.{listBy}
 use Rattle.through.specs.Lists.{listFrom, cellsOf, cellsFrom}
-use Rattle.through.specs.Inside.{Goes, Lent, Scratch, SameScratch, Long, RowIs, ListAsks, ListRanIs, CellsPassed, CellIs, CellFound, CellsAsk, CellsRanIs}
+use Rattle.through.specs.Inside.{Goes, Lent, Scratch, SameScratch, RowIs, ListAsks, ListRanIs, CellsPassed, CellIs, CellFound, CellsAsk, CellsRanIs}
 use Rattle.through.proofs.Goings.{goes-none, goes-then}
 use Rattle.through.proofs.ListLaws.{from-begin, from-length, short-none}
 use Rattle.through.proofs.AsIs.{list-increases, list-short}
@@ -103,26 +103,26 @@ settling-passed n m offsets items cell₀ i₀ j₀ cell c s p = record { same =
 
 -- ---- the run through the cells
 
-pub record CellsRun (ls : Lines) (cols m : ℕ) (offsets items : List ℕ) (cell₀ i₀ j₀ : ℕ) (lx ly hx hy : List Float) (marks fs ss : List ℕ)
-    (lx′ ly′ hx′ hy′ : List Float) (marks′ fs′ ss′ : List ℕ) (cell i j tests hits : ℕ) : Type 0 where
-  pub asks : CellsAsk ls cols m offsets items cell₀ i₀ j₀ lx ly hx hy marks fs ss
+pub record CellsRun (ls : Lines) (cols m : ℕ) (offsets items : List ℕ) (cell₀ i₀ j₀ : ℕ) (bs : List Float) (marks fs ss : List ℕ)
+    (bs′ : List Float) (marks′ fs′ ss′ : List ℕ) (cell i j tests hits : ℕ) : Type 0 where
+  pub asks : CellsAsk ls cols m offsets items cell₀ i₀ j₀ bs marks fs ss
   pub goes : (later : List Pair)
       → Goes ls (cellsFrom cols (listBy (count ls) offsets items) (m - cell₀) cell₀ i₀ j₀ ++ later)
       (cellsFrom cols (listBy (count ls) offsets items) (m - cell) cell i j ++ later) tests (length fs) fs ss 0 fs′ ss′ hits
-  pub same : SameScratch lx ly hx hy marks lx′ ly′ hx′ hy′ marks′
+  pub same : SameScratch bs marks bs′ marks′
 
-pub cells-run : (ls : Lines) (cols m : ℕ) (offsets items : List ℕ) (cell i j : ℕ) (lx ly hx hy : List Float) (marks fs ss : List ℕ) → CellsAsk ls cols m offsets items cell i j lx ly hx hy marks fs ss
-    → CellsRun ls cols m offsets items cell i j lx ly hx hy marks fs ss lx ly hx hy marks fs ss cell i j 0 0
-cells-run ls cols m offsets items cell i j lx ly hx hy marks fs ss a =
+pub cells-run : (ls : Lines) (cols m : ℕ) (offsets items : List ℕ) (cell i j : ℕ) (bs : List Float) (marks fs ss : List ℕ) → CellsAsk ls cols m offsets items cell i j bs marks fs ss
+    → CellsRun ls cols m offsets items cell i j bs marks fs ss bs marks fs ss cell i j 0 0
+cells-run ls cols m offsets items cell i j bs marks fs ss a =
     record {
       asks = a;
       goes = λ later. goes-none ls (length fs) _ fs ss 0 (a .lent .in-room);
-      same = record { boxes = record { lx-long = refl; ly-long = refl; hx-long = refl; hy-long = refl }; bytes = refl };
+      same = record { boxes = refl; bytes = refl };
     }
 
-module _ (ls : Lines) (cols m : ℕ) (offsets items : List ℕ) (cell₀ i₀ j₀ : ℕ) (lx ly hx hy : List Float) (marks fs ss : List ℕ)
-    (lx′ ly′ hx′ hy′ : List Float) (marks′ fs′ ss′ : List ℕ) (cell i j tests hits : ℕ)
-    (s : CellsRun ls cols m offsets items cell₀ i₀ j₀ lx ly hx hy marks fs ss lx′ ly′ hx′ hy′ marks′ fs′ ss′ cell i j tests hits) where
+module _ (ls : Lines) (cols m : ℕ) (offsets items : List ℕ) (cell₀ i₀ j₀ : ℕ) (bs : List Float) (marks fs ss : List ℕ)
+    (bs′ : List Float) (marks′ fs′ ss′ : List ℕ) (cell i j tests hits : ℕ)
+    (s : CellsRun ls cols m offsets items cell₀ i₀ j₀ bs marks fs ss bs′ marks′ fs′ ss′ cell i j tests hits) where
   L : ℕ → List ℕ
   L = listBy (count ls) offsets items
 
@@ -158,25 +158,20 @@ module _ (ls : Lines) (cols m : ℕ) (offsets items : List ℕ) (cell₀ i₀ j�
     list-long : (pl : Place) → length (listFrom pl xs i j) ≡ length (listFrom (placeOf cols cell) xs i j)
     list-long pl = from-length pl (placeOf cols cell) xs i j
 
-    pub cells-list : ListAsks ls xs i j lx′ ly′ hx′ hy′ marks′ fs′ ss′ hits
+    pub cells-list : ListAsks ls xs i j bs′ marks′ fs′ ss′ hits
     cells-list =
         record {
           lent = record { alike = s .asks .lent .alike; same = cells-second-long ∙ s .asks .lent .same ∙ sym cells-first-long; in-room = omega (arith, s .goes [] .moved .in-room, cells-first-long) };
           scratch = record {
-            boxes = record {
-              in-lx = omega (arith, s .same .boxes .lx-long, s .asks .scratch .boxes .in-lx);
-              in-ly = omega (arith, s .same .boxes .ly-long, s .asks .scratch .boxes .in-ly);
-              in-hx = omega (arith, s .same .boxes .hx-long, s .asks .scratch .boxes .in-hx);
-              in-hy = omega (arith, s .same .boxes .hy-long, s .asks .scratch .boxes .in-hy);
-            };
+            boxes = record { few = omega arith; long = omega (arith, s .same .boxes, s .asks .scratch .boxes .long) };
             bytes = omega (arith, s .same .bytes, s .asks .scratch .bytes);
           };
           below = rw e (list-increases (count ls) offsets items cell .below);
           small = λ pl. omega (arith, list-long pl, ap length (here i j), length-append (listFrom (placeOf cols cell) xs i j) (cellsOf cols L (m - suc cell) (suc cell)), counts, small);
         }
 
-    module _ (lx″ ly″ hx″ hy″ : List Float) (marks″ fs″ ss″ : List ℕ) (r : ListRan) (w : ListRanIs ls xs i j fs′ ss′ hits fs″ ss″ r)
-        (k : SameScratch lx′ ly′ hx′ hy′ marks′ lx″ ly″ hx″ hy″ marks″) where
+    module _ (bs″ : List Float) (marks″ fs″ ss″ : List ℕ) (r : ListRan) (w : ListRanIs ls xs i j fs′ ss′ hits fs″ ss″ r)
+        (k : SameScratch bs′ marks′ bs″ marks″) where
       step : (later : List Pair) → Goes ls (cellsFrom cols L (m - cell) cell i j ++ later) (cellsFrom cols L (m - cell) cell (r .i) (r .j) ++ later) (r .tests) (length fs) fs′ ss′ hits fs″ ss″ (r .hits)
       step later =
           rw (here-then i j later, here-then (r .i) (r .j) later) (rw cells-first-long at (w .goes (placeOf cols cell) (cellsOf cols L (m - suc cell) (suc cell) ++ later)))
@@ -193,26 +188,21 @@ module _ (ls : Lines) (cols m : ℕ) (offsets items : List ℕ) (cell₀ i₀ j�
       pub cells-second-kept : length ss″ ≡ length ss
       cells-second-kept = both [] .moved .second-long
 
-      kept : SameScratch lx ly hx hy marks lx″ ly″ hx″ hy″ marks″
+      kept : SameScratch bs marks bs″ marks″
       kept =
           record {
-            boxes = record {
-              lx-long = k .boxes .lx-long ∙ s .same .boxes .lx-long;
-              ly-long = k .boxes .ly-long ∙ s .same .boxes .ly-long;
-              hx-long = k .boxes .hx-long ∙ s .same .boxes .hx-long;
-              hy-long = k .boxes .hy-long ∙ s .same .boxes .hy-long;
-            };
+            boxes = k .boxes ∙ s .same .boxes;
             bytes = k .bytes ∙ s .same .bytes;
           }
 
-      pub cells-kept : SameScratch lx ly hx hy marks lx″ ly″ hx″ hy″ marks″
+      pub cells-kept : SameScratch bs marks bs″ marks″
       cells-kept = kept
 
       pub cells-full : length fs″ ≤ r .hits → CellsRanIs ls cols m offsets items cell₀ i₀ j₀ fs ss fs″ ss″ (record { cell = cell; i = r .i; j = r .j; tests = tests + r .tests; hits = r .hits })
       unfolding L
       cells-full l = record { goes = both; ends = λ v. absurd (omega (arith, cells-first-kept)) }
 
-      pub cells-turn : r .hits < length fs″ → CellsRun ls cols m offsets items cell₀ i₀ j₀ lx ly hx hy marks fs ss lx″ ly″ hx″ hy″ marks″ fs″ ss″ (cell + 1) 0 1 (tests + r .tests) (r .hits)
+      pub cells-turn : r .hits < length fs″ → CellsRun ls cols m offsets items cell₀ i₀ j₀ bs marks fs ss bs″ marks″ fs″ ss″ (cell + 1) 0 1 (tests + r .tests) (r .hits)
       unfolding L
       cells-turn l =
           let d : listFrom (placeOf cols cell) (L cell) (r .i) (r .j) ≡ [] = rw e at (w .ends (omega (arith, cells-first-kept, cells-first-long)) (placeOf cols cell)) in
@@ -222,11 +212,11 @@ module _ (ls : Lines) (cols m : ℕ) (offsets items : List ℕ) (cell₀ i₀ j�
             same = kept;
           }
 
-pub cells-passed : (ls : Lines) (cols m : ℕ) (offsets items : List ℕ) (cell₀ i₀ j₀ : ℕ) (lx ly hx hy : List Float) (marks fs ss : List ℕ)
-    (lx′ ly′ hx′ hy′ : List Float) (marks′ fs′ ss′ : List ℕ) (cell c tests hits : ℕ)
-    → CellsRun ls cols m offsets items cell₀ i₀ j₀ lx ly hx hy marks fs ss lx′ ly′ hx′ hy′ marks′ fs′ ss′ cell 0 1 tests hits → CellsPassed m offsets cell c
-    → CellsRun ls cols m offsets items cell₀ i₀ j₀ lx ly hx hy marks fs ss lx′ ly′ hx′ hy′ marks′ fs′ ss′ c 0 1 tests hits
-cells-passed ls cols m offsets items cell₀ i₀ j₀ lx ly hx hy marks fs ss lx′ ly′ hx′ hy′ marks′ fs′ ss′ cell c tests hits s p =
+pub cells-passed : (ls : Lines) (cols m : ℕ) (offsets items : List ℕ) (cell₀ i₀ j₀ : ℕ) (bs : List Float) (marks fs ss : List ℕ)
+    (bs′ : List Float) (marks′ fs′ ss′ : List ℕ) (cell c tests hits : ℕ)
+    → CellsRun ls cols m offsets items cell₀ i₀ j₀ bs marks fs ss bs′ marks′ fs′ ss′ cell 0 1 tests hits → CellsPassed m offsets cell c
+    → CellsRun ls cols m offsets items cell₀ i₀ j₀ bs marks fs ss bs′ marks′ fs′ ss′ c 0 1 tests hits
+cells-passed ls cols m offsets items cell₀ i₀ j₀ bs marks fs ss bs′ marks′ fs′ ss′ cell c tests hits s p =
     record {
       asks = s .asks;
       goes = λ later. rw (p .same cols (count ls) items) at (s .goes later);

@@ -20,7 +20,7 @@ use Rattle.through.specs.declared.settle.RowAt.the-variants as rowat
 use Rattle.through.specs.declared.rows.PartRan.{PartRan}
 use Rattle.through.specs.declared.rows.ListRan.{ListRan}
 use Rattle.through.specs.Lists.{listFrom}
-use Rattle.through.specs.Inside.{boxIn, Room, Long, GatherAsks, Gathered, Holds, WindowAsks, WindowIs, RoomFor, ScanAsks, Scanned, Goes, Lent, Scratch, SameScratch, RowIs, RowFound, PartAsks, PartIs, ListAsks, ListRanIs}
+use Rattle.through.specs.Inside.{boxIn, Room, GatherAsks, Gathered, Holds, WindowAsks, WindowIs, RoomFor, ScanAsks, Scanned, Goes, Lent, Scratch, SameScratch, RowIs, RowFound, PartAsks, PartIs, ListAsks, ListRanIs}
 use Rattle.through.proofs.Goings.{goes-none, goes-then, goes-row}
 use Rattle.through.proofs.ListLaws.{row-part}
 
@@ -46,9 +46,9 @@ part-below n xs b many w = below-take n (drop b xs) many (below-drop n xs b w)
 
 -- ---- the window
 
-module _ (ls : Lines) (xs : List ℕ) (at from held : ℕ) (lx ly hx hy : List Float) (a : WindowAsks ls xs at from held lx ly hx hy) where
-  pub window-stays : from ≤ at → at < from + held → WindowIs ls xs at lx ly hx hy lx ly hx hy (record { from = from; held = held })
-  window-stays p q = record { holds = a .holds; from = p; to = q; long = record { lx-long = refl; ly-long = refl; hx-long = refl; hy-long = refl } }
+module _ (ls : Lines) (xs : List ℕ) (at from held : ℕ) (bs : List Float) (a : WindowAsks ls xs at from held bs) where
+  pub window-stays : from ≤ at → at < from + held → WindowIs ls xs at bs bs (record { from = from; held = held })
+  window-stays p q = record { holds = a .holds; from = p; to = q; long = refl }
 
   module _ (many : ℕ) (e : many ≡ min (length xs - at) 512) where
     most : many ≤ 512
@@ -57,7 +57,7 @@ module _ (ls : Lines) (xs : List ℕ) (at from held : ℕ) (lx ly hx hy : List F
     inside : at + many ≤ length xs
     inside = omega (arith, a .inside)
 
-    pub window-gathers : GatherAsks ls (take many (drop at xs)) lx ly hx hy
+    pub window-gathers : GatherAsks ls (take many (drop at xs)) bs
     window-gathers =
         let l = part-long xs at many inside in
         record {
@@ -67,20 +67,15 @@ module _ (ls : Lines) (xs : List ℕ) (at from held : ℕ) (lx ly hx hy : List F
           room = a .room;
         }
 
-    pub window-moves : (lx′ ly′ hx′ hy′ : List Float) → Gathered ls (take many (drop at xs)) (length (take many (drop at xs))) lx ly hx hy lx′ ly′ hx′ hy′
-        → WindowIs ls xs at lx ly hx hy lx′ ly′ hx′ hy′ (record { from = at; held = many })
-    window-moves lx′ ly′ hx′ hy′ g =
+    pub window-moves : (bs′ : List Float) → Gathered ls (take many (drop at xs)) (length (take many (drop at xs))) bs bs′
+        → WindowIs ls xs at bs bs′ (record { from = at; held = many })
+    window-moves bs′ g =
         let l = part-long xs at many inside in
         record {
           holds = record {
             each = λ u h. g .each u (omega arith) ∙ ap (λ (v : ℕ). boxOf (segmentAt ls v)) (part-at xs at many u h);
             within = inside;
-            room = record {
-              in-lx = omega (arith, most, g .long .lx-long, a .room .in-lx);
-              in-ly = omega (arith, most, g .long .ly-long, a .room .in-ly);
-              in-hx = omega (arith, most, g .long .hx-long, a .room .in-hx);
-              in-hy = omega (arith, most, g .long .hy-long, a .room .in-hy);
-            };
+            room = record { few = omega (arith, most); long = omega (arith, g .long, a .room .long) };
             says = record { each = λ u h. g .says .each u (omega arith) };
           };
           from = omega arith;
@@ -89,12 +84,12 @@ module _ (ls : Lines) (xs : List ℕ) (at from held : ℕ) (lx ly hx hy : List F
         }
 
     module _ (z : at + many - at ≡ many) where
-      pub window-gathers-part : GatherAsks ls (take (at + many - at) (drop at xs)) lx ly hx hy
+      pub window-gathers-part : GatherAsks ls (take (at + many - at) (drop at xs)) bs
       window-gathers-part = rw z window-gathers
 
-      pub window-moves-part : (lx′ ly′ hx′ hy′ : List Float) → Gathered ls (take (at + many - at) (drop at xs)) (length (take (at + many - at) (drop at xs))) lx ly hx hy lx′ ly′ hx′ hy′
-          → WindowIs ls xs at lx ly hx hy lx′ ly′ hx′ hy′ (record { from = at; held = many })
-      window-moves-part lx′ ly′ hx′ hy′ g = window-moves lx′ ly′ hx′ hy′ (rw z at g)
+      pub window-moves-part : (bs′ : List Float) → Gathered ls (take (at + many - at) (drop at xs)) (length (take (at + many - at) (drop at xs))) bs bs′
+          → WindowIs ls xs at bs bs′ (record { from = at; held = many })
+      window-moves-part bs′ g = window-moves bs′ (rw z at g)
 
 -- ---- what a search of a list found, taken apart
 
@@ -107,26 +102,26 @@ module _ (len i j : ℕ) (r : RowAt) (f : RowFound len i j r) where
 
 -- ---- the run through a list
 
-pub record ListRun (ls : Lines) (xs : List ℕ) (i₀ j₀ : ℕ) (lx ly hx hy : List Float) (marks fs ss : List ℕ) (hits₀ : ℕ)
-    (lx′ ly′ hx′ hy′ : List Float) (marks′ fs′ ss′ : List ℕ) (i j from held tests hits : ℕ) : Type 0 where
-  pub asks : ListAsks ls xs i₀ j₀ lx ly hx hy marks fs ss hits₀
+pub record ListRun (ls : Lines) (xs : List ℕ) (i₀ j₀ : ℕ) (bs : List Float) (marks fs ss : List ℕ) (hits₀ : ℕ)
+    (bs′ : List Float) (marks′ fs′ ss′ : List ℕ) (i j from held tests hits : ℕ) : Type 0 where
+  pub asks : ListAsks ls xs i₀ j₀ bs marks fs ss hits₀
   pub goes : (pl : Place) (later : List Pair) → Goes ls (listFrom pl xs i₀ j₀ ++ later) (listFrom pl xs i j ++ later) tests (length fs) fs ss hits₀ fs′ ss′ hits
-  pub holds : Holds ls xs from held lx′ ly′ hx′ hy′
-  pub same : SameScratch lx ly hx hy marks lx′ ly′ hx′ hy′ marks′
+  pub holds : Holds ls xs from held bs′
+  pub same : SameScratch bs marks bs′ marks′
 
-pub list-run : (ls : Lines) (xs : List ℕ) (i j : ℕ) (lx ly hx hy : List Float) (marks fs ss : List ℕ) (hits : ℕ) → ListAsks ls xs i j lx ly hx hy marks fs ss hits
-    → ListRun ls xs i j lx ly hx hy marks fs ss hits lx ly hx hy marks fs ss i j 0 0 0 hits
-list-run ls xs i j lx ly hx hy marks fs ss hits a =
+pub list-run : (ls : Lines) (xs : List ℕ) (i j : ℕ) (bs : List Float) (marks fs ss : List ℕ) (hits : ℕ) → ListAsks ls xs i j bs marks fs ss hits
+    → ListRun ls xs i j bs marks fs ss hits bs marks fs ss i j 0 0 0 hits
+list-run ls xs i j bs marks fs ss hits a =
     record {
       asks = a;
       goes = λ pl later. goes-none ls (length fs) (listFrom pl xs i j ++ later) fs ss hits (a .lent .in-room);
-      holds = record { each = λ u h. absurd (omega arith); within = omega arith; room = record { in-lx = omega arith; in-ly = omega arith; in-hx = omega arith; in-hy = omega arith }; says = record { each = λ u h. absurd (omega arith) } };
-      same = record { boxes = record { lx-long = refl; ly-long = refl; hx-long = refl; hy-long = refl }; bytes = refl };
+      holds = record { each = λ u h. absurd (omega arith); within = omega arith; room = record { few = omega arith; long = a .scratch .boxes .long }; says = record { each = λ u h. absurd (omega arith) } };
+      same = record { boxes = refl; bytes = refl };
     }
 
-module _ (ls : Lines) (xs : List ℕ) (i₀ j₀ : ℕ) (lx ly hx hy : List Float) (marks fs ss : List ℕ) (hits₀ : ℕ)
-    (lx′ ly′ hx′ hy′ : List Float) (marks′ fs′ ss′ : List ℕ) (i j from held tests hits : ℕ)
-    (s : ListRun ls xs i₀ j₀ lx ly hx hy marks fs ss hits₀ lx′ ly′ hx′ hy′ marks′ fs′ ss′ i j from held tests hits) where
+module _ (ls : Lines) (xs : List ℕ) (i₀ j₀ : ℕ) (bs : List Float) (marks fs ss : List ℕ) (hits₀ : ℕ)
+    (bs′ : List Float) (marks′ fs′ ss′ : List ℕ) (i j from held tests hits : ℕ)
+    (s : ListRun ls xs i₀ j₀ bs marks fs ss hits₀ bs′ marks′ fs′ ss′ i j from held tests hits) where
   pub list-first-long : length fs′ ≡ length fs
   list-first-long = s .goes (Global 0) [] .moved .first-long
 
@@ -143,22 +138,17 @@ module _ (ls : Lines) (xs : List ℕ) (i₀ j₀ : ℕ) (lx ly hx hy : List Floa
   list-over e = record { goes = s .goes; ends = λ l pl. e pl xs refl }
 
   module _ (a b : ℕ) (f : RowIs (length xs) i j a b) where
-    pub list-window : WindowAsks ls xs b from held lx′ ly′ hx′ hy′
+    pub list-window : WindowAsks ls xs b from held bs′
     list-window =
         record {
           alike = s .asks .lent .alike;
           below = s .asks .below;
           inside = f .inside;
-          room = record {
-            in-lx = omega (arith, s .same .boxes .lx-long, s .asks .scratch .boxes .in-lx);
-            in-ly = omega (arith, s .same .boxes .ly-long, s .asks .scratch .boxes .in-ly);
-            in-hx = omega (arith, s .same .boxes .hx-long, s .asks .scratch .boxes .in-hx);
-            in-hy = omega (arith, s .same .boxes .hy-long, s .asks .scratch .boxes .in-hy);
-          };
+          room = record { few = omega arith; long = omega (arith, s .same .boxes, s .asks .scratch .boxes .long) };
           holds = s .holds;
         }
 
-    pub list-part : hits < length fs′ → PartAsks ls xs a b from held lx′ ly′ hx′ hy′ marks′ fs′ ss′ hits
+    pub list-part : hits < length fs′ → PartAsks ls xs a b from held bs′ marks′ fs′ ss′ hits
     list-part h =
         record {
           window = list-window;
@@ -168,8 +158,8 @@ module _ (ls : Lines) (xs : List ℕ) (i₀ j₀ : ℕ) (lx ly hx hy : List Floa
           room = h;
         }
 
-    module _ (lx″ ly″ hx″ hy″ : List Float) (marks″ fs″ ss″ : List ℕ) (r : PartRan) (v : PartIs ls xs a b fs′ ss′ hits lx″ ly″ hx″ hy″ fs″ ss″ r)
-        (k : SameScratch lx′ ly′ hx′ hy′ marks′ lx″ ly″ hx″ hy″ marks″) where
+    module _ (bs″ : List Float) (marks″ fs″ ss″ : List ℕ) (r : PartRan) (v : PartIs ls xs a b fs′ ss′ hits bs″ fs″ ss″ r)
+        (k : SameScratch bs′ marks′ bs″ marks″) where
       step : (pl : Place) (later : List Pair) → Goes ls (listFrom pl xs i j ++ later) (listFrom pl xs a (b + r .many) ++ later) (r .many) (length fs) fs′ ss′ hits fs″ ss″ (r .hits)
       step pl later =
           let l = part-long xs b (r .many) (v .inside) in
@@ -181,19 +171,14 @@ module _ (ls : Lines) (xs : List ℕ) (i₀ j₀ : ℕ) (lx ly hx hy : List Floa
       step-counts : r .many + length (listFrom (Global 0) xs a (b + r .many)) ≡ length (listFrom (Global 0) xs i j)
       step-counts = rw (append-nil, append-nil) at (step (Global 0) [] .moved .counts)
 
-      pub list-turn : ListRun ls xs i₀ j₀ lx ly hx hy marks fs ss hits₀ lx″ ly″ hx″ hy″ marks″ fs″ ss″ a (b + r .many) (r .from) (r .held) (tests + r .many) (r .hits)
+      pub list-turn : ListRun ls xs i₀ j₀ bs marks fs ss hits₀ bs″ marks″ fs″ ss″ a (b + r .many) (r .from) (r .held) (tests + r .many) (r .hits)
       list-turn =
           record {
             asks = s .asks;
             goes = λ pl later. goes-then ls (length fs) (s .goes pl later) (step pl later);
             holds = v .holds;
             same = record {
-              boxes = record {
-                lx-long = k .boxes .lx-long ∙ s .same .boxes .lx-long;
-                ly-long = k .boxes .ly-long ∙ s .same .boxes .ly-long;
-                hx-long = k .boxes .hx-long ∙ s .same .boxes .hx-long;
-                hy-long = k .boxes .hy-long ∙ s .same .boxes .hy-long;
-              };
+              boxes = k .boxes ∙ s .same .boxes;
               bytes = k .bytes ∙ s .same .bytes;
             };
           }
@@ -206,8 +191,8 @@ module _ (ls : Lines) (xs : List ℕ) (i₀ j₀ : ℕ) (lx ly hx hy : List Floa
 
 -- ---- a part of a row
 
-module _ (ls : Lines) (xs : List ℕ) (i j from held : ℕ) (lx ly hx hy : List Float) (marks fs ss : List ℕ) (hits : ℕ) (a : PartAsks ls xs i j from held lx ly hx hy marks fs ss hits)
-    (lx′ ly′ hx′ hy′ : List Float) (r : Window) (w : WindowIs ls xs j lx ly hx hy lx′ ly′ hx′ hy′ r) (ready many : ℕ) (er : ready ≡ min (r .from + r .held - j) (length fs - hits)) (em : many ≡ min ready (length marks)) where
+module _ (ls : Lines) (xs : List ℕ) (i j from held : ℕ) (bs : List Float) (marks fs ss : List ℕ) (hits : ℕ) (a : PartAsks ls xs i j from held bs marks fs ss hits)
+    (bs′ : List Float) (r : Window) (w : WindowIs ls xs j bs bs′ r) (ready many : ℕ) (er : ready ≡ min (r .from + r .held - j) (length fs - hits)) (em : many ≡ min ready (length marks)) where
   pub part-some : 0 < many
   part-some = omega (arith, w .to, a .bytes, a .room)
 
@@ -217,7 +202,7 @@ module _ (ls : Lines) (xs : List ℕ) (i j from held : ℕ) (lx ly hx hy : List 
   held-in : (j - r .from) + many ≤ r .held
   held-in = omega (arith, w .from, w .to)
 
-  pub part-scan : ScanAsks ls (getD xs i 0) (take many (drop j xs)) lx′ ly′ hx′ hy′ (j - r .from) marks fs ss hits
+  pub part-scan : ScanAsks ls (getD xs i 0) (take many (drop j xs)) bs′ (j - r .from) marks fs ss hits
   part-scan =
       let l = part-long xs j many part-inside in
       let k = held-in in
@@ -230,39 +215,29 @@ module _ (ls : Lines) (xs : List ℕ) (i j from held : ℕ) (lx ly hx hy : List 
             w .holds .each ((j - r .from) + u) (omega arith)
             ∙ ap (λ (x : ℕ). boxOf (segmentAt ls (getD xs x 0))) e
             ∙ ap (λ (x : ℕ). boxOf (segmentAt ls x)) (sym (part-at xs j many u v₁));
-        held = record {
-          in-lx = omega (arith, w .holds .room .in-lx);
-          in-ly = omega (arith, w .holds .room .in-ly);
-          in-hx = omega (arith, w .holds .room .in-hx);
-          in-hy = omega (arith, w .holds .room .in-hy);
-        };
-        inner = record {
-          in-lx = omega (arith, w .long .lx-long, a .window .room .in-lx);
-          in-ly = omega (arith, w .long .ly-long, a .window .room .in-ly);
-          in-hx = omega (arith, w .long .hx-long, a .window .room .in-hx);
-          in-hy = omega (arith, w .long .hy-long, a .window .room .in-hy);
-        };
+        held = record { few = omega (arith, w .holds .room .few); long = w .holds .room .long };
+        inner = record { few = omega arith; long = omega (arith, w .long, a .window .room .long) };
         says = λ u v. let v₁ : u < many = omega arith in w .holds .says .each ((j - r .from) + u) (omega arith);
         in-marks = omega arith;
         room = record { same = a .same; room = omega arith };
       }
 
   pub part-is : (marks′ fs′ ss′ : List ℕ) (hits′ : ℕ) → Scanned ls (getD xs i 0) (take many (drop j xs)) marks fs ss hits marks′ fs′ ss′ hits′
-      → PartIs ls xs i j fs ss hits lx′ ly′ hx′ hy′ fs′ ss′ (record { many = many; hits = hits′; from = r .from; held = r .held })
+      → PartIs ls xs i j fs ss hits bs′ fs′ ss′ (record { many = many; hits = hits′; from = r .from; held = r .held })
   part-is marks′ fs′ ss′ hits′ v =
       let l = part-long xs j many part-inside in
       record { some = part-some; inside = part-inside; moved = λ pl later. rw l at (v .moved pl later); holds = w .holds }
 
-  pub part-same : (marks′ fs′ ss′ : List ℕ) (hits′ : ℕ) → Scanned ls (getD xs i 0) (take many (drop j xs)) marks fs ss hits marks′ fs′ ss′ hits′ → SameScratch lx ly hx hy marks lx′ ly′ hx′ hy′ marks′
+  pub part-same : (marks′ fs′ ss′ : List ℕ) (hits′ : ℕ) → Scanned ls (getD xs i 0) (take many (drop j xs)) marks fs ss hits marks′ fs′ ss′ hits′ → SameScratch bs marks bs′ marks′
   part-same marks′ fs′ ss′ hits′ v = record { boxes = w .long; bytes = v .marks-long }
 
   module _ (z : j + many - j ≡ many) where
-    pub part-scan-part : ScanAsks ls (getD xs i 0) (take (j + many - j) (drop j xs)) lx′ ly′ hx′ hy′ (j - r .from) marks fs ss hits
+    pub part-scan-part : ScanAsks ls (getD xs i 0) (take (j + many - j) (drop j xs)) bs′ (j - r .from) marks fs ss hits
     part-scan-part = rw z part-scan
 
     pub part-is-part : (marks′ fs′ ss′ : List ℕ) (hits′ : ℕ) → Scanned ls (getD xs i 0) (take (j + many - j) (drop j xs)) marks fs ss hits marks′ fs′ ss′ hits′
-        → PartIs ls xs i j fs ss hits lx′ ly′ hx′ hy′ fs′ ss′ (record { many = many; hits = hits′; from = r .from; held = r .held })
+        → PartIs ls xs i j fs ss hits bs′ fs′ ss′ (record { many = many; hits = hits′; from = r .from; held = r .held })
     part-is-part marks′ fs′ ss′ hits′ v = part-is marks′ fs′ ss′ hits′ (rw z at v)
 
-    pub part-same-part : (marks′ fs′ ss′ : List ℕ) (hits′ : ℕ) → Scanned ls (getD xs i 0) (take (j + many - j) (drop j xs)) marks fs ss hits marks′ fs′ ss′ hits′ → SameScratch lx ly hx hy marks lx′ ly′ hx′ hy′ marks′
+    pub part-same-part : (marks′ fs′ ss′ : List ℕ) (hits′ : ℕ) → Scanned ls (getD xs i 0) (take (j + many - j) (drop j xs)) marks fs ss hits marks′ fs′ ss′ hits′ → SameScratch bs marks bs′ marks′
     part-same-part marks′ fs′ ss′ hits′ v = part-same marks′ fs′ ss′ hits′ (rw z at v)

@@ -37,18 +37,18 @@ mark-most false = rw mark-false (omega arith)
 
 -- ---- marking
 
-pub record Marking (bounds : Box) (lx ly hx hy : List Float) (at many : ℕ) (marks : List ℕ) (ax ay bx by : Float) (u : ℕ) (marks′ : List ℕ) : Type 0 where
-  pub asks : MarkAsks lx ly hx hy at many marks
+pub record Marking (bounds : Box) (bs : List Float) (at many : ℕ) (marks : List ℕ) (ax ay bx by : Float) (u : ℕ) (marks′ : List ℕ) : Type 0 where
+  pub asks : MarkAsks bs at many marks
   pub ax-is : ax ≡ bounds .«min_x»
   pub ay-is : ay ≡ bounds .«min_y»
   pub bx-is : bx ≡ bounds .«max_x»
   pub by-is : by ≡ bounds .«max_y»
   pub to : u ≤ many
-  pub done : Marked bounds lx ly hx hy at u marks marks′
+  pub done : Marked bounds bs at u marks marks′
 
-pub mark-start : (bounds : Box) (lx ly hx hy : List Float) (at many : ℕ) (marks : List ℕ) → MarkAsks lx ly hx hy at many marks
-    → Marking bounds lx ly hx hy at many marks (bounds .«min_x») (bounds .«min_y») (bounds .«max_x») (bounds .«max_y») 0 marks
-mark-start bounds lx ly hx hy at many marks a =
+pub mark-start : (bounds : Box) (bs : List Float) (at many : ℕ) (marks : List ℕ) → MarkAsks bs at many marks
+    → Marking bounds bs at many marks (bounds .«min_x») (bounds .«min_y») (bounds .«max_x») (bounds .«max_y») 0 marks
+mark-start bounds bs at many marks a =
     record {
       asks = a;
       ax-is = refl;
@@ -59,14 +59,14 @@ mark-start bounds lx ly hx hy at many marks a =
       done = record { each = λ t h. absurd (omega arith); long = refl };
     }
 
-module _ (bounds : Box) (lx ly hx hy : List Float) (at many : ℕ) (marks : List ℕ) (ax ay bx by : Float) (u : ℕ) (marks′ : List ℕ)
-    (m : Marking bounds lx ly hx hy at many marks ax ay bx by u marks′) where
-  pub mark-end : many ≤ u → Marked bounds lx ly hx hy at many marks marks′
+module _ (bounds : Box) (bs : List Float) (at many : ℕ) (marks : List ℕ) (ax ay bx by : Float) (u : ℕ) (marks′ : List ℕ)
+    (m : Marking bounds bs at many marks ax ay bx by u marks′) where
+  pub mark-end : many ≤ u → Marked bounds bs at many marks marks′
   mark-end h = let e : u ≡ many = omega (arith, m .to) in rw e at (m .done)
 
   pub mark-more : u < many → (v : ℕ)
-      → v ≡ markOf (le (getD lx (at + u) nan) bx && (le ax (getD hx (at + u) nan) && (le (getD ly (at + u) nan) by && le ay (getD hy (at + u) nan))))
-      → Marking bounds lx ly hx hy at many marks ax ay bx by (u + 1) (set marks′ u v)
+      → v ≡ markOf (le (getD bs (at + u) nan) bx && (le ax (getD bs (1026 + (at + u)) nan) && (le (getD bs (513 + (at + u)) nan) by && le ay (getD bs (1539 + (at + u)) nan))))
+      → Marking bounds bs at many marks ax ay bx by (u + 1) (set marks′ u v)
   unfolding overlaps
   mark-more h v e =
       record {
@@ -79,10 +79,10 @@ module _ (bounds : Box) (lx ly hx hy : List Float) (at many : ℕ) (marks : List
         done = record { each = λ t l. go t l (ℕ-discrete t u); long = length-set marks′ u v ∙ m .done .long };
       }
     where
-      here : v ≡ markOf (overlaps bounds (boxIn lx ly hx hy (at + u)))
+      here : v ≡ markOf (overlaps bounds (boxIn bs (at + u)))
       here = e ∙ rw (m .ax-is, m .ay-is, m .bx-is, m .by-is)
 
-      go : (t : ℕ) → t < u + 1 → Dec (t ≡ u) → getD (set marks′ u v) t 0 ≡ markOf (overlaps bounds (boxIn lx ly hx hy (at + t)))
+      go : (t : ℕ) → t < u + 1 → Dec (t ≡ u) → getD (set marks′ u v) t 0 ≡ markOf (overlaps bounds (boxIn bs (at + t)))
       go t l (yes q) = rw q (getD-set-same marks′ u v 0 (omega (arith, m .asks .in-marks, m .done .long)) ∙ here)
       go t l (no q) = getD-set-other marks′ u t v 0 q ∙ m .done .each t (omega arith)
 
@@ -246,12 +246,12 @@ ones-at [] u h = absurd (omega arith)
 ones-at (x ∷ xs) zero h = refl
 ones-at (x ∷ xs) (suc u) h = ones-at xs u (omega arith)
 
-module _ (ls : Lines) (line : ℕ) (xs : List ℕ) (lx ly hx hy : List Float) (at : ℕ) (marks fs ss : List ℕ) (hits : ℕ) (a : ScanAsks ls line xs lx ly hx hy at marks fs ss hits) where
-  pub scan-marks : MarkAsks lx ly hx hy at (length xs) marks
+module _ (ls : Lines) (line : ℕ) (xs : List ℕ) (bs : List Float) (at : ℕ) (marks fs ss : List ℕ) (hits : ℕ) (a : ScanAsks ls line xs bs at marks fs ss hits) where
+  pub scan-marks : MarkAsks bs at (length xs) marks
   scan-marks = record { room = a .held; in-marks = a .in-marks }
 
   -- a line whose box overlaps the inner one
-  module _ (bounds : Box) (e : bounds ≡ boxOf (segmentAt ls line)) (inner : Box) (k : inner ≡ boxIn lx ly hx hy 512) (o : overlaps bounds inner ≡ true) where
+  module _ (bounds : Box) (e : bounds ≡ boxOf (segmentAt ls line)) (inner : Box) (k : inner ≡ boxIn bs 512) (o : overlaps bounds inner ≡ true) where
     all-answer : Answers ls line xs (ones xs)
     unfolding overlap
     all-answer =
@@ -272,12 +272,12 @@ module _ (ls : Lines) (line : ℕ) (xs : List ℕ) (lx ly hx hy : List Float) (a
           second-long = p .second-long;
         }
 
-  module _ (bounds : Box) (e : bounds ≡ boxOf (segmentAt ls line)) (marks′ : List ℕ) (m : Marked bounds lx ly hx hy at (length xs) marks marks′) where
+  module _ (bounds : Box) (e : bounds ≡ boxOf (segmentAt ls line)) (marks′ : List ℕ) (m : Marked bounds bs at (length xs) marks marks′) where
     pub scan-puts : PutAsks xs marks′ fs ss hits
     scan-puts =
         record {
           in-marks = omega (arith, a .in-marks, m .long);
-          bits = λ u h. rw (m .each u h) (mark-most (overlaps bounds (boxIn lx ly hx hy (at + u))));
+          bits = λ u h. rw (m .each u h) (mark-most (overlaps bounds (boxIn bs (at + u))));
           room = a .room;
         }
 

@@ -3,7 +3,7 @@ use Prim.Native.Nat.{ℕ, zero, suc, _+_, _-_, _*_, _≤_, _<_, _^_}
 use mathlib.Core.Path.{_≡_}
 use mathlib.Core.Bool.{Bool, true, false}
 use mathlib.Core.List.{List, [], _∷_, _++_}
-use lib.ListN.{length, getD, take, drop}
+use lib.ListN.{length, getD, take, drop, set}
 use lib.Ieee.{Float, nan}
 use Rattle.slices.specs.Lists.{Below}
 use Rattle.grid.specs.declared.Box.{Box}
@@ -34,48 +34,44 @@ pub record LineAsks (ls : Lines) (i : ℕ) : Type 0 where
   pub alike : Alike ls
   pub one : i < count ls
 
--- the box at entry u of four lists
-abbrev pub boxIn : List Float → List Float → List Float → List Float → ℕ → Box
-boxIn lx ly hx hy u = record { «min_x» = getD lx u nan; «min_y» = getD ly u nan; «max_x» = getD hx u nan; «max_y» = getD hy u nan }
+-- the box at entry u of a room: a part of 513 numbers for each of its four
+abbrev pub boxIn : List Float → ℕ → Box
+boxIn bs u =
+    record { «min_x» = getD bs u nan; «min_y» = getD bs (513 + u) nan; «max_x» = getD bs (1026 + u) nan; «max_y» = getD bs (1539 + u) nan }
 
--- m entries fit in each of four lists
-pub record Room (m : ℕ) (lx ly hx hy : List Float) : Type 0 where
-  pub in-lx : m ≤ length lx
-  pub in-ly : m ≤ length ly
-  pub in-hx : m ≤ length hx
-  pub in-hy : m ≤ length hy
+-- the room with another box at entry u
+unfoldable pub withBox : List Float → ℕ → Box → List Float
+withBox bs u b = set (set (set (set bs u (b .«min_x»)) (513 + u) (b .«min_y»)) (1026 + u) (b .«max_x»)) (1539 + u) (b .«max_y»)
 
--- four lists as long as four others
-pub record Long (lx ly hx hy lx′ ly′ hx′ hy′ : List Float) : Type 0 where
-  pub lx-long : length lx′ ≡ length lx
-  pub ly-long : length ly′ ≡ length ly
-  pub hx-long : length hx′ ≡ length hx
-  pub hy-long : length hy′ ≡ length hy
+-- a room that m boxes fit in
+pub record Room (m : ℕ) (bs : List Float) : Type 0 where
+  pub few : m ≤ 513
+  pub long : 2052 ≤ length bs
 
-pub record GatherAsks (ls : Lines) (xs : List ℕ) (lx ly hx hy : List Float) : Type 0 where
+pub record GatherAsks (ls : Lines) (xs : List ℕ) (bs : List Float) : Type 0 where
   pub alike : Alike ls
   pub below : Below (count ls) xs
   pub most : length xs ≤ 512
-  pub room : Room 513 lx ly hx hy
+  pub room : Room 513 bs
 
 -- the box that no box overlaps
 abbrev pub nowhere : Box
 nowhere = record { «min_x» = nan; «min_y» = nan; «max_x» = nan; «max_y» = nan }
 
 -- what overlaps `inner` overlaps each of the first m boxes
-pub record Inner (m : ℕ) (lx ly hx hy : List Float) (inner : Box) : Type 0 where
-  pub each : (u : ℕ) → u < m → (b : Box) → overlaps b inner ≡ true → overlaps b (boxIn lx ly hx hy u) ≡ true
+pub record Inner (m : ℕ) (bs : List Float) (inner : Box) : Type 0 where
+  pub each : (u : ℕ) → u < m → (b : Box) → overlaps b inner ≡ true → overlaps b (boxIn bs u) ≡ true
 
 -- the boxes of the first m entries
-pub record Filled (ls : Lines) (xs : List ℕ) (m : ℕ) (lx ly hx hy lx′ ly′ hx′ hy′ : List Float) : Type 0 where
-  pub each : (u : ℕ) → u < m → boxIn lx′ ly′ hx′ hy′ u ≡ boxOf (segmentAt ls (getD xs u 0))
-  pub long : Long lx ly hx hy lx′ ly′ hx′ hy′
+pub record Filled (ls : Lines) (xs : List ℕ) (m : ℕ) (bs bs′ : List Float) : Type 0 where
+  pub each : (u : ℕ) → u < m → boxIn bs′ u ≡ boxOf (segmentAt ls (getD xs u 0))
+  pub long : length bs′ ≡ length bs
 
 -- and entry 512 is within all of them
-pub record Gathered (ls : Lines) (xs : List ℕ) (m : ℕ) (lx ly hx hy lx′ ly′ hx′ hy′ : List Float) : Type 0 where
-  pub each : (u : ℕ) → u < m → boxIn lx′ ly′ hx′ hy′ u ≡ boxOf (segmentAt ls (getD xs u 0))
-  pub long : Long lx ly hx hy lx′ ly′ hx′ hy′
-  pub says : Inner m lx′ ly′ hx′ hy′ (boxIn lx′ ly′ hx′ hy′ 512)
+pub record Gathered (ls : Lines) (xs : List ℕ) (m : ℕ) (bs bs′ : List Float) : Type 0 where
+  pub each : (u : ℕ) → u < m → boxIn bs′ u ≡ boxOf (segmentAt ls (getD xs u 0))
+  pub long : length bs′ ≡ length bs
+  pub says : Inner m bs′ (boxIn bs′ 512)
 
 -- the box at entry u of one list, which holds four numbers for each
 abbrev pub flatIn : List Float → ℕ → Box
@@ -93,24 +89,24 @@ pub record FlatFilled (ls : Lines) (xs : List ℕ) (m : ℕ) (flat flat′ : Lis
   pub long : length flat′ ≡ length flat
 
 -- the boxes of `held` entries from `from` on
-pub record Holds (ls : Lines) (xs : List ℕ) (from held : ℕ) (lx ly hx hy : List Float) : Type 0 where
-  pub each : (u : ℕ) → u < held → boxIn lx ly hx hy u ≡ boxOf (segmentAt ls (getD xs (from + u) 0))
+pub record Holds (ls : Lines) (xs : List ℕ) (from held : ℕ) (bs : List Float) : Type 0 where
+  pub each : (u : ℕ) → u < held → boxIn bs u ≡ boxOf (segmentAt ls (getD xs (from + u) 0))
   pub within : from + held ≤ length xs
-  pub room : Room held lx ly hx hy
-  pub says : Inner held lx ly hx hy (boxIn lx ly hx hy 512)
+  pub room : Room held bs
+  pub says : Inner held bs (boxIn bs 512)
 
-pub record WindowAsks (ls : Lines) (xs : List ℕ) (at from held : ℕ) (lx ly hx hy : List Float) : Type 0 where
+pub record WindowAsks (ls : Lines) (xs : List ℕ) (at from held : ℕ) (bs : List Float) : Type 0 where
   pub alike : Alike ls
   pub below : Below (count ls) xs
   pub inside : at < length xs
-  pub room : Room 513 lx ly hx hy
-  pub holds : Holds ls xs from held lx ly hx hy
+  pub room : Room 513 bs
+  pub holds : Holds ls xs from held bs
 
-pub record WindowIs (ls : Lines) (xs : List ℕ) (at : ℕ) (lx ly hx hy lx′ ly′ hx′ hy′ : List Float) (r : Window) : Type 0 where
-  pub holds : Holds ls xs (r .from) (r .held) lx′ ly′ hx′ hy′
+pub record WindowIs (ls : Lines) (xs : List ℕ) (at : ℕ) (bs bs′ : List Float) (r : Window) : Type 0 where
+  pub holds : Holds ls xs (r .from) (r .held) bs′
   pub from : r .from ≤ at
   pub to : at < r .from + r .held
-  pub long : Long lx ly hx hy lx′ ly′ hx′ hy′
+  pub long : length bs′ ≡ length bs
 
 -- ---- one line with each of a list
 
@@ -118,13 +114,13 @@ unfoldable pub markOf : Bool → ℕ
 markOf true = 1
 markOf false = 0
 
-pub record MarkAsks (lx ly hx hy : List Float) (at many : ℕ) (marks : List ℕ) : Type 0 where
-  pub room : Room (at + many) lx ly hx hy
+pub record MarkAsks (bs : List Float) (at many : ℕ) (marks : List ℕ) : Type 0 where
+  pub room : Room (at + many) bs
   pub in-marks : many ≤ length marks
 
 -- byte u is the answer of a box with that at entry at + u, for the first m
-pub record Marked (bounds : Box) (lx ly hx hy : List Float) (at m : ℕ) (marks marks′ : List ℕ) : Type 0 where
-  pub each : (u : ℕ) → u < m → getD marks′ u 0 ≡ markOf (overlaps bounds (boxIn lx ly hx hy (at + u)))
+pub record Marked (bounds : Box) (bs : List Float) (at m : ℕ) (marks marks′ : List ℕ) : Type 0 where
+  pub each : (u : ℕ) → u < m → getD marks′ u 0 ≡ markOf (overlaps bounds (boxIn bs (at + u)))
   pub long : length marks′ ≡ length marks
 
 -- the first m bytes are 1
@@ -161,13 +157,13 @@ pub record PutWhole (line : ℕ) (xs : List ℕ) (m : ℕ) (fs ss : List ℕ) (h
   pub first-long : length fs′ ≡ length fs
   pub second-long : length ss′ ≡ length ss
 
-pub record ScanAsks (ls : Lines) (line : ℕ) (xs : List ℕ) (lx ly hx hy : List Float) (at : ℕ) (marks fs ss : List ℕ) (hits : ℕ) : Type 0 where
+pub record ScanAsks (ls : Lines) (line : ℕ) (xs : List ℕ) (bs : List Float) (at : ℕ) (marks fs ss : List ℕ) (hits : ℕ) : Type 0 where
   pub alike : Alike ls
   pub one : line < count ls
-  pub boxes : (u : ℕ) → u < length xs → boxIn lx ly hx hy (at + u) ≡ boxOf (segmentAt ls (getD xs u 0))
-  pub held : Room (at + length xs) lx ly hx hy
-  pub inner : Room 513 lx ly hx hy
-  pub says : (u : ℕ) → u < length xs → (b : Box) → overlaps b (boxIn lx ly hx hy 512) ≡ true → overlaps b (boxIn lx ly hx hy (at + u)) ≡ true
+  pub boxes : (u : ℕ) → u < length xs → boxIn bs (at + u) ≡ boxOf (segmentAt ls (getD xs u 0))
+  pub held : Room (at + length xs) bs
+  pub inner : Room 513 bs
+  pub says : (u : ℕ) → u < length xs → (b : Box) → overlaps b (boxIn bs 512) ≡ true → overlaps b (boxIn bs (at + u)) ≡ true
   pub in-marks : length xs ≤ length marks
   pub room : RoomFor xs fs ss hits
 
@@ -201,12 +197,12 @@ pub record Lent (ls : Lines) (fs ss : List ℕ) (hits : ℕ) : Type 0 where
   pub in-room : hits ≤ length fs
 
 -- and the room for boxes and bytes
-pub record Scratch (lx ly hx hy : List Float) (marks : List ℕ) : Type 0 where
-  pub boxes : Room 513 lx ly hx hy
+pub record Scratch (bs : List Float) (marks : List ℕ) : Type 0 where
+  pub boxes : Room 513 bs
   pub bytes : 512 ≤ length marks
 
-pub record SameScratch (lx ly hx hy : List Float) (marks : List ℕ) (lx′ ly′ hx′ hy′ : List Float) (marks′ : List ℕ) : Type 0 where
-  pub boxes : Long lx ly hx hy lx′ ly′ hx′ hy′
+pub record SameScratch (bs : List Float) (marks : List ℕ) (bs′ : List Float) (marks′ : List ℕ) : Type 0 where
+  pub boxes : length bs′ ≡ length bs
   pub bytes : length marks′ ≡ length marks
 
 -- ---- a list
@@ -222,23 +218,23 @@ RowFound len i j (rowat.At a b) = RowIs len i j a b
 RowFound len i j rowat.Past = (pl : Place) (xs : List ℕ) → length xs ≡ len → listFrom pl xs i j ≡ []
 
 -- a part of row i, from entry j on
-pub record PartAsks (ls : Lines) (xs : List ℕ) (i j from held : ℕ) (lx ly hx hy : List Float) (marks fs ss : List ℕ) (hits : ℕ) : Type 0 where
-  pub window : WindowAsks ls xs j from held lx ly hx hy
+pub record PartAsks (ls : Lines) (xs : List ℕ) (i j from held : ℕ) (bs : List Float) (marks fs ss : List ℕ) (hits : ℕ) : Type 0 where
+  pub window : WindowAsks ls xs j from held bs
   pub later : i < j
   pub bytes : 512 ≤ length marks
   pub same : length ss ≡ length fs
   pub room : hits < length fs
 
-pub record PartIs (ls : Lines) (xs : List ℕ) (i j : ℕ) (fs ss : List ℕ) (hits : ℕ) (lx ly hx hy : List Float) (fs′ ss′ : List ℕ) (r : PartRan) : Type 0 where
+pub record PartIs (ls : Lines) (xs : List ℕ) (i j : ℕ) (fs ss : List ℕ) (hits : ℕ) (bs : List Float) (fs′ ss′ : List ℕ) (r : PartRan) : Type 0 where
   pub some : 0 < r .many
   pub inside : j + r .many ≤ length xs
   pub moved : (pl : Place) (later : List Pair)
       → Moved ls (withEach pl (getD xs i 0) (take (r .many) (drop j xs)) ++ later) later (r .many) (length fs) fs ss hits fs′ ss′ (r .hits)
-  pub holds : Holds ls xs (r .from) (r .held) lx ly hx hy
+  pub holds : Holds ls xs (r .from) (r .held) bs
 
-pub record ListAsks (ls : Lines) (xs : List ℕ) (i j : ℕ) (lx ly hx hy : List Float) (marks fs ss : List ℕ) (hits : ℕ) : Type 0 where
+pub record ListAsks (ls : Lines) (xs : List ℕ) (i j : ℕ) (bs : List Float) (marks fs ss : List ℕ) (hits : ℕ) : Type 0 where
   pub lent : Lent ls fs ss hits
-  pub scratch : Scratch lx ly hx hy marks
+  pub scratch : Scratch bs marks
   pub below : Below (count ls) xs
   pub small : (pl : Place) → length (listFrom pl xs i j) < 2 ^ 64
 
@@ -278,9 +274,9 @@ abbrev pub CellFound : ℕ → ℕ → List ℕ → List ℕ → ℕ → ℕ →
 CellFound n m offsets items cell i j (cellat.At c a b) = CellIs n m offsets items cell i j c a b
 CellFound n m offsets items cell i j cellat.Past = (cols : ℕ) → cellsFrom cols (listBy n offsets items) (m - cell) cell i j ≡ []
 
-pub record CellsAsk (ls : Lines) (cols m : ℕ) (offsets items : List ℕ) (cell i j : ℕ) (lx ly hx hy : List Float) (marks fs ss : List ℕ) : Type 0 where
+pub record CellsAsk (ls : Lines) (cols m : ℕ) (offsets items : List ℕ) (cell i j : ℕ) (bs : List Float) (marks fs ss : List ℕ) : Type 0 where
   pub lent : Lent ls fs ss 0
-  pub scratch : Scratch lx ly hx hy marks
+  pub scratch : Scratch bs marks
   pub small : length (cellsFrom cols (listBy (count ls) offsets items) (m - cell) cell i j) < 2 ^ 64
 
 pub record CellsRanIs (ls : Lines) (cols m : ℕ) (offsets items : List ℕ) (cell i j : ℕ) (fs ss fs′ ss′ : List ℕ) (r : CellsRan) : Type 0 where

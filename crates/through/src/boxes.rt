@@ -9,7 +9,7 @@ ghost use lib.Ieee.{lt};
 ghost use lib.ListN.{length};
 ghost use Rattle.grid.specs.Domain.{lines, segmentAt, segmentBy};
 ghost use Rattle.grid.specs.Boxes.{boxOf};
-ghost use Rattle.through.specs.Inside.{boxIn, flatIn, FlatAsks, FlatFilled, LineAsks, GatherAsks, Filled, Gathered, nowhere, Room, Inner, WindowAsks, WindowIs};
+ghost use Rattle.through.specs.Inside.{boxIn, withBox, flatIn, FlatAsks, FlatFilled, LineAsks, GatherAsks, Filled, Gathered, nowhere, Room, Inner, WindowAsks, WindowIs};
 
 // The boxes of `held` entries of a list stand ready, from its entry `from` on.
 pub(crate) struct Window {
@@ -70,7 +70,19 @@ pub(crate) fn box_at(
     box_of(start_x[i], start_y[i], end_x[i], end_y[i])
 }
 
-// Entry u of the four slices becomes the box of line list[u]. Answers the greatest of the low ends and the least of the high ones, of which
+// A room of boxes has 513 numbers for each of their four, one part after another: so a loop over boxes takes many at a time. Its entry u
+// becomes a box.
+fn put_box(room: &mut [f64], u: usize, bounds: Box)
+    requires { ⌜ Room (u + 1) (now room) ⌝ }
+    ensures { λ _. ⌜ now (room .exit) ≡ withBox (now (room .entry)) u bounds ⌝ }
+{
+    room[u] = bounds.min_x;
+    room[513 + u] = bounds.min_y;
+    room[1026 + u] = bounds.max_x;
+    room[1539 + u] = bounds.max_y;
+}
+
+// Entry u of the room becomes the box of line list[u]. Answers the greatest of the low ends and the least of the high ones, of which
 // nothing is promised: a NaN among them is passed over.
 pub(crate) fn gather_each(
     list: &[u32],
@@ -78,15 +90,12 @@ pub(crate) fn gather_each(
     start_y: &[f64],
     end_x: &[f64],
     end_y: &[f64],
-    low_x: &mut [f64],
-    low_y: &mut [f64],
-    high_x: &mut [f64],
-    high_y: &mut [f64],
+    room: &mut [f64],
 ) -> Box
-    requires { ⌜ GatherAsks (lines (now «start_x») (now «start_y») (now «end_x») (now «end_y»)) (now list) (now «low_x») (now «low_y») (now «high_x») (now «high_y») ⌝ }
+    requires { ⌜ GatherAsks (lines (now «start_x») (now «start_y») (now «end_x») (now «end_y»)) (now list) (now room) ⌝ }
     ensures { λ _. let ls = lines (now («start_x» .entry)) (now («start_y» .entry)) (now («end_x» .entry)) (now («end_y» .entry)) in
-        ⌜ Filled ls (now (list .entry)) (length (now (list .entry))) (now («low_x» .entry)) (now («low_y» .entry)) (now («high_x» .entry)) (now («high_y» .entry))
-        (now («low_x» .exit)) (now («low_y» .exit)) (now («high_x» .exit)) (now («high_y» .exit)) ⌝ }
+        ⌜ Filled ls (now (list .entry)) (length (now (list .entry))) (now (room .entry))
+        (now (room .exit)) ⌝ }
 {
     let mut ax = 0.0 - 1.0 / 0.0;
     let mut ay = 0.0 - 1.0 / 0.0;
@@ -99,10 +108,7 @@ pub(crate) fn gather_each(
         ay = higher(ay, bounds.min_y);
         bx = lower(bx, bounds.max_x);
         by = lower(by, bounds.max_y);
-        low_x[u] = bounds.min_x;
-        low_y[u] = bounds.min_y;
-        high_x[u] = bounds.max_x;
-        high_y[u] = bounds.max_y;
+        put_box(room, u, bounds);
         u = u + 1;
     }
     Box {
@@ -127,16 +133,9 @@ fn none() -> Box
 }
 
 // Whether no low end is above those of a box, and no high end below: then what overlaps it overlaps each of the boxes.
-fn is_inner(
-    inner: Box,
-    many: usize,
-    low_x: &[f64],
-    low_y: &[f64],
-    high_x: &[f64],
-    high_y: &[f64],
-) -> bool
-    requires { ⌜ Room many (now «low_x») (now «low_y») (now «high_x») (now «high_y») ⌝ }
-    ensures { λ r. ⌜ (r ≡ true → Inner many (now («low_x» .entry)) (now («low_y» .entry)) (now («high_x» .entry)) (now («high_y» .entry)) inner) ⌝ }
+fn is_inner(inner: Box, many: usize, room: &[f64]) -> bool
+    requires { ⌜ Room many (now room) ⌝ }
+    ensures { λ r. ⌜ (r ≡ true → Inner many (now (room .entry)) inner) ⌝ }
 {
     let ax = inner.min_x;
     let ay = inner.min_y;
@@ -146,7 +145,8 @@ fn is_inner(
     let mut u = 0;
     while u < many {
         all = all
-            & ((low_x[u] <= ax) & ((bx <= high_x[u]) & ((low_y[u] <= ay) & (by <= high_y[u]))));
+            & ((room[u] <= ax)
+                & ((bx <= room[1026 + u]) & ((room[513 + u] <= ay) & (by <= room[1539 + u]))));
         u = u + 1;
     }
     all
@@ -154,59 +154,36 @@ fn is_inner(
 
 // A box where what overlaps it overlaps each of the boxes, by that of the ends: none where it is not one. Few are not asked, since the test
 // would cost more than it saves.
-fn inner_of(
-    ends: Box,
-    many: usize,
-    low_x: &[f64],
-    low_y: &[f64],
-    high_x: &[f64],
-    high_y: &[f64],
-) -> Box
-    requires { ⌜ Room many (now «low_x») (now «low_y») (now «high_x») (now «high_y») ⌝ }
-    ensures { λ r. ⌜ Inner many (now («low_x» .entry)) (now («low_y» .entry)) (now («high_x» .entry)) (now («high_y» .entry)) r ⌝ }
+fn inner_of(ends: Box, many: usize, room: &[f64]) -> Box
+    requires { ⌜ Room many (now room) ⌝ }
+    ensures { λ r. ⌜ Inner many (now (room .entry)) r ⌝ }
 {
     if many < 8 {
         return none();
     }
-    if is_inner(ends, many, low_x, low_y, high_x, high_y) {
+    if is_inner(ends, many, room) {
         return ends;
     }
     none()
 }
 
-// Entry u of the four slices becomes the box of line list[u], and entry 512 one where what overlaps it overlaps each of them.
+// Entry u of the room becomes the box of line list[u], and entry 512 one where what overlaps it overlaps each of them.
 fn gather(
     list: &[u32],
     start_x: &[f64],
     start_y: &[f64],
     end_x: &[f64],
     end_y: &[f64],
-    low_x: &mut [f64],
-    low_y: &mut [f64],
-    high_x: &mut [f64],
-    high_y: &mut [f64],
+    room: &mut [f64],
 )
-    requires { ⌜ GatherAsks (lines (now «start_x») (now «start_y») (now «end_x») (now «end_y»)) (now list) (now «low_x») (now «low_y») (now «high_x») (now «high_y») ⌝ }
+    requires { ⌜ GatherAsks (lines (now «start_x») (now «start_y») (now «end_x») (now «end_y»)) (now list) (now room) ⌝ }
     ensures { λ _. let ls = lines (now («start_x» .entry)) (now («start_y» .entry)) (now («end_x» .entry)) (now («end_y» .entry)) in
-        ⌜ Gathered ls (now (list .entry)) (length (now (list .entry))) (now («low_x» .entry)) (now («low_y» .entry)) (now («high_x» .entry)) (now («high_y» .entry))
-        (now («low_x» .exit)) (now («low_y» .exit)) (now («high_x» .exit)) (now («high_y» .exit)) ⌝ }
+        ⌜ Gathered ls (now (list .entry)) (length (now (list .entry))) (now (room .entry))
+        (now (room .exit)) ⌝ }
 {
-    let ends = gather_each(
-        list,
-        start_x,
-        start_y,
-        end_x,
-        end_y,
-        low_x,
-        low_y,
-        high_x,
-        high_y,
-    );
-    let inner = inner_of(ends, list.len(), low_x, low_y, high_x, high_y);
-    low_x[512] = inner.min_x;
-    low_y[512] = inner.min_y;
-    high_x[512] = inner.max_x;
-    high_y[512] = inner.max_y;
+    let ends = gather_each(list, start_x, start_y, end_x, end_y, room);
+    let inner = inner_of(ends, list.len(), room);
+    put_box(room, 512, inner);
 }
 
 // The boxes of a short list stand one after another, four numbers each: entry u of them becomes the box of line list[u].
@@ -249,15 +226,15 @@ pub(crate) fn flat_at(flat: &[f64], u: usize) -> Box
 }
 
 // The box where what overlaps it overlaps each of those that stand ready.
-pub(crate) fn inner_in(low_x: &[f64], low_y: &[f64], high_x: &[f64], high_y: &[f64]) -> Box
-    requires { ⌜ Room 513 (now «low_x») (now «low_y») (now «high_x») (now «high_y») ⌝ }
-    ensures { λ r. ⌜ r ≡ boxIn (now («low_x» .entry)) (now («low_y» .entry)) (now («high_x» .entry)) (now («high_y» .entry)) 512 ⌝ }
+pub(crate) fn inner_in(room: &[f64]) -> Box
+    requires { ⌜ Room 513 (now room) ⌝ }
+    ensures { λ r. ⌜ r ≡ boxIn (now (room .entry)) 512 ⌝ }
 {
     Box {
-        min_x: low_x[512],
-        min_y: low_y[512],
-        max_x: high_x[512],
-        max_y: high_y[512],
+        min_x: room[512],
+        min_y: room[1025],
+        max_x: room[1538],
+        max_y: room[2051],
     }
 }
 
@@ -271,15 +248,11 @@ pub(crate) fn window_at(
     start_y: &[f64],
     end_x: &[f64],
     end_y: &[f64],
-    low_x: &mut [f64],
-    low_y: &mut [f64],
-    high_x: &mut [f64],
-    high_y: &mut [f64],
+    room: &mut [f64],
 ) -> Window
-    requires { ⌜ WindowAsks (lines (now «start_x») (now «start_y») (now «end_x») (now «end_y»)) (now list) at from held (now «low_x») (now «low_y») (now «high_x») (now «high_y») ⌝ }
+    requires { ⌜ WindowAsks (lines (now «start_x») (now «start_y») (now «end_x») (now «end_y»)) (now list) at from held (now room) ⌝ }
     ensures { λ r. let ls = lines (now («start_x» .entry)) (now («start_y» .entry)) (now («end_x» .entry)) (now («end_y» .entry)) in
-        ⌜ WindowIs ls (now (list .entry)) at (now («low_x» .entry)) (now («low_y» .entry)) (now («high_x» .entry)) (now («high_y» .entry)) (now («low_x» .exit))
-        (now («low_y» .exit)) (now («high_x» .exit)) (now («high_y» .exit)) r ⌝ }
+        ⌜ WindowIs ls (now (list .entry)) at (now (room .entry)) (now (room .exit)) r ⌝ }
 {
     if from <= at {
         if at < from + held {
@@ -287,17 +260,7 @@ pub(crate) fn window_at(
         }
     }
     let many = slices::least(list.len() - at, 512);
-    gather(
-        &list[at..at + many],
-        start_x,
-        start_y,
-        end_x,
-        end_y,
-        low_x,
-        low_y,
-        high_x,
-        high_y,
-    );
+    gather(&list[at..at + many], start_x, start_y, end_x, end_y, room);
     Window {
         from: at,
         held: many,

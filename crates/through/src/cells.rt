@@ -55,10 +55,7 @@ fn cells_from(
         ⌜ CellsRanIs ls cols reach (now (offsets .entry)) (now (items .entry)) cell i j (now (first .entry)) (now (second .entry))
         (now (first .exit)) (now (second .exit)) r ⌝ }
 {
-    let mut low_x = [0.0; 513];
-    let mut low_y = [0.0; 513];
-    let mut high_x = [0.0; 513];
-    let mut high_y = [0.0; 513];
+    let mut room = [0.0; 2052];
     let mut marks = [0u8; 512];
     rows::run_cells(
         cols,
@@ -72,10 +69,7 @@ fn cells_from(
         start_y,
         end_x,
         end_y,
-        &mut low_x,
-        &mut low_y,
-        &mut high_x,
-        &mut high_y,
+        &mut room,
         &mut marks,
         first,
         second,

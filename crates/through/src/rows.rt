@@ -45,37 +45,19 @@ fn scan_part(
     start_y: &[f64],
     end_x: &[f64],
     end_y: &[f64],
-    low_x: &mut [f64],
-    low_y: &mut [f64],
-    high_x: &mut [f64],
-    high_y: &mut [f64],
+    room: &mut [f64],
     marks: &mut [u8],
     first: &mut [u32],
     second: &mut [u32],
     hits: usize,
 ) -> PartRan
     requires { let ls = lines (now «start_x») (now «start_y») (now «end_x») (now «end_y») in
-        ⌜ PartAsks ls (now list) i j from held (now «low_x») (now «low_y») (now «high_x») (now «high_y») (now marks) (now first) (now second) hits ⌝ }
+        ⌜ PartAsks ls (now list) i j from held (now room) (now marks) (now first) (now second) hits ⌝ }
     ensures { λ r. let ls = lines (now («start_x» .entry)) (now («start_y» .entry)) (now («end_x» .entry)) (now («end_y» .entry)) in
-        ⌜ PartIs ls (now (list .entry)) i j (now (first .entry)) (now (second .entry)) hits (now («low_x» .exit)) (now («low_y» .exit)) (now («high_x» .exit))
-        (now («high_y» .exit)) (now (first .exit)) (now (second .exit)) r ⌝
-        ∗ ⌜ SameScratch (now («low_x» .entry)) (now («low_y» .entry)) (now («high_x» .entry)) (now («high_y» .entry)) (now (marks .entry)) (now («low_x» .exit))
-        (now («low_y» .exit)) (now («high_x» .exit)) (now («high_y» .exit)) (now (marks .exit)) ⌝ }
+        ⌜ PartIs ls (now (list .entry)) i j (now (first .entry)) (now (second .entry)) hits (now (room .exit)) (now (first .exit)) (now (second .exit)) r ⌝
+        ∗ ⌜ SameScratch (now (room .entry)) (now (marks .entry)) (now (room .exit)) (now (marks .exit)) ⌝ }
 {
-    let window = boxes::window_at(
-        list,
-        j,
-        from,
-        held,
-        start_x,
-        start_y,
-        end_x,
-        end_y,
-        low_x,
-        low_y,
-        high_x,
-        high_y,
-    );
+    let window = boxes::window_at(list, j, from, held, start_x, start_y, end_x, end_y, room);
     let ready = window.from + window.held - j;
     let many = least(least(ready, first.len() - hits), marks.len());
     let found = scan::scan(
@@ -85,10 +67,7 @@ fn scan_part(
         start_y,
         end_x,
         end_y,
-        low_x,
-        low_y,
-        high_x,
-        high_y,
+        room,
         j - window.from,
         marks,
         first,
@@ -112,21 +91,16 @@ fn run_rows(
     start_y: &[f64],
     end_x: &[f64],
     end_y: &[f64],
-    low_x: &mut [f64],
-    low_y: &mut [f64],
-    high_x: &mut [f64],
-    high_y: &mut [f64],
+    room: &mut [f64],
     marks: &mut [u8],
     first: &mut [u32],
     second: &mut [u32],
     hits: usize,
 ) -> ListRan
-    requires { ⌜ ListAsks (lines (now «start_x») (now «start_y») (now «end_x») (now «end_y»)) (now list) i j (now «low_x») (now «low_y») (now «high_x»)
-        (now «high_y») (now marks) (now first) (now second) hits ⌝ }
+    requires { ⌜ ListAsks (lines (now «start_x») (now «start_y») (now «end_x») (now «end_y»)) (now list) i j (now room) (now marks) (now first) (now second) hits ⌝ }
     ensures { λ r. let ls = lines (now («start_x» .entry)) (now («start_y» .entry)) (now («end_x» .entry)) (now («end_y» .entry)) in
         ⌜ ListRanIs ls (now (list .entry)) i j (now (first .entry)) (now (second .entry)) hits (now (first .exit)) (now (second .exit)) r ⌝
-        ∗ ⌜ SameScratch (now («low_x» .entry)) (now («low_y» .entry)) (now («high_x» .entry)) (now («high_y» .entry)) (now (marks .entry)) (now («low_x» .exit))
-        (now («low_y» .exit)) (now («high_x» .exit)) (now («high_y» .exit)) (now (marks .exit)) ⌝ }
+        ∗ ⌜ SameScratch (now (room .entry)) (now (marks .entry)) (now (room .exit)) (now (marks .exit)) ⌝ }
 {
     let mut i = i;
     let mut j = j;
@@ -148,10 +122,7 @@ fn run_rows(
             start_y,
             end_x,
             end_y,
-            low_x,
-            low_y,
-            high_x,
-            high_y,
+            room,
             marks,
             first,
             second,
@@ -228,21 +199,16 @@ fn run_list(
     start_y: &[f64],
     end_x: &[f64],
     end_y: &[f64],
-    low_x: &mut [f64],
-    low_y: &mut [f64],
-    high_x: &mut [f64],
-    high_y: &mut [f64],
+    room: &mut [f64],
     marks: &mut [u8],
     first: &mut [u32],
     second: &mut [u32],
     hits: usize,
 ) -> ListRan
-    requires { ⌜ ListAsks (lines (now «start_x») (now «start_y») (now «end_x») (now «end_y»)) (now list) i j (now «low_x») (now «low_y») (now «high_x»)
-        (now «high_y») (now marks) (now first) (now second) hits ⌝ }
+    requires { ⌜ ListAsks (lines (now «start_x») (now «start_y») (now «end_x») (now «end_y»)) (now list) i j (now room) (now marks) (now first) (now second) hits ⌝ }
     ensures { λ r. let ls = lines (now («start_x» .entry)) (now («start_y» .entry)) (now («end_x» .entry)) (now («end_y» .entry)) in
         ⌜ ListRanIs ls (now (list .entry)) i j (now (first .entry)) (now (second .entry)) hits (now (first .exit)) (now (second .exit)) r ⌝
-        ∗ ⌜ SameScratch (now («low_x» .entry)) (now («low_y» .entry)) (now («high_x» .entry)) (now («high_y» .entry)) (now (marks .entry)) (now («low_x» .exit))
-        (now («low_y» .exit)) (now («high_x» .exit)) (now («high_y» .exit)) (now (marks .exit)) ⌝ }
+        ∗ ⌜ SameScratch (now (room .entry)) (now (marks .entry)) (now (room .exit)) (now (marks .exit)) ⌝ }
 {
     if is_brief(list.len(), i, j, first.len() - hits) {
         return run_brief(
@@ -251,7 +217,7 @@ fn run_list(
             start_y,
             end_x,
             end_y,
-            low_x,
+            room,
             first,
             second,
             hits,
@@ -265,10 +231,7 @@ fn run_list(
         start_y,
         end_x,
         end_y,
-        low_x,
-        low_y,
-        high_x,
-        high_y,
+        room,
         marks,
         first,
         second,
@@ -289,16 +252,12 @@ pub(crate) fn run_cells(
     start_y: &[f64],
     end_x: &[f64],
     end_y: &[f64],
-    low_x: &mut [f64],
-    low_y: &mut [f64],
-    high_x: &mut [f64],
-    high_y: &mut [f64],
+    room: &mut [f64],
     marks: &mut [u8],
     first: &mut [u32],
     second: &mut [u32],
 ) -> CellsRan
-    requires { ⌜ CellsAsk (lines (now «start_x») (now «start_y») (now «end_x») (now «end_y»)) cols reach (now offsets) (now items) cell i j (now «low_x»)
-        (now «low_y») (now «high_x») (now «high_y») (now marks) (now first) (now second) ⌝ }
+    requires { ⌜ CellsAsk (lines (now «start_x») (now «start_y») (now «end_x») (now «end_y»)) cols reach (now offsets) (now items) cell i j (now room) (now marks) (now first) (now second) ⌝ }
     ensures { λ r. let ls = lines (now («start_x» .entry)) (now («start_y» .entry)) (now («end_x» .entry)) (now («end_y» .entry)) in
         ⌜ CellsRanIs ls cols reach (now (offsets .entry)) (now (items .entry)) cell i j (now (first .entry)) (now (second .entry)) (now (first .exit)) (now (second .exit)) r ⌝ }
 {
@@ -317,10 +276,7 @@ pub(crate) fn run_cells(
             start_y,
             end_x,
             end_y,
-            low_x,
-            low_y,
-            high_x,
-            high_y,
+            room,
             marks,
             first,
             second,

@@ -26,18 +26,9 @@ fn wide8(x: u8) -> usize
 }
 
 // Byte u becomes the answer of a box with that at entry at + u. None of the comparisons is a branch.
-fn mark(
-    bounds: Box,
-    low_x: &[f64],
-    low_y: &[f64],
-    high_x: &[f64],
-    high_y: &[f64],
-    at: usize,
-    many: usize,
-    marks: &mut [u8],
-)
-    requires { ⌜ MarkAsks (now «low_x») (now «low_y») (now «high_x») (now «high_y») at many (now marks) ⌝ }
-    ensures { λ _. ⌜ Marked bounds (now («low_x» .entry)) (now («low_y» .entry)) (now («high_x» .entry)) (now («high_y» .entry)) at many (now (marks .entry)) (now (marks .exit)) ⌝ }
+fn mark(bounds: Box, room: &[f64], at: usize, many: usize, marks: &mut [u8])
+    requires { ⌜ MarkAsks (now room) at many (now marks) ⌝ }
+    ensures { λ _. ⌜ Marked bounds (now (room .entry)) at many (now (marks .entry)) (now (marks .exit)) ⌝ }
 {
     let ax = bounds.min_x;
     let ay = bounds.min_y;
@@ -45,8 +36,9 @@ fn mark(
     let by = bounds.max_y;
     let mut u = 0;
     while u < many {
-        let hit = (low_x[at + u] <= bx)
-            & ((ax <= high_x[at + u]) & ((low_y[at + u] <= by) & (ay <= high_y[at + u])));
+        let k = at + u;
+        let hit = (room[k] <= bx)
+            & ((ax <= room[1026 + k]) & ((room[513 + k] <= by) & (ay <= room[1539 + k])));
         marks[u] = mark_of(hit);
         u = u + 1;
     }
@@ -169,10 +161,7 @@ pub(crate) fn scan(
     start_y: &[f64],
     end_x: &[f64],
     end_y: &[f64],
-    low_x: &[f64],
-    low_y: &[f64],
-    high_x: &[f64],
-    high_y: &[f64],
+    room: &[f64],
     at: usize,
     marks: &mut [u8],
     first: &mut [u32],
@@ -180,15 +169,15 @@ pub(crate) fn scan(
     hits: usize,
 ) -> usize
     requires { let ls = lines (now «start_x») (now «start_y») (now «end_x») (now «end_y») in
-        ⌜ ScanAsks ls line (now list) (now «low_x») (now «low_y») (now «high_x») (now «high_y») at (now marks) (now first) (now second) hits ⌝ }
+        ⌜ ScanAsks ls line (now list) (now room) at (now marks) (now first) (now second) hits ⌝ }
     ensures { λ r. let ls = lines (now («start_x» .entry)) (now («start_y» .entry)) (now («end_x» .entry)) (now («end_y» .entry)) in
         ⌜ Scanned ls line (now (list .entry)) (now (marks .entry)) (now (first .entry)) (now (second .entry)) hits (now (marks .exit)) (now (first .exit)) (now (second .exit)) r ⌝ }
 {
     let bounds = boxes::box_at(start_x, start_y, end_x, end_y, line);
-    let inner = boxes::inner_in(low_x, low_y, high_x, high_y);
+    let inner = boxes::inner_in(room);
     if bounds.overlaps_with(inner) {
         return put_whole(line, list, first, second, hits);
     }
-    mark(bounds, low_x, low_y, high_x, high_y, at, list.len(), marks);
+    mark(bounds, room, at, list.len(), marks);
     put(line, list, marks, first, second, hits)
 }

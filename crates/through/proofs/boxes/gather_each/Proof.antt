@@ -5,22 +5,23 @@ use Prim.Native.Nat.{ℕ, _+_, _-_}
 use borrow.Author.Needs.{needs}
 use lib.ListN.{length, getD}
 use Rattle.grid.specs.Domain.{lines}
-use Rattle.through.proofs.BoxTurns.{Gathering, gather-start, gather-asks, gather-more, gather-end}
+use Rattle.through.proofs.BoxTurns.{Gathering, gather-start, gather-asks, gather-room, gather-more, gather-end}
 use Rattle.through.proofs.boxes.gather_each.Statement.{statement}
 use Rattle.through.proofs.boxes.gather_each.Tie as tie
 use Rattle.through.proofs.boxes.gather_each.Reads as reads
 use Rattle.through.proofs.boxes.gather_each.Lts as lts
 use Rattle.through.proofs.boxes.box_at.Reads as box-at-reads
+use Rattle.through.proofs.boxes.put_box.Reads as put-box-reads
 
 abbrev Inv-loop : tie.InvT-loop
-Inv-loop list start-x start-y end-x end-y low-x₀ low-y₀ high-x₀ high-y₀ ax₀ ay₀ bx₀ by₀ u₀ low-x low-y high-x high-y ax ay bx by u =
-    Gathering (lines start-x start-y end-x end-y) list low-x₀ low-y₀ high-x₀ high-y₀ u low-x low-y high-x high-y
+Inv-loop list start-x start-y end-x end-y room₀ ax₀ ay₀ bx₀ by₀ u₀ room ax ay bx by u =
+    Gathering (lines start-x start-y end-x end-y) list room₀ u room
 
 abbrev μ-loop : tie.MeasureT-loop
-μ-loop list start-x start-y end-x end-y low-x₀ low-y₀ high-x₀ high-y₀ ax₀ ay₀ bx₀ by₀ u₀ low-x low-y high-x high-y ax ay bx by u = length list - u
+μ-loop list start-x start-y end-x end-y room₀ ax₀ ay₀ bx₀ by₀ u₀ room ax ay bx by u = length list - u
 
 loop-holds : tie.Need-loop-holds Inv-loop μ-loop
-loop-holds c = gather-start _ _ _ _ _ _ (search needs)
+loop-holds c = gather-start _ _ _ (search needs)
 
 mul-box-at : tie.Need-mul-box-at Inv-loop μ-loop
 mul-box-at c = omega arith
@@ -29,7 +30,7 @@ shared-slice-read-box-at : tie.Need-shared-slice-read-box-at Inv-loop μ-loop
 shared-slice-read-box-at c = omega arith
 
 box-at-requires : tie.Need-box-at-requires Inv-loop μ-loop
-box-at-requires c κs = gather-asks _ _ _ _ _ _ _ _ _ _ _ (c .before .before .loop .inv) (c .before .loop-test .taken)
+box-at-requires c κs = gather-asks _ _ _ _ _ (c .before .before .loop .inv) (c .before .loop-test .taken)
 
 higher-requires : tie.Need-higher-requires Inv-loop μ-loop
 higher-requires c κs = tt
@@ -43,29 +44,8 @@ lower-requires c κs = tt
 lower-requires-2 : tie.Need-lower-requires-2 Inv-loop μ-loop
 lower-requires-2 c κs = tt
 
-mul-low-x : tie.Need-mul-low-x Inv-loop μ-loop
-mul-low-x c = omega arith
-
-slice-write-low-x : tie.Need-slice-write-low-x Inv-loop μ-loop
-slice-write-low-x c = omega arith
-
-mul-low-y : tie.Need-mul-low-y Inv-loop μ-loop
-mul-low-y c = omega arith
-
-slice-write-low-y : tie.Need-slice-write-low-y Inv-loop μ-loop
-slice-write-low-y c = omega arith
-
-mul-high-x : tie.Need-mul-high-x Inv-loop μ-loop
-mul-high-x c = omega arith
-
-slice-write-high-x : tie.Need-slice-write-high-x Inv-loop μ-loop
-slice-write-high-x c = omega arith
-
-mul-high-y : tie.Need-mul-high-y Inv-loop μ-loop
-mul-high-y c = omega arith
-
-slice-write-high-y : tie.Need-slice-write-high-y Inv-loop μ-loop
-slice-write-high-y c = omega arith
+put-box-requires : tie.Need-put-box-requires Inv-loop μ-loop
+put-box-requires c κs = gather-room _ _ _ _ _ (c .before .before .before .before .before .before .before .before .loop .inv) (c .before .before .before .before .before .before .before .loop-test .taken)
 
 add-u : tie.Need-add-u Inv-loop μ-loop
 add-u c = omega arith
@@ -74,22 +54,13 @@ loop-less : tie.Need-loop-less Inv-loop μ-loop
 loop-less c = omega arith
 
 loop-again : tie.Need-loop-again Inv-loop μ-loop
-loop-again c = gather-more _ _ _ _ _ _ _ _ _ _ _ (c .before .before .before .before .before .before .before .loop .inv) (c .before .before .before .before .before .before .loop-test .taken) _ (c .before .before .before .before .box-at .ensures)
+loop-again c = gather-more _ _ _ _ _ (c .before .before .before .before .before .before .before .before .before .before .before .loop .inv) (c .before .before .before .before .before .before .before .before .before .before .loop-test .taken) _ (c .before .before .before .before .before .before .before .before .box-at .ensures) _ (c .before .before .put-box .ensures)
 
 same-length : tie.Need-same-length Inv-loop μ-loop
-same-length c = omega arith
-
-same-length-2 : tie.Need-same-length-2 Inv-loop μ-loop
-same-length-2 c = omega arith
-
-same-length-3 : tie.Need-same-length-3 Inv-loop μ-loop
-same-length-3 c = omega arith
-
-same-length-4 : tie.Need-same-length-4 Inv-loop μ-loop
-same-length-4 c = omega arith
+same-length c = c .before .loop .inv .done .long
 
 returns : tie.Need-returns Inv-loop μ-loop
-returns c = gather-end _ _ _ _ _ _ _ _ _ _ _ (c .before .loop .inv) (c .loop-test .left)
+returns c = gather-end _ _ _ _ _ (c .before .loop .inv) (c .loop-test .left)
 
 pub gather-each-spec : {M : Type 1} → statement M
 gather-each-spec =
@@ -105,19 +76,9 @@ gather-each-spec =
     higher-requires-2
     lower-requires
     lower-requires-2
-    mul-low-x
-    slice-write-low-x
-    mul-low-y
-    slice-write-low-y
-    mul-high-x
-    slice-write-high-x
-    mul-high-y
-    slice-write-high-y
+    put-box-requires
     add-u
     loop-less
     loop-again
     same-length
-    same-length-2
-    same-length-3
-    same-length-4
     returns)

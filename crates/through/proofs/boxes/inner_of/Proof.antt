@@ -12,7 +12,7 @@ none-requires : tie.Need-none-requires
 none-requires c κs = search needs
 
 returns : tie.Need-returns
-returns c = inner-none _ _ _ _ _ _ (c .none .ensures)
+returns c = inner-none _ _ _ (c .none .ensures)
 
 is-inner-requires : tie.Need-is-inner-requires
 is-inner-requires c κs = search needs
@@ -24,7 +24,7 @@ none-requires-2 : tie.Need-none-requires-2
 none-requires-2 c κs = search needs
 
 returns-3 : tie.Need-returns-3
-returns-3 c = inner-none _ _ _ _ _ _ (c .none2 .ensures)
+returns-3 c = inner-none _ _ _ (c .none2 .ensures)
 
 pub inner-of-spec : {M : Type 1} → statement M
 inner-of-spec =

@@ -15,87 +15,69 @@ use Rattle.through.proofs.lists.next_cell.Reads as next-cell-reads
 use Rattle.through.proofs.rows.run_list.Reads as run-list-reads
 
 abbrev Inv-loop : tie.InvT-loop
-Inv-loop cols reach offsets items cell i j start-x start-y end-x end-y low-x₀ low-y₀ high-x₀ high-y₀ marks₀ first₀ second₀ cell₀ i₀ j₀ tests₀ hits₀ low-x low-y high-x high-y marks first second cell' i' j' tests hits =
-    CellsRun (lines start-x start-y end-x end-y) cols reach offsets items cell i j low-x₀ low-y₀ high-x₀ high-y₀ marks₀ first₀ second₀ low-x low-y high-x high-y marks first second cell' i' j' tests hits
+Inv-loop cols reach offsets items cell i j start-x start-y end-x end-y room₀ marks₀ first₀ second₀ cell₀ i₀ j₀ tests₀ hits₀ room marks first second cell' i' j' tests hits =
+    CellsRun (lines start-x start-y end-x end-y) cols reach offsets items cell i j room₀ marks₀ first₀ second₀ room marks first second cell' i' j' tests hits
 
 abbrev μ-loop : tie.MeasureT-loop
-μ-loop cols reach offsets items cell i j start-x start-y end-x end-y low-x₀ low-y₀ high-x₀ high-y₀ marks₀ first₀ second₀ cell₀ i₀ j₀ tests₀ hits₀ low-x low-y high-x high-y marks first second cell' i' j' tests hits =
+μ-loop cols reach offsets items cell i j start-x start-y end-x end-y room₀ marks₀ first₀ second₀ cell₀ i₀ j₀ tests₀ hits₀ room marks first second cell' i' j' tests hits =
     reach - cell'
 
 loop-holds : tie.Need-loop-holds Inv-loop μ-loop
-loop-holds c = cells-run _ _ _ _ _ _ _ _ _ _ _ _ _ _ _ (c .before .before .before .before .before .before .before .before .before .before .before .before .before .pre)
+loop-holds c = cells-run _ _ _ _ _ _ _ _ _ _ _ _ (c .before .before .before .before .before .before .before .before .before .before .pre)
 
 list-of-requires : tie.Need-list-of-requires Inv-loop μ-loop
 list-of-requires c κs = tt
 
 run-list-requires : tie.Need-run-list-requires Inv-loop μ-loop
-run-list-requires c κs = cells-list _ _ _ _ _ _ _ _ _ _ _ _ _ _ _ _ _ _ _ _ _ _ _ _ _ _ _ (c .before .before .before .before .before .before .before .before .before .loop .inv) (c .before .before .before .before .before .before .before .before .loop-test .taken) _ (c .before .before .before .before .before .before .before .list-of .ensures)
+run-list-requires c κs = cells-list _ _ _ _ _ _ _ _ _ _ _ _ _ _ _ _ _ _ _ _ _ (c .before .before .before .before .before .before .loop .inv) (c .before .before .before .before .before .loop-test .taken) _ (c .before .before .before .before .list-of .ensures)
 
 add-tests : tie.Need-add-tests Inv-loop μ-loop
-add-tests c = record { fits = cells-small _ _ _ _ _ _ _ _ _ _ _ _ _ _ _ _ _ _ _ _ _ _ _ _ _ _ _ (c .before .before .before .before .before .before .before .before .before .before .before .before .before .before .before .before .before .before .before .before .before .before .before .before .before .loop .inv) (c .before .before .before .before .before .before .before .before .before .before .before .before .before .before .before .before .before .before .before .before .before .before .before .before .loop-test .taken) _ (c .before .before .before .before .before .before .before .before .before .before .before .before .before .before .before .before .before .before .before .before .before .before .before .list-of .ensures) _ _ _ _ _ _ _ _ (c .before .before .before .before .before .before .before .before .before .before .before .before .before .before .before .run-list .ensures .0) (c .before .before .before .before .before .before .before .before .before .before .before .before .before .before .before .run-list .ensures .1) }
+add-tests c = record { fits = cells-small _ _ _ _ _ _ _ _ _ _ _ _ _ _ _ _ _ _ _ _ _ (c .before .before .before .before .before .before .before .before .before .before .before .before .before .before .before .before .loop .inv) (c .before .before .before .before .before .before .before .before .before .before .before .before .before .before .before .loop-test .taken) _ (c .before .before .before .before .before .before .before .before .before .before .before .before .before .before .list-of .ensures) _ _ _ _ _ (c .before .before .before .before .before .before .before .before .before .run-list .ensures .0) (c .before .before .before .before .before .before .before .before .before .run-list .ensures .1) }
 
 same-length : tie.Need-same-length Inv-loop μ-loop
-same-length c = (cells-kept _ _ _ _ _ _ _ _ _ _ _ _ _ _ _ _ _ _ _ _ _ _ _ _ _ _ _ (c .before .before .before .before .before .before .before .before .before .before .before .before .before .before .before .before .before .before .before .before .before .before .before .before .before .before .loop .inv) (c .before .before .before .before .before .before .before .before .before .before .before .before .before .before .before .before .before .before .before .before .before .before .before .before .before .loop-test .taken) _ (c .before .before .before .before .before .before .before .before .before .before .before .before .before .before .before .before .before .before .before .before .before .before .before .before .list-of .ensures) _ _ _ _ _ _ _ _ (c .before .before .before .before .before .before .before .before .before .before .before .before .before .before .before .before .run-list .ensures .0) (c .before .before .before .before .before .before .before .before .before .before .before .before .before .before .before .before .run-list .ensures .1)) .boxes .lx-long
+same-length c = (cells-kept _ _ _ _ _ _ _ _ _ _ _ _ _ _ _ _ _ _ _ _ _ (c .before .before .before .before .before .before .before .before .before .before .before .before .before .before .before .before .before .loop .inv) (c .before .before .before .before .before .before .before .before .before .before .before .before .before .before .before .before .loop-test .taken) _ (c .before .before .before .before .before .before .before .before .before .before .before .before .before .before .before .list-of .ensures) _ _ _ _ _ (c .before .before .before .before .before .before .before .before .before .before .run-list .ensures .0) (c .before .before .before .before .before .before .before .before .before .before .run-list .ensures .1)) .boxes
 
 same-length-2 : tie.Need-same-length-2 Inv-loop μ-loop
-same-length-2 c = (cells-kept _ _ _ _ _ _ _ _ _ _ _ _ _ _ _ _ _ _ _ _ _ _ _ _ _ _ _ (c .before .before .before .before .before .before .before .before .before .before .before .before .before .before .before .before .before .before .before .before .before .before .before .before .before .before .loop .inv) (c .before .before .before .before .before .before .before .before .before .before .before .before .before .before .before .before .before .before .before .before .before .before .before .before .before .loop-test .taken) _ (c .before .before .before .before .before .before .before .before .before .before .before .before .before .before .before .before .before .before .before .before .before .before .before .before .list-of .ensures) _ _ _ _ _ _ _ _ (c .before .before .before .before .before .before .before .before .before .before .before .before .before .before .before .before .run-list .ensures .0) (c .before .before .before .before .before .before .before .before .before .before .before .before .before .before .before .before .run-list .ensures .1)) .boxes .ly-long
+same-length-2 c = (cells-kept _ _ _ _ _ _ _ _ _ _ _ _ _ _ _ _ _ _ _ _ _ (c .before .before .before .before .before .before .before .before .before .before .before .before .before .before .before .before .before .loop .inv) (c .before .before .before .before .before .before .before .before .before .before .before .before .before .before .before .before .loop-test .taken) _ (c .before .before .before .before .before .before .before .before .before .before .before .before .before .before .before .list-of .ensures) _ _ _ _ _ (c .before .before .before .before .before .before .before .before .before .before .run-list .ensures .0) (c .before .before .before .before .before .before .before .before .before .before .run-list .ensures .1)) .bytes
 
 same-length-3 : tie.Need-same-length-3 Inv-loop μ-loop
-same-length-3 c = (cells-kept _ _ _ _ _ _ _ _ _ _ _ _ _ _ _ _ _ _ _ _ _ _ _ _ _ _ _ (c .before .before .before .before .before .before .before .before .before .before .before .before .before .before .before .before .before .before .before .before .before .before .before .before .before .before .loop .inv) (c .before .before .before .before .before .before .before .before .before .before .before .before .before .before .before .before .before .before .before .before .before .before .before .before .before .loop-test .taken) _ (c .before .before .before .before .before .before .before .before .before .before .before .before .before .before .before .before .before .before .before .before .before .before .before .before .list-of .ensures) _ _ _ _ _ _ _ _ (c .before .before .before .before .before .before .before .before .before .before .before .before .before .before .before .before .run-list .ensures .0) (c .before .before .before .before .before .before .before .before .before .before .before .before .before .before .before .before .run-list .ensures .1)) .boxes .hx-long
+same-length-3 c = cells-first-kept _ _ _ _ _ _ _ _ _ _ _ _ _ _ _ _ _ _ _ _ _ (c .before .before .before .before .before .before .before .before .before .before .before .before .before .before .before .before .before .loop .inv) (c .before .before .before .before .before .before .before .before .before .before .before .before .before .before .before .before .loop-test .taken) _ (c .before .before .before .before .before .before .before .before .before .before .before .before .before .before .before .list-of .ensures) _ _ _ _ _ (c .before .before .before .before .before .before .before .before .before .before .run-list .ensures .0) (c .before .before .before .before .before .before .before .before .before .before .run-list .ensures .1)
 
 same-length-4 : tie.Need-same-length-4 Inv-loop μ-loop
-same-length-4 c = (cells-kept _ _ _ _ _ _ _ _ _ _ _ _ _ _ _ _ _ _ _ _ _ _ _ _ _ _ _ (c .before .before .before .before .before .before .before .before .before .before .before .before .before .before .before .before .before .before .before .before .before .before .before .before .before .before .loop .inv) (c .before .before .before .before .before .before .before .before .before .before .before .before .before .before .before .before .before .before .before .before .before .before .before .before .before .loop-test .taken) _ (c .before .before .before .before .before .before .before .before .before .before .before .before .before .before .before .before .before .before .before .before .before .before .before .before .list-of .ensures) _ _ _ _ _ _ _ _ (c .before .before .before .before .before .before .before .before .before .before .before .before .before .before .before .before .run-list .ensures .0) (c .before .before .before .before .before .before .before .before .before .before .before .before .before .before .before .before .run-list .ensures .1)) .boxes .hy-long
-
-same-length-5 : tie.Need-same-length-5 Inv-loop μ-loop
-same-length-5 c = (cells-kept _ _ _ _ _ _ _ _ _ _ _ _ _ _ _ _ _ _ _ _ _ _ _ _ _ _ _ (c .before .before .before .before .before .before .before .before .before .before .before .before .before .before .before .before .before .before .before .before .before .before .before .before .before .before .loop .inv) (c .before .before .before .before .before .before .before .before .before .before .before .before .before .before .before .before .before .before .before .before .before .before .before .before .before .loop-test .taken) _ (c .before .before .before .before .before .before .before .before .before .before .before .before .before .before .before .before .before .before .before .before .before .before .before .before .list-of .ensures) _ _ _ _ _ _ _ _ (c .before .before .before .before .before .before .before .before .before .before .before .before .before .before .before .before .run-list .ensures .0) (c .before .before .before .before .before .before .before .before .before .before .before .before .before .before .before .before .run-list .ensures .1)) .bytes
-
-same-length-6 : tie.Need-same-length-6 Inv-loop μ-loop
-same-length-6 c = cells-first-kept _ _ _ _ _ _ _ _ _ _ _ _ _ _ _ _ _ _ _ _ _ _ _ _ _ _ _ (c .before .before .before .before .before .before .before .before .before .before .before .before .before .before .before .before .before .before .before .before .before .before .before .before .before .before .loop .inv) (c .before .before .before .before .before .before .before .before .before .before .before .before .before .before .before .before .before .before .before .before .before .before .before .before .before .loop-test .taken) _ (c .before .before .before .before .before .before .before .before .before .before .before .before .before .before .before .before .before .before .before .before .before .before .before .before .list-of .ensures) _ _ _ _ _ _ _ _ (c .before .before .before .before .before .before .before .before .before .before .before .before .before .before .before .before .run-list .ensures .0) (c .before .before .before .before .before .before .before .before .before .before .before .before .before .before .before .before .run-list .ensures .1)
-
-same-length-7 : tie.Need-same-length-7 Inv-loop μ-loop
-same-length-7 c = cells-second-kept _ _ _ _ _ _ _ _ _ _ _ _ _ _ _ _ _ _ _ _ _ _ _ _ _ _ _ (c .before .before .before .before .before .before .before .before .before .before .before .before .before .before .before .before .before .before .before .before .before .before .before .before .before .before .loop .inv) (c .before .before .before .before .before .before .before .before .before .before .before .before .before .before .before .before .before .before .before .before .before .before .before .before .before .loop-test .taken) _ (c .before .before .before .before .before .before .before .before .before .before .before .before .before .before .before .before .before .before .before .before .before .before .before .before .list-of .ensures) _ _ _ _ _ _ _ _ (c .before .before .before .before .before .before .before .before .before .before .before .before .before .before .before .before .run-list .ensures .0) (c .before .before .before .before .before .before .before .before .before .before .before .before .before .before .before .before .run-list .ensures .1)
+same-length-4 c = cells-second-kept _ _ _ _ _ _ _ _ _ _ _ _ _ _ _ _ _ _ _ _ _ (c .before .before .before .before .before .before .before .before .before .before .before .before .before .before .before .before .before .loop .inv) (c .before .before .before .before .before .before .before .before .before .before .before .before .before .before .before .before .loop-test .taken) _ (c .before .before .before .before .before .before .before .before .before .before .before .before .before .before .before .list-of .ensures) _ _ _ _ _ (c .before .before .before .before .before .before .before .before .before .before .run-list .ensures .0) (c .before .before .before .before .before .before .before .before .before .before .run-list .ensures .1)
 
 returns : tie.Need-returns Inv-loop μ-loop
-returns c = cells-full _ _ _ _ _ _ _ _ _ _ _ _ _ _ _ _ _ _ _ _ _ _ _ _ _ _ _ (c .before .before .before .before .before .before .before .before .before .before .before .before .before .before .before .before .before .before .before .before .before .before .before .before .before .before .loop .inv) (c .before .before .before .before .before .before .before .before .before .before .before .before .before .before .before .before .before .before .before .before .before .before .before .before .before .loop-test .taken) _ (c .before .before .before .before .before .before .before .before .before .before .before .before .before .before .before .before .before .before .before .before .before .before .before .before .list-of .ensures) _ _ _ _ _ _ _ _ (c .before .before .before .before .before .before .before .before .before .before .before .before .before .before .before .before .run-list .ensures .0) (c .before .before .before .before .before .before .before .before .before .before .before .before .before .before .before .before .run-list .ensures .1) (c .if1 .taken)
+returns c = cells-full _ _ _ _ _ _ _ _ _ _ _ _ _ _ _ _ _ _ _ _ _ (c .before .before .before .before .before .before .before .before .before .before .before .before .before .before .before .before .before .loop .inv) (c .before .before .before .before .before .before .before .before .before .before .before .before .before .before .before .before .loop-test .taken) _ (c .before .before .before .before .before .before .before .before .before .before .before .before .before .before .before .list-of .ensures) _ _ _ _ _ (c .before .before .before .before .before .before .before .before .before .before .run-list .ensures .0) (c .before .before .before .before .before .before .before .before .before .before .run-list .ensures .1) (c .if1 .taken)
 
 add-next-cell : tie.Need-add-next-cell Inv-loop μ-loop
-add-next-cell c = omega (arith, c .before .before .before .before .before .before .before .before .before .before .before .before .before .before .before .before .before .before .before .before .before .before .before .before .before .loop-test .taken, c .before .before .before .before .before .before .before .before .before .before .before .before .before .before .before .before .before .before .before .before .before .before .before .before .before .before .before .before .before .before .before .before .before .before .before .before .before .before .before .before)
+add-next-cell c = omega (arith, c .before .before .before .before .before .before .before .before .before .before .before .before .before .before .before .before .loop-test .taken, c .before .before .before .before .before .before .before .before .before .before .before .before .before .before .before .before .before .before .before .before .before .before .before .before .before .before .before .before)
 
 next-cell-requires : tie.Need-next-cell-requires Inv-loop μ-loop
 next-cell-requires c κs = tt
 
 loop-less : tie.Need-loop-less Inv-loop μ-loop
-loop-less c = omega (arith, c .before .before .before .before .before .before .before .before .before .before .before .before .before .before .before .before .before .before .before .before .before .before .before .before .before .before .loop-test .taken, c .next-cell .ensures .onward)
+loop-less c = omega (arith, c .before .before .before .before .before .before .before .before .before .before .before .before .before .before .before .before .before .loop-test .taken, c .next-cell .ensures .onward)
 
 loop-again : tie.Need-loop-again Inv-loop μ-loop
 loop-again c =
-    cells-passed _ _ _ _ _ _ _ _ _ _ _ _ _ _ _ _ _ _ _ _ _ _ _ _ _ _
-    (cells-turn _ _ _ _ _ _ _ _ _ _ _ _ _ _ _ _ _ _ _ _ _ _ _ _ _ _ _ (c .before .before .before .before .before .before .before .before .before .before .before .before .before .before .before .before .before .before .before .before .before .before .before .before .before .before .before .loop .inv) (c .before .before .before .before .before .before .before .before .before .before .before .before .before .before .before .before .before .before .before .before .before .before .before .before .before .before .loop-test .taken) _ (c .before .before .before .before .before .before .before .before .before .before .before .before .before .before .before .before .before .before .before .before .before .before .before .before .before .list-of .ensures) _ _ _ _ _ _ _ _ (c .before .before .before .before .before .before .before .before .before .before .before .before .before .before .before .before .before .run-list .ensures .0) (c .before .before .before .before .before .before .before .before .before .before .before .before .before .before .before .before .before .run-list .ensures .1) (c .before .if1 .left))
+    cells-passed _ _ _ _ _ _ _ _ _ _ _ _ _ _ _ _ _ _ _ _
+    (cells-turn _ _ _ _ _ _ _ _ _ _ _ _ _ _ _ _ _ _ _ _ _ (c .before .before .before .before .before .before .before .before .before .before .before .before .before .before .before .before .before .before .loop .inv) (c .before .before .before .before .before .before .before .before .before .before .before .before .before .before .before .before .before .loop-test .taken) _ (c .before .before .before .before .before .before .before .before .before .before .before .before .before .before .before .before .list-of .ensures) _ _ _ _ _ (c .before .before .before .before .before .before .before .before .before .before .before .run-list .ensures .0) (c .before .before .before .before .before .before .before .before .before .before .before .run-list .ensures .1) (c .before .if1 .left))
     (c .next-cell .ensures)
 
+same-length-5 : tie.Need-same-length-5 Inv-loop μ-loop
+same-length-5 c = c .before .loop .inv .same .boxes
+
+same-length-6 : tie.Need-same-length-6 Inv-loop μ-loop
+same-length-6 c = c .before .loop .inv .same .bytes
+
+same-length-7 : tie.Need-same-length-7 Inv-loop μ-loop
+same-length-7 c = cells-first-long _ _ _ _ _ _ _ _ _ _ _ _ _ _ _ _ _ _ _ _ _ (c .before .loop .inv)
+
 same-length-8 : tie.Need-same-length-8 Inv-loop μ-loop
-same-length-8 c = c .before .loop .inv .same .boxes .lx-long
-
-same-length-9 : tie.Need-same-length-9 Inv-loop μ-loop
-same-length-9 c = c .before .loop .inv .same .boxes .ly-long
-
-same-length-10 : tie.Need-same-length-10 Inv-loop μ-loop
-same-length-10 c = c .before .loop .inv .same .boxes .hx-long
-
-same-length-11 : tie.Need-same-length-11 Inv-loop μ-loop
-same-length-11 c = c .before .loop .inv .same .boxes .hy-long
-
-same-length-12 : tie.Need-same-length-12 Inv-loop μ-loop
-same-length-12 c = c .before .loop .inv .same .bytes
-
-same-length-13 : tie.Need-same-length-13 Inv-loop μ-loop
-same-length-13 c = cells-first-long _ _ _ _ _ _ _ _ _ _ _ _ _ _ _ _ _ _ _ _ _ _ _ _ _ _ _ (c .before .loop .inv)
-
-same-length-14 : tie.Need-same-length-14 Inv-loop μ-loop
-same-length-14 c = cells-second-long _ _ _ _ _ _ _ _ _ _ _ _ _ _ _ _ _ _ _ _ _ _ _ _ _ _ _ (c .before .loop .inv)
+same-length-8 c = cells-second-long _ _ _ _ _ _ _ _ _ _ _ _ _ _ _ _ _ _ _ _ _ (c .before .loop .inv)
 
 returns-2 : tie.Need-returns-2 Inv-loop μ-loop
-returns-2 c = cells-over _ _ _ _ _ _ _ _ _ _ _ _ _ _ _ _ _ _ _ _ _ _ _ _ _ _ _ (c .before .loop .inv) (c .loop-test .left)
+returns-2 c = cells-over _ _ _ _ _ _ _ _ _ _ _ _ _ _ _ _ _ _ _ _ _ (c .before .loop .inv) (c .loop-test .left)
 
 pub run-cells-spec : {M : Type 1} → statement M
 run-cells-spec =
@@ -111,19 +93,13 @@ run-cells-spec =
     same-length-2
     same-length-3
     same-length-4
-    same-length-5
-    same-length-6
-    same-length-7
     returns
     add-next-cell
     next-cell-requires
     loop-less
     loop-again
+    same-length-5
+    same-length-6
+    same-length-7
     same-length-8
-    same-length-9
-    same-length-10
-    same-length-11
-    same-length-12
-    same-length-13
-    same-length-14
     returns-2)

@@ -16,7 +16,7 @@ is-brief-requires : tie.Need-is-brief-requires
 is-brief-requires c κs = search needs
 
 run-brief-requires : tie.Need-run-brief-requires
-run-brief-requires c κs = brief-asks _ _ _ _ _ _ _ _ _ _ _ _ (c .before .before .before .before .is-brief .ensures (c .before .before .before .if1 .taken)) (c .before .before .before .before .before .before .before .before .before .before .before .before .before .before .before .before .before .pre)
+run-brief-requires c κs = brief-asks _ _ _ _ _ _ _ _ _ (c .before .before .before .before .is-brief .ensures (c .before .before .before .if1 .taken)) (c .before .before .before .before .before .before .before .before .before .before .before .before .before .before .pre)
 
 same-length : tie.Need-same-length
 same-length c = search needs
@@ -30,7 +30,7 @@ same-length-3 c = search needs
 returns : tie.Need-returns
 returns c = (
   brief-ran _ _ _ _ _ _ _ _ _ _ _ (c .before .before .before .before .before .before .before .before .before .before .before .is-brief .ensures (c .before .before .before .before .before .before .before .before .before .before .if1 .taken)) (c .before .before .before .before .before .before .run-brief .ensures .0),
-  brief-scratch _ _ _ _ _ _ (c .before .before .before .before .before .before .run-brief .ensures .1),
+  brief-scratch _ _ _ (c .before .before .before .before .before .before .run-brief .ensures .1),
 )
 
 run-rows-requires : tie.Need-run-rows-requires
@@ -47,15 +47,6 @@ same-length-6 c = search needs
 
 same-length-7 : tie.Need-same-length-7
 same-length-7 c = search needs
-
-same-length-8 : tie.Need-same-length-8
-same-length-8 c = search needs
-
-same-length-9 : tie.Need-same-length-9
-same-length-9 c = search needs
-
-same-length-10 : tie.Need-same-length-10
-same-length-10 c = search needs
 
 returns-2 : tie.Need-returns-2
 returns-2 c = search needs
@@ -76,7 +67,4 @@ run-list-spec =
     same-length-5
     same-length-6
     same-length-7
-    same-length-8
-    same-length-9
-    same-length-10
     returns-2)

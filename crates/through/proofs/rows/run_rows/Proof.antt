@@ -16,15 +16,15 @@ use Rattle.through.proofs.rows.scan_part.Reads as scan-part-reads
 use Rattle.through.proofs.settle.row_at.Reads as row-at-reads
 
 abbrev Inv-loop : tie.InvT-loop
-Inv-loop list i j start-x start-y end-x end-y low-x₀ low-y₀ high-x₀ high-y₀ marks₀ first₀ second₀ hits i₀ j₀ from₀ held₀ tests₀ hits₀ low-x low-y high-x high-y marks first second i' j' from held tests hits' =
-    ListRun (lines start-x start-y end-x end-y) list i j low-x₀ low-y₀ high-x₀ high-y₀ marks₀ first₀ second₀ hits low-x low-y high-x high-y marks first second i' j' from held tests hits'
+Inv-loop list i j start-x start-y end-x end-y room₀ marks₀ first₀ second₀ hits i₀ j₀ from₀ held₀ tests₀ hits₀ room marks first second i' j' from held tests hits' =
+    ListRun (lines start-x start-y end-x end-y) list i j room₀ marks₀ first₀ second₀ hits room marks first second i' j' from held tests hits'
 
 abbrev μ-loop : tie.MeasureT-loop
-μ-loop list i j start-x start-y end-x end-y low-x₀ low-y₀ high-x₀ high-y₀ marks₀ first₀ second₀ hits i₀ j₀ from₀ held₀ tests₀ hits₀ low-x low-y high-x high-y marks first second i' j' from held tests hits' =
+μ-loop list i j start-x start-y end-x end-y room₀ marks₀ first₀ second₀ hits i₀ j₀ from₀ held₀ tests₀ hits₀ room marks first second i' j' from held tests hits' =
     length (listFrom (Global 0) list i' j')
 
 loop-holds : tie.Need-loop-holds Inv-loop μ-loop
-loop-holds c = list-run _ _ _ _ _ _ _ _ _ _ _ _ (c .before .before .before .before .before .before .before .before .before .before .before .before .pre)
+loop-holds c = list-run _ _ _ _ _ _ _ _ _ (c .before .before .before .before .before .before .before .before .before .pre)
 
 row-at-requires : tie.Need-row-at-requires Inv-loop μ-loop
 row-at-requires c κs = tt
@@ -36,67 +36,49 @@ enum-told : tie.Need-enum-told Inv-loop μ-loop
 enum-told c = search needs
 
 scan-part-requires : tie.Need-scan-part-requires Inv-loop μ-loop
-scan-part-requires c κs = list-part _ _ _ _ _ _ _ _ _ _ _ _ _ _ _ _ _ _ _ _ _ _ _ _ _ (c .before .before .before .before .before .before .before .before .before .before .before .before .loop .inv) _ _ (row-at-is _ _ _ _ (c .before .before .before .before .before .before .before .before .before .before .row-at .ensures) _ _ (c .before .before .before .before .before .before .before .before .a .given .1)) (c .before .before .before .before .before .before .before .before .before .before .before .loop-test .taken)
+scan-part-requires c κs = list-part _ _ _ _ _ _ _ _ _ _ _ _ _ _ _ _ _ _ _ (c .before .before .before .before .before .before .before .before .before .loop .inv) _ _ (row-at-is _ _ _ _ (c .before .before .before .before .before .before .before .row-at .ensures) _ _ (c .before .before .before .before .before .a .given .1)) (c .before .before .before .before .before .before .before .before .loop-test .taken)
 
 add-tests : tie.Need-add-tests Inv-loop μ-loop
-add-tests c = record { fits = list-small _ _ _ _ _ _ _ _ _ _ _ _ _ _ _ _ _ _ _ _ _ _ _ _ _ (c .before .before .before .before .before .before .before .before .before .before .before .before .before .before .before .before .before .before .before .before .before .before .before .before .before .before .before .loop .inv) _ _ (row-at-is _ _ _ _ (c .before .before .before .before .before .before .before .before .before .before .before .before .before .before .before .before .before .before .before .before .before .before .before .before .before .row-at .ensures) _ _ (c .before .before .before .before .before .before .before .before .before .before .before .before .before .before .before .before .before .before .before .before .before .before .before .a .given .1)) _ _ _ _ _ _ _ _ (c .before .before .before .before .before .before .before .before .before .before .before .before .before .before .scan-part .ensures .0) (c .before .before .before .before .before .before .before .before .before .before .before .before .before .before .scan-part .ensures .1) }
+add-tests c = record { fits = list-small _ _ _ _ _ _ _ _ _ _ _ _ _ _ _ _ _ _ _ (c .before .before .before .before .before .before .before .before .before .before .before .before .before .before .before .before .before .before .loop .inv) _ _ (row-at-is _ _ _ _ (c .before .before .before .before .before .before .before .before .before .before .before .before .before .before .before .before .row-at .ensures) _ _ (c .before .before .before .before .before .before .before .before .before .before .before .before .before .before .a .given .1)) _ _ _ _ _ (c .before .before .before .before .before .before .before .before .scan-part .ensures .0) (c .before .before .before .before .before .before .before .before .scan-part .ensures .1) }
 
 add-j : tie.Need-add-j Inv-loop μ-loop
-add-j c = omega (arith, c .before .before .before .before .before .before .before .before .before .before .before .before .before .before .before .scan-part .ensures .0 .inside, c .before .before .before .before .before .before .before .before .before .before .before .before .before .before .before .before .before .before .before .before .before .before .before .before .before .before .before .before .before .before .before .before .before .before .before .before .before .before .before .before .before)
+add-j c = omega (arith, c .before .before .before .before .before .before .before .before .before .scan-part .ensures .0 .inside, c .before .before .before .before .before .before .before .before .before .before .before .before .before .before .before .before .before .before .before .before .before .before .before .before .before .before .before .before .before)
 
 loop-less : tie.Need-loop-less Inv-loop μ-loop
-loop-less c = list-less _ _ _ _ _ _ _ _ _ _ _ _ _ _ _ _ _ _ _ _ _ _ _ _ _ (c .before .before .before .before .before .before .before .before .before .before .before .before .before .before .before .before .before .before .before .before .before .before .before .before .before .before .before .before .loop .inv) _ _ (row-at-is _ _ _ _ (c .before .before .before .before .before .before .before .before .before .before .before .before .before .before .before .before .before .before .before .before .before .before .before .before .before .before .row-at .ensures) _ _ (c .before .before .before .before .before .before .before .before .before .before .before .before .before .before .before .before .before .before .before .before .before .before .before .before .a .given .1)) _ _ _ _ _ _ _ _ (c .before .before .before .before .before .before .before .before .before .before .before .before .before .before .before .scan-part .ensures .0) (c .before .before .before .before .before .before .before .before .before .before .before .before .before .before .before .scan-part .ensures .1)
+loop-less c = list-less _ _ _ _ _ _ _ _ _ _ _ _ _ _ _ _ _ _ _ (c .before .before .before .before .before .before .before .before .before .before .before .before .before .before .before .before .before .before .before .loop .inv) _ _ (row-at-is _ _ _ _ (c .before .before .before .before .before .before .before .before .before .before .before .before .before .before .before .before .before .row-at .ensures) _ _ (c .before .before .before .before .before .before .before .before .before .before .before .before .before .before .before .a .given .1)) _ _ _ _ _ (c .before .before .before .before .before .before .before .before .before .scan-part .ensures .0) (c .before .before .before .before .before .before .before .before .before .scan-part .ensures .1)
 
 loop-again : tie.Need-loop-again Inv-loop μ-loop
-loop-again c = list-turn _ _ _ _ _ _ _ _ _ _ _ _ _ _ _ _ _ _ _ _ _ _ _ _ _ (c .before .before .before .before .before .before .before .before .before .before .before .before .before .before .before .before .before .before .before .before .before .before .before .before .before .before .before .before .loop .inv) _ _ (row-at-is _ _ _ _ (c .before .before .before .before .before .before .before .before .before .before .before .before .before .before .before .before .before .before .before .before .before .before .before .before .before .before .row-at .ensures) _ _ (c .before .before .before .before .before .before .before .before .before .before .before .before .before .before .before .before .before .before .before .before .before .before .before .before .a .given .1)) _ _ _ _ _ _ _ _ (c .before .before .before .before .before .before .before .before .before .before .before .before .before .before .before .scan-part .ensures .0) (c .before .before .before .before .before .before .before .before .before .before .before .before .before .before .before .scan-part .ensures .1)
+loop-again c = list-turn _ _ _ _ _ _ _ _ _ _ _ _ _ _ _ _ _ _ _ (c .before .before .before .before .before .before .before .before .before .before .before .before .before .before .before .before .before .before .before .loop .inv) _ _ (row-at-is _ _ _ _ (c .before .before .before .before .before .before .before .before .before .before .before .before .before .before .before .before .before .row-at .ensures) _ _ (c .before .before .before .before .before .before .before .before .before .before .before .before .before .before .before .a .given .1)) _ _ _ _ _ (c .before .before .before .before .before .before .before .before .before .scan-part .ensures .0) (c .before .before .before .before .before .before .before .before .before .scan-part .ensures .1)
 
 same-length : tie.Need-same-length Inv-loop μ-loop
-same-length c = c .before .loop .inv .same .boxes .lx-long
+same-length c = c .before .loop .inv .same .boxes
 
 same-length-2 : tie.Need-same-length-2 Inv-loop μ-loop
-same-length-2 c = c .before .loop .inv .same .boxes .ly-long
+same-length-2 c = c .before .loop .inv .same .bytes
 
 same-length-3 : tie.Need-same-length-3 Inv-loop μ-loop
-same-length-3 c = c .before .loop .inv .same .boxes .hx-long
+same-length-3 c = list-first-long _ _ _ _ _ _ _ _ _ _ _ _ _ _ _ _ _ _ _ (c .before .loop .inv)
 
 same-length-4 : tie.Need-same-length-4 Inv-loop μ-loop
-same-length-4 c = c .before .loop .inv .same .boxes .hy-long
-
-same-length-5 : tie.Need-same-length-5 Inv-loop μ-loop
-same-length-5 c = c .before .loop .inv .same .bytes
-
-same-length-6 : tie.Need-same-length-6 Inv-loop μ-loop
-same-length-6 c = list-first-long _ _ _ _ _ _ _ _ _ _ _ _ _ _ _ _ _ _ _ _ _ _ _ _ _ (c .before .loop .inv)
-
-same-length-7 : tie.Need-same-length-7 Inv-loop μ-loop
-same-length-7 c = list-second-long _ _ _ _ _ _ _ _ _ _ _ _ _ _ _ _ _ _ _ _ _ _ _ _ _ (c .before .loop .inv)
+same-length-4 c = list-second-long _ _ _ _ _ _ _ _ _ _ _ _ _ _ _ _ _ _ _ (c .before .loop .inv)
 
 returns : tie.Need-returns Inv-loop μ-loop
-returns c = (list-full _ _ _ _ _ _ _ _ _ _ _ _ _ _ _ _ _ _ _ _ _ _ _ _ _ (c .before .loop .inv) (omega (arith, list-first-long _ _ _ _ _ _ _ _ _ _ _ _ _ _ _ _ _ _ _ _ _ _ _ _ _ (c .before .loop .inv), c .loop-test .left)), c .before .loop .inv .same)
+returns c = (list-full _ _ _ _ _ _ _ _ _ _ _ _ _ _ _ _ _ _ _ (c .before .loop .inv) (omega (arith, list-first-long _ _ _ _ _ _ _ _ _ _ _ _ _ _ _ _ _ _ _ (c .before .loop .inv), c .loop-test .left)), c .before .loop .inv .same)
+
+same-length-5 : tie.Need-same-length-5 Inv-loop μ-loop
+same-length-5 c = c .before .before .before .before .loop .inv .same .boxes
+
+same-length-6 : tie.Need-same-length-6 Inv-loop μ-loop
+same-length-6 c = c .before .before .before .before .loop .inv .same .bytes
+
+same-length-7 : tie.Need-same-length-7 Inv-loop μ-loop
+same-length-7 c = list-first-long _ _ _ _ _ _ _ _ _ _ _ _ _ _ _ _ _ _ _ (c .before .before .before .before .loop .inv)
 
 same-length-8 : tie.Need-same-length-8 Inv-loop μ-loop
-same-length-8 c = c .before .before .before .before .loop .inv .same .boxes .lx-long
-
-same-length-9 : tie.Need-same-length-9 Inv-loop μ-loop
-same-length-9 c = c .before .before .before .before .loop .inv .same .boxes .ly-long
-
-same-length-10 : tie.Need-same-length-10 Inv-loop μ-loop
-same-length-10 c = c .before .before .before .before .loop .inv .same .boxes .hx-long
-
-same-length-11 : tie.Need-same-length-11 Inv-loop μ-loop
-same-length-11 c = c .before .before .before .before .loop .inv .same .boxes .hy-long
-
-same-length-12 : tie.Need-same-length-12 Inv-loop μ-loop
-same-length-12 c = c .before .before .before .before .loop .inv .same .bytes
-
-same-length-13 : tie.Need-same-length-13 Inv-loop μ-loop
-same-length-13 c = list-first-long _ _ _ _ _ _ _ _ _ _ _ _ _ _ _ _ _ _ _ _ _ _ _ _ _ (c .before .before .before .before .loop .inv)
-
-same-length-14 : tie.Need-same-length-14 Inv-loop μ-loop
-same-length-14 c = list-second-long _ _ _ _ _ _ _ _ _ _ _ _ _ _ _ _ _ _ _ _ _ _ _ _ _ (c .before .before .before .before .loop .inv)
+same-length-8 c = list-second-long _ _ _ _ _ _ _ _ _ _ _ _ _ _ _ _ _ _ _ (c .before .before .before .before .loop .inv)
 
 returns-2 : tie.Need-returns-2 Inv-loop μ-loop
-returns-2 c = (list-over _ _ _ _ _ _ _ _ _ _ _ _ _ _ _ _ _ _ _ _ _ _ _ _ _ (c .before .before .before .before .loop .inv) (row-at-past _ _ _ _ (c .before .before .row-at .ensures) (c .enum-told .given .1)), c .before .before .before .before .loop .inv .same)
+returns-2 c = (list-over _ _ _ _ _ _ _ _ _ _ _ _ _ _ _ _ _ _ _ (c .before .before .before .before .loop .inv) (row-at-past _ _ _ _ (c .before .before .row-at .ensures) (c .enum-told .given .1)), c .before .before .before .before .loop .inv .same)
 
 pub run-rows-spec : {M : Type 1} → statement M
 run-rows-spec =
@@ -117,15 +99,9 @@ run-rows-spec =
     same-length-2
     same-length-3
     same-length-4
+    returns
     same-length-5
     same-length-6
     same-length-7
-    returns
     same-length-8
-    same-length-9
-    same-length-10
-    same-length-11
-    same-length-12
-    same-length-13
-    same-length-14
     returns-2)

@@ -13,17 +13,17 @@ use Rattle.through.proofs.scan.mark.Lts as lts
 use Rattle.through.proofs.scan.mark_of.Reads as mark-of-reads
 
 abbrev Inv-loop : tie.InvT-loop
-Inv-loop low-x low-y high-x high-y at many marks₀ ax ay bx by u₀ marks u =
-    Marking (record { «min_x» = ax; «min_y» = ay; «max_x» = bx; «max_y» = by }) low-x low-y high-x high-y at many marks₀ ax ay bx by u marks
+Inv-loop room at many marks₀ ax ay bx by u₀ marks u =
+    Marking (record { «min_x» = ax; «min_y» = ay; «max_x» = bx; «max_y» = by }) room at many marks₀ ax ay bx by u marks
 
 abbrev μ-loop : tie.MeasureT-loop
-μ-loop low-x low-y high-x high-y at many marks₀ ax ay bx by u₀ marks u = many - u
+μ-loop room at many marks₀ ax ay bx by u₀ marks u = many - u
 
 loop-holds : tie.Need-loop-holds Inv-loop μ-loop
-loop-holds c = mark-start _ _ _ _ _ _ _ _ (c .before .before .before .before .before .pre)
+loop-holds c = mark-start _ _ _ _ _ (c .before .before .pre)
 
-add-hit : tie.Need-add-hit Inv-loop μ-loop
-add-hit c = omega arith
+add-k : tie.Need-add-k Inv-loop μ-loop
+add-k c = omega arith
 
 mul-hit : tie.Need-mul-hit Inv-loop μ-loop
 mul-hit c = omega arith
@@ -31,8 +31,8 @@ mul-hit c = omega arith
 shared-slice-read-hit : tie.Need-shared-slice-read-hit Inv-loop μ-loop
 shared-slice-read-hit c = omega arith
 
-add-hit-2 : tie.Need-add-hit-2 Inv-loop μ-loop
-add-hit-2 c = omega arith
+add-hit : tie.Need-add-hit Inv-loop μ-loop
+add-hit c = omega arith
 
 mul-hit-2 : tie.Need-mul-hit-2 Inv-loop μ-loop
 mul-hit-2 c = omega arith
@@ -40,8 +40,8 @@ mul-hit-2 c = omega arith
 shared-slice-read-hit-2 : tie.Need-shared-slice-read-hit-2 Inv-loop μ-loop
 shared-slice-read-hit-2 c = omega arith
 
-add-hit-3 : tie.Need-add-hit-3 Inv-loop μ-loop
-add-hit-3 c = omega arith
+add-hit-2 : tie.Need-add-hit-2 Inv-loop μ-loop
+add-hit-2 c = omega arith
 
 mul-hit-3 : tie.Need-mul-hit-3 Inv-loop μ-loop
 mul-hit-3 c = omega arith
@@ -49,8 +49,8 @@ mul-hit-3 c = omega arith
 shared-slice-read-hit-3 : tie.Need-shared-slice-read-hit-3 Inv-loop μ-loop
 shared-slice-read-hit-3 c = omega arith
 
-add-hit-4 : tie.Need-add-hit-4 Inv-loop μ-loop
-add-hit-4 c = omega arith
+add-hit-3 : tie.Need-add-hit-3 Inv-loop μ-loop
+add-hit-3 c = omega arith
 
 mul-hit-4 : tie.Need-mul-hit-4 Inv-loop μ-loop
 mul-hit-4 c = omega arith
@@ -71,13 +71,13 @@ loop-less : tie.Need-loop-less Inv-loop μ-loop
 loop-less c = omega arith
 
 loop-again : tie.Need-loop-again Inv-loop μ-loop
-loop-again c = mark-more _ _ _ _ _ _ _ _ _ _ _ _ _ _ (c .before .before .before .before .before .before .loop .inv) (c .before .before .before .before .before .loop-test .taken) _ (c .mark-of .ensures)
+loop-again c = mark-more _ _ _ _ _ _ _ _ _ _ _ (c .before .before .before .before .before .before .loop .inv) (c .before .before .before .before .before .loop-test .taken) _ (c .mark-of .ensures)
 
 same-length : tie.Need-same-length Inv-loop μ-loop
 same-length c = omega arith
 
 returns : tie.Need-returns Inv-loop μ-loop
-returns c = mark-end _ _ _ _ _ _ _ _ _ _ _ _ _ _ (c .before .loop .inv) (c .loop-test .left)
+returns c = mark-end _ _ _ _ _ _ _ _ _ _ _ (c .before .loop .inv) (c .loop-test .left)
 
 pub mark-spec : {M : Type 1} → statement M
 mark-spec =
@@ -86,16 +86,16 @@ mark-spec =
     Inv-loop
     μ-loop
     loop-holds
-    add-hit
+    add-k
     mul-hit
     shared-slice-read-hit
-    add-hit-2
+    add-hit
     mul-hit-2
     shared-slice-read-hit-2
-    add-hit-3
+    add-hit-2
     mul-hit-3
     shared-slice-read-hit-3
-    add-hit-4
+    add-hit-3
     mul-hit-4
     shared-slice-read-hit-4
     mark-of-requires

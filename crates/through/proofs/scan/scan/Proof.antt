@@ -32,13 +32,13 @@ same-length-2 : tie.Need-same-length-2
 same-length-2 c = search needs
 
 returns : tie.Need-returns
-returns c = scanned-whole _ _ _ _ _ _ _ _ _ _ _ _ (c .before .before .before .before .before .before .before .before .before .before .before .before .before .before .before .before .before .before .before .before .before .before .before .pre) _ (c .before .before .before .before .before .before .before .before .before .before .box-at .ensures) _ (c .before .before .before .before .before .before .before .before .before .inner-in .ensures) (sym (c .before .before .before .before .before .before .before .before .overlaps-with .ensures) ∙ c .before .before .before .before .before .before .before .if1 .taken) _ _ _ (c .before .before .before .before .put-whole .ensures)
+returns c = scanned-whole _ _ _ _ _ _ _ _ _ (c .before .before .before .before .before .before .before .before .before .before .before .before .before .before .before .before .before .before .before .before .pre) _ (c .before .before .before .before .before .before .before .before .before .before .box-at .ensures) _ (c .before .before .before .before .before .before .before .before .before .inner-in .ensures) (sym (c .before .before .before .before .before .before .before .before .overlaps-with .ensures) ∙ c .before .before .before .before .before .before .before .if1 .taken) _ _ _ (c .before .before .before .before .put-whole .ensures)
 
 mark-requires : tie.Need-mark-requires
 mark-requires c κs = search needs
 
 put-requires : tie.Need-put-requires
-put-requires c κs = scan-puts _ _ _ _ _ _ _ _ _ _ _ _ (c .before .before .before .before .before .before .before .before .before .before .before .before .before .before .before .before .before .before .before .before .before .before .before .pre) _ (c .before .before .before .before .before .before .before .before .before .before .box-at .ensures) _ (c .before .before .before .before .before .mark .ensures)
+put-requires c κs = scan-puts _ _ _ _ _ _ _ _ _ (c .before .before .before .before .before .before .before .before .before .before .before .before .before .before .before .before .before .before .before .before .pre) _ (c .before .before .before .before .before .before .before .before .before .before .box-at .ensures) _ (c .before .before .before .before .before .mark .ensures)
 
 same-length-3 : tie.Need-same-length-3
 same-length-3 c = search needs
@@ -50,7 +50,7 @@ same-length-5 : tie.Need-same-length-5
 same-length-5 c = search needs
 
 returns-2 : tie.Need-returns-2
-returns-2 c = scanned _ _ _ _ _ _ _ _ _ _ _ _ (c .before .before .before .before .before .before .before .before .before .before .before .before .before .before .before .before .before .before .before .before .before .before .before .before .before .before .before .before .pre) _ (c .before .before .before .before .before .before .before .before .before .before .before .before .before .before .before .box-at .ensures) _ (c .before .before .before .before .before .before .before .before .before .before .mark .ensures) _ _ _ (c .before .before .before .before .put .ensures)
+returns-2 c = scanned _ _ _ _ _ _ _ _ _ (c .before .before .before .before .before .before .before .before .before .before .before .before .before .before .before .before .before .before .before .before .before .before .before .before .before .pre) _ (c .before .before .before .before .before .before .before .before .before .before .before .before .before .before .before .box-at .ensures) _ (c .before .before .before .before .before .before .before .before .before .before .mark .ensures) _ _ _ (c .before .before .before .before .put .ensures)
 
 pub scan-spec : {M : Type 1} → statement M
 scan-spec =

@@ -18,12 +18,6 @@ pub(crate) enum GlobalAt {
     Past,
 }
 
-pub(crate) fn wide(x: u32) -> usize
-    ensures { λ r. ⌜ r ≡ x ⌝ }
-{
-    x as usize
-}
-
 // The next pair of the cells' lists, from a place on: a row that is done, and lists that are done, are passed over.
 pub(crate) fn settle_cell(
     cells: usize,
@@ -40,9 +34,9 @@ pub(crate) fn settle_cell(
     let mut i = i;
     let mut j = j;
     while cell < cells {
-        let from = wide(offsets[cell]);
-        let to = wide(offsets[cell + 1]);
-        let len = to - from;
+        let from = offsets[cell];
+        let to = offsets[cell + 1];
+        let len = (to - from) as usize;
         if j < len {
             return CellAt::At { cell, i, j };
         }

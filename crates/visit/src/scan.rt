@@ -5,20 +5,16 @@ use crate::boxes;
 use crate::cursor;
 use crate::cursor::CellAt;
 use crate::cursor::GlobalAt;
-use crate::cursor::wide;
 use grid::Box;
-use grid::Grid;
-use seek::Cursor;
 use seek::Place;
 ghost use mathlib.Core.Path.{_≡_};
 ghost use Prim.Native.Nat.{_<_, _-_};
 ghost use lib.ListN.{length, drop};
 ghost use Rattle.grid.specs.Domain.{lines};
 ghost use Rattle.seek.specs.Tests.{pair, withEach, placeOf};
-ghost use Rattle.seek.specs.Bookmarks.{beside};
 ghost use Rattle.visit.specs.Entries.{testOf};
 ghost use Rattle.seek.specs.Inside.{numbers};
-ghost use Rattle.visit.specs.Inside.{LineAsks, rowOf, nextStep, TestAsks, TestInAsks, TestBeforeAsks, ListAsks, InList, LinesAsk, InLines, PutIs, CellsAsk, CellsRan, GlobalsAsk, GlobalsRan, RunAsks, RanAll};
+ghost use Rattle.visit.specs.Inside.{LineAsks, rowOf, nextStep, TestAsks, TestInAsks, TestBeforeAsks, ListAsks, InList, LinesAsk, InLines, PutIs, CellsAsk, CellsRan, GlobalsAsk, GlobalsRan};
 
 // The first line of a row, with its box.
 pub(crate) struct Row {
@@ -224,7 +220,7 @@ fn put_places(places: &mut [u32], from: usize, to: usize, number: u32)
 }
 
 // From row to row through the cells. The items between two offsets are handed on as a part.
-fn run_cells(
+pub(crate) fn run_cells(
     cols: u32,
     cells: usize,
     offsets: &[u32],
@@ -261,8 +257,8 @@ fn run_cells(
         else {
             break;
         };
-        let from = wide(offsets[c]);
-        let to = wide(offsets[c + 1]);
+        let from = offsets[c] as usize;
+        let to = offsets[c + 1] as usize;
         let list = &items[from..to];
         let place = place_of(cols, c as u32);
         let row = row_of(place, list[a], start_x, start_y, end_x, end_y);
@@ -289,7 +285,7 @@ fn run_cells(
 }
 
 // From run to run through the globals.
-fn run_globals(
+pub(crate) fn run_globals(
     cells: usize,
     globals: &[u32],
     count: usize,
@@ -349,66 +345,4 @@ fn run_globals(
         k = end.k;
     }
     Ran { tests, hits }
-}
-
-// From a cursor on: the cells, and then the globals.
-pub(crate) fn run(
-    cursor: Cursor,
-    start_x: &[f64],
-    start_y: &[f64],
-    end_x: &[f64],
-    end_y: &[f64],
-    grid: Grid,
-    offsets: &[u32],
-    items: &[u32],
-    globals: &[u32],
-    global_count: usize,
-    first: &mut [u32],
-    second: &mut [u32],
-    places: &mut [u32],
-) -> Ran
-    requires { let ls = lines (now «start_x») (now «start_y») (now «end_x») (now «end_y») in
-        let t = beside ls grid (now offsets) (now items) (now globals) «global_count» in
-        ⌜ RunAsks ls grid t cursor (now first) (now second) ⌝ }
-    ensures { λ r. let ls = lines (now («start_x» .entry)) (now («start_y» .entry)) (now («end_x» .entry)) (now («end_y» .entry)) in
-        let t = beside ls grid (now (offsets .entry)) (now (items .entry)) (now (globals .entry)) «global_count» in
-        ⌜ RanAll ls t cursor (now (first .entry)) (now (second .entry)) (now (places .entry)) (now (first .exit)) (now (second .exit)) (now (places .exit)) r ⌝ }
-{
-    let cells = wide(grid.rows) * wide(grid.cols);
-    let listed = run_cells(
-        grid.cols,
-        cells,
-        offsets,
-        items,
-        cursor.cell,
-        cursor.i,
-        cursor.j,
-        start_x,
-        start_y,
-        end_x,
-        end_y,
-        first,
-        second,
-        places,
-    );
-    let global = run_globals(
-        cells,
-        globals,
-        global_count,
-        cursor.p,
-        cursor.q,
-        cursor.k,
-        start_x,
-        start_y,
-        end_x,
-        end_y,
-        first,
-        second,
-        places,
-        listed.hits,
-    );
-    Ran {
-        tests: listed.tests + global.tests,
-        hits: global.hits,
-    }
 }

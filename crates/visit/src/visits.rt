@@ -57,7 +57,7 @@ pub fn test_at(
     }
 }
 
-// What both batches do: the tests from a bookmark on, until the outputs are full or the end comes. The places are written where their slice is
+// What both batches do: the tests from a bookmark on, of the cells and then of the globals, until the outputs are full or the end comes. The places are written where their slice is
 // as long as the outputs.
 fn make_batch(
     start_x: &[f64],
@@ -99,28 +99,48 @@ fn make_batch(
     match found {
         SeekAnswer::Refused(r) => BatchAnswer::Refused(r),
         SeekAnswer::At(cursor) => {
-            let ran = scan::run(
-                cursor,
+            let cells = grid.rows as usize * grid.cols as usize;
+            let listed = scan::run_cells(
+                grid.cols,
+                cells,
+                offsets,
+                items,
+                cursor.cell,
+                cursor.i,
+                cursor.j,
                 start_x,
                 start_y,
                 end_x,
                 end_y,
-                grid,
-                offsets,
-                items,
-                globals,
-                global_count,
                 first,
                 second,
                 places,
             );
-            slices::clear_from(first, ran.hits);
-            slices::clear_from(second, ran.hits);
-            slices::clear_from(places, ran.hits);
+            let global = scan::run_globals(
+                cells,
+                globals,
+                global_count,
+                cursor.p,
+                cursor.q,
+                cursor.k,
+                start_x,
+                start_y,
+                end_x,
+                end_y,
+                first,
+                second,
+                places,
+                listed.hits,
+            );
+            let hits = global.hits;
+            slices::clear_from(first, hits);
+            slices::clear_from(second, hits);
+            slices::clear_from(places, hits);
+            let made = listed.tests + global.tests;
             BatchAnswer::Done(Tally {
-                tests: ran.tests,
-                overlaps: ran.hits as u64,
-                bookmark: bookmark + ran.tests,
+                tests: made,
+                overlaps: hits as u64,
+                bookmark: bookmark + made,
             })
         }
     }

@@ -1,12 +1,12 @@
 -- `visit::cursor::settle_cell` meets its contract. The invariant: the same is left as at the start. Assumes nothing.
+use mathlib.Core.Path.{refl}
 use Prim.Native.Nat.{_-_}
 use native.Mathlib.Omega.{arith}
-use Rattle.visit.proofs.CellTurns.{Settling, settling-none, settled-past, from-to, settled-here, settled-row, settling-more}
+use Rattle.visit.proofs.CellTurns.{Settling, settling-none, settled-past, from-to, to-in, settled-here, settled-row, settling-more}
 use Rattle.visit.proofs.cursor.settle_cell.Statement.{statement}
 use Rattle.visit.proofs.cursor.settle_cell.Tie as tie
 use Rattle.visit.proofs.cursor.settle_cell.Reads as reads
 use Rattle.visit.proofs.cursor.settle_cell.Lts as lts
-use Rattle.visit.proofs.cursor.wide.Reads as wide-reads
 
 abbrev Inv-loop : tie.InvT-loop
 Inv-loop cells offsets items cell i j cell₀ i₀ j₀ cell' i' j' = Settling cells offsets items cell i j cell' i' j'
@@ -16,41 +16,41 @@ abbrev μ-loop : tie.MeasureT-loop
 
 loop-holds : tie.Need-loop-holds Inv-loop μ-loop
 loop-holds c =
-    let a = c .before .before .args in
-    settling-none (a .cells) (a .offsets .now) (a .items .now) (a .cell) (a .i) (a .j) (c .before .before .pre)
+    let a = c .args in
+    settling-none (a .cells) (a .offsets .now) (a .items .now) (a .cell) (a .i) (a .j) (c .pre)
 
-mul-wide : tie.Need-mul-wide Inv-loop μ-loop
-mul-wide c = omega arith
+mul-from : tie.Need-mul-from Inv-loop μ-loop
+mul-from c = omega arith
 
-shared-slice-read-wide : tie.Need-shared-slice-read-wide Inv-loop μ-loop
-shared-slice-read-wide c = omega arith
+shared-slice-read-from : tie.Need-shared-slice-read-from Inv-loop μ-loop
+shared-slice-read-from c = omega arith
 
-wide-requires : tie.Need-wide-requires Inv-loop μ-loop
-wide-requires c κs = tt
+add-to : tie.Need-add-to Inv-loop μ-loop
+add-to c = omega arith
 
-add-wide : tie.Need-add-wide Inv-loop μ-loop
-add-wide c = omega arith
+mul-to : tie.Need-mul-to Inv-loop μ-loop
+mul-to c = omega arith
 
-mul-wide-2 : tie.Need-mul-wide-2 Inv-loop μ-loop
-mul-wide-2 c = omega arith
-
-shared-slice-read-wide-2 : tie.Need-shared-slice-read-wide-2 Inv-loop μ-loop
-shared-slice-read-wide-2 c = omega arith
-
-wide-requires-2 : tie.Need-wide-requires-2 Inv-loop μ-loop
-wide-requires-2 c κs = tt
+shared-slice-read-to : tie.Need-shared-slice-read-to Inv-loop μ-loop
+shared-slice-read-to c = omega arith
 
 sub-len : tie.Need-sub-len Inv-loop μ-loop
 sub-len c =
-    let a = c .before .before .before .before .before .before .before .before .args in
-    let l = c .before .before .before .before .before .loop in
-    from-to (a .cells) (a .offsets .now) (a .items .now) (a .cell) (a .i) (a .j) (l .cell) (l .i) (l .j) (l .inv) (c .before .before .before .before .loop-test .taken) (c .before .before .wide .result) (c .wide2 .result) (c .before .before .wide .ensures) (c .wide2 .ensures)
+    let a = c .before .before .before .before .args in
+    let l = c .before .before .before .loop in
+    from-to (a .cells) (a .offsets .now) (a .items .now) (a .cell) (a .i) (a .j) (l .cell) (l .i) (l .j) (l .inv) (c .before .before .loop-test .taken) _ _ refl refl
+
+cast-len : tie.Need-cast-len Inv-loop μ-loop
+cast-len c =
+    let a = c .before .before .before .before .args in
+    let l = c .before .before .before .loop in
+    omega (arith, to-in (a .cells) (a .offsets .now) (a .items .now) (a .cell) (a .i) (a .j) (l .cell) (l .i) (l .j) (l .inv) (c .before .before .loop-test .taken) _ _ refl refl, c .before .before .before .before .good .1 .1 .0)
 
 returns : tie.Need-returns Inv-loop μ-loop
 returns c =
-    let a = c .before .before .before .before .before .before .before .before .before .args in
-    let l = c .before .before .before .before .before .before .loop in
-    settled-here (a .cells) (a .offsets .now) (a .items .now) (a .cell) (a .i) (a .j) (l .cell) (l .i) (l .j) (l .inv) (c .before .before .before .before .before .loop-test .taken) (c .before .before .before .wide .result) (c .before .wide2 .result) (c .before .before .before .wide .ensures) (c .before .wide2 .ensures) (c .if1 .taken)
+    let a = c .before .before .before .before .before .args in
+    let l = c .before .before .before .before .loop in
+    settled-here (a .cells) (a .offsets .now) (a .items .now) (a .cell) (a .i) (a .j) (l .cell) (l .i) (l .j) (l .inv) (c .before .before .before .loop-test .taken) _ _ refl refl (c .if1 .taken)
 
 add-next : tie.Need-add-next Inv-loop μ-loop
 add-next c = omega arith
@@ -60,9 +60,9 @@ add-after c = omega arith
 
 returns-2 : tie.Need-returns-2 Inv-loop μ-loop
 returns-2 c =
-    let a = c .before .before .before .before .before .before .before .before .before .before .args in
-    let l = c .before .before .before .before .before .before .before .loop in
-    settled-row (a .cells) (a .offsets .now) (a .items .now) (a .cell) (a .i) (a .j) (l .cell) (l .i) (l .j) (l .inv) (c .before .before .before .before .before .before .loop-test .taken) (c .before .before .before .before .wide .result) (c .before .before .wide2 .result) (c .before .before .before .before .wide .ensures) (c .before .before .wide2 .ensures) (c .before .if1 .left) (c .if2 .taken)
+    let a = c .before .before .before .before .before .before .args in
+    let l = c .before .before .before .before .before .loop in
+    settled-row (a .cells) (a .offsets .now) (a .items .now) (a .cell) (a .i) (a .j) (l .cell) (l .i) (l .j) (l .inv) (c .before .before .before .before .loop-test .taken) _ _ refl refl (c .before .if1 .left) (c .if2 .taken)
 
 add-cell : tie.Need-add-cell Inv-loop μ-loop
 add-cell c = omega arith
@@ -72,13 +72,13 @@ loop-less c = omega arith
 
 loop-again : tie.Need-loop-again Inv-loop μ-loop
 loop-again c =
-    let a = c .before .before .before .before .before .before .before .before .before .before .args in
-    let l = c .before .before .before .before .before .before .before .loop in
-    settling-more (a .cells) (a .offsets .now) (a .items .now) (a .cell) (a .i) (a .j) (l .cell) (l .i) (l .j) (l .inv) (c .before .before .before .before .before .before .loop-test .taken) (c .before .before .before .before .wide .result) (c .before .before .wide2 .result) (c .before .before .before .before .wide .ensures) (c .before .before .wide2 .ensures) (c .before .if1 .left) (c .if2 .left)
+    let a = c .before .before .before .before .before .before .args in
+    let l = c .before .before .before .before .before .loop in
+    settling-more (a .cells) (a .offsets .now) (a .items .now) (a .cell) (a .i) (a .j) (l .cell) (l .i) (l .j) (l .inv) (c .before .before .before .before .loop-test .taken) _ _ refl refl (c .before .if1 .left) (c .if2 .left)
 
 returns-3 : tie.Need-returns-3 Inv-loop μ-loop
 returns-3 c =
-    let a = c .before .before .before .before .args in
+    let a = c .before .before .args in
     let l = c .before .loop in
     settled-past (a .cells) (a .offsets .now) (a .items .now) (a .cell) (a .i) (a .j) (l .cell) (l .i) (l .j) (l .inv) (c .loop-test .left)
 
@@ -89,14 +89,13 @@ settle-cell-spec =
     Inv-loop
     μ-loop
     loop-holds
-    mul-wide
-    shared-slice-read-wide
-    wide-requires
-    add-wide
-    mul-wide-2
-    shared-slice-read-wide-2
-    wide-requires-2
+    mul-from
+    shared-slice-read-from
+    add-to
+    mul-to
+    shared-slice-read-to
     sub-len
+    cast-len
     returns
     add-next
     add-after

@@ -1,7 +1,7 @@
 -- `visit::scan::run_cells` meets its contract. The invariant: what a batch of the cells' tests makes is what was made and what a batch of the rest makes. Assumes nothing.
 use mathlib.Core.Path.{_≡_, refl, ap}
 use mathlib.Core.List.{List}
-use Prim.Native.Nat.{ℕ, _-_, _<_}
+use Prim.Native.Nat.{ℕ, _+_, _-_, _<_}
 use native.Mathlib.Omega.{arith}
 use borrow.Author.Needs.{needs}
 use lib.ListN.{length, getD, take, drop}
@@ -16,7 +16,6 @@ use Rattle.visit.proofs.scan.run_cells.Tie as tie
 use Rattle.visit.proofs.scan.run_cells.Reads as reads
 use Rattle.visit.proofs.scan.run_cells.Lts as lts
 use Rattle.visit.proofs.cursor.settle_cell.Reads as settle-cell-reads
-use Rattle.visit.proofs.cursor.wide.Reads as wide-reads
 use Rattle.visit.proofs.scan.place_of.Reads as place-of-reads
 use Rattle.visit.proofs.scan.row_of.Reads as row-of-reads
 use Rattle.visit.proofs.scan.scan_list.Reads as scan-list-reads
@@ -43,27 +42,27 @@ found c =
     cell-at (a .cells) (a .offsets .now) (a .items .now) (l .cell) (l .i) (l .j) _ (c .before .before .settle-cell .ensures) (f .0) (f .1 .0) (f .1 .1 .0) (c .c .given .1)
 
 -- its list, as the part of the items
-part : (c : tie.After-wide2 Inv-loop μ-loop)
-    → let a = c .before .before .before .before .before .before .before .before .before .before .before .before .before .before .before .before .before .before .before .args in
-    let f = c .before .before .before .before .before .c .given .0 in
-    PartOf (a .offsets .now) (a .items .now) (f .0) (f .1 .0) (f .1 .1 .0) (c .before .before .wide .result) (c .wide2 .result)
+part : (c : tie.After-c Inv-loop μ-loop)
+    → let a = c .before .before .before .before .before .before .before .before .before .before .before .before .before .before .args in
+    let f = c .c .given .0 in
+    PartOf (a .offsets .now) (a .items .now) (f .0) (f .1 .0) (f .1 .1 .0) (getD (a .offsets .now) (f .0) 0) (getD (a .offsets .now) (f .0 + 1) 0)
 part c =
-    let a = c .before .before .before .before .before .before .before .before .before .before .before .before .before .before .before .before .before .before .before .args in
-    let l = c .before .before .before .before .before .before .before .before .before .loop in
-    let f = c .before .before .before .before .before .c .given .0 in
-    part-of (a .cells) (a .offsets .now) (a .items .now) (c .before .before .before .before .before .before .before .before .before .before .before .before .before .before .before .before .before .before .before .pre .table) (l .cell) (l .i) (l .j) (f .0) (f .1 .0) (f .1 .1 .0) (found (c .before .before .before .before .before)) (c .before .before .wide .result) (c .wide2 .result) (c .before .before .wide .ensures) (c .wide2 .ensures)
+    let a = c .before .before .before .before .before .before .before .before .before .before .before .before .before .before .args in
+    let l = c .before .before .before .before .loop in
+    let f = c .c .given .0 in
+    part-of (a .cells) (a .offsets .now) (a .items .now) (c .before .before .before .before .before .before .before .before .before .before .before .before .before .before .pre .table) (l .cell) (l .i) (l .j) (f .0) (f .1 .0) (f .1 .1 .0) (found c) _ _ refl refl
 
 -- its row
 row : (c : tie.After-row-of Inv-loop μ-loop)
-    → let a = c .before .before .before .before .before .before .before .before .before .before .before .before .before .before .before .before .before .before .before .before .before .before .before .args in
-    let f = c .before .before .before .before .before .before .before .before .before .c .given .0 in
+    → let a = c .before .before .before .before .before .before .before .before .before .before .before .before .before .before .before .before .before .before .before .before .before .args in
+    let f = c .before .before .before .before .before .before .before .c .given .0 in
     c .row-of .result ≡ rowOf (lines (a .start-x .now) (a .start-y .now) (a .end-x .now) (a .end-y .now)) (placeOf (a .cols) (f .0)) (getD (listIn (a .offsets .now) (a .items .now) (f .0)) (f .1 .0) 0)
 row c =
-    let a = c .before .before .before .before .before .before .before .before .before .before .before .before .before .before .before .before .before .before .before .before .before .before .before .args in
-    let f = c .before .before .before .before .before .before .before .before .before .c .given .0 in
-    let from = c .before .before .before .before .before .before .wide .result in
-    let to = c .before .before .before .before .wide2 .result in
-    row-is (lines (a .start-x .now) (a .start-y .now) (a .end-x .now) (a .end-y .now)) (c .before .before .place-of .result) (placeOf (a .cols) (f .0)) (take (to - from) (drop from (a .items .now))) (listIn (a .offsets .now) (a .items .now) (f .0)) (f .1 .0) (c .row-of .result) (c .row-of .ensures) (c .before .before .place-of .ensures) (part (c .before .before .before .before) .is)
+    let a = c .before .before .before .before .before .before .before .before .before .before .before .before .before .before .before .before .before .before .before .before .before .args in
+    let f = c .before .before .before .before .before .before .before .c .given .0 in
+    let from = getD (a .offsets .now) (f .0) 0 in
+    let to = getD (a .offsets .now) (f .0 + 1) 0 in
+    row-is (lines (a .start-x .now) (a .start-y .now) (a .end-x .now) (a .end-y .now)) (c .before .before .place-of .result) (placeOf (a .cols) (f .0)) (take (to - from) (drop from (a .items .now))) (listIn (a .offsets .now) (a .items .now) (f .0)) (f .1 .0) (c .row-of .result) (c .row-of .ensures) (c .before .before .place-of .ensures) (part (c .before .before .before .before .before .before .before) .is)
 
 loop-holds : tie.Need-loop-holds Inv-loop μ-loop
 loop-holds c =
@@ -79,108 +78,108 @@ enum-known-c c = search needs
 enum-told : tie.Need-enum-told Inv-loop μ-loop
 enum-told c = search needs
 
-mul-wide : tie.Need-mul-wide Inv-loop μ-loop
-mul-wide c = omega (arith, (found (c .before)) .inside, c .before .before .before .before .before .before .before .before .before .before .before .before .before .before .before .pre .table .long, c .before .before .before .before .before .before .before .before .before .before .before .before .before .before .before .good .1 .1 .0)
+mul-from : tie.Need-mul-from Inv-loop μ-loop
+mul-from c = omega (arith, (found (c .before)) .inside, c .before .before .before .before .before .before .before .before .before .before .before .before .before .before .before .pre .table .long, c .before .before .before .before .before .before .before .before .before .before .before .before .before .before .before .good .1 .1 .0)
 
-shared-slice-read-wide : tie.Need-shared-slice-read-wide Inv-loop μ-loop
-shared-slice-read-wide c = omega (arith, (found (c .before .before)) .inside, c .before .before .before .before .before .before .before .before .before .before .before .before .before .before .before .before .pre .table .long, c .before .before .before .before .before .before .before .before .before .before .before .before .before .before .before .before .good .1 .1 .0)
+shared-slice-read-from : tie.Need-shared-slice-read-from Inv-loop μ-loop
+shared-slice-read-from c = omega (arith, (found (c .before .before)) .inside, c .before .before .before .before .before .before .before .before .before .before .before .before .before .before .before .before .pre .table .long, c .before .before .before .before .before .before .before .before .before .before .before .before .before .before .before .before .good .1 .1 .0)
 
-wide-requires : tie.Need-wide-requires Inv-loop μ-loop
-wide-requires c κs = tt
+cast-from : tie.Need-cast-from Inv-loop μ-loop
+cast-from c = omega (arith, part (c .before .before) .rises, part (c .before .before) .within, c .before .before .before .before .before .before .before .before .before .before .before .before .before .before .before .before .good .1 .1 .1 .0)
 
-add-wide : tie.Need-add-wide Inv-loop μ-loop
-add-wide c = omega (arith, (found (c .before .before .before)) .inside, c .before .before .before .before .before .before .before .before .before .before .before .before .before .before .before .before .before .pre .table .long, c .before .before .before .before .before .before .before .before .before .before .before .before .before .before .before .before .before .good .1 .1 .0)
+add-to : tie.Need-add-to Inv-loop μ-loop
+add-to c = omega (arith, (found (c .before .before)) .inside, c .before .before .before .before .before .before .before .before .before .before .before .before .before .before .before .before .pre .table .long, c .before .before .before .before .before .before .before .before .before .before .before .before .before .before .before .before .good .1 .1 .0)
 
-mul-wide-2 : tie.Need-mul-wide-2 Inv-loop μ-loop
-mul-wide-2 c = omega (arith, (found (c .before .before .before)) .inside, c .before .before .before .before .before .before .before .before .before .before .before .before .before .before .before .before .before .pre .table .long, c .before .before .before .before .before .before .before .before .before .before .before .before .before .before .before .before .before .good .1 .1 .0)
+mul-to : tie.Need-mul-to Inv-loop μ-loop
+mul-to c = omega (arith, (found (c .before .before)) .inside, c .before .before .before .before .before .before .before .before .before .before .before .before .before .before .before .before .pre .table .long, c .before .before .before .before .before .before .before .before .before .before .before .before .before .before .before .before .good .1 .1 .0)
 
-shared-slice-read-wide-2 : tie.Need-shared-slice-read-wide-2 Inv-loop μ-loop
-shared-slice-read-wide-2 c = omega (arith, (found (c .before .before .before .before)) .inside, c .before .before .before .before .before .before .before .before .before .before .before .before .before .before .before .before .before .before .pre .table .long, c .before .before .before .before .before .before .before .before .before .before .before .before .before .before .before .before .before .before .good .1 .1 .0)
+shared-slice-read-to : tie.Need-shared-slice-read-to Inv-loop μ-loop
+shared-slice-read-to c = omega (arith, (found (c .before .before .before)) .inside, c .before .before .before .before .before .before .before .before .before .before .before .before .before .before .before .before .before .pre .table .long, c .before .before .before .before .before .before .before .before .before .before .before .before .before .before .before .before .before .good .1 .1 .0)
 
-wide-requires-2 : tie.Need-wide-requires-2 Inv-loop μ-loop
-wide-requires-2 c κs = tt
+cast-to : tie.Need-cast-to Inv-loop μ-loop
+cast-to c = omega (arith, part (c .before .before .before) .within, c .before .before .before .before .before .before .before .before .before .before .before .before .before .before .before .before .before .good .1 .1 .1 .0)
 
 mul-list : tie.Need-mul-list Inv-loop μ-loop
-mul-list c = omega (arith, part c .rises, part c .within, c .before .before .before .before .before .before .before .before .before .before .before .before .before .before .before .before .before .before .before .good .1 .1 .1 .0)
+mul-list c = omega (arith, part (c .before .before .before) .rises, part (c .before .before .before) .within, c .before .before .before .before .before .before .before .before .before .before .before .before .before .before .before .before .before .good .1 .1 .1 .0)
 
 sub-list : tie.Need-sub-list Inv-loop μ-loop
-sub-list c = part c .rises
+sub-list c = part (c .before .before .before) .rises
 
 part-list-start : tie.Need-part-list-start Inv-loop μ-loop
-part-list-start c = part c .rises
+part-list-start c = part (c .before .before .before) .rises
 
 part-list-end : tie.Need-part-list-end Inv-loop μ-loop
-part-list-end c = part c .within
+part-list-end c = part (c .before .before .before) .within
 
 cast-place-of : tie.Need-cast-place-of Inv-loop μ-loop
-cast-place-of c = omega (arith, (found (c .before .before .before .before .before .before)) .inside, c .before .before .before .before .before .before .before .before .before .before .before .before .before .before .before .before .before .before .before .before .pre .few)
+cast-place-of c = omega (arith, (found (c .before .before .before .before)) .inside, c .before .before .before .before .before .before .before .before .before .before .before .before .before .before .before .before .before .before .pre .few)
 
 place-of-requires : tie.Need-place-of-requires Inv-loop μ-loop
-place-of-requires c κs = c .before .before .before .before .before .before .before .before .before .before .before .before .before .before .before .before .before .before .before .before .pre .wide (omega (arith, (found (c .before .before .before .before .before .before)) .inside))
+place-of-requires c κs = c .before .before .before .before .before .before .before .before .before .before .before .before .before .before .before .before .before .before .pre .wide (omega (arith, (found (c .before .before .before .before)) .inside))
 
 mul-row-of : tie.Need-mul-row-of Inv-loop μ-loop
 mul-row-of c =
-    let h = part (c .before .before) in
-    omega (arith, h .first, h .long, h .within, c .before .before .before .before .before .before .before .before .before .before .before .before .before .before .before .before .before .before .before .before .before .good .1 .1 .1 .0)
+    let h = part (c .before .before .before .before .before) in
+    omega (arith, h .first, h .long, h .within, c .before .before .before .before .before .before .before .before .before .before .before .before .before .before .before .before .before .before .before .good .1 .1 .1 .0)
 
 shared-slice-read-row-of : tie.Need-shared-slice-read-row-of Inv-loop μ-loop
-shared-slice-read-row-of c = rw (part (c .before .before .before) .is) (part (c .before .before .before) .first)
+shared-slice-read-row-of c = rw (part (c .before .before .before .before .before .before) .is) (part (c .before .before .before .before .before .before) .first)
 
 row-of-requires : tie.Need-row-of-requires Inv-loop μ-loop
 row-of-requires c κs =
-    let a = c .before .before .before .before .before .before .before .before .before .before .before .before .before .before .before .before .before .before .before .before .before .before .args in
-    let l = c .before .before .before .before .before .before .before .before .before .before .before .before .loop in
-    let f = c .before .before .before .before .before .before .before .before .c .given .0 in
-    let p = c .before .before .before .before .before .before .before .before .before .before .before .before .before .before .before .before .before .before .before .before .before .before .pre in
+    let a = c .before .before .before .before .before .before .before .before .before .before .before .before .before .before .before .before .before .before .before .before .args in
+    let l = c .before .before .before .before .before .before .before .before .before .before .loop in
+    let f = c .before .before .before .before .before .before .c .given .0 in
+    let p = c .before .before .before .before .before .before .before .before .before .before .before .before .before .before .before .before .before .before .before .before .pre in
     let ls = lines (a .start-x .now) (a .start-y .now) (a .end-x .now) (a .end-y .now) in
-    let h = part (c .before .before .before) in
-    row-asks ls (a .cols) (a .cells) (a .offsets .now) (a .items .now) (a .cell) (a .i) (a .j) (a .first .now) (a .second .now) (a .places .now) p (l .first) (l .second) (l .places) (l .cell) (l .i) (l .j) (l .tests) (l .hits) (l .inv) (f .0) (f .1 .0) (f .1 .1 .0) (found (c .before .before .before .before .before .before .before .before)) _ (ap (λ (xs : List ℕ). getD xs (f .1 .0) 0) (h .is)) (h .first)
+    let h = part (c .before .before .before .before .before .before) in
+    row-asks ls (a .cols) (a .cells) (a .offsets .now) (a .items .now) (a .cell) (a .i) (a .j) (a .first .now) (a .second .now) (a .places .now) p (l .first) (l .second) (l .places) (l .cell) (l .i) (l .j) (l .tests) (l .hits) (l .inv) (f .0) (f .1 .0) (f .1 .1 .0) (found (c .before .before .before .before .before .before)) _ (ap (λ (xs : List ℕ). getD xs (f .1 .0) 0) (h .is)) (h .first)
 
 scan-list-requires : tie.Need-scan-list-requires Inv-loop μ-loop
 scan-list-requires c κs =
-    let a = c .before .before .before .before .before .before .before .before .before .before .before .before .before .before .before .before .before .before .before .before .before .before .before .before .before .args in
-    let l = c .before .before .before .before .before .before .before .before .before .before .before .before .before .before .before .loop in
-    let f = c .before .before .before .before .before .before .before .before .before .before .before .c .given .0 in
-    let p = c .before .before .before .before .before .before .before .before .before .before .before .before .before .before .before .before .before .before .before .before .before .before .before .before .before .pre in
+    let a = c .before .before .before .before .before .before .before .before .before .before .before .before .before .before .before .before .before .before .before .before .before .before .before .args in
+    let l = c .before .before .before .before .before .before .before .before .before .before .before .before .before .loop in
+    let f = c .before .before .before .before .before .before .before .before .before .c .given .0 in
+    let p = c .before .before .before .before .before .before .before .before .before .before .before .before .before .before .before .before .before .before .before .before .before .before .before .pre in
     let ls = lines (a .start-x .now) (a .start-y .now) (a .end-x .now) (a .end-y .now) in
-    let h = part (c .before .before .before .before .before .before) in
-    list-asks ls (a .cols) (a .cells) (a .offsets .now) (a .items .now) (a .cell) (a .i) (a .j) (a .first .now) (a .second .now) (a .places .now) p (l .first) (l .second) (l .places) (l .cell) (l .i) (l .j) (l .tests) (l .hits) (l .inv) (f .0) (f .1 .0) (f .1 .1 .0) (found (c .before .before .before .before .before .before .before .before .before .before .before)) (c .before .before .row-of .result) (row (c .before .before)) (take (c .before .before .before .before .before .before .wide2 .result - c .before .before .before .before .before .before .before .before .wide .result) (drop (c .before .before .before .before .before .before .before .before .wide .result) (a .items .now))) (h .is) (omega (arith, h .later)) (c .before .before .before .before .before .before .before .before .before .before .before .before .before .before .loop-test .taken)
+    let h = part (c .before .before .before .before .before .before .before .before .before) in
+    list-asks ls (a .cols) (a .cells) (a .offsets .now) (a .items .now) (a .cell) (a .i) (a .j) (a .first .now) (a .second .now) (a .places .now) p (l .first) (l .second) (l .places) (l .cell) (l .i) (l .j) (l .tests) (l .hits) (l .inv) (f .0) (f .1 .0) (f .1 .1 .0) (found (c .before .before .before .before .before .before .before .before .before)) (c .before .before .row-of .result) (row (c .before .before)) (take ((getD (a .offsets .now) (f .0 + 1) 0) - (getD (a .offsets .now) (f .0) 0)) (drop (getD (a .offsets .now) (f .0) 0) (a .items .now))) (h .is) (omega (arith, h .later)) (c .before .before .before .before .before .before .before .before .before .before .before .before .loop-test .taken)
 
 put-places-requires : tie.Need-put-places-requires Inv-loop μ-loop
 put-places-requires c κs = tt
 
 cast-put-places : tie.Need-cast-put-places Inv-loop μ-loop
-cast-put-places c = omega (arith, (found (c .before .before .before .before .before .before .before .before .before .before .before .before .before .before .before .before .before)) .inside, c .before .before .before .before .before .before .before .before .before .before .before .before .before .before .before .before .before .before .before .before .before .before .before .before .before .before .before .before .before .before .before .pre .few, c .before .before .before .before .before .before .before .before .before .before .before .before .before .before .before .before .before .before .before .before .before .loop .inv .place .at-most)
+cast-put-places c = omega (arith, (found (c .before .before .before .before .before .before .before .before .before .before .before .before .before .before .before)) .inside, c .before .before .before .before .before .before .before .before .before .before .before .before .before .before .before .before .before .before .before .before .before .before .before .before .before .before .before .before .before .pre .few, c .before .before .before .before .before .before .before .before .before .before .before .before .before .before .before .before .before .before .before .loop .inv .place .at-most)
 
 sub-tests : tie.Need-sub-tests Inv-loop μ-loop
 sub-tests c = c .before .before .before .before .before .before .before .before .before .scan-list .ensures .from
 
 add-tests : tie.Need-add-tests Inv-loop μ-loop
 add-tests c =
-    let a = c .before .before .before .before .before .before .before .before .before .before .before .before .before .before .before .before .before .before .before .before .before .before .before .before .before .before .before .before .before .before .before .before .before .before .before .args in
-    let l = c .before .before .before .before .before .before .before .before .before .before .before .before .before .before .before .before .before .before .before .before .before .before .before .before .before .loop in
-    let f = c .before .before .before .before .before .before .before .before .before .before .before .before .before .before .before .before .before .before .before .before .before .c .given .0 in
-    let p = c .before .before .before .before .before .before .before .before .before .before .before .before .before .before .before .before .before .before .before .before .before .before .before .before .before .before .before .before .before .before .before .before .before .before .before .pre in
+    let a = c .before .before .before .before .before .before .before .before .before .before .before .before .before .before .before .before .before .before .before .before .before .before .before .before .before .before .before .before .before .before .before .before .before .args in
+    let l = c .before .before .before .before .before .before .before .before .before .before .before .before .before .before .before .before .before .before .before .before .before .before .before .loop in
+    let f = c .before .before .before .before .before .before .before .before .before .before .before .before .before .before .before .before .before .before .before .c .given .0 in
+    let p = c .before .before .before .before .before .before .before .before .before .before .before .before .before .before .before .before .before .before .before .before .before .before .before .before .before .before .before .before .before .before .before .before .before .pre in
     let ls = lines (a .start-x .now) (a .start-y .now) (a .end-x .now) (a .end-y .now) in
-    record { fits = cells-small ls (a .cols) (a .cells) (a .offsets .now) (a .items .now) (a .cell) (a .i) (a .j) (a .first .now) (a .second .now) (a .places .now) p (l .first) (l .second) (l .places) (l .cell) (l .i) (l .j) (l .tests) (l .hits) (l .inv) (f .0) (f .1 .0) (f .1 .1 .0) (found (c .before .before .before .before .before .before .before .before .before .before .before .before .before .before .before .before .before .before .before .before .before)) (c .before .before .before .before .before .before .before .before .before .before .before .before .row-of .result) (row (c .before .before .before .before .before .before .before .before .before .before .before .before)) (take (c .before .before .before .before .before .before .before .before .before .before .before .before .before .before .before .before .wide2 .result - c .before .before .before .before .before .before .before .before .before .before .before .before .before .before .before .before .before .before .wide .result) (drop (c .before .before .before .before .before .before .before .before .before .before .before .before .before .before .before .before .before .before .wide .result) (a .items .now))) (part (c .before .before .before .before .before .before .before .before .before .before .before .before .before .before .before .before) .is) _ _ (c .before .before .before .before .before .before .before .before .before .scan-list .result) (c .before .before .before .before .before .before .before .before .before .scan-list .ensures) }
+    record { fits = cells-small ls (a .cols) (a .cells) (a .offsets .now) (a .items .now) (a .cell) (a .i) (a .j) (a .first .now) (a .second .now) (a .places .now) p (l .first) (l .second) (l .places) (l .cell) (l .i) (l .j) (l .tests) (l .hits) (l .inv) (f .0) (f .1 .0) (f .1 .1 .0) (found (c .before .before .before .before .before .before .before .before .before .before .before .before .before .before .before .before .before .before .before)) (c .before .before .before .before .before .before .before .before .before .before .before .before .row-of .result) (row (c .before .before .before .before .before .before .before .before .before .before .before .before)) (take ((getD (a .offsets .now) (f .0 + 1) 0) - (getD (a .offsets .now) (f .0) 0)) (drop (getD (a .offsets .now) (f .0) 0) (a .items .now))) (part (c .before .before .before .before .before .before .before .before .before .before .before .before .before .before .before .before .before .before .before) .is) _ _ (c .before .before .before .before .before .before .before .before .before .scan-list .result) (c .before .before .before .before .before .before .before .before .before .scan-list .ensures) }
 
 loop-less : tie.Need-loop-less Inv-loop μ-loop
 loop-less c =
-    let a = c .before .before .before .before .before .before .before .before .before .before .before .before .before .before .before .before .before .before .before .before .before .before .before .before .before .before .before .before .before .before .before .before .before .before .before .args in
-    let l = c .before .before .before .before .before .before .before .before .before .before .before .before .before .before .before .before .before .before .before .before .before .before .before .before .before .loop in
-    let f = c .before .before .before .before .before .before .before .before .before .before .before .before .before .before .before .before .before .before .before .before .before .c .given .0 in
-    let p = c .before .before .before .before .before .before .before .before .before .before .before .before .before .before .before .before .before .before .before .before .before .before .before .before .before .before .before .before .before .before .before .before .before .before .before .pre in
+    let a = c .before .before .before .before .before .before .before .before .before .before .before .before .before .before .before .before .before .before .before .before .before .before .before .before .before .before .before .before .before .before .before .before .before .args in
+    let l = c .before .before .before .before .before .before .before .before .before .before .before .before .before .before .before .before .before .before .before .before .before .before .before .loop in
+    let f = c .before .before .before .before .before .before .before .before .before .before .before .before .before .before .before .before .before .before .before .c .given .0 in
+    let p = c .before .before .before .before .before .before .before .before .before .before .before .before .before .before .before .before .before .before .before .before .before .before .before .before .before .before .before .before .before .before .before .before .before .pre in
     let ls = lines (a .start-x .now) (a .start-y .now) (a .end-x .now) (a .end-y .now) in
-    cells-less ls (a .cols) (a .cells) (a .offsets .now) (a .items .now) (a .cell) (a .i) (a .j) (a .first .now) (a .second .now) (a .places .now) p (l .first) (l .second) (l .places) (l .cell) (l .i) (l .j) (l .tests) (l .hits) (l .inv) (f .0) (f .1 .0) (f .1 .1 .0) (found (c .before .before .before .before .before .before .before .before .before .before .before .before .before .before .before .before .before .before .before .before .before)) (c .before .before .before .before .before .before .before .before .before .before .before .before .row-of .result) (row (c .before .before .before .before .before .before .before .before .before .before .before .before)) (take (c .before .before .before .before .before .before .before .before .before .before .before .before .before .before .before .before .wide2 .result - c .before .before .before .before .before .before .before .before .before .before .before .before .before .before .before .before .before .before .wide .result) (drop (c .before .before .before .before .before .before .before .before .before .before .before .before .before .before .before .before .before .before .wide .result) (a .items .now))) (part (c .before .before .before .before .before .before .before .before .before .before .before .before .before .before .before .before) .is) _ _ (c .before .before .before .before .before .before .before .before .before .scan-list .result) (c .before .before .before .before .before .before .before .before .before .scan-list .ensures) (part (c .before .before .before .before .before .before .before .before .before .before .before .before .before .before .before .before) .later) (c .before .before .before .before .before .before .before .before .before .before .before .before .before .before .before .before .before .before .before .before .before .before .before .before .loop-test .taken)
+    cells-less ls (a .cols) (a .cells) (a .offsets .now) (a .items .now) (a .cell) (a .i) (a .j) (a .first .now) (a .second .now) (a .places .now) p (l .first) (l .second) (l .places) (l .cell) (l .i) (l .j) (l .tests) (l .hits) (l .inv) (f .0) (f .1 .0) (f .1 .1 .0) (found (c .before .before .before .before .before .before .before .before .before .before .before .before .before .before .before .before .before .before .before)) (c .before .before .before .before .before .before .before .before .before .before .before .before .row-of .result) (row (c .before .before .before .before .before .before .before .before .before .before .before .before)) (take ((getD (a .offsets .now) (f .0 + 1) 0) - (getD (a .offsets .now) (f .0) 0)) (drop (getD (a .offsets .now) (f .0) 0) (a .items .now))) (part (c .before .before .before .before .before .before .before .before .before .before .before .before .before .before .before .before .before .before .before) .is) _ _ (c .before .before .before .before .before .before .before .before .before .scan-list .result) (c .before .before .before .before .before .before .before .before .before .scan-list .ensures) (part (c .before .before .before .before .before .before .before .before .before .before .before .before .before .before .before .before .before .before .before) .later) (c .before .before .before .before .before .before .before .before .before .before .before .before .before .before .before .before .before .before .before .before .before .before .loop-test .taken)
 
 loop-again : tie.Need-loop-again Inv-loop μ-loop
 loop-again c =
-    let a = c .before .before .before .before .before .before .before .before .before .before .before .before .before .before .before .before .before .before .before .before .before .before .before .before .before .before .before .before .before .before .before .before .before .before .before .args in
-    let l = c .before .before .before .before .before .before .before .before .before .before .before .before .before .before .before .before .before .before .before .before .before .before .before .before .before .loop in
-    let f = c .before .before .before .before .before .before .before .before .before .before .before .before .before .before .before .before .before .before .before .before .before .c .given .0 in
-    let p = c .before .before .before .before .before .before .before .before .before .before .before .before .before .before .before .before .before .before .before .before .before .before .before .before .before .before .before .before .before .before .before .before .before .before .before .pre in
+    let a = c .before .before .before .before .before .before .before .before .before .before .before .before .before .before .before .before .before .before .before .before .before .before .before .before .before .before .before .before .before .before .before .before .before .args in
+    let l = c .before .before .before .before .before .before .before .before .before .before .before .before .before .before .before .before .before .before .before .before .before .before .before .loop in
+    let f = c .before .before .before .before .before .before .before .before .before .before .before .before .before .before .before .before .before .before .before .c .given .0 in
+    let p = c .before .before .before .before .before .before .before .before .before .before .before .before .before .before .before .before .before .before .before .before .before .before .before .before .before .before .before .before .before .before .before .before .before .pre in
     let ls = lines (a .start-x .now) (a .start-y .now) (a .end-x .now) (a .end-y .now) in
-    cells-turn ls (a .cols) (a .cells) (a .offsets .now) (a .items .now) (a .cell) (a .i) (a .j) (a .first .now) (a .second .now) (a .places .now) p (l .first) (l .second) (l .places) (l .cell) (l .i) (l .j) (l .tests) (l .hits) (l .inv) (f .0) (f .1 .0) (f .1 .1 .0) (found (c .before .before .before .before .before .before .before .before .before .before .before .before .before .before .before .before .before .before .before .before .before)) (c .before .before .before .before .before .before .before .before .before .before .before .before .row-of .result) (row (c .before .before .before .before .before .before .before .before .before .before .before .before)) (take (c .before .before .before .before .before .before .before .before .before .before .before .before .before .before .before .before .wide2 .result - c .before .before .before .before .before .before .before .before .before .before .before .before .before .before .before .before .before .before .wide .result) (drop (c .before .before .before .before .before .before .before .before .before .before .before .before .before .before .before .before .before .before .wide .result) (a .items .now))) (part (c .before .before .before .before .before .before .before .before .before .before .before .before .before .before .before .before) .is) _ _ (c .before .before .before .before .before .before .before .before .before .scan-list .result) (c .before .before .before .before .before .before .before .before .before .scan-list .ensures) _ (c .before .before .before .put-places .ensures)
+    cells-turn ls (a .cols) (a .cells) (a .offsets .now) (a .items .now) (a .cell) (a .i) (a .j) (a .first .now) (a .second .now) (a .places .now) p (l .first) (l .second) (l .places) (l .cell) (l .i) (l .j) (l .tests) (l .hits) (l .inv) (f .0) (f .1 .0) (f .1 .1 .0) (found (c .before .before .before .before .before .before .before .before .before .before .before .before .before .before .before .before .before .before .before)) (c .before .before .before .before .before .before .before .before .before .before .before .before .row-of .result) (row (c .before .before .before .before .before .before .before .before .before .before .before .before)) (take ((getD (a .offsets .now) (f .0 + 1) 0) - (getD (a .offsets .now) (f .0) 0)) (drop (getD (a .offsets .now) (f .0) 0) (a .items .now))) (part (c .before .before .before .before .before .before .before .before .before .before .before .before .before .before .before .before .before .before .before) .is) _ _ (c .before .before .before .before .before .before .before .before .before .scan-list .result) (c .before .before .before .before .before .before .before .before .before .scan-list .ensures) _ (c .before .before .before .put-places .ensures)
 
 same-length : tie.Need-same-length Inv-loop μ-loop
 same-length c =
@@ -256,13 +255,13 @@ run-cells-spec =
     settle-cell-requires
     enum-known-c
     enum-told
-    mul-wide
-    shared-slice-read-wide
-    wide-requires
-    add-wide
-    mul-wide-2
-    shared-slice-read-wide-2
-    wide-requires-2
+    mul-from
+    shared-slice-read-from
+    cast-from
+    add-to
+    mul-to
+    shared-slice-read-to
+    cast-to
     mul-list
     sub-list
     part-list-start

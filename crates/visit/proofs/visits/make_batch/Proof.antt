@@ -4,9 +4,12 @@ use Rattle.refusals.specs.declared.Check.the-variants.{Fine}
 use Rattle.grid.specs.Domain.{lines}
 use Rattle.seek.specs.Bookmarks.{beside}
 use Rattle.seek.specs.Cursors.{CursorIs}
+use Rattle.seek.proofs.Passed.{rows-cols}
 use Rattle.seek.proofs.FindLaws.{found-at, found-none}
 use Rattle.seek.proofs.bookmarks.find.Reads as find-reads
 use Rattle.visit.specs.Entries.{outputsCheck}
+use Rattle.visit.specs.Inside.{RunAsks}
+use Rattle.visit.proofs.RunWhole.{cells-asks, globals-asks, run-small, run-is}
 use Rattle.visit.proofs.EntryLaws.{outputs-alike, outputs-unlike, batch-unlike, batch-refused, batch-done, run-asks, bookmark-fits}
 use borrow.Author.Needs.{needs}
 use Rattle.visit.proofs.visits.make_batch.Statement.{statement}
@@ -14,7 +17,6 @@ use Rattle.visit.proofs.visits.make_batch.Tie as tie
 use Rattle.visit.proofs.visits.make_batch.Reads as reads
 use Rattle.visit.proofs.visits.make_batch.Lts as lts
 use Rattle.slices.proofs.clear_from.Reads as clear-from-reads
-use Rattle.visit.proofs.scan.run.Reads as run-reads
 
 -- the outputs have one length
 same : (c : tie.Else1) → let a = c .before .before .before .before .before .before .before .before .before .before .before .args in outputsCheck (a .first .now) (a .second .now) ≡ Fine
@@ -45,26 +47,52 @@ returns-2 c =
     let t = beside ls (a .grid) (a .offsets .now) (a .items .now) (a .globals .now) (a .global-count) in
     batch-refused ls (a .grid) t (a .bookmark) (a .first .now) (a .second .now) (a .places .now) (same (c .before .before .before .before)) _ (found-none ls (a .grid) t (a .bookmark) _ (c .before .before .before .find .ensures) _ (c .before .found .given .1))
 
-run-requires : tie.Need-run-requires
-run-requires c κs =
-    let a = c .before .before .before .before .before .before .before .before .before .before .before .before .before .before .before .before .before .before .args in
+-- a run from there
+asks : (c : tie.After-found2)
+    → let a = c .before .before .before .before .before .before .before .before .before .before .before .before .before .before .args in
     let ls = lines (a .start-x .now) (a .start-y .now) (a .end-x .now) (a .end-y .now) in
-    let t = beside ls (a .grid) (a .offsets .now) (a .items .now) (a .globals .now) (a .global-count) in
-    run-asks ls (a .grid) (a .offsets .now) (a .items .now) (a .globals .now) (a .global-count) (a .bookmark) (c .before .before .before .before .found2 .given .0 .0) (found (c .before .before .before .before)) (a .first .now) (a .second .now) (a .places .now) (same (c .before .before .before .before .before .before .before))
+    RunAsks ls (a .grid) (beside ls (a .grid) (a .offsets .now) (a .items .now) (a .globals .now) (a .global-count)) (c .found2 .given .0 .0) (a .first .now) (a .second .now)
+asks c =
+    let a = c .before .before .before .before .before .before .before .before .before .before .before .before .before .before .args in
+    let ls = lines (a .start-x .now) (a .start-y .now) (a .end-x .now) (a .end-y .now) in
+    run-asks ls (a .grid) (a .offsets .now) (a .items .now) (a .globals .now) (a .global-count) (a .bookmark) (c .found2 .given .0 .0) (found c) (a .first .now) (a .second .now) (a .places .now) (same (c .before .before .before))
 
-add-t37 : tie.Need-add-t37
-add-t37 c =
-    let a = c .before .before .before .before .before .before .before .before .before .before .before .before .before .before .before .before .before .before .before .before .before .before .before .before .before .before .before .before .before .before .before .before .before .before .before .before .before .before .args in
+mul-cells : tie.Need-mul-cells
+mul-cells c =
+    let a = c .before .before .before .before .before .before .before .before .before .before .before .before .before .before .before .before .before .args in
     let ls = lines (a .start-x .now) (a .start-y .now) (a .end-x .now) (a .end-y .now) in
-    let t = beside ls (a .grid) (a .offsets .now) (a .items .now) (a .globals .now) (a .global-count) in
-    record { fits = bookmark-fits ls (a .grid) (a .offsets .now) (a .items .now) (a .globals .now) (a .global-count) (a .bookmark) (c .before .before .before .before .before .before .before .before .before .before .before .before .before .before .before .before .before .before .before .before .before .before .before .before .found2 .given .0 .0) (found (c .before .before .before .before .before .before .before .before .before .before .before .before .before .before .before .before .before .before .before .before .before .before .before .before)) (a .first .now) (a .second .now) (a .places .now) _ _ _ (c .before .before .before .before .before .before .before .before .before .before .before .before .before .before .before .before .before .before .before .run .result) (c .before .before .before .before .before .before .before .before .before .before .before .before .before .before .before .before .before .before .before .run .ensures) }
+    record { fits = rows-cols ls (a .grid) (a .offsets .now) (a .items .now) (a .globals .now) (a .global-count) (asks (c .before .before .before) .ready .fine) _ _ refl refl }
+
+run-cells-requires : tie.Need-run-cells-requires
+run-cells-requires c κs =
+    let a = c .before .before .before .before .before .before .before .before .before .before .before .before .before .before .before .before .before .before .before .before .args in
+    let ls = lines (a .start-x .now) (a .start-y .now) (a .end-x .now) (a .end-y .now) in
+    cells-asks ls (a .grid) (a .offsets .now) (a .items .now) (a .globals .now) (a .global-count) (c .before .before .before .before .before .before .found2 .given .0 .0) (a .first .now) (a .second .now) (a .places .now) (asks (c .before .before .before .before .before .before)) _ refl
+
+run-globals-requires : tie.Need-run-globals-requires
+run-globals-requires c κs =
+    let a = c .before .before .before .before .before .before .before .before .before .before .before .before .before .before .before .before .before .before .before .before .before .before .before .before .before .before .before .before .before .before .args in
+    let ls = lines (a .start-x .now) (a .start-y .now) (a .end-x .now) (a .end-y .now) in
+    globals-asks ls (a .grid) (a .offsets .now) (a .items .now) (a .globals .now) (a .global-count) (c .before .before .before .before .before .before .before .before .before .before .before .before .before .before .before .before .found2 .given .0 .0) (a .first .now) (a .second .now) (a .places .now) (asks (c .before .before .before .before .before .before .before .before .before .before .before .before .before .before .before .before)) _ refl _ _ _ (c .before .before .before .before .before .before .before .before .before .run-cells .result) (c .before .before .before .before .before .before .before .before .before .run-cells .ensures)
+
+add-made : tie.Need-add-made
+add-made c =
+    let a = c .before .before .before .before .before .before .before .before .before .before .before .before .before .before .before .before .before .before .before .before .before .before .before .before .before .before .before .before .before .before .before .before .before .before .before .before .before .before .before .before .before .before .before .before .before .before .before .before .before .before .before .args in
+    let ls = lines (a .start-x .now) (a .start-y .now) (a .end-x .now) (a .end-y .now) in
+    record { fits = run-small ls (a .grid) (a .offsets .now) (a .items .now) (a .globals .now) (a .global-count) (c .before .before .before .before .before .before .before .before .before .before .before .before .before .before .before .before .before .before .before .before .before .before .before .before .before .before .before .before .before .before .before .before .before .before .before .before .before .found2 .given .0 .0) (a .first .now) (a .second .now) (a .places .now) (asks (c .before .before .before .before .before .before .before .before .before .before .before .before .before .before .before .before .before .before .before .before .before .before .before .before .before .before .before .before .before .before .before .before .before .before .before .before .before)) _ refl _ _ _ (c .before .before .before .before .before .before .before .before .before .before .before .before .before .before .before .before .before .before .before .before .before .before .before .before .before .before .before .before .before .before .run-cells .result) (c .before .before .before .before .before .before .before .before .before .before .before .before .before .before .before .before .before .before .before .before .before .before .before .before .before .before .before .before .before .before .run-cells .ensures) _ _ _ (c .before .before .before .before .before .before .before .before .before .before .before .before .before .before .before .before .before .before .before .before .run-globals .result) (c .before .before .before .before .before .before .before .before .before .before .before .before .before .before .before .before .before .before .before .before .run-globals .ensures) }
+
+add-t49 : tie.Need-add-t49
+add-t49 c =
+    let a = c .before .before .before .before .before .before .before .before .before .before .before .before .before .before .before .before .before .before .before .before .before .before .before .before .before .before .before .before .before .before .before .before .before .before .before .before .before .before .before .before .before .before .before .before .before .before .before .before .before .before .before .args in
+    let ls = lines (a .start-x .now) (a .start-y .now) (a .end-x .now) (a .end-y .now) in
+    record { fits = bookmark-fits ls (a .grid) (a .offsets .now) (a .items .now) (a .globals .now) (a .global-count) (a .bookmark) (c .before .before .before .before .before .before .before .before .before .before .before .before .before .before .before .before .before .before .before .before .before .before .before .before .before .before .before .before .before .before .before .before .before .before .before .before .before .found2 .given .0 .0) (found (c .before .before .before .before .before .before .before .before .before .before .before .before .before .before .before .before .before .before .before .before .before .before .before .before .before .before .before .before .before .before .before .before .before .before .before .before .before)) (a .first .now) (a .second .now) (a .places .now) _ _ _ _ (run-is ls (a .grid) (a .offsets .now) (a .items .now) (a .globals .now) (a .global-count) (c .before .before .before .before .before .before .before .before .before .before .before .before .before .before .before .before .before .before .before .before .before .before .before .before .before .before .before .before .before .before .before .before .before .before .before .before .before .found2 .given .0 .0) (a .first .now) (a .second .now) (a .places .now) (asks (c .before .before .before .before .before .before .before .before .before .before .before .before .before .before .before .before .before .before .before .before .before .before .before .before .before .before .before .before .before .before .before .before .before .before .before .before .before)) _ refl _ _ _ (c .before .before .before .before .before .before .before .before .before .before .before .before .before .before .before .before .before .before .before .before .before .before .before .before .before .before .before .before .before .before .run-cells .result) (c .before .before .before .before .before .before .before .before .before .before .before .before .before .before .before .before .before .before .before .before .before .before .before .before .before .before .before .before .before .before .run-cells .ensures) _ _ _ (c .before .before .before .before .before .before .before .before .before .before .before .before .before .before .before .before .before .before .before .before .run-globals .result) (c .before .before .before .before .before .before .before .before .before .before .before .before .before .before .before .before .before .before .before .before .run-globals .ensures)) }
 
 returns-3 : tie.Need-returns-3
 returns-3 c =
-    let a = c .before .before .before .before .before .before .before .before .before .before .before .before .before .before .before .before .before .before .before .before .before .before .before .before .before .before .before .before .before .before .before .before .before .before .before .before .before .before .args in
+    let a = c .before .before .before .before .before .before .before .before .before .before .before .before .before .before .before .before .before .before .before .before .before .before .before .before .before .before .before .before .before .before .before .before .before .before .before .before .before .before .before .before .before .before .before .before .before .before .before .before .before .before .before .args in
     let ls = lines (a .start-x .now) (a .start-y .now) (a .end-x .now) (a .end-y .now) in
     let t = beside ls (a .grid) (a .offsets .now) (a .items .now) (a .globals .now) (a .global-count) in
-    batch-done ls (a .grid) t (a .bookmark) (a .first .now) (a .second .now) (a .places .now) (same (c .before .before .before .before .before .before .before .before .before .before .before .before .before .before .before .before .before .before .before .before .before .before .before .before .before .before .before)) (c .before .before .before .before .before .before .before .before .before .before .before .before .before .before .before .before .before .before .before .before .before .before .before .before .found2 .given .0 .0) (found (c .before .before .before .before .before .before .before .before .before .before .before .before .before .before .before .before .before .before .before .before .before .before .before .before)) _ _ _ (c .before .before .before .before .before .before .before .before .before .before .before .before .before .before .before .before .before .before .before .run .result) (c .before .before .before .before .before .before .before .before .before .before .before .before .before .before .before .before .before .before .before .run .ensures) _ _ _ (c .before .before .before .before .before .before .before .before .before .before .before .clear-from .ensures) (c .before .before .before .before .before .before .before .clear-from2 .ensures) (c .before .before .before .clear-from3 .ensures)
+    batch-done ls (a .grid) t (a .bookmark) (a .first .now) (a .second .now) (a .places .now) (same (c .before .before .before .before .before .before .before .before .before .before .before .before .before .before .before .before .before .before .before .before .before .before .before .before .before .before .before .before .before .before .before .before .before .before .before .before .before .before .before .before)) (c .before .before .before .before .before .before .before .before .before .before .before .before .before .before .before .before .before .before .before .before .before .before .before .before .before .before .before .before .before .before .before .before .before .before .before .before .before .found2 .given .0 .0) (found (c .before .before .before .before .before .before .before .before .before .before .before .before .before .before .before .before .before .before .before .before .before .before .before .before .before .before .before .before .before .before .before .before .before .before .before .before .before)) _ _ _ _ (run-is ls (a .grid) (a .offsets .now) (a .items .now) (a .globals .now) (a .global-count) (c .before .before .before .before .before .before .before .before .before .before .before .before .before .before .before .before .before .before .before .before .before .before .before .before .before .before .before .before .before .before .before .before .before .before .before .before .before .found2 .given .0 .0) (a .first .now) (a .second .now) (a .places .now) (asks (c .before .before .before .before .before .before .before .before .before .before .before .before .before .before .before .before .before .before .before .before .before .before .before .before .before .before .before .before .before .before .before .before .before .before .before .before .before)) _ refl _ _ _ (c .before .before .before .before .before .before .before .before .before .before .before .before .before .before .before .before .before .before .before .before .before .before .before .before .before .before .before .before .before .before .run-cells .result) (c .before .before .before .before .before .before .before .before .before .before .before .before .before .before .before .before .before .before .before .before .before .before .before .before .before .before .before .before .before .before .run-cells .ensures) _ _ _ (c .before .before .before .before .before .before .before .before .before .before .before .before .before .before .before .before .before .before .before .before .run-globals .result) (c .before .before .before .before .before .before .before .before .before .before .before .before .before .before .before .before .before .before .before .before .run-globals .ensures)) _ _ _ (c .before .before .before .before .before .before .before .before .before .before .before .before .clear-from .ensures) (c .before .before .before .before .before .before .before .before .clear-from2 .ensures) (c .before .before .before .before .clear-from3 .ensures)
 
 pub make-batch-spec : {M : Type 1} → statement M
 make-batch-spec =
@@ -74,11 +102,16 @@ make-batch-spec =
     (λ c κs. search needs)
     (λ c. search needs)
     (λ c. search needs)
-    run-requires
+    (λ c. search needs)
+    (λ c. search needs)
+    mul-cells
+    run-cells-requires
+    run-globals-requires
     (λ c κs. search needs)
     (λ c κs. search needs)
     (λ c κs. search needs)
-    add-t37
+    add-made
+    add-t49
     returns-2
     (λ c. search needs)
     (λ c. search needs)

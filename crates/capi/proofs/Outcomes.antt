@@ -13,7 +13,6 @@ use Rattle.grid.specs.Domain.{Lines}
 use Rattle.grid.specs.declared.Grid.{Grid}
 use Rattle.grid.specs.Words.{gridWords}
 use Rattle.tables.specs.Tables.{Tables}
-use Rattle.wkb.proofs.Outcomes as wkb
 use Rattle.walk.specs.Pushes.{Outcome}
 use Rattle.walk.proofs.Outcomes as walk
 use Rattle.build.proofs.Theorems as build
@@ -21,7 +20,7 @@ use Rattle.own.proofs.ManyEnds as own
 use Rattle.visit.proofs.Outcomes as visit
 use Rattle.replies.proofs.Outcomes.{one-outcome}
 use Rattle.capi.specs.Unknown.{lastSizing, lastMode}
-use Rattle.capi.specs.Lent.{ReadReplies, WalkReplies, OwnersReplies, BuildReplies, BatchReplies}
+use Rattle.capi.specs.Lent.{WalkReplies, OwnersReplies, BuildReplies, BatchReplies}
 
 -- `out` has the n words of a result, or is short
 by-room : (n : ℕ) (out : List ℕ) {P : Type 0} → (n ≤ length out → P) → (length out < n → P) → P
@@ -34,17 +33,6 @@ by-room n out {P} enough short = go (leb n (length out)) refl
 -- and words say a grid, or are too few
 by-words : (n : ℕ) (out words : List ℕ) {P : Type 0} → (n ≤ length out → gridWords ≤ length words → P) → (length out < n → P) → (length words < gridWords → P) → P
 by-words n out words asked short few = by-room n out (λ l. by-room gridWords words (asked l) few) short
-
-pub read-one-outcome : {bytes : List ℕ} {x y x′ x₁ y′ y₁ : List Float} {out out′ out₁ : List ℕ} {r r₁ : ℕ}
-    → ReadReplies bytes x y out r x′ y′ out′ → ReadReplies bytes x y out r₁ x₁ y₁ out₁
-    → (r ≡ r₁) × (out′ ≡ out₁) × (x′ ≡ x₁) × (y′ ≡ y₁)
-read-one-outcome {out = out} h k =
-    let a = one-outcome (h .replies) (k .replies) in (
-      a .0,
-      a .1,
-      by-room 1 out (λ l. wkb.one-outcome (h .called l) (k .called l) .1) (λ l. h .short l .0 ∙ sym (k .short l .0)),
-      by-room 1 out (λ l. wkb.one-outcome (h .called l) (k .called l) .2) (λ l. h .short l .1 ∙ sym (k .short l .1)),
-    )
 
 -- a number names something, or is above the last that does
 by-name : (last n : ℕ) {P : Type 0} → (n ≤ last → P) → (last < n → P) → P

@@ -12,26 +12,15 @@ use Rattle.grid.specs.Domain.{Lines}
 use Rattle.grid.specs.declared.Grid.{Grid}
 use Rattle.grid.specs.Words.{gridWords}
 use Rattle.tables.specs.Tables.{Tables}
-use Rattle.wkb.specs.declared.Read.{Read}
-use Rattle.wkb.specs.Reading as wkb
 use Rattle.walk.specs.Pushes.{Outcome}
 use Rattle.walk.specs.Segment.{cellsOf, Entered}
 use Rattle.build.specs.Build as build
 use Rattle.own.specs.Many.{ownersCheck, OwnersAre}
 use Rattle.visit.specs.Entries.{batchAnswer, BatchIs}
 use Rattle.replies.specs.Replies.{Replies}
-use Rattle.replies.specs.Answers.{ofCheck, ofRead, ofCells, ofBuilt, ofBatch}
+use Rattle.replies.specs.Answers.{ofCheck, ofCells, ofBuilt, ofBatch}
 use Rattle.capi.specs.Few.{unlessFew}
 use Rattle.capi.specs.Unknown.{lastSizing, modeBy, lastMode, planBy, unlessUnknown, unlessUnwalked}
-
--- what the reader answers
-abbrev pub readAnswer : List ℕ → List Float → List Float → Read
-readAnswer bytes x y = wkb.readOf (wkb.outcome (length x) (length y) bytes)
-
-pub record ReadReplies (bytes : List ℕ) (x y : List Float) (out : List ℕ) (r : ℕ) (x′ y′ : List Float) (out′ : List ℕ) : Type 0 where
-  pub replies : Replies 1 (ofRead (readAnswer bytes x y)) out r out′
-  pub called : 1 ≤ length out → wkb.ReadAs bytes x y (readAnswer bytes x y) x′ y′
-  pub short : length out < 1 → (x′ ≡ x) × (y′ ≡ y)
 
 -- the walk of one segment on the grid that words say, in the mode that a number names, whose outcome is o
 pub record WalkReplies (words : List ℕ) (mode : ℕ) (o : Outcome) (scratch out : List ℕ) (r : ℕ) (scratch′ out′ : List ℕ) : Type 0 where

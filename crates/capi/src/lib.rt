@@ -7,7 +7,6 @@ pub mod building;
 pub mod naming;
 pub mod number;
 pub mod ownership;
-pub mod reading;
 pub mod snapping;
 pub mod standing;
 pub mod visiting;

@@ -5,13 +5,14 @@ use mathlib.Core.Bool.{Bool, true, false}
 use mathlib.Core.List.{List}
 use Prim.Native.Nat.{ℕ, _≤_, _<_}
 use lib.Dec.{leb}
+use lib.Ieee.{Float}
 use lib.ListN.{length}
 use borrow.Author.Tests.{leb-true, leb-false}
 use Rattle.grid.specs.Domain.{Lines}
 use Rattle.wkb.proofs.Outcomes as wkb
 use Rattle.members.proofs.Outcomes as members
 use Rattle.replies.proofs.Outcomes.{one-outcome}
-use Rattle.capi_members.specs.Lent.{MultiReplies, WriteReplies, LineReplies}
+use Rattle.capi_members.specs.Lent.{ReadReplies, MultiReplies, WriteReplies, LineReplies}
 
 -- `out` has the n words of a result, or is short
 by-room : (n : ℕ) (out : List ℕ) {P : Type 0} → (n ≤ length out → P) → (length out < n → P) → P
@@ -20,6 +21,17 @@ by-room n out {P} enough short = go (leb n (length out)) refl
     go : (b : Bool) → leb n (length out) ≡ b → P
     go true e = enough (leb-true n (length out) e)
     go false e = short (leb-false n (length out) e)
+
+pub read-one-outcome : {bytes : List ℕ} {x y x′ x₁ y′ y₁ : List Float} {out out′ out₁ : List ℕ} {r r₁ : ℕ}
+    → ReadReplies bytes x y out r x′ y′ out′ → ReadReplies bytes x y out r₁ x₁ y₁ out₁
+    → (r ≡ r₁) × (out′ ≡ out₁) × (x′ ≡ x₁) × (y′ ≡ y₁)
+read-one-outcome {out = out} h k =
+    let a = one-outcome (h .replies) (k .replies) in (
+      a .0,
+      a .1,
+      by-room 1 out (λ l. wkb.one-outcome (h .called l) (k .called l) .1) (λ l. h .short l .0 ∙ sym (k .short l .0)),
+      by-room 1 out (λ l. wkb.one-outcome (h .called l) (k .called l) .2) (λ l. h .short l .1 ∙ sym (k .short l .1)),
+    )
 
 pub multi-one-outcome : {bytes x y l x′ x₁ y′ y₁ l′ l₁ out out′ out₁ : List ℕ} {r r₁ : ℕ}
     → MultiReplies bytes x y l out r x′ y′ l′ out′ → MultiReplies bytes x y l out r₁ x₁ y₁ l₁ out₁

@@ -3,16 +3,29 @@
 use Prim.Native.Nat.{ℕ, _≤_, _<_}
 use mathlib.Core.Path.{_≡_}
 use mathlib.Core.List.{List}
+use lib.Ieee.{Float}
 use lib.ListN.{length}
 use Rattle.grid.specs.Domain.{Lines}
+use Rattle.wkb.specs.declared.Read.{Read}
 use Rattle.wkb.specs.declared.MultiRead.{MultiRead}
+use Rattle.wkb.specs.Reading as wkb
 use Rattle.wkb.specs.Multi.{multiOutcome, multiReadOf, MultiReadAs}
 use Rattle.members.specs.declared.Written.{Written}
 use Rattle.members.specs.declared.Lined.{Lined}
 use Rattle.members.specs.Writing as writing
 use Rattle.members.specs.Lining as lining
 use Rattle.replies.specs.Replies.{Replies}
+use Rattle.replies.specs.Answers.{ofRead}
 use Rattle.capi_members.specs.Answers.{ofMultiRead, ofWritten, ofLined}
+
+-- the reader of a LineString
+abbrev pub readAnswer : List ℕ → List Float → List Float → Read
+readAnswer bytes x y = wkb.readOf (wkb.outcome (length x) (length y) bytes)
+
+pub record ReadReplies (bytes : List ℕ) (x y : List Float) (out : List ℕ) (r : ℕ) (x′ y′ : List Float) (out′ : List ℕ) : Type 0 where
+  pub replies : Replies 1 (ofRead (readAnswer bytes x y)) out r out′
+  pub called : 1 ≤ length out → wkb.ReadAs bytes x y (readAnswer bytes x y) x′ y′
+  pub short : length out < 1 → (x′ ≡ x) × (y′ ≡ y)
 
 -- the reader of a MultiLineString
 abbrev pub multiAnswer : List ℕ → List ℕ → List ℕ → List ℕ → MultiRead

@@ -1,12 +1,12 @@
--- `capi::reading::mt_read_line_string` meets its contract: an `out` that is short, or what the entry answers and leaves. Assumes nothing.
+-- `capi_members::reading::mt_read_line_string` meets its contract: an `out` that is short, or what the entry answers and leaves. Assumes nothing.
 use mathlib.Core.Path.{refl, ap}
 use native.Mathlib.Omega.{arith}
 use Rattle.wkb.specs.Reading.{ReadAs}
 use Rattle.replies.specs.Answers.{ofRead}
 use Rattle.replies.proofs.Handing.{short-replies, replied}
 use borrow.Author.Needs.{needs}
-use Rattle.capi.proofs.reading.mt_read_line_string.Statement.{statement}
-use Rattle.capi.proofs.reading.mt_read_line_string.Tie as tie
+use Rattle.capi_members.proofs.reading.mt_read_line_string.Statement.{statement}
+use Rattle.capi_members.proofs.reading.mt_read_line_string.Tie as tie
 
 returns : tie.Need-returns
 returns c =

@@ -2,7 +2,7 @@
 // Where `out` has no word, the number is 100; next, where a grid has fewer than six words, 101. Both change nothing.
 use grid::words::WORDS;
 use grid::words::grid_by;
-use once::OnceAnswer;
+use lent::OnceAnswer;
 use replies::SHORT;
 use walk::Cells;
 ghost use mathlib.Core.Path.{_≡_};

@@ -4,8 +4,8 @@ use Rattle.cost.specs.declared.CostAnswer.{CostAnswer}
 use Rattle.cost.specs.declared.CostAnswer.the-variants as cost
 use Rattle.by_line.specs.declared.ByLine.{ByLine}
 use Rattle.by_line.specs.declared.ByLine.the-variants as listed
-use Rattle.once.specs.declared.OnceAnswer.{OnceAnswer}
-use Rattle.once.specs.declared.OnceAnswer.the-variants as once
+use Rattle.lent.specs.declared.OnceAnswer.{OnceAnswer}
+use Rattle.lent.specs.declared.OnceAnswer.the-variants as once
 use Rattle.replies.specs.Replies.{Reply, success, refusing}
 
 -- the cost: the tests, and the lines of the longest list

@@ -12,8 +12,8 @@ use Rattle.by_line.specs.declared.ByLine.{ByLine}
 use Rattle.by_line.specs.declared.ByLine.the-variants as listed
 use Rattle.by_line.specs.ByLine.{byLine, ByLineIs}
 use Rattle.seek.specs.Tests.{Pair}
-use Rattle.once.specs.declared.OnceAnswer.{OnceAnswer}
-use Rattle.once.specs.declared.OnceAnswer.the-variants as once
+use Rattle.lent.specs.declared.OnceAnswer.{OnceAnswer}
+use Rattle.lent.specs.declared.OnceAnswer.the-variants as once
 use Rattle.once.specs.Once.{PairsAre}
 use Rattle.replies.specs.Replies.{Replies}
 use Rattle.capi.specs.Few.{unlessFew}

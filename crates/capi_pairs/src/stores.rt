@@ -1,7 +1,7 @@
 // Values stored at the start of an `out` that has room for them, and the number that is returned.
 use by_line::ByLine;
 use cost::CostAnswer;
-use once::OnceAnswer;
+use lent::OnceAnswer;
 use refusals::Refusal;
 ghost use mathlib.Core.List.{[], _∷_};
 ghost use Prim.Native.Nat.{_≤_};

@@ -24,8 +24,8 @@ use Rattle.build.specs.Build.{endOf, builtOn, answerOf, BuildIs}
 use Rattle.seek.specs.Tests.{Pair}
 use Rattle.visit.specs.Batches.{firsts, seconds}
 use Rattle.once.specs.Once.{PairsAre}
-use Rattle.once.specs.declared.OnceAnswer.{OnceAnswer}
-use Rattle.once.specs.declared.OnceAnswer.the-variants as answer
+use Rattle.lent.specs.declared.OnceAnswer.{OnceAnswer}
+use Rattle.lent.specs.declared.OnceAnswer.the-variants as answer
 use Rattle.samples.specs.Samples.{Samples, samples, sampleLinesCheck}
 use Rattle.crossings.specs.Crossings.{beside}
 use Rattle.report.specs.Pages.{Page, page, Puts}

@@ -18,7 +18,7 @@ use Rattle.seek.specs.Tests.{Pair}
 use Rattle.visit.specs.Batches.{firsts, seconds}
 use Rattle.wkb.specs.Bytes.{Point}
 use Rattle.wkb.specs.Reading.{found}
-use Rattle.once.specs.Once.{pairsCheck}
+use Rattle.lent.specs.Lent.{pairsCheck}
 use Rattle.samples.specs.Samples.{Samples, sampleLinesCheck}
 use Rattle.crossings.specs.Crossings.{crossingsOf, crossingsBy}
 use Rattle.report.proofs.Sizes.{crossings-size, pair-size, refused-size}

@@ -13,7 +13,7 @@ ghost use Rattle.crossing_chain.specs.Inside.{Held};
 use build::Built;
 use build::Plan;
 use grid::Grid;
-use once::OnceAnswer;
+use lent::OnceAnswer;
 use refusals::Check;
 use wkb::Read;
 

@@ -11,7 +11,8 @@ use Rattle.grid.specs.Domain.{gridCheck}
 use Rattle.tables.specs.Tables.{Tables, tables}
 use Rattle.tables.specs.Fit.{tablesCheck}
 use Rattle.seek.specs.Tests.{Pair}
-use Rattle.once.specs.Once.{firstTests, lentCheck, pairsCheck}
+use Rattle.lent.specs.Lent.{lentCheck, pairsCheck}
+use Rattle.once.specs.Once.{firstTests}
 use Rattle.samples.specs.Samples.{Samples, count, sampleLinesCheck}
 use Rattle.samples.specs.Sharing.{shares}
 

@@ -10,7 +10,7 @@ ghost use Rattle.tables.specs.Lists.{linesAt};
 ghost use Rattle.tables.specs.States.{CanCount, Counted};
 ghost use Rattle.by_line.specs.Inside.{ListAsks};
 ghost use Rattle.once.specs.Scan.{RowsAsk, RowsDone, CellsAsk, CellsDone};
-ghost use Rattle.once.specs.Marked.{MarkedRows};
+ghost use Rattle.once.specs.Marked.{RowsMarked};
 
 // The list of a cell: a part of the items.
 fn list_of<'a>(offsets: &[u32], items: &'a [u32], cell: usize) -> &'a [u32]
@@ -36,51 +36,8 @@ fn count_list(list: &[u32], counts: &mut [u32])
     }
 }
 
-// Each entry of a list with every later one.
+// Each entry of a list with every later one, by marks where there is one for each entry.
 fn scan_rows(
-    list: &[u32],
-    start_x: &[i32],
-    start_y: &[i32],
-    end_x: &[i32],
-    end_y: &[i32],
-    starts: &[u32],
-    listing: &[u32],
-    counts: &[u32],
-    first: &mut [u32],
-    second: &mut [u32],
-    hits: usize,
-) -> usize
-    requires { let ss = samples (now «start_x») (now «start_y») (now «end_x») (now «end_y») in
-        ⌜ RowsAsk (count ss) (now list) (now starts) (now listing) (now counts) hits ⌝ }
-    ensures { λ r. let ss = samples (now («start_x» .entry)) (now («start_y» .entry)) (now («end_x» .entry)) (now («end_y» .entry)) in
-        ⌜ RowsDone (shares ss) (count ss) (now (starts .entry)) (now (listing .entry)) (now (counts .entry)) (now (list .entry))
-        (now (first .entry)) (now (second .entry)) hits (now (first .exit)) (now (second .exit)) r ⌝ }
-{
-    let mut hits = hits;
-    let mut i = 0;
-    while i < list.len() {
-        let row = rows::row_of(list[i], start_x, start_y, end_x, end_y);
-        i = i + 1;
-        hits = rows::scan_list(
-            row,
-            &list[i..],
-            start_x,
-            start_y,
-            end_x,
-            end_y,
-            starts,
-            listing,
-            counts,
-            first,
-            second,
-            hits,
-        );
-    }
-    hits
-}
-
-// The same, by the marks of the entries.
-fn scan_marked_rows(
     list: &[u32],
     marks: &[u32],
     start_x: &[i32],
@@ -95,7 +52,7 @@ fn scan_marked_rows(
     hits: usize,
 ) -> usize
     requires { let ss = samples (now «start_x») (now «start_y») (now «end_x») (now «end_y») in
-        ⌜ MarkedRows (count ss) (now list) (now marks) (now starts) (now listing) (now counts) hits ⌝ }
+        ⌜ RowsMarked (count ss) (now list) (now marks) (now starts) (now listing) (now counts) hits ⌝ }
     ensures { λ r. let ss = samples (now («start_x» .entry)) (now («start_y» .entry)) (now («end_x» .entry)) (now («end_y» .entry)) in
         ⌜ RowsDone (shares ss) (count ss) (now (starts .entry)) (now (listing .entry)) (now (counts .entry)) (now (list .entry))
         (now (first .entry)) (now (second .entry)) hits (now (first .exit)) (now (second .exit)) r ⌝ }
@@ -103,25 +60,43 @@ fn scan_marked_rows(
     let mut hits = hits;
     let mut i = 0;
     while i < list.len() {
-        let row = rows::row_of(list[i], start_x, start_y, end_x, end_y);
-        let mark = marks[i];
+        let at = i;
+        let row = rows::row_of(list[at], start_x, start_y, end_x, end_y);
         i = i + 1;
-        hits = rows::scan_marked(
-            row,
-            mark,
-            &list[i..],
-            &marks[i..],
-            start_x,
-            start_y,
-            end_x,
-            end_y,
-            starts,
-            listing,
-            counts,
-            first,
-            second,
-            hits,
-        );
+        if marks.len() < list.len() {
+            hits = rows::scan_list(
+                row,
+                &list[i..],
+                start_x,
+                start_y,
+                end_x,
+                end_y,
+                starts,
+                listing,
+                counts,
+                first,
+                second,
+                hits,
+            );
+        } else {
+            let mark = marks[at];
+            hits = rows::scan_marked(
+                row,
+                mark,
+                &list[i..],
+                &marks[i..],
+                start_x,
+                start_y,
+                end_x,
+                end_y,
+                starts,
+                listing,
+                counts,
+                first,
+                second,
+                hits,
+            );
+        }
     }
     hits
 }
@@ -136,7 +111,7 @@ fn back(from: u32, by: u32) -> u32
     from - by
 }
 
-// The list of a cell, by marks where there is room for them. The marks tell of the cell before, and of those about the cell one row back.
+// The list of a cell, by marks as far as there is room for them. The marks tell of the cell before, and of those about the cell one row back.
 fn scan_cell(
     cell: u32,
     cols: u32,
@@ -159,24 +134,9 @@ fn scan_cell(
         ⌜ RowsDone (shares ss) (count ss) (now (starts .entry)) (now (listing .entry)) (now (counts .entry)) (now (list .entry))
         (now (first .entry)) (now (second .entry)) hits (now (first .exit)) (now (second .exit)) r ⌝ }
 {
-    if marks.len() < list.len() {
-        return scan_rows(
-            list,
-            start_x,
-            start_y,
-            end_x,
-            end_y,
-            starts,
-            listing,
-            counts,
-            first,
-            second,
-            hits,
-        );
-    }
     let low = back(back(cell, cols), 8);
     by_line::marks::mark_list(list, back(cell, 1), low, starts, listing, counts, marks);
-    scan_marked_rows(
+    scan_rows(
         list,
         marks,
         start_x,

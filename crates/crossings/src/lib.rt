@@ -1,8 +1,7 @@
 // Crossings: a full visit of lines of samples that hands out two lines that share a point, at their first test alone. It goes as the visit of `once`
 // does, over its lists by line and its counts, and asks of each test whether the two lines share a point, exactly.
-use by_line::ByLine;
 use grid::Grid;
-use once::OnceAnswer;
+use lent::OnceAnswer;
 use refusals::Check;
 ghost use mathlib.Core.Path.{_≡_};
 ghost use Rattle.seek.specs.Tests.{testsOf};
@@ -97,36 +96,24 @@ pub fn list_crossings(
         ⌜ PairsAre end (now (first .entry)) (now (second .entry)) (now (starts .entry)) (now (listing .entry)) (now (counts .entry)) r
         (now (first .exit)) (now (second .exit)) (now (starts .exit)) (now (listing .exit)) (now (counts .exit)) ⌝ }
 {
-    let lent = once::ending::check_lent(
-        start_x.len(),
-        items.len(),
-        first.len(),
-        second.len(),
-        starts.len(),
-        listing.len(),
-        counts.len(),
-    );
-    if let Check::Refused(r) = lent {
-        return OnceAnswer::Refused(r);
-    }
     let lines = samples::checks::check_sample_lines(start_x, start_y, end_x, end_y);
-    if let Check::Refused(r) = lines {
-        return OnceAnswer::Refused(r);
-    }
-    let listed = by_line::lists_by_line(
+    let begun = lent::begin(
+        lines,
         start_x.len(),
         grid,
         offsets,
         items,
         globals,
         global_count,
+        first.len(),
+        second.len(),
         starts,
         listing,
+        counts,
     );
-    if let ByLine::Refused(r) = listed {
+    if let Check::Refused(r) = begun {
         return OnceAnswer::Refused(r);
     }
-    slices::clear(counts);
     let hits = run(
         start_x,
         start_y,
@@ -143,5 +130,5 @@ pub fn list_crossings(
         first,
         second,
     );
-    once::ending::finish(hits, first, second, starts, listing, counts)
+    lent::finish(hits, first, second, starts, listing, counts)
 }

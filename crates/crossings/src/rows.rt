@@ -1,7 +1,6 @@
 // A row of a visit is the tests that share their place and their first line. Of each test it is asked whether its pair is handed out.
 use samples::Raised;
 ghost use mathlib.Core.Path.{_≡_};
-ghost use lib.ListN.{set};
 ghost use Prim.Native.Nat.{_-_, _<_};
 ghost use Rattle.samples.specs.Samples.{samples, count};
 ghost use Rattle.seek.specs.Inside.{numbers};
@@ -27,16 +26,6 @@ pub(crate) fn row_of(
 {
     let line = samples::line_at(start_x, start_y, end_x, end_y, first as usize);
     Row { first, line }
-}
-
-// Writes an entry; one beyond the end is not written.
-fn put(s: &mut [u32], at: usize, v: u32)
-    ensures { λ _. ⌜ now (s .exit) ≡ set (now (s .entry)) at v ⌝ }
-{
-    if s.len() <= at {
-        return;
-    }
-    s[at] = v;
 }
 
 // Whether a row's line and another share a point.
@@ -157,8 +146,7 @@ pub(crate) fn scan_list(
             listing,
             counts,
         ) {
-            put(first, hits, row.first);
-            put(second, hits, b);
+            lent::put_pair(first, second, hits, row.first, b);
             hits = hits + 1;
         }
     }
@@ -206,8 +194,7 @@ pub(crate) fn scan_marked(
             listing,
             counts,
         ) {
-            put(first, hits, row.first);
-            put(second, hits, b);
+            lent::put_pair(first, second, hits, row.first, b);
             hits = hits + 1;
         }
     }
@@ -252,8 +239,7 @@ pub(crate) fn scan_lines(
             listing,
             counts,
         ) {
-            put(first, hits, row.first);
-            put(second, hits, line);
+            lent::put_pair(first, second, hits, row.first, line);
             hits = hits + 1;
         }
     }

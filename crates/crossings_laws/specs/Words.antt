@@ -11,7 +11,7 @@ use Rattle.grid.specs.Points.{WholeShare, InParts}
 use Rattle.tables.specs.Tables.{Tables}
 use Rattle.seek.specs.Tests.{testsOf}
 use Rattle.visit_laws.specs.Words.{times}
-use Rattle.once.specs.declared.OnceAnswer.the-variants.{Pairs}
+use Rattle.lent.specs.declared.OnceAnswer.the-variants.{Pairs}
 use Rattle.once.specs.Once.{PairsAre}
 use Rattle.samples.specs.Samples.{Samples, count, wholeAt}
 use Rattle.crossings.specs.Crossings.{crossingsBy}

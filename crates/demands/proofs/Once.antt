@@ -21,7 +21,7 @@ use Rattle.seek.specs.Bookmarks.{visitCheck}
 use Rattle.seek.proofs.Standing.{stands}
 use Rattle.visit_laws.specs.Words.{one, times}
 use Rattle.visit_laws.proofs.Often.{one-true, handed-often}
-use Rattle.once.specs.declared.OnceAnswer.the-variants as answer
+use Rattle.lent.specs.declared.OnceAnswer.the-variants as answer
 use Rattle.once.specs.Once.{onceOf, onceBy}
 use Rattle.once_laws.proofs.Once.{once-as-visit}
 use Rattle.demands.specs.Grown.{Grown}

@@ -9,7 +9,7 @@ use Rattle.grid.specs.declared.Grid.{Grid}
 use Rattle.grid.specs.Domain.{Lines}
 use Rattle.tables.specs.Tables.{Tables}
 use Rattle.visit_laws.specs.Words.{one}
-use Rattle.once.specs.declared.OnceAnswer.the-variants.{Pairs}
+use Rattle.lent.specs.declared.OnceAnswer.the-variants.{Pairs}
 use Rattle.once.specs.Once.{onceBy, PairsAre}
 use Rattle.demands.specs.Calls.{Call, FullVisit, firstsOf, secondsOf, handedOut}
 use Rattle.demands.specs.Points.{Cross}

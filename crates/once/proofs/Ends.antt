@@ -1,4 +1,4 @@
--- The end of a visit: what it is lent, what it leaves there, and the refusals in their order. Assumes nothing.
+-- The end of a visit: what it leaves in what it is lent, and the refusals in their order. Assumes nothing.
 use mathlib.Core.Path.{_≡_, refl, sym, _∙_}
 use mathlib.Core.Bool.{true, false}
 use mathlib.Core.List.{List, [], _∷_, _++_, append-nil, append-assoc}
@@ -6,59 +6,28 @@ use Prim.Native.Nat.{ℕ, zero, suc, _+_, _-_, _≤_, _<_}
 use native.Mathlib.Nat.{zero-add, add-zero}
 use native.Mathlib.Decide.{decLe}
 use native.Mathlib.Omega.{arith}
-use borrow.Author.Tests.{eq-eqb, ne-eqb, lt-ltb, le-ltb, le-leb, lt-leb, leb-true, eqb-true}
+use borrow.Author.Tests.{le-leb, lt-leb}
 use lib.Dec.{leb}
 use lib.ListN.{length, take, replicate, set, length-map, length-set}
 use lib.Seq.{take-suc, take-set-le, getD-set-same}
 use Rattle.slices.specs.Slices.{clearedFrom}
 use Rattle.refusals.specs.declared.Refusal.{Refusal}
-use Rattle.refusals.specs.declared.Check.the-variants.{Fine}
+use Rattle.refusals.specs.declared.Check.{Check}
 use Rattle.refusals.specs.declared.Check.the-variants as check
-use Rattle.refusals.specs.Refusals.{refusal, unless, andThen, Answer, refused, gives, _then_, answerBy, clears, leftIn, zeroBeyond}
-use Rattle.refusals.proofs.Checks.{unless-fine, andThen-left, andThen-right}
-use Rattle.refusals.proofs.Leaving.{left-zero, left-same, Clearing, clearing-unless, clearing-then, numbers-clear}
+use Rattle.refusals.specs.Refusals.{refusal, unless, Answer, refused, gives, _then_, answerBy, clears, leftIn, zeroBeyond}
+use Rattle.refusals.proofs.Answers.{then-refused}
+use Rattle.refusals.proofs.Leaving.{left-zero, left-same, Clearing, numbers-clear}
 use Rattle.seek.specs.Tests.{Pair}
 use Rattle.visit.specs.Batches.{firsts, seconds}
-use Rattle.by_line.specs.ByLine.{roomCheck}
-use Rattle.once.specs.declared.OnceAnswer.{OnceAnswer}
-use Rattle.once.specs.declared.OnceAnswer.the-variants as answer
-use Rattle.once.specs.Once.{lentCheck, pairsCheck, PairsAre, endOf, endLeft, EndIs}
+use Rattle.grid.specs.declared.Grid.{Grid}
+use Rattle.tables.specs.Tables.{Tables}
+use Rattle.lent.specs.declared.OnceAnswer.{OnceAnswer}
+use Rattle.lent.specs.declared.OnceAnswer.the-variants as answer
+use Rattle.lent.specs.Lent.{beginCheck, Begun, pairsCheck, endOf, endLeft, EndIs}
+use Rattle.lent.proofs.Beginning.{begun-stopped, begin-spares}
+use Rattle.once.specs.Once.{PairsAre}
 use Rattle.once.specs.Scan.{putAt, Alike}
 use Rattle.once.proofs.Writes.{length-put}
-
--- ---- the lengths of what is lent
-
-module _ (lines items first second starts listing counts : ℕ) where
-  pub lent-outputs : (first ≡ second → ⊥) → unless false 3 0 ≡ lentCheck lines items first second starts listing counts
-  unfolding lentCheck andThen unless
-  lent-outputs n = rw (ne-eqb first second n)
-
-  module _ (e : first ≡ second) where
-    pub lent-starts : starts ≤ lines → unless false 3 0 ≡ lentCheck lines items first second starts listing counts
-    unfolding lentCheck andThen unless roomCheck
-    lent-starts l = rw (eq-eqb first second e, le-ltb lines starts l)
-
-    module _ (h : lines < starts) where
-      pub lent-listing : listing < items → unless false 3 0 ≡ lentCheck lines items first second starts listing counts
-      unfolding lentCheck andThen unless roomCheck
-      lent-listing l = rw (eq-eqb first second e, lt-ltb lines starts h, lt-leb items listing l)
-
-      pub lent-counts : items ≤ listing → unless (leb lines counts) 3 0 ≡ lentCheck lines items first second starts listing counts
-      unfolding lentCheck andThen unless roomCheck
-      lent-counts l = rw (eq-eqb first second e, lt-ltb lines starts h, le-leb items listing l)
-
-pub lent-says : (lines items first second starts listing counts : ℕ) → lentCheck lines items first second starts listing counts ≡ Fine
-    → (first ≡ second) × ((roomCheck lines items starts listing ≡ Fine) × (lines ≤ counts))
-unfolding lentCheck
-lent-says lines items first second starts listing counts h =
-    let b = andThen-right _ _ h in
-    (eqb-true first second (unless-fine _ 3 0 (andThen-left _ _ h)), (andThen-left _ _ b, leb-true lines counts (unless-fine _ 3 0 (andThen-right _ _ b))))
-
--- no check of lengths clears
-pub lent-spares : (lines items first second starts listing counts : ℕ) → Clearing false (lentCheck lines items first second starts listing counts)
-unfolding lentCheck roomCheck clears
-lent-spares lines items first second starts listing counts =
-    clearing-then (clearing-unless _ 3 0 refl) (clearing-then (clearing-unless _ 3 0 refl) (clearing-unless _ 3 0 refl))
 
 -- ---- what is written, and zero beyond
 
@@ -78,24 +47,6 @@ cleared s xs s′ s″ n p e l c =
     let w : take (length xs) (putAt s 0 xs) ≡ xs = rw zero-add at (put-take s 0 xs (rw zero-add (omega arith))) in
     c ∙ rw (p .same, p .long, e, w, length-put)
 
--- ---- the end
-
-module _ (hits : ℕ) (first second starts listing counts : List ℕ) {first′ second′ starts′ listing′ counts′ : List ℕ}
-    (s : starts′ ≡ replicate (length starts) 0) (l : listing′ ≡ replicate (length listing) 0) (c : counts′ ≡ replicate (length counts) 0) where
-  pub end-short : length first < hits → first′ ≡ replicate (length first) 0 → second′ ≡ replicate (length second) 0
-      → EndIs hits first second starts listing counts (answer.Refused (refusal 5 hits)) first′ second′ starts′ listing′ counts′
-  unfolding endOf endLeft pairsCheck unless _then_ answerBy
-  end-short h f g =
-      let e = lt-leb hits (length first) h in
-      record { answers = rw e; first-is = rw e f; second-is = rw e g; starts-are = s; listing-is = l; counts-are = c }
-
-  pub end-room : hits ≤ length first → first′ ≡ clearedFrom hits first → second′ ≡ clearedFrom hits second
-      → EndIs hits first second starts listing counts (answer.Pairs hits) first′ second′ starts′ listing′ counts′
-  unfolding endOf endLeft pairsCheck unless _then_ answerBy
-  end-room h f g =
-      let e = le-leb hits (length first) h in
-      record { answers = rw e; first-is = rw e f; second-is = rw e g; starts-are = s; listing-is = l; counts-are = c }
-
 -- ---- a call whose end is known
 
 -- a refusal that changes nothing
@@ -111,6 +62,16 @@ pairs-refused {first = first} {second = second} {starts = starts} {listing = lis
       listing-is = rw e (sym (left-same 0 r listing h));
       counts-are = rw e (sym (left-same 0 r counts h));
     }
+
+-- a check has refused before the first test
+pub pairs-stopped : {checked : Check} {g : Grid} {t : Tables} {first second starts listing counts starts′ listing′ counts′ : List ℕ} {r : Check}
+    → Begun checked g t (length first) (length second) starts listing counts r starts′ listing′ counts′ → (s : Refusal) → r ≡ check.Refused s → Clearing false checked
+    → {end : Answer (List Pair)} (rest : Answer (List Pair)) → end ≡ (beginCheck checked g t (length first) (length second) (length starts) (length listing) (length counts) then rest)
+    → PairsAre end first second starts listing counts (answer.Refused s) first second starts′ listing′ counts′
+pairs-stopped {g = g} {t = t} {first = first} {second = second} {starts = starts} {listing = listing} {counts = counts} b s q c rest e =
+    let n = begun-stopped b s q in
+    rw (n .starts-same, n .listing-same, n .counts-same)
+    (pairs-refused s (e ∙ then-refused _ _ s (n .check-is)) (begin-spares g t (length first) (length second) (length starts) (length listing) (length counts) c .says s (n .check-is)))
 
 zeros : {m n : ℕ} {xs : List ℕ} → xs ≡ replicate m 0 → m ≡ n → xs ≡ replicate n 0
 zeros e q = rw q at e

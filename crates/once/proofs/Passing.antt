@@ -16,7 +16,7 @@ use Rattle.by_line.specs.Marks.{markOf, MarksAre}
 use Rattle.by_line.proofs.Common.{Standing}
 use Rattle.by_line.proofs.Shared.{shared-met, apart-first}
 use Rattle.once.specs.Scan.{keepAt, PlaceAsks, RowGrown, RowsAsk, RowsDone}
-use Rattle.once.specs.Marked.{Says, MarkedPair, MarkedRow, MarkedRows}
+use Rattle.once.specs.Marked.{Says, MarkedPair, MarkedRow, MarkedRows, RowsMarked}
 use Rattle.once.proofs.Scans.{ListScan, list-begin, list-pair, list-over, list-yes, list-no}
 use Rattle.once.proofs.Lists.{Rows, rows-begin, row-scan, rows-next}
 
@@ -109,6 +109,26 @@ module _ {chosen : ℕ → ℕ → Bool} {N : ℕ} {xs marks starts listing coun
       → length fs′ ≡ length fs → length ss′ ≡ length ss → MarkRows chosen N xs marks starts listing counts fs₀ ss₀ hits₀ fs′ ss′ hits′ (i + 1)
   marks-next q g lf lg = record { asks = s .asks; rows = rows-next (s .rows) l e q g lf lg }
 
+-- ---- the rows of a list that goes by marks where there is one for each entry
+
+pub record ListRows (chosen : ℕ → ℕ → Bool) (N : ℕ) (xs marks starts listing counts fs₀ ss₀ : List ℕ) (hits₀ : ℕ) (fs ss : List ℕ) (hits i : ℕ) : Type 0 where
+  pub marked : length xs ≤ length marks → MarkedRows N xs marks starts listing counts hits₀
+  pub rows : Rows chosen N xs starts listing counts fs₀ ss₀ hits₀ fs ss hits i
+
+pub list-rows-begin : {chosen : ℕ → ℕ → Bool} {N : ℕ} {xs marks starts listing counts fs ss : List ℕ} {hits : ℕ} → RowsMarked N xs marks starts listing counts hits
+    → ListRows chosen N xs marks starts listing counts fs ss hits fs ss hits 0
+list-rows-begin a = record { marked = a .marked; rows = rows-begin (a .rows) }
+
+module _ {chosen : ℕ → ℕ → Bool} {N : ℕ} {xs marks starts listing counts fs₀ ss₀ : List ℕ} {hits₀ : ℕ} {fs ss : List ℕ} {hits i : ℕ}
+    (s : ListRows chosen N xs marks starts listing counts fs₀ ss₀ hits₀ fs ss hits i) where
+  pub list-rows-marked : length xs ≤ length marks → MarkRows chosen N xs marks starts listing counts fs₀ ss₀ hits₀ fs ss hits i
+  list-rows-marked k = record { asks = s .marked k; rows = s .rows }
+
+  pub list-rows-next : i < length xs → {head : ℕ} → head ≡ getD xs i 0 → {bs fs′ ss′ : List ℕ} {hits′ : ℕ} → bs ≡ drop (i + 1) xs
+      → RowGrown chosen N head starts listing counts bs fs ss hits fs′ ss′ hits′ → length fs′ ≡ length fs → length ss′ ≡ length ss
+      → ListRows chosen N xs marks starts listing counts fs₀ ss₀ hits₀ fs′ ss′ hits′ (i + 1)
+  list-rows-next l e q g lf lg = record { marked = s .marked; rows = rows-next (s .rows) l e q g lf lg }
+
 -- ---- room for marks, beside what is held of the cells
 
 pub record Beside (room : ℕ) (marks : List ℕ) (A : Type 0) : Type 0 where
@@ -137,3 +157,8 @@ cell-marked {N} {xs} {starts} {listing} {counts} {hits} {before} {low} {marks} {
             apart = λ d h. apart-first (standing h) before low (getD xs i 0) (getD xs j 0) (below-at N xs i (a .below) p) (below-at N xs j (a .below) q) d;
           });
     }
+
+-- where there is a mark for each entry
+pub list-marked : {N : ℕ} {xs starts listing counts : List ℕ} {hits before low : ℕ} {marks marks′ : List ℕ} → RowsAsk N xs starts listing counts hits
+    → MarksAre xs before low starts listing counts marks marks′ → RowsMarked N xs marks′ starts listing counts hits
+list-marked a m = record { rows = a; marked = λ k. cell-marked a m (omega (arith, k, m .long)) }

@@ -30,3 +30,8 @@ pub record MarkedRows (N : ℕ) (xs marks starts listing counts : List ℕ) (hit
   pub rows : RowsAsk N xs starts listing counts hits
   pub long : length xs ≤ length marks
   pub says : (i j : ℕ) → i < length xs → j < length xs → Says N (getD xs i 0) (getD xs j 0) (bitAnd (getD marks i 0) (getD marks j 0)) starts listing counts
+
+-- the rows of a list, with the marks of its entries where there is one for each
+pub record RowsMarked (N : ℕ) (xs marks starts listing counts : List ℕ) (hits : ℕ) : Type 0 where
+  pub rows : RowsAsk N xs starts listing counts hits
+  pub marked : length xs ≤ length marks → MarkedRows N xs marks starts listing counts hits

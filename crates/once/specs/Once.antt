@@ -3,13 +3,10 @@
 -- here it is that their boxes overlap. Definitions only.
 use Prim.Native.Nat.{ℕ, zero, _+_, _*_}
 use mathlib.Core.Path.{_≡_}
-use mathlib.Core.Bool.{Bool, not, cond, _&&_}
+use mathlib.Core.Bool.{Bool, not, _&&_}
 use mathlib.Core.List.{List, [], _∷_}
-use lib.Dec.{leb, eqb}
 use lib.ListN.{length, replicate}
-use Rattle.slices.specs.Slices.{clearedFrom}
-use Rattle.refusals.specs.declared.Check.{Check}
-use Rattle.refusals.specs.Refusals.{unless, andThen, Answer, gives, _then_, answerBy, leftIn, zeroBeyond}
+use Rattle.refusals.specs.Refusals.{Answer, gives, _then_, answerBy, leftIn, zeroBeyond}
 use Rattle.grid.specs.declared.Grid.{Grid}
 use Rattle.grid.specs.Domain.{Lines}
 use Rattle.tables.specs.Tables.{Tables, cells, listOf}
@@ -19,10 +16,10 @@ use Rattle.seek.specs.Tests.{Pair, testsOf}
 use Rattle.visit.specs.Overlap.{overlap}
 use Rattle.visit.specs.Batches.{keepIf, firsts, seconds}
 use Rattle.seek.specs.Bookmarks.{visitCheck}
-use Rattle.by_line.specs.ByLine.{roomCheck}
 use Rattle.by_line.specs.First.{metBelow}
-use Rattle.once.specs.declared.OnceAnswer.{OnceAnswer}
-use Rattle.once.specs.declared.OnceAnswer.the-variants as answer
+use Rattle.lent.specs.Lent.{lentCheck, pairsCheck}
+use Rattle.lent.specs.declared.OnceAnswer.{OnceAnswer}
+use Rattle.lent.specs.declared.OnceAnswer.the-variants as answer
 
 -- ---- the first test
 
@@ -54,15 +51,6 @@ onceOf ls t = firstTests (overlap ls) t
 
 -- ---- what a full visit comes to
 
--- 3: the outputs differ in length, the lists by line have too little room, or there is no count for each line
-unfoldable pub lentCheck : ℕ → ℕ → ℕ → ℕ → ℕ → ℕ → ℕ → Check
-lentCheck lines items first second starts listing counts =
-    andThen (unless (eqb first second) 3 0) (andThen (roomCheck lines items starts listing) (unless (leb lines counts) 3 0))
-
--- 5: the outputs have no room for so many pairs
-unfoldable pub pairsCheck : ℕ → ℕ → Check
-pairsCheck number room = unless (leb number room) 5 number
-
 -- the answer r to what a call comes to, and the five slices before and after: the pairs with zero beyond them, and the scratch, which is zero
 pub record PairsAre (end : Answer (List Pair)) (first second starts listing counts : List ℕ) (r : OnceAnswer) (first′ second′ starts′ listing′ counts′ : List ℕ) : Type 0 where
   pub answers : r ≡ answerBy answer.Refused (λ ps. answer.Pairs (length ps)) end
@@ -81,21 +69,3 @@ onceBy ls g t first second starts listing counts =
     then visitCheck ls g t
     then pairsCheck (length (onceOf ls t)) (length first)
     then gives (onceOf ls t)
-
--- ---- the end of a visit
-
--- so many pairs, or that there is no room for them
-unfoldable pub endOf : ℕ → ℕ → OnceAnswer
-endOf hits room = answerBy answer.Refused answer.Pairs (pairsCheck hits room then gives hits)
-
--- an output that holds so many pairs: zero beyond them; where there is no room for them, zero throughout
-unfoldable pub endLeft : ℕ → ℕ → List ℕ → List ℕ
-endLeft hits room s = cond (leb hits room) (clearedFrom hits s) (replicate (length s) 0)
-
-pub record EndIs (hits : ℕ) (first second starts listing counts : List ℕ) (r : OnceAnswer) (first′ second′ starts′ listing′ counts′ : List ℕ) : Type 0 where
-  pub answers : r ≡ endOf hits (length first)
-  pub first-is : first′ ≡ endLeft hits (length first) first
-  pub second-is : second′ ≡ endLeft hits (length first) second
-  pub starts-are : starts′ ≡ replicate (length starts) 0
-  pub listing-is : listing′ ≡ replicate (length listing) 0
-  pub counts-are : counts′ ≡ replicate (length counts) 0

@@ -12,7 +12,7 @@ ghost use Rattle.tables.specs.Lists.{linesAt};
 ghost use Rattle.tables.specs.States.{CanCount, Counted};
 ghost use Rattle.by_line.specs.Inside.{ListAsks};
 ghost use Rattle.once.specs.Scan.{RowsAsk, RowsDone, CellsAsk, CellsDone};
-ghost use Rattle.once.specs.Marked.{MarkedRows};
+ghost use Rattle.once.specs.Marked.{RowsMarked};
 ghost use Rattle.once.specs.Inside.{Checked};
 
 // The list of a cell: a part of the items.
@@ -39,51 +39,8 @@ fn count_list(list: &[u32], counts: &mut [u32])
     }
 }
 
-// Each entry of a list with every later one.
+// Each entry of a list with every later one, by marks where there is one for each entry.
 fn scan_rows(
-    list: &[u32],
-    start_x: &[f64],
-    start_y: &[f64],
-    end_x: &[f64],
-    end_y: &[f64],
-    starts: &[u32],
-    listing: &[u32],
-    counts: &[u32],
-    first: &mut [u32],
-    second: &mut [u32],
-    hits: usize,
-) -> usize
-    requires { let ls = lines (now «start_x») (now «start_y») (now «end_x») (now «end_y») in
-        ⌜ Checked ls (RowsAsk (count ls) (now list) (now starts) (now listing) (now counts) hits) ⌝ }
-    ensures { λ r. let ls = lines (now («start_x» .entry)) (now («start_y» .entry)) (now («end_x» .entry)) (now («end_y» .entry)) in
-        ⌜ RowsDone (overlap ls) (count ls) (now (starts .entry)) (now (listing .entry)) (now (counts .entry)) (now (list .entry))
-        (now (first .entry)) (now (second .entry)) hits (now (first .exit)) (now (second .exit)) r ⌝ }
-{
-    let mut hits = hits;
-    let mut i = 0;
-    while i < list.len() {
-        let row = rows::row_of(list[i], start_x, start_y, end_x, end_y);
-        i = i + 1;
-        hits = rows::scan_list(
-            row,
-            &list[i..],
-            start_x,
-            start_y,
-            end_x,
-            end_y,
-            starts,
-            listing,
-            counts,
-            first,
-            second,
-            hits,
-        );
-    }
-    hits
-}
-
-// The same, by the marks of the entries.
-fn scan_marked_rows(
     list: &[u32],
     marks: &[u32],
     start_x: &[f64],
@@ -98,7 +55,7 @@ fn scan_marked_rows(
     hits: usize,
 ) -> usize
     requires { let ls = lines (now «start_x») (now «start_y») (now «end_x») (now «end_y») in
-        ⌜ Checked ls (MarkedRows (count ls) (now list) (now marks) (now starts) (now listing) (now counts) hits) ⌝ }
+        ⌜ Checked ls (RowsMarked (count ls) (now list) (now marks) (now starts) (now listing) (now counts) hits) ⌝ }
     ensures { λ r. let ls = lines (now («start_x» .entry)) (now («start_y» .entry)) (now («end_x» .entry)) (now («end_y» .entry)) in
         ⌜ RowsDone (overlap ls) (count ls) (now (starts .entry)) (now (listing .entry)) (now (counts .entry)) (now (list .entry))
         (now (first .entry)) (now (second .entry)) hits (now (first .exit)) (now (second .exit)) r ⌝ }
@@ -106,25 +63,43 @@ fn scan_marked_rows(
     let mut hits = hits;
     let mut i = 0;
     while i < list.len() {
-        let row = rows::row_of(list[i], start_x, start_y, end_x, end_y);
-        let mark = marks[i];
+        let at = i;
+        let row = rows::row_of(list[at], start_x, start_y, end_x, end_y);
         i = i + 1;
-        hits = rows::scan_marked(
-            row,
-            mark,
-            &list[i..],
-            &marks[i..],
-            start_x,
-            start_y,
-            end_x,
-            end_y,
-            starts,
-            listing,
-            counts,
-            first,
-            second,
-            hits,
-        );
+        if marks.len() < list.len() {
+            hits = rows::scan_list(
+                row,
+                &list[i..],
+                start_x,
+                start_y,
+                end_x,
+                end_y,
+                starts,
+                listing,
+                counts,
+                first,
+                second,
+                hits,
+            );
+        } else {
+            let mark = marks[at];
+            hits = rows::scan_marked(
+                row,
+                mark,
+                &list[i..],
+                &marks[i..],
+                start_x,
+                start_y,
+                end_x,
+                end_y,
+                starts,
+                listing,
+                counts,
+                first,
+                second,
+                hits,
+            );
+        }
     }
     hits
 }
@@ -139,7 +114,7 @@ fn back(from: u32, by: u32) -> u32
     from - by
 }
 
-// The list of a cell, by marks where there is room for them, and with boxes that stand ready where there is room for those too. The marks tell of the
+// The list of a cell, by marks, and with boxes that stand ready, where there is room for both. The marks tell of the
 // cell before, and of those about the cell one row back. A list of one line has no test.
 fn scan_cell(
     cell: u32,
@@ -167,25 +142,10 @@ fn scan_cell(
     if list.len() < 2 {
         return hits;
     }
-    if marks.len() < list.len() {
-        return scan_rows(
-            list,
-            start_x,
-            start_y,
-            end_x,
-            end_y,
-            starts,
-            listing,
-            counts,
-            first,
-            second,
-            hits,
-        );
-    }
     let low = back(back(cell, cols), 8);
     by_line::marks::mark_list(list, back(cell, 1), low, starts, listing, counts, marks);
-    if room.len() / 4 < list.len() {
-        return scan_marked_rows(
+    if slices::least(marks.len(), room.len() / 4) < list.len() {
+        return scan_rows(
             list,
             marks,
             start_x,

@@ -1,7 +1,6 @@
 // The rows of a short list, whose boxes stand ready, by marks. Each pair is written, and one that is not handed out is written over: no branch goes by
 // what cannot be foreseen.
 use crate::boxes;
-use crate::rows::put;
 use grid::Box;
 ghost use mathlib.Core.Path.{_≡_};
 ghost use Rattle.once.specs.Scan.{RowGrown, RowsDone};
@@ -59,8 +58,7 @@ fn scan_row(
         let common = mark & marks[j];
         let b = list[j];
         j = j + 1;
-        put(first, hits, line);
-        put(second, hits, b);
+        lent::put_pair(first, second, hits, line, b);
         if keeps(near, common, line, b, starts, listing, counts) {
             hits = hits + 1;
         }

@@ -1,10 +1,9 @@
 // Each pair once: a full visit that hands out two lines at their first test alone. A test in a cell is the first if no cell before lists both
 // lines, a global's if no cell at all does. The lists by line are made first; as the visit goes on, it counts for each line how many of its
 // cells are behind, and looks back from there.
-use by_line::ByLine;
 use grid::Grid;
+use lent::OnceAnswer;
 use refusals::Check;
-use refusals::Refusal;
 ghost use Rattle.grid.specs.Domain.{lines};
 ghost use Rattle.seek.specs.Tests.{testsOf};
 ghost use Rattle.visit.specs.Overlap.{overlap};
@@ -15,16 +14,9 @@ ghost use Rattle.once.specs.Inside.{Checked};
 
 mod boxes;
 mod cells;
-pub mod ending;
 mod few;
 mod globals;
 mod rows;
-
-// The number of pairs, or a refusal.
-pub enum OnceAnswer {
-    Pairs(u64),
-    Refused(Refusal),
-}
 
 // The cells, and then the globals.
 fn run(
@@ -107,36 +99,24 @@ pub fn pairs_once(
         ⌜ PairsAre end (now (first .entry)) (now (second .entry)) (now (starts .entry)) (now (listing .entry)) (now (counts .entry)) r
         (now (first .exit)) (now (second .exit)) (now (starts .exit)) (now (listing .exit)) (now (counts .exit)) ⌝ }
 {
-    let lent = ending::check_lent(
-        start_x.len(),
-        items.len(),
-        first.len(),
-        second.len(),
-        starts.len(),
-        listing.len(),
-        counts.len(),
-    );
-    if let Check::Refused(r) = lent {
-        return OnceAnswer::Refused(r);
-    }
     let lines = grid::checks::check_lines(start_x, start_y, end_x, end_y);
-    if let Check::Refused(r) = lines {
-        return OnceAnswer::Refused(r);
-    }
-    let listed = by_line::lists_by_line(
+    let begun = lent::begin(
+        lines,
         start_x.len(),
         grid,
         offsets,
         items,
         globals,
         global_count,
+        first.len(),
+        second.len(),
         starts,
         listing,
+        counts,
     );
-    if let ByLine::Refused(r) = listed {
+    if let Check::Refused(r) = begun {
         return OnceAnswer::Refused(r);
     }
-    slices::clear(counts);
     let hits = run(
         start_x,
         start_y,
@@ -153,5 +133,5 @@ pub fn pairs_once(
         first,
         second,
     );
-    ending::finish(hits, first, second, starts, listing, counts)
+    lent::finish(hits, first, second, starts, listing, counts)
 }

@@ -2,7 +2,6 @@
 use crate::boxes;
 use grid::Box;
 ghost use mathlib.Core.Path.{_≡_};
-ghost use lib.ListN.{set};
 ghost use Prim.Native.Nat.{_-_, _<_};
 ghost use Rattle.grid.specs.Domain.{lines, count};
 ghost use Rattle.seek.specs.Inside.{numbers};
@@ -30,16 +29,6 @@ pub(crate) fn row_of(
 {
     let bounds = boxes::box_at(start_x, start_y, end_x, end_y, first);
     Row { first, bounds }
-}
-
-// Writes an entry; one beyond the end is not written.
-pub(crate) fn put(s: &mut [u32], at: usize, v: u32)
-    ensures { λ _. ⌜ now (s .exit) ≡ set (now (s .entry)) at v ⌝ }
-{
-    if s.len() <= at {
-        return;
-    }
-    s[at] = v;
 }
 
 // Whether the boxes of a row's line and of another overlap.
@@ -160,8 +149,7 @@ pub(crate) fn scan_list(
             listing,
             counts,
         ) {
-            put(first, hits, row.first);
-            put(second, hits, b);
+            lent::put_pair(first, second, hits, row.first, b);
             hits = hits + 1;
         }
     }
@@ -209,8 +197,7 @@ pub(crate) fn scan_marked(
             listing,
             counts,
         ) {
-            put(first, hits, row.first);
-            put(second, hits, b);
+            lent::put_pair(first, second, hits, row.first, b);
             hits = hits + 1;
         }
     }
@@ -255,8 +242,7 @@ pub(crate) fn scan_lines(
             listing,
             counts,
         ) {
-            put(first, hits, row.first);
-            put(second, hits, line);
+            lent::put_pair(first, second, hits, row.first, line);
             hits = hits + 1;
         }
     }

@@ -11,7 +11,7 @@ use Rattle.once.proofs.few.scan_row.Lts as lts
 use Rattle.grid.proofs.Box.overlaps_with.Reads as overlaps-with-reads
 use Rattle.once.proofs.boxes.box_in.Reads as box-in-reads
 use Rattle.once.proofs.few.keeps.Reads as keeps-reads
-use Rattle.once.proofs.rows.put.Reads as put-reads
+use Rattle.lent.proofs.put_pair.Reads as put-pair-reads
 
 abbrev Inv-loop : tie.InvT-loop
 Inv-loop line bounds mark list marks room starts listing counts first₀ second₀ hits hits₀ j₀ first second hits' j =
@@ -45,33 +45,30 @@ shared-slice-read-b c = omega arith
 add-j : tie.Need-add-j Inv-loop μ-loop
 add-j c = omega arith
 
-put-requires : tie.Need-put-requires Inv-loop μ-loop
-put-requires c κs = search needs
-
-put-requires-2 : tie.Need-put-requires-2 Inv-loop μ-loop
-put-requires-2 c κs = search needs
+put-pair-requires : tie.Need-put-pair-requires Inv-loop μ-loop
+put-pair-requires c κs = search needs
 
 keeps-requires : tie.Need-keeps-requires Inv-loop μ-loop
 keeps-requires c κs = search needs
 
 add-hits : tie.Need-add-hits Inv-loop μ-loop
-add-hits c = record { fits = few-fits (c .before .before .before .before .before .before .before .before .before .before .before .before .before .before .before .loop .inv) (c .before .before .before .before .before .before .before .before .before .before .before .before .before .before .loop-test .taken) }
+add-hits c = record { fits = few-fits (c .before .before .before .before .before .before .before .before .before .before .before .before .before .before .loop .inv) (c .before .before .before .before .before .before .before .before .before .before .before .before .before .loop-test .taken) }
 
 loop-less : tie.Need-loop-less Inv-loop μ-loop
 loop-less c = omega arith
 
 loop-again : tie.Need-loop-again Inv-loop μ-loop
 loop-again c =
-    few-yes (c .before .before .before .before .before .before .before .before .before .before .before .before .before .before .before .loop .inv) (c .before .before .before .before .before .before .before .before .before .before .before .before .before .before .loop-test .taken) (c .before .before .before .before .before .before .before .before .before .before .before .before .overlaps-with .ensures) (c .before .before .before .before .before .before .before .before .before .before .before .before .before .box-in .ensures) (c .before .keeps .ensures)
-    (c .before .before .before .before .before .before .before .before .put .ensures) (c .before .before .before .before .put2 .ensures) (c .if1 .taken)
+    few-yes (c .before .before .before .before .before .before .before .before .before .before .before .before .before .before .loop .inv) (c .before .before .before .before .before .before .before .before .before .before .before .before .before .loop-test .taken) (c .before .before .before .before .before .before .before .before .before .before .before .overlaps-with .ensures) (c .before .before .before .before .before .before .before .before .before .before .before .before .box-in .ensures) (c .before .keeps .ensures)
+    (c .before .before .before .before .before .before .put-pair .ensures .0) (c .before .before .before .before .before .before .put-pair .ensures .1) (c .if1 .taken)
 
 loop-less-2 : tie.Need-loop-less-2 Inv-loop μ-loop
 loop-less-2 c = omega arith
 
 loop-again-2 : tie.Need-loop-again-2 Inv-loop μ-loop
 loop-again-2 c =
-    few-over (c .before .before .before .before .before .before .before .before .before .before .before .before .before .before .before .loop .inv) (c .before .before .before .before .before .before .before .before .before .before .before .before .before .before .loop-test .taken) (c .before .before .before .before .before .before .before .before .before .before .before .before .overlaps-with .ensures) (c .before .before .before .before .before .before .before .before .before .before .before .before .before .box-in .ensures) (c .before .keeps .ensures)
-    (c .before .before .before .before .before .before .before .before .put .ensures) (c .before .before .before .before .put2 .ensures) (c .if1 .left)
+    few-over (c .before .before .before .before .before .before .before .before .before .before .before .before .before .before .loop .inv) (c .before .before .before .before .before .before .before .before .before .before .before .before .before .loop-test .taken) (c .before .before .before .before .before .before .before .before .before .before .before .overlaps-with .ensures) (c .before .before .before .before .before .before .before .before .before .before .before .before .box-in .ensures) (c .before .keeps .ensures)
+    (c .before .before .before .before .before .before .put-pair .ensures .0) (c .before .before .before .before .before .before .put-pair .ensures .1) (c .if1 .left)
 
 same-length : tie.Need-same-length Inv-loop μ-loop
 same-length c = few-first-long (c .before .loop .inv)
@@ -96,8 +93,7 @@ scan-row-spec =
     mul-b
     shared-slice-read-b
     add-j
-    put-requires
-    put-requires-2
+    put-pair-requires
     keeps-requires
     add-hits
     loop-less

@@ -12,7 +12,7 @@ use Rattle.once.proofs.rows.scan_list.Tie as tie
 use Rattle.once.proofs.rows.scan_list.Reads as reads
 use Rattle.once.proofs.rows.scan_list.Lts as lts
 use Rattle.once.proofs.rows.keeps_pair.Reads as keeps-pair-reads
-use Rattle.once.proofs.rows.put.Reads as put-reads
+use Rattle.lent.proofs.put_pair.Reads as put-pair-reads
 
 abbrev Inv-loop : tie.InvT-loop
 Inv-loop row list start-x start-y end-x end-y starts listing counts first₀ second₀ hits hits₀ j₀ first second hits' j =
@@ -37,20 +37,17 @@ add-j c = omega arith
 keeps-pair-requires : tie.Need-keeps-pair-requires Inv-loop μ-loop
 keeps-pair-requires c κs = let h = c .before .before .loop .inv in record { fine = h .fine; held = h .held; asks = list-pair (h .asks) (c .before .loop-test .taken) }
 
-put-requires : tie.Need-put-requires Inv-loop μ-loop
-put-requires c κs = search needs
-
-put-requires-2 : tie.Need-put-requires-2 Inv-loop μ-loop
-put-requires-2 c κs = search needs
+put-pair-requires : tie.Need-put-pair-requires Inv-loop μ-loop
+put-pair-requires c κs = search needs
 
 add-hits : tie.Need-add-hits Inv-loop μ-loop
-add-hits c = record { fits = list-fits (c .before .before .before .before .before .before .before .before .before .before .before .before .loop .inv .asks) (c .before .before .before .before .before .before .before .before .before .before .before .loop-test .taken) }
+add-hits c = record { fits = list-fits (c .before .before .before .before .before .before .before .before .before .before .before .loop .inv .asks) (c .before .before .before .before .before .before .before .before .before .before .loop-test .taken) }
 
 loop-less : tie.Need-loop-less Inv-loop μ-loop
 loop-less c = omega arith
 
 loop-again : tie.Need-loop-again Inv-loop μ-loop
-loop-again c = let h = c .before .before .before .before .before .before .before .before .before .before .before .before .loop .inv in record { fine = h .fine; held = h .held; asks = list-yes (h .asks) (c .before .before .before .before .before .before .before .before .before .before .before .loop-test .taken) (c .before .before .before .before .before .before .before .before .before .keeps-pair .ensures) (c .before .before .before .before .before .before .before .before .if1 .taken) (c .before .before .before .before .before .before .put .ensures) (c .before .before .put2 .ensures) }
+loop-again c = let h = c .before .before .before .before .before .before .before .before .before .before .before .loop .inv in record { fine = h .fine; held = h .held; asks = list-yes (h .asks) (c .before .before .before .before .before .before .before .before .before .before .loop-test .taken) (c .before .before .before .before .before .before .before .before .keeps-pair .ensures) (c .before .before .before .before .before .before .before .if1 .taken) (c .before .before .before .before .put-pair .ensures .0) (c .before .before .before .before .put-pair .ensures .1) }
 
 loop-less-2 : tie.Need-loop-less-2 Inv-loop μ-loop
 loop-less-2 c = omega arith
@@ -78,8 +75,7 @@ scan-list-spec =
     shared-slice-read-b
     add-j
     keeps-pair-requires
-    put-requires
-    put-requires-2
+    put-pair-requires
     add-hits
     loop-less
     loop-again

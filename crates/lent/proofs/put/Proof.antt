@@ -1,11 +1,11 @@
--- `once::rows::put` meets its contract. Assumes nothing.
+-- `lent::put` meets its contract. Assumes nothing.
 use mathlib.Core.Path.{sym}
 use lib.Seq.{set-out}
 use borrow.Author.Needs.{needs}
-use Rattle.once.proofs.rows.put.Statement.{statement}
-use Rattle.once.proofs.rows.put.Tie as tie
-use Rattle.once.proofs.rows.put.Reads as reads
-use Rattle.once.proofs.rows.put.Lts as lts
+use Rattle.lent.proofs.put.Statement.{statement}
+use Rattle.lent.proofs.put.Tie as tie
+use Rattle.lent.proofs.put.Reads as reads
+use Rattle.lent.proofs.put.Lts as lts
 
 returns : tie.Need-returns
 returns c = sym (set-out _ _ _ (c .if1 .taken))

@@ -1,11 +1,11 @@
--- `once::ending::check_lent` meets its contract. Assumes nothing.
+-- `lent::check_lent` meets its contract. Assumes nothing.
 use mathlib.Core.Path.{_∙_}
-use Rattle.once.proofs.Ends.{lent-outputs, lent-starts, lent-listing, lent-counts}
+use Rattle.lent.proofs.Beginning.{lent-outputs, lent-starts, lent-listing, lent-counts}
 use borrow.Author.Needs.{needs}
-use Rattle.once.proofs.ending.check_lent.Statement.{statement}
-use Rattle.once.proofs.ending.check_lent.Tie as tie
-use Rattle.once.proofs.ending.check_lent.Reads as reads
-use Rattle.once.proofs.ending.check_lent.Lts as lts
+use Rattle.lent.proofs.check_lent.Statement.{statement}
+use Rattle.lent.proofs.check_lent.Tie as tie
+use Rattle.lent.proofs.check_lent.Reads as reads
+use Rattle.lent.proofs.check_lent.Lts as lts
 use Rattle.refusals.proofs.refuse_unless.Reads as refuse-unless-reads
 
 refuse-unless-requires : tie.Need-refuse-unless-requires

@@ -1,10 +1,10 @@
--- `once::ending::finish` meets its contract. Assumes nothing.
-use Rattle.once.proofs.Ends.{end-short, end-room}
+-- `lent::finish` meets its contract. Assumes nothing.
+use Rattle.lent.proofs.Ending.{end-short, end-room}
 use borrow.Author.Needs.{needs}
-use Rattle.once.proofs.ending.finish.Statement.{statement}
-use Rattle.once.proofs.ending.finish.Tie as tie
-use Rattle.once.proofs.ending.finish.Reads as reads
-use Rattle.once.proofs.ending.finish.Lts as lts
+use Rattle.lent.proofs.finish.Statement.{statement}
+use Rattle.lent.proofs.finish.Tie as tie
+use Rattle.lent.proofs.finish.Reads as reads
+use Rattle.lent.proofs.finish.Lts as lts
 use Rattle.slices.proofs.clear.Reads as clear-reads
 use Rattle.slices.proofs.clear_from.Reads as clear-from-reads
 

@@ -1,3 +1,6 @@
 -- `Words`: words in bytes, and how far two rows of them are the same. `Files`: the records of a file, how many are of a kind, and how long one is.
+-- `Questions`: what stands in the words of a question. `Answers`: words written as far as there is room.
 pub mod Words
 pub mod Files
+pub mod Questions
+pub mod Answers

@@ -2,57 +2,13 @@
 ghost use mathlib.Core.Path.{_≡_};
 ghost use Prim.Native.Nat.{_≤_};
 ghost use lib.ListN.{length};
-use crate::answer;
-use crate::lines;
-use crate::numbers_of;
-use crate::points;
-use crate::visits;
+use records::answers;
 use records::files;
-
-// Asks the exported function of a kind, and answers how many words its answer has: 0 where there is no such kind, or no room for what is lent.
-fn ask(kind: u64, question: &[u64], answer: &mut [u64]) -> usize
-    requires { ⌜ length (now question) ≤ 16384 ⌝ }
-{
-    if kind == 1 {
-        return numbers_of::number(question, answer);
-    }
-    if kind == 2 {
-        return lines::walk(question, answer);
-    }
-    if kind == 3 {
-        return lines::build(question, answer);
-    }
-    if kind == 4 {
-        return visits::batch(question, answer);
-    }
-    if kind == 5 {
-        return visits::test(question, answer);
-    }
-    if kind == 6 {
-        return points::point_owned(question, answer);
-    }
-    if kind == 7 {
-        return points::overlap_owned(question, answer);
-    }
-    if kind == 8 {
-        return points::owner(question, answer);
-    }
-    if kind == 9 {
-        return points::snap(question, answer);
-    }
-    if kind == 10 {
-        return points::strategies(question, answer);
-    }
-    if kind == 11 {
-        return points::owners(question, answer);
-    }
-    0
-}
 
 // Writes how a record begins: its head and its question as they stand, but the number of words of the answer.
 fn begin(w: &[u64], answered: u64, made: &mut [u64]) {
-    answer::words(made, 0, w);
-    answer::word(made, 2, answered);
+    answers::words(made, 0, w);
+    answers::word(made, 2, answered);
 }
 
 // Makes a record once more, with the port's answer. Says whether it could be asked.
@@ -63,14 +19,11 @@ fn record(w: &[u64], made: &mut [u64]) -> bool
         return false;
     }
     let q = w[1] as usize;
-    if 16384 < q {
-        return false;
-    }
     if w.len() - 3 < q {
         return false;
     }
     let to = 3 + q;
-    let n = ask(w[0], &w[3..to], &mut made[to..]);
+    let n = asked::ask(w[0], &w[3..to], &mut made[to..]);
     begin(&w[..to], n as u64, made);
     n != 0
 }

@@ -9,13 +9,7 @@ use libc::STDOUT_FILENO;
 use records::files;
 use records::words;
 
-mod answer;
 mod asking;
-mod lines;
-mod numbers_of;
-mod points;
-mod question;
-mod visits;
 
 // A name and a number.
 fn say(name: &[u8], n: u64) {

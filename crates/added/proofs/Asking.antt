@@ -19,7 +19,7 @@ use Rattle.tables.specs.Fit.{tablesFit, tablesCheck}
 use Rattle.tables.proofs.Facts.{check-facts}
 use Rattle.tables.proofs.Checking.{unfit-refused}
 use Rattle.added.specs.Added.{belowCheck, cellsCheck, askCheck}
-use Rattle.added.specs.Inside.{roomCheck, Walkable, Placeable}
+use Rattle.added.specs.Inside.{spaceBy, SegmentWalkable, Placeable}
 use mathlib.Core.List.{List}
 
 -- ---- 5, then 6
@@ -28,12 +28,12 @@ module _ (total items found globals : ℕ) {b : Bool} {k : Check} (test : b ≡ 
   fives : k ≡ unless (leb total items && leb total 4294967295) 5 total
   fives = check ∙ ap (λ (x : Bool). unless x 5 total) test
 
-  pub room-items : {r : Refusal} → k ≡ Refused r → Refused r ≡ roomCheck total items found globals
-  unfolding roomCheck
+  pub room-items : {r : Refusal} → k ≡ Refused r → Refused r ≡ spaceBy total items found globals
+  unfolding spaceBy
   room-items {r} e = sym (andThen-refused _ _ r (sym fives ∙ e))
 
-  pub room-globals : {q : Check} → k ≡ Fine → q ≡ unless (leb found globals) 6 found → q ≡ roomCheck total items found globals
-  unfolding roomCheck
+  pub room-globals : {q : Check} → k ≡ Fine → q ≡ unless (leb found globals) 6 found → q ≡ spaceBy total items found globals
+  unfolding spaceBy
   room-globals e h = h ∙ sym (andThen-fine _ _ (sym fives ∙ e))
 
 -- ---- 3, 2, 1, 8, 10

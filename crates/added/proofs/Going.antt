@@ -23,7 +23,7 @@ use Rattle.walk.proofs.Visits.{Cells, segment-visits, segment-refused}
 use Rattle.walk.proofs.Answer.{reach-is}
 use Rattle.tables.specs.Lists.{long}
 use Rattle.added.specs.Added.{listing}
-use Rattle.added.specs.Inside.{Walkable, Went, globalsLeft}
+use Rattle.added.specs.Inside.{SegmentWalkable, Went, globalsLeft}
 
 -- ---- what the walk answers
 
@@ -76,7 +76,7 @@ went-global xs e l n =
     let k = long-is xs l in
     record { visited = xs; is = e; size = rw k; few = omega arith; within = omega arith; at-front = rw k; kind = rw k; same = n }
 
-module _ (mode : Mode) (g : Grid) (line : Segment) {s : List ℕ} (w : Walkable g line s) (r : Reached) {s′ : List ℕ}
+module _ (mode : Mode) (g : Grid) (line : Segment) {s : List ℕ} (w : SegmentWalkable g line s) (r : Reached) {s′ : List ℕ}
     (h : walk.Walked (walk.everywhereIn mode g line) (walk.reachOf mode (length s) g line) s r s′) where
   abbrev o : Outcome
   o = walk.segmentOf mode g line

@@ -22,7 +22,7 @@ use Rattle.tables.specs.Tables.{listIn}
 use Rattle.tables.specs.Lists.{only, sum, concat, tabulate, start, itemsOf, offsetsOf}
 use Rattle.tables.specs.Fit.{ListsFit}
 use Rattle.tables.proofs.Facts.{all-within}
-use Rattle.added.specs.Inside.{endIn, behind, spreadOf, Spreadable, more, nextIn, above, liftedOf, RaisableAll, Insertable, withIn, Inserted}
+use Rattle.added.specs.Inside.{endIn, behind, spreadOf, Spreadable, more, nextIn, movedAbove, liftedOf, RaisableAll, Insertable, withIn, Inserted}
 use Rattle.added.proofs.Parts.{slice-join, slice-last, more-append, more-none}
 use Rattle.added.proofs.Spreads.{never-fall}
 
@@ -130,8 +130,8 @@ module _ (cells lines n : ℕ) (o xs : List ℕ) (fits : ListsFit cells lines o 
 
   -- THE OFFSETS, from the cell a on, where j visited cells are before it
   lift : suc cells ≤ length o → (j : ℕ) (cs : List ℕ) (a : ℕ) → a ≤ cells → start F a ≡ getD o a 0 + j → Rising a cs → Below cells cs → With cs a
-      → tabulate (start F) (suc cells) ++ drop (suc cells) o ≡ tabulate (start F) a ++ (more j (slice a (nextIn (suc cells) cs) o) ++ above o (suc cells) j cs)
-  unfolding above
+      → tabulate (start F) (suc cells) ++ drop (suc cells) o ≡ tabulate (start F) a ++ (more j (slice a (nextIn (suc cells) cs) o) ++ movedAbove o (suc cells) j cs)
+  unfolding movedAbove
   lift q j [] a l e r b w =
       rw (grown (start F) j a (suc cells) (omega arith) q (λ p u v. run j a p e u (omega arith) (λ c x y. kept [] a c w x (omega arith) refl)), append-assoc)
   lift q j (c ∷ cs) a l e r b w =

@@ -39,7 +39,7 @@ use Rattle.added.specs.Added.{
   cellsCheck,
   edgeCheck,
   askCheck,
-  spaceCheck,
+  spaceWithCheck,
   roomFor,
   addEnd,
   addedOf,
@@ -48,7 +48,7 @@ use Rattle.added.specs.Added.{
   front,
   AddIs,
 }
-use Rattle.added.specs.Inside.{Went, Insertable, withIn, Inserted, globalsLeft, roomCheck, Puttable, Placeable}
+use Rattle.added.specs.Inside.{Went, Insertable, withIn, Inserted, globalsLeft, spaceBy, Puttable, Placeable}
 use Rattle.added.proofs.Laid.{totalled}
 
 -- ---- the promise, by how the call ends
@@ -116,35 +116,35 @@ module _ {t : Tables} {s : List ℕ} {k m : ℕ} (w : Puttable t s k m) where
 
   -- in numbers
   abbrev room : Check
-  room = roomCheck (getD (t .offsets) (cells t) 0 + k) (length (t .items)) ((t .«global_count») + m) (length (t .globals))
+  room = spaceBy (getD (t .offsets) (cells t) 0 + k) (length (t .items)) ((t .«global_count») + m) (length (t .globals))
 
-  space-is : room ≡ spaceCheck t v
-  unfolding roomCheck spaceCheck
+  space-is : room ≡ spaceWithCheck t v
+  unfolding spaceBy spaceWithCheck
   space-is = rw (total-is, found-is)
 
-  space-clears : Clearing true (spaceCheck t v)
-  unfolding spaceCheck
+  space-clears : Clearing true (spaceWithCheck t v)
+  unfolding spaceWithCheck
   space-clears =
       clearing-then (clearing-unless _ 5 (totalWith t v) (numbers-clear 5 (omega arith) (omega arith)))
       (clearing-unless _ 6 (length (globalsWith t v)) (numbers-clear 6 (omega arith) (omega arith)))
 
   module _ {q : Check} (a : q ≡ room) where
     -- 5 and 6
-    pub put-refused : {r : Refusal} {z : List ℕ} → q ≡ Refused r → z ≡ replicate (length s) 0 → AddIs t (spaceCheck t v then gives v) s (front s) (added.Refused r) (t .offsets) (t .items) (t .globals) z
+    pub put-refused : {r : Refusal} {z : List ℕ} → q ≡ Refused r → z ≡ replicate (length s) 0 → AddIs t (spaceWithCheck t v then gives v) s (front s) (added.Refused r) (t .offsets) (t .items) (t .globals) z
     put-refused {r} b h =
-        let d : spaceCheck t v ≡ Refused r = sym space-is ∙ sym a ∙ b in
-        is-refused t s (front s) (then-refused (spaceCheck t v) (gives v) r d) (h ∙ sym (left-zero 0 r s (space-clears .says r d)))
+        let d : spaceWithCheck t v ≡ Refused r = sym space-is ∙ sym a ∙ b in
+        is-refused t s (front s) (then-refused (spaceWithCheck t v) (gives v) r d) (h ∙ sym (left-zero 0 r s (space-clears .says r d)))
 
     module _ (b : q ≡ Fine) where
       fine : room ≡ Fine
       fine = sym a ∙ b
 
       room-passed : (leb (getD (t .offsets) (cells t) 0 + k) (length (t .items)) && leb (getD (t .offsets) (cells t) 0 + k) 4294967295) ≡ true
-      unfolding roomCheck
+      unfolding spaceBy
       room-passed = unless-fine _ 5 (getD (t .offsets) (cells t) 0 + k) (andThen-left _ _ fine)
 
       pub put-fits : (t .«global_count») + m ≤ length (t .globals)
-      unfolding roomCheck
+      unfolding spaceBy
       put-fits = leb-true _ _ (unless-fine _ 6 ((t .«global_count») + m) (andThen-right _ _ fine))
 
       pub put-insert : Insertable (take k s) (cells t) (getD (t .offsets) (cells t) 0) (t .offsets) (t .items)
@@ -169,12 +169,12 @@ module _ {t : Tables} {s : List ℕ} {k m : ℕ} (w : Puttable t s k m) where
 
       -- the line in its lists
       pub put-made : {o′ xs′ gs′ z : List ℕ} → Inserted (t .lines) (take k s) (cells t) (t .offsets) (t .items) o′ xs′ → gs′ ≡ globalsLeft (t .lines) m (t .«global_count») (t .globals) → z ≡ clearedFrom k s
-          → AddIs t (spaceCheck t v then gives v) s (front s) (added.Tables k (getD (t .offsets) (cells t) 0 + k) ((t .«global_count») + m)) o′ xs′ gs′ z
+          → AddIs t (spaceWithCheck t v then gives v) s (front s) (added.Tables k (getD (t .offsets) (cells t) 0 + k) ((t .«global_count») + m)) o′ xs′ gs′ z
       unfolding listWith globalsWith globalsLeft addedOf front zeroBeyond clearedFrom
       put-made {o′} {xs′} i h c =
-          let d : spaceCheck t v ≡ Fine = sym space-is ∙ fine in
+          let d : spaceWithCheck t v ≡ Fine = sym space-is ∙ fine in
           let j : Inserted (t .lines) (listing v) (cells t) (t .offsets) (t .items) o′ xs′ = rw (w .at-front) at i in
-          is-made t s (front s) v (then-fine (spaceCheck t v) (gives v) d)
+          is-made t s (front s) v (then-fine (spaceWithCheck t v) (gives v) d)
           (rw (← w .size, total-is, found-is))
           (j .offsets-are)
           (j .items-are)
@@ -203,12 +203,12 @@ module _ (mode : Mode) {g : Grid} {line : Segment} {n : ℕ} {o xs gs : List ℕ
       }
 
   pub place-put : {r : Added} {o′ xs′ gs′ z : List ℕ}
-      → ((h : Puttable (tables g n o xs gs count) s₁ k m) → AddIs (tables g n o xs gs count) (spaceCheck (tables g n o xs gs count) (h .visited) then gives (h .visited)) s₁ (front s₁) r o′ xs′ gs′ z)
+      → ((h : Puttable (tables g n o xs gs count) s₁ k m) → AddIs (tables g n o xs gs count) (spaceWithCheck (tables g n o xs gs count) (h .visited) then gives (h .visited)) s₁ (front s₁) r o′ xs′ gs′ z)
       → AddIs (tables g n o xs gs count) (roomFor mode g line (tables g n o xs gs count)) s (front s) r o′ xs′ gs′ z
   unfolding roomFor _into_ front place-asks
   place-put h =
       let i = h place-asks in
-      let e = in-alike 0 (spaceCheck (tables g n o xs gs count) (w .visited) then gives (w .visited)) s s₁ (λ l x. zeroBeyond 0 l (listing x)) (clears-then (space-clears place-asks) clears-gives) (w .same) in
+      let e = in-alike 0 (spaceWithCheck (tables g n o xs gs count) (w .visited) then gives (w .visited)) s s₁ (λ l x. zeroBeyond 0 l (listing x)) (clears-then (space-clears place-asks) clears-gives) (w .same) in
       rw (w .is) (record { answer = i .answer; offsets-are = i .offsets-are; items-are = i .items-are; globals-are = i .globals-are; scratch-is = i .scratch-is ∙ e })
 
 -- 7

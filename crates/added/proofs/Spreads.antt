@@ -10,7 +10,7 @@ use lib.ListN.{length, getD, take, drop, length-take, length-drop, take-append-d
 use lib.Seq.{slice, length-take-le, take-take, take-append-le, drop-cons, drop-at, drop-length, getD-take}
 use Rattle.slices.specs.Lists.{Below, Rising}
 use Rattle.slices.proofs.Members.{below-at}
-use Rattle.added.specs.Inside.{gapOf, endIn, behind, spreadOf, Spreadable, more, raisedIn, Raisable, nextIn, above, liftedOf, RaisableAll}
+use Rattle.added.specs.Inside.{gapOf, endIn, behind, spreadOf, Spreadable, more, raisedIn, Raisable, nextIn, movedAbove, liftedOf, RaisableAll}
 
 -- offsets that never fall
 pub never-fall : (o : List ℕ) (cells : ℕ) → ((c : ℕ) → c < cells → getD o c 0 ≤ getD o (suc c) 0) → (a b : ℕ) → a ≤ b → b ≤ cells → getD o a 0 ≤ getD o b 0
@@ -144,10 +144,10 @@ pub record Lifting (visited xs : List ℕ) (end : ℕ) (ys : List ℕ) (to j : �
   pub len : length ys ≡ length xs
   pub to-is : to ≡ nextIn end (drop j visited)
   pub front : take to ys ≡ take to xs
-  pub back : drop to ys ≡ above xs end j (drop j visited)
+  pub back : drop to ys ≡ movedAbove xs end j (drop j visited)
 
 pub lifting-none : {visited xs : List ℕ} {end : ℕ} → RaisableAll visited xs end → Lifting visited xs end xs end (length visited)
-unfolding above
+unfolding movedAbove
 lifting-none {visited} h =
     record { asks = h; at = omega arith; len = refl; to-is = rw (drop-length visited); front = refl; back = rw (drop-length visited) }
 
@@ -195,7 +195,7 @@ module _ {visited xs : List ℕ} {end : ℕ} {ys : List ℕ} {to j : ℕ} (k : L
       after = getD visited (j - 1) 0 + 1
 
       pub lifting-more : length zs ≡ length ys → Lifting visited xs end zs after (j - 1)
-      unfolding raisedIn above
+      unfolding raisedIn movedAbove
       lifting-more e =
           let fits : after ≤ length ys = omega (arith, ordered, to-within, k .asks .within, k .len) in
           let m : length (take after ys) ≡ after = length-take-le after ys fits in
@@ -224,5 +224,5 @@ module _ {visited xs : List ℕ} {end : ℕ} {ys : List ℕ} {to j : ℕ} (k : L
   lifting-done l =
       let z : j ≡ 0 = omega arith in
       let e : to ≡ nextIn end visited = rw z at (k .to-is) in
-      let b : drop to ys ≡ above xs end 0 visited = rw z at (k .back) in
+      let b : drop to ys ≡ movedAbove xs end 0 visited = rw z at (k .back) in
       sym (take-append-drop to ys) ∙ rw (← b, ← e, k .front)

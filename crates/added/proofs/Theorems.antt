@@ -28,7 +28,7 @@ use Rattle.tables.proofs.Laws.{sum-same, table-made, length-offsets, length-ite
 use Rattle.tables.proofs.Standing.{Laid, laid-stands}
 use Rattle.added.specs.declared.Added.{Added}
 use Rattle.added.specs.declared.Added.the-variants as added
-use Rattle.added.specs.Added.{listing, listWith, globalsWith, totalWith, edgeCheck, askCheck, spaceCheck, roomFor, addEnd, addedOf, keptIn, AddIs}
+use Rattle.added.specs.Added.{listing, listWith, globalsWith, totalWith, edgeCheck, askCheck, spaceWithCheck, roomFor, addEnd, addedOf, keptIn, AddIs}
 use Rattle.added.specs.Inside.{Placeable}
 use Rattle.added.proofs.Asking.{asked}
 
@@ -83,15 +83,15 @@ given-by (gives v) h =
 
 pub success : (mode : Mode) (g : Grid) (line : Segment) {t : Tables} {s : List ℕ} {left : List ℕ → List ℕ} {r : Added} {i j l : ℕ} {o xs gs z : List ℕ}
     → AddIs t (addEnd mode g line t (length s)) s left r o xs gs z → r ≡ added.Tables i j l → Success mode g line t s l o xs gs
-unfolding addEnd roomFor spaceCheck
+unfolding addEnd roomFor spaceWithCheck
 success mode g line {t} {s} {left} {r} {i} {j} {l} {o} {xs} {gs} {z} h ok =
     let k : AddIs t (addEnd mode g line t (length s)) s left (added.Tables i j l) o xs gs z = rw ok at h in
     let f = given-by (addEnd mode g line t (length s)) k in
     let p = then-passed (askCheck g line t (length s)) (edgeCheck g line then roomFor mode g line t) (f .is) in
     let q = then-passed (edgeCheck g line) (roomFor mode g line t) (p .1) in
-    into-passed (segmentOf mode g line) (λ v. spaceCheck t v then gives v) (q .1)
+    into-passed (segmentOf mode g line) (λ v. spaceWithCheck t v then gives v) (q .1)
     (λ v e d.
-    let u = then-passed (spaceCheck t v) (gives v) d in
+    let u = then-passed (spaceWithCheck t v) (gives v) d in
     let same : v ≡ f .visited = cc (u .1) in
     record {
       visited = v;

@@ -71,14 +71,14 @@ askCheck g line t scratch =
     andThen (scratchCheck scratch) (andThen (belowCheck (t .lines)) (andThen (segmentCheck line) (andThen (cellsCheck g) (tablesCheck t))))
 
 -- 5: items lent are fewer than the new total, or an offset of 32 bits does not hold it; then 6: globals lent are fewer than there will be
-unfoldable pub spaceCheck : Tables → List ℕ → Check
-spaceCheck t visited =
+unfoldable pub spaceWithCheck : Tables → List ℕ → Check
+spaceWithCheck t visited =
     andThen (unless (leb (totalWith t visited) (length (t .items)) && leb (totalWith t visited) 4294967295) 5 (totalWith t visited))
     (unless (leb (length (globalsWith t visited)) (length (t .globals))) 6 (length (globalsWith t visited)))
 
 -- 7, 5, 6; else the cells that the line visits
 unfoldable pub roomFor : Mode → Grid → Segment → Tables → Answer (List ℕ)
-roomFor mode g line t = segmentOf mode g line into λ visited. spaceCheck t visited then gives visited
+roomFor mode g line t = segmentOf mode g line into λ visited. spaceWithCheck t visited then gives visited
 
 -- 3, 2, 1, 8, 10; then 14; then 7, 5, 6
 unfoldable pub addEnd : Mode → Grid → Segment → Tables → ℕ → Answer (List ℕ)

@@ -19,7 +19,7 @@ use Rattle.tables.specs.Fit.{ListsFit, TablesFit}
 use Rattle.added.specs.declared.Added.{Added}
 use Rattle.added.specs.declared.Goes.{Goes}
 use Rattle.added.specs.declared.Goes.the-variants.{To, Over}
-use Rattle.added.specs.Added.{listing, spaceCheck, front, AddIs}
+use Rattle.added.specs.Added.{listing, spaceWithCheck, front, AddIs}
 
 -- ---- the items
 
@@ -75,12 +75,12 @@ nextIn end [] = end
 nextIn end (c ∷ cs) = suc c
 
 -- what stands from there on, where j visited cells are before: those up to the next one grow by one more than j, and so on
-unfoldable pub above : List ℕ → ℕ → ℕ → List ℕ → List ℕ
-above o end j [] = drop end o
-above o end j (c ∷ cs) = more (suc j) (slice (suc c) (nextIn end cs) o) ++ above o end (suc j) cs
+unfoldable pub movedAbove : List ℕ → ℕ → ℕ → List ℕ → List ℕ
+movedAbove o end j [] = drop end o
+movedAbove o end j (c ∷ cs) = more (suc j) (slice (suc c) (nextIn end cs) o) ++ movedAbove o end (suc j) cs
 
 unfoldable pub liftedOf : List ℕ → ℕ → List ℕ → List ℕ
-liftedOf o end visited = take (nextIn end visited) o ++ above o end 0 visited
+liftedOf o end visited = take (nextIn end visited) o ++ movedAbove o end 0 visited
 
 pub record RaisableAll (visited o : List ℕ) (end : ℕ) : Type 0 where
   pub cells : ℕ
@@ -94,7 +94,7 @@ pub record RaisableAll (visited o : List ℕ) (end : ℕ) : Type 0 where
 -- ---- the line in its lists
 
 -- a scratch, a line and a grid that the walk does not refuse by 3, 1 and 8
-pub record Walkable (g : Grid) (line : Segment) (s : List ℕ) : Type 0 where
+pub record SegmentWalkable (g : Grid) (line : Segment) (s : List ℕ) : Type 0 where
   pub space : 16384 ≤ length s
   pub obeys : segment line ≡ true
   pub fits : fit g ≡ true
@@ -139,8 +139,8 @@ unfoldable pub globalsLeft : ℕ → ℕ → ℕ → List ℕ → List ℕ
 globalsLeft n more found gs = zeroBeyond 0 (length gs) (take found gs ++ replicate more n)
 
 -- 5, then 6, by numbers
-unfoldable pub roomCheck : ℕ → ℕ → ℕ → ℕ → Check
-roomCheck total items found globals =
+unfoldable pub spaceBy : ℕ → ℕ → ℕ → ℕ → Check
+spaceBy total items found globals =
     andThen (unless (leb total items && leb total 4294967295) 5 total) (unless (leb found globals) 6 found)
 
 -- tables that fit, and at the front of the scratch the k cells that list a line of some visited cells, which is in m lists of globals
@@ -160,11 +160,11 @@ pub record Puttable (t : Tables) (s : List ℕ) (k m : ℕ) : Type 0 where
 -- 5 and 6, or the line in its lists: for whatever visited cells the front of the scratch lists
 abbrev pub PutIs : Tables → List ℕ → ℕ → ℕ → Added → List ℕ → List ℕ → List ℕ → List ℕ → Type 0
 PutIs t s k m r offsets′ items′ globals′ s′ =
-    (h : Puttable t s k m) → AddIs t (spaceCheck t (h .visited) then gives (h .visited)) s (front s) r offsets′ items′ globals′ s′
+    (h : Puttable t s k m) → AddIs t (spaceWithCheck t (h .visited) then gives (h .visited)) s (front s) r offsets′ items′ globals′ s′
 
 -- all that the checks find
 pub record Placeable (g : Grid) (line : Segment) (t : Tables) (s : List ℕ) : Type 0 where
-  pub walkable : Walkable g line s
+  pub walkable : SegmentWalkable g line s
   pub some : 1 ≤ g .cols
   pub tables-fit : TablesFit t
   pub few : t .lines < 65536

@@ -11,7 +11,7 @@ ghost use lib.Dec.{leb, ltb};
 ghost use Rattle.grid.specs.Domain.{fit};
 ghost use Rattle.tables.specs.Tables.{tables};
 ghost use Rattle.added.specs.Added.{insideOn, pointInside, lineInside, edgeCheck, belowCheck, cellsCheck, askCheck};
-ghost use Rattle.added.specs.Inside.{roomCheck};
+ghost use Rattle.added.specs.Inside.{spaceBy};
 
 // From the least coordinate of an axis to the greatest, both included.
 fn is_on(axis: Axis, v: f64) -> bool
@@ -105,7 +105,7 @@ fn is_room(total: usize, items: usize) -> bool
 
 // 5, then 6, by the numbers that there will be and the lengths of the slices.
 pub(crate) fn check_room(total: usize, items: usize, found: usize, globals: usize) -> Check
-    ensures { λ r. ⌜ r ≡ roomCheck total items found globals ⌝ }
+    ensures { λ r. ⌜ r ≡ spaceBy total items found globals ⌝ }
 {
     let lists = refuse_unless(is_room(total, items), 5, total as u64);
     if let Check::Refused(r) = lists {

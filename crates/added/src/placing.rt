@@ -16,11 +16,11 @@ ghost use lib.ListN.{length};
 ghost use Rattle.walk.specs.Segment.{segmentOf};
 ghost use Rattle.tables.specs.Tables.{tables};
 ghost use Rattle.added.specs.Added.{AddIs, roomFor, front};
-ghost use Rattle.added.specs.Inside.{Walkable, GoesAs, Insertable, Inserted, globalsLeft, Puttable, PutIs, Placeable};
+ghost use Rattle.added.specs.Inside.{SegmentWalkable, GoesAs, Insertable, Inserted, globalsLeft, Puttable, PutIs, Placeable};
 
 // The walk of the line. A line of more than 2,048 cells goes to the globals, and so does one that is everywhere, whose cells are not listed.
 fn goes_to(mode: Mode, grid: Grid, line: Segment, scratch: &mut [u32]) -> Goes
-    requires { ⌜ Walkable grid line (now scratch) ⌝ }
+    requires { ⌜ SegmentWalkable grid line (now scratch) ⌝ }
     ensures { λ r. ⌜ GoesAs (segmentOf mode grid line) (now (scratch .entry)) (now (scratch .exit)) r ⌝ }
 {
     let walked = walk::segment_cells(mode, grid, line, scratch);

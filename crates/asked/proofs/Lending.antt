@@ -8,14 +8,14 @@ use lib.ListN.{length, getD, take}
 use Rattle.records.specs.Answers.{Put}
 use Rattle.records.proofs.Puts.{put-none}
 use Rattle.asked_points.specs.Asked.{wordsFor}
-use Rattle.asked.specs.Asked.{Answered, Answers, zeros, Walked, WalkAnswer, BuiltWith, BuildAnswer, BatchedWith, BatchAnswer, testWords, OwnersWith, OwnersAnswer}
+use Rattle.asked.specs.Asked.{WordsAnswered, Answers, zeros, Walked, WalkAnswer, BuiltWith, BuildAnswer, BatchedWith, BatchAnswer, testWords, OwnersWith, OwnersAnswer}
 use Rattle.asked.proofs.Rooms.{part-of-zeros}
 
 -- no word is an answer
-pub none : {P : List ℕ → Type 0} (a : List ℕ) → P [] → Answered P a 0 a
+pub none : {P : List ℕ → Type 0} (a : List ℕ) → P [] → WordsAnswered P a 0 a
 none a h = record { words = []; is = h; put = put-none 0 a (omega arith) }
 
-pub also : {P Q : List ℕ → Type 0} {a a′ : List ℕ} {r : ℕ} → Answered P a r a′ → ((ws : List ℕ) → P ws → Q ws) → Answered Q a r a′
+pub also : {P Q : List ℕ → Type 0} {a a′ : List ℕ} {r : ℕ} → WordsAnswered P a r a′ → ((ws : List ℕ) → P ws → Q ws) → WordsAnswered Q a r a′
 also h f = record { words = h .words; is = f (h .words) (h .is); put = h .put }
 
 -- ---- what is lent: n of m entries, where a question has the number n

@@ -9,7 +9,7 @@ use lib.ListN.{length, getD}
 use borrow.Author.Tests.{eqb-true, eqb-false}
 use Rattle.slices.proofs.Laws.{le-or}
 use Rattle.capi.proofs.Outcomes.{walk-one-outcome, owners-one-outcome, build-one-outcome, batch-one-outcome}
-use Rattle.asked.specs.Asked.{Answered, Answers, Walked, WalkAnswer, BuiltWith, BuildAnswer, BatchedWith, BatchAnswer, OwnersWith, OwnersAnswer}
+use Rattle.asked.specs.Asked.{WordsAnswered, Answers, Walked, WalkAnswer, BuiltWith, BuildAnswer, BatchedWith, BatchAnswer, OwnersWith, OwnersAnswer}
 
 -- ---- each kind
 
@@ -74,5 +74,5 @@ answers-once {kind} {q} h k =
     (λ f. h .other l a b c d f ∙ sym (k .other l a b c d f)))))))
     (λ l. h .long l ∙ sym (k .long l))
 
-pub one-outcome : {kind r s : ℕ} {q a b c : List ℕ} → Answered (Answers kind q) a r b → Answered (Answers kind q) a s c → (r ≡ s) × (b ≡ c)
+pub one-outcome : {kind r s : ℕ} {q a b c : List ℕ} → WordsAnswered (Answers kind q) a r b → WordsAnswered (Answers kind q) a s c → (r ≡ s) × (b ≡ c)
 one-outcome h k = let e : h .words ≡ k .words = answers-once (h .is) (k .is) in (rw (h .put .count, k .put .count, e), rw (h .put .words, k .put .words, e))

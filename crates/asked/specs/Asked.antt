@@ -8,8 +8,7 @@ use mathlib.Core.List.{List, [], _∷_, _++_}
 use lib.ListN.{length, getD, replicate}
 use Rattle.grid.specs.Domain.{Lines, lines, segmentBy}
 use Rattle.grid.specs.Words.{gridBy}
-use Rattle.tables.specs.Tables.{Tables}
-use Rattle.seek.specs.Bookmarks.{beside}
+use Rattle.tables.specs.Tables.{Tables, beside}
 use Rattle.walk.specs.Segment.{entryOf}
 use Rattle.visit.specs.Entries.{testAt}
 use Rattle.replies.specs.Answers.{ofTest}
@@ -22,7 +21,7 @@ use Rattle.asked_points.specs.Replying.{replyWords}
 use Rattle.asked_points.specs.Asked.{wordsFor}
 
 -- Words of which P holds are written to a, as far as there is room, and r is how many there are.
-pub record Answered (P : List ℕ → Type 0) (a : List ℕ) (r : ℕ) (a′ : List ℕ) : Type 0 where
+pub record WordsAnswered (P : List ℕ → Type 0) (a : List ℕ) (r : ℕ) (a′ : List ℕ) : Type 0 where
   pub words : List ℕ
   pub is : P words
   pub put : Put 0 words a r a′

@@ -4,7 +4,7 @@ ghost use mathlib.Core.List.{map};
 ghost use Prim.Native.Nat.{_≤_};
 ghost use lib.ListN.{length};
 ghost use Rattle.records.specs.Questions.{floatBy, firstWords};
-ghost use Rattle.asked.specs.Asked.{Answered, Walked, WalkAnswer, BuiltWith, BuildAnswer};
+ghost use Rattle.asked.specs.Asked.{WordsAnswered, Walked, WalkAnswer, BuiltWith, BuildAnswer};
 use records::answers;
 use records::questions;
 
@@ -13,7 +13,7 @@ const RUST: u32 = 0;
 
 // A walk in lent scratch.
 fn walked(q: &[u64], scratch: &mut [u32], answer: &mut [u64]) -> usize
-    ensures { λ r. ⌜ Answered (Walked (now (q .entry)) (now (scratch .entry))) (now (answer .entry)) r (now (answer .exit)) ⌝ }
+    ensures { λ r. ⌜ WordsAnswered (Walked (now (q .entry)) (now (scratch .entry))) (now (answer .entry)) r (now (answer .exit)) ⌝ }
 {
     let mut out = [0u64; 1];
     let number = capi::walking::mt_segment_cells(
@@ -31,7 +31,7 @@ fn walked(q: &[u64], scratch: &mut [u32], answer: &mut [u64]) -> usize
 }
 
 pub(crate) fn walk(q: &[u64], answer: &mut [u64]) -> usize
-    ensures { λ r. ⌜ Answered (WalkAnswer (now (q .entry))) (now (answer .entry)) r (now (answer .exit)) ⌝ }
+    ensures { λ r. ⌜ WordsAnswered (WalkAnswer (now (q .entry))) (now (answer .entry)) r (now (answer .exit)) ⌝ }
 {
     let lent = questions::lent(q, 4);
     if 16384 < lent {
@@ -52,7 +52,7 @@ fn built(
     answer: &mut [u64],
 ) -> usize
     requires { ⌜ (length (now q) ≤ 16384) × (now floats ≡ map floatBy (firstWords 16384 (now q))) ⌝ }
-    ensures { λ r. ⌜ Answered (BuiltWith (now (q .entry)) (now (offsets .entry)) (now (items .entry)) (now (globals .entry)) (now (scratch .entry))) (now (answer .entry)) r (now (answer .exit)) ⌝ }
+    ensures { λ r. ⌜ WordsAnswered (BuiltWith (now (q .entry)) (now (offsets .entry)) (now (items .entry)) (now (globals .entry)) (now (scratch .entry))) (now (answer .entry)) r (now (answer .exit)) ⌝ }
 {
     let mut out = [0u64; 8];
     let number = capi::building::mt_build(
@@ -77,7 +77,7 @@ fn built(
 
 pub(crate) fn build(q: &[u64], answer: &mut [u64]) -> usize
     requires { ⌜ length (now q) ≤ 16384 ⌝ }
-    ensures { λ r. ⌜ Answered (BuildAnswer (now (q .entry))) (now (answer .entry)) r (now (answer .exit)) ⌝ }
+    ensures { λ r. ⌜ WordsAnswered (BuildAnswer (now (q .entry))) (now (answer .entry)) r (now (answer .exit)) ⌝ }
 {
     let offsets_lent = questions::lent(q, 1);
     if 4096 < offsets_lent {

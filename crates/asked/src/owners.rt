@@ -4,14 +4,14 @@ ghost use mathlib.Core.List.{map};
 ghost use Prim.Native.Nat.{_≤_};
 ghost use lib.ListN.{length};
 ghost use Rattle.records.specs.Questions.{floatBy, firstWords};
-ghost use Rattle.asked.specs.Asked.{Answered, OwnersWith, OwnersAnswer};
+ghost use Rattle.asked.specs.Asked.{WordsAnswered, OwnersWith, OwnersAnswer};
 use records::answers;
 use records::questions;
 
 // The owners, in lent answers. All words of the question are at hand as floats.
 fn told(q: &[u64], floats: &[f64], owners: &mut [u32], answer: &mut [u64]) -> usize
     requires { ⌜ (length (now q) ≤ 16384) × (now floats ≡ map floatBy (firstWords 16384 (now q))) ⌝ }
-    ensures { λ r. ⌜ Answered (OwnersWith (now (q .entry)) (now (owners .entry))) (now (answer .entry)) r (now (answer .exit)) ⌝ }
+    ensures { λ r. ⌜ WordsAnswered (OwnersWith (now (q .entry)) (now (owners .entry))) (now (answer .entry)) r (now (answer .exit)) ⌝ }
 {
     let mut out = [0u64; 1];
     let number = capi::ownership::mt_owners(
@@ -27,7 +27,7 @@ fn told(q: &[u64], floats: &[f64], owners: &mut [u32], answer: &mut [u64]) -> us
 
 pub(crate) fn owners(q: &[u64], answer: &mut [u64]) -> usize
     requires { ⌜ length (now q) ≤ 16384 ⌝ }
-    ensures { λ r. ⌜ Answered (OwnersAnswer (now (q .entry))) (now (answer .entry)) r (now (answer .exit)) ⌝ }
+    ensures { λ r. ⌜ WordsAnswered (OwnersAnswer (now (q .entry))) (now (answer .entry)) r (now (answer .exit)) ⌝ }
 {
     let lent = questions::lent(q, 0);
     if 4096 < lent {

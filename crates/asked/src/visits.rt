@@ -5,7 +5,7 @@ ghost use Prim.Native.Nat.{_≤_};
 ghost use lib.ListN.{length};
 ghost use Rattle.records.specs.Questions.{floatBy, shortBy, firstWords};
 ghost use Rattle.records.specs.Answers.{Put};
-ghost use Rattle.asked.specs.Asked.{Answered, BatchedWith, BatchAnswer, testWords};
+ghost use Rattle.asked.specs.Asked.{WordsAnswered, BatchedWith, BatchAnswer, testWords};
 use records::answers;
 use records::questions;
 
@@ -19,7 +19,7 @@ fn batched(
     answer: &mut [u64],
 ) -> usize
     requires { ⌜ (length (now q) ≤ 16384) × (now floats ≡ map floatBy (firstWords 16384 (now q))) × (now shorts ≡ map shortBy (firstWords 16384 (now q))) ⌝ }
-    ensures { λ r. ⌜ Answered (BatchedWith (now (q .entry)) (now (first .entry)) (now (second .entry))) (now (answer .entry)) r (now (answer .exit)) ⌝ }
+    ensures { λ r. ⌜ WordsAnswered (BatchedWith (now (q .entry)) (now (first .entry)) (now (second .entry))) (now (answer .entry)) r (now (answer .exit)) ⌝ }
 {
     let mut out = [0u64; 3];
     let number = capi::visiting::mt_batch(
@@ -44,7 +44,7 @@ fn batched(
 
 pub(crate) fn batch(q: &[u64], answer: &mut [u64]) -> usize
     requires { ⌜ length (now q) ≤ 16384 ⌝ }
-    ensures { λ r. ⌜ Answered (BatchAnswer (now (q .entry))) (now (answer .entry)) r (now (answer .exit)) ⌝ }
+    ensures { λ r. ⌜ WordsAnswered (BatchAnswer (now (q .entry))) (now (answer .entry)) r (now (answer .exit)) ⌝ }
 {
     let first_lent = questions::lent(q, 2);
     if 4096 < first_lent {

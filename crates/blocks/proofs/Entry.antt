@@ -29,9 +29,9 @@ use Rattle.blocks.specs.declared.Made.{Made}
 use Rattle.blocks.specs.declared.Made.the-variants as made
 use Rattle.blocks.specs.declared.Count.{Count}
 use Rattle.blocks.specs.declared.Count.the-variants as count
-use Rattle.blocks.specs.Blocks.{along, blocks, said, numbers, summaryCheck, makeEnd, makeAnswer, MakeIs}
+use Rattle.blocks.specs.Blocks.{along, blocks, said, blockTotals, summaryCheck, makeEnd, makeAnswer, MakeIs}
 use Rattle.blocks.specs.Query.{itemsIn, blockCheck, countEnd, countAnswer}
-use Rattle.blocks.specs.Inside.{Fills, Told, Filled, Asks}
+use Rattle.blocks.specs.Inside.{Fills, Told, BlocksFilled, BlocksAsk}
 use Rattle.blocks.proofs.Places.{few-blocks}
 use Rattle.blocks.proofs.Telling.{told-none, said-beyond}
 
@@ -40,8 +40,8 @@ unfolding tabulate
 length-tabulate f zero = refl
 length-tabulate f (suc n) = rw (length-append, length-tabulate f n) (omega arith)
 
-pub length-numbers : (g : Grid) (offsets : List ℕ) → length (numbers g offsets) ≡ blocks g
-unfolding numbers
+pub length-numbers : (g : Grid) (offsets : List ℕ) → length (blockTotals g offsets) ≡ blocks g
+unfolding blockTotals
 length-numbers g offsets = length-tabulate (said g offsets) (blocks g)
 
 -- ---- the summary
@@ -51,7 +51,7 @@ abbrev pub makeChecks : Grid → Tables → ℕ → Check
 makeChecks g t len = andThen (summaryCheck g len) (standingCheck g t)
 
 module _ (g : Grid) (t : Tables) (was : List ℕ) where
-  end-is : makeEnd g t (length was) ≡ (makeChecks g t (length was) then gives (numbers g (t .offsets)))
+  end-is : makeEnd g t (length was) ≡ (makeChecks g t (length was) then gives (blockTotals g (t .offsets)))
   unfolding makeEnd
   end-is = sym (then-andThen _ _ _)
 
@@ -90,9 +90,9 @@ module _ (g : Grid) (t : Tables) (was : List ℕ) where
           rw z (told-none (g .cols) (t .offsets) (length was)),
         )
 
-    pub make-done : (zeros : List ℕ) → zeros ≡ replicate {A = ℕ} (length was) 0 → (now : List ℕ) → Filled (g .cols) (t .offsets) (g .rows * g .cols) zeros now
+    pub make-done : (zeros : List ℕ) → zeros ≡ replicate {A = ℕ} (length was) 0 → (now : List ℕ) → BlocksFilled (g .cols) (t .offsets) (g .rows * g .cols) zeros now
         → (n : ℕ) → n ≡ blocks g → MakeIs g t was (made.Blocks n) now
-    unfolding makeAnswer answerBy leftIn zeroBeyond numbers blocks
+    unfolding makeAnswer answerBy leftIn zeroBeyond blockTotals blocks
     make-done zeros z now h n e =
         let d = end-is ∙ then-fine _ _ f in
         record {
@@ -103,7 +103,7 @@ module _ (g : Grid) (t : Tables) (was : List ℕ) where
         same : length now ≡ length was
         same = h .len ∙ ap (λ (xs : List ℕ). length xs) z ∙ length-replicate {A = ℕ} (length was) 0
 
-        written : now ≡ zeroBeyond 0 (length was) (numbers g (t .offsets))
+        written : now ≡ zeroBeyond 0 (length was) (blockTotals g (t .offsets))
         written =
             let m = along (g .rows) * along (g .cols) in
             let l : m ≤ length now = omega (arith, room-says, same) in
@@ -150,7 +150,7 @@ module _ (g : Grid) (s : List ℕ) (low high : Block) where
   query-refused r e = sym (ap (answerBy count.Refused count.Items) (query-is ∙ then-refused _ _ r e))
 
   module _ (f : queryChecks g (length s) low high ≡ Fine) where
-    pub query-asks : Asks (along (g .cols)) (along (g .rows)) s low high
+    pub query-asks : BlocksAsk (along (g .cols)) (along (g .rows)) s low high
     unfolding summaryCheck gridCheck blocks
     query-asks =
         let a = andThen-right _ _ f in

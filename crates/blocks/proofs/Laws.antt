@@ -29,7 +29,7 @@ use Rattle.tables.proofs.Facts.{all-within}
 use Rattle.blocks.specs.declared.Block.{Block}
 use Rattle.blocks.specs.declared.Made.{Made}
 use Rattle.blocks.specs.declared.Made.the-variants as made
-use Rattle.blocks.specs.Blocks.{along, blocks, blockOf, told, saidBelow, said, numbers, Own, makeEnd, makeAnswer, MakeIs}
+use Rattle.blocks.specs.Blocks.{along, blocks, blockOf, told, saidBelow, said, blockTotals, Own, makeEnd, makeAnswer, MakeIs}
 use Rattle.blocks.specs.Query.{within, inside, addedBelow, itemsIn}
 use Rattle.blocks.proofs.Places.{block-there, block-row, block-col}
 use Rattle.blocks.proofs.Rectangles.{within-under, within-over, off-left, off-right}
@@ -156,8 +156,8 @@ getD-tabulate f (suc n) c l = go (λ q. getD-tabulate f n c q) (decLt c n)
         let e : n ≡ c = omega arith in
         getD-at (tabulate f n) (f n) [] 0 c (length-tabulate f n ∙ e) ∙ ap f e
 
-pub numbers-own : (g : Grid) (offsets : List ℕ) (len : ℕ) → Own g offsets (zeroBeyond 0 len (numbers g offsets))
-unfolding zeroBeyond numbers
+pub numbers-own : (g : Grid) (offsets : List ℕ) (len : ℕ) → Own g offsets (zeroBeyond 0 len (blockTotals g offsets))
+unfolding zeroBeyond blockTotals
 numbers-own g offsets len =
     record {
       at = λ b l.
@@ -176,7 +176,7 @@ module _ {g : Grid} {t : Tables} {was : List ℕ} where
       go (gives ns) e =
           let p = then-passed _ _ (then-passed _ _ e .1) .1 in
           let q : now ≡ zeroBeyond 0 (length was) ns = rw e at (h .left) in
-          let m : ns ≡ numbers g (t .offsets) = cc in
+          let m : ns ≡ blockTotals g (t .offsets) = cc in
           rw (q, m) (numbers-own g (t .offsets) (length was))
 
   -- the promise settles the answer and every entry

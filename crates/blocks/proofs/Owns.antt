@@ -16,7 +16,7 @@ use Rattle.tables.specs.Fit.{every, TablesFit}
 use Rattle.tables.specs.Tables.{tables}
 use Rattle.tables.proofs.Facts.{not-true, every-says, says-every}
 use Rattle.blocks.specs.Blocks.{along, blocks, said, Own, own, rising, summaryOf}
-use Rattle.blocks.specs.Inside.{Fills, Told, Filled}
+use Rattle.blocks.specs.Inside.{Fills, Told, BlocksFilled}
 use Rattle.blocks.proofs.Places.{few-blocks}
 use Rattle.blocks.proofs.Telling.{told-none}
 use Rattle.blocks.proofs.Rectangles.{off-left, off-right}
@@ -101,13 +101,13 @@ module _ (g : Grid) (offsets : List ℕ) where
             rw e (told-none (g .cols) offsets 4148),
           )
 
-      pub room-for : (room now : List ℕ) → room ≡ replicate {A = ℕ} 4148 0 → Filled (g .cols) offsets (g .rows * g .cols) room now → blocks g ≤ length now
+      pub room-for : (room now : List ℕ) → room ≡ replicate {A = ℕ} 4148 0 → BlocksFilled (g .cols) offsets (g .rows * g .cols) room now → blocks g ≤ length now
       room-for room now e h =
           let b = few-blocks g f in
           let l : length room ≡ 4148 = ap (λ (xs : List ℕ). length xs) e ∙ length-replicate {A = ℕ} 4148 0 in
           omega (arith, h .len)
 
-      pub same-is : blocks g ≤ length s → (room now : List ℕ) → Filled (g .cols) offsets (g .rows * g .cols) room now
+      pub same-is : blocks g ≤ length s → (room now : List ℕ) → BlocksFilled (g .cols) offsets (g .rows * g .cols) room now
           → every (blocks g) (λ b. eqb (getD s b 0) (getD now b 0)) ≡ summaryOf g offsets s
       unfolding summaryOf own
       same-is l room now h =

@@ -17,7 +17,7 @@ use Rattle.tables.specs.Lists.{sum}
 use Rattle.tables.proofs.Laws.{sum-mono}
 use Rattle.blocks.specs.declared.Block.{Block}
 use Rattle.blocks.specs.Query.{within, inside, addedBelow}
-use Rattle.blocks.specs.Inside.{Asks, runBelow, PartAsks, PartIs}
+use Rattle.blocks.specs.Inside.{BlocksAsk, runBelow, BlockPartAsks, BlockPartIs}
 use Rattle.blocks.proofs.Places.{row-of, col-of, place-under}
 
 -- ---- tests
@@ -54,13 +54,13 @@ run-mono s a b h = sum-mono (λ k. getD s k 0) a b h
 -- ---- a part of a row
 
 pub record Along (s : List ℕ) (from below so-far block sum : ℕ) : Type 0 where
-  pub asks : PartAsks s from below so-far
+  pub asks : BlockPartAsks s from below so-far
   pub at-least : from ≤ block
   pub at-most : from < block → block ≤ below
   pub is : sum + runBelow s from ≡ so-far + runBelow s block
   pub small : sum ≤ so-far + (block - from) * 4294967295
 
-pub along-none : (s : List ℕ) (from below so-far : ℕ) → PartAsks s from below so-far → Along s from below so-far from so-far
+pub along-none : (s : List ℕ) (from below so-far : ℕ) → BlockPartAsks s from below so-far → Along s from below so-far from so-far
 along-none s from below so-far h = record { asks = h; at-least = omega arith; at-most = λ l. absurd (omega arith); is = refl; small = omega arith }
 
 module _ {s : List ℕ} {from below so-far block sum : ℕ} (h : Along s from below so-far block sum) where
@@ -78,10 +78,10 @@ module _ {s : List ℕ} {from below so-far block sum : ℕ} (h : Along s from be
         small = omega (arith, h .small, h .at-least);
       }
 
-  pub along-done : below ≤ block → PartIs s from below so-far sum
+  pub along-done : below ≤ block → BlockPartIs s from below so-far sum
   along-done l = go (decLt from block)
     where
-      go : Dec (from < block) → PartIs s from below so-far sum
+      go : Dec (from < block) → BlockPartIs s from below so-far sum
       go (yes m) =
           let e : block ≡ below = omega (arith, h .at-most m) in
           let u = run-mono s from below (omega arith) in
@@ -188,13 +188,13 @@ module _ (width : ℕ) (s : List ℕ) (low high : Block) where
 
 pub record Upward (width : ℕ) (s : List ℕ) (low high : Block) (row sum : ℕ) : Type 0 where
   pub height : ℕ
-  pub asks : Asks width height s low high
+  pub asks : BlocksAsk width height s low high
   pub at-least : low .row ≤ row
   pub at-most : low .row < row → row ≤ high .row + 1
   pub so-far : sum ≡ addedBelow width s low high (row * width)
   pub small : sum ≤ row * width * 4294967295
 
-pub upward-none : {width height : ℕ} {s : List ℕ} {low high : Block} → Asks width height s low high → Upward width s low high (low .row) 0
+pub upward-none : {width height : ℕ} {s : List ℕ} {low high : Block} → BlocksAsk width height s low high → Upward width s low high (low .row) 0
 upward-none {width} {height} {s} {low} {high} h =
     record {
       height = height;
@@ -217,12 +217,12 @@ module _ {width : ℕ} {s : List ℕ} {low high : Block} {row sum : ℕ} (h : Up
       let u = place-under (h .height) width row (low .col) (omega (arith, h .asks .«high-row»)) (h .asks .«low-col») in
       omega (arith, h .asks .few)
 
-  pub upward-asks : row ≤ high .row → PartAsks s (row * width + low .col) (row * width + high .col + 1) sum
+  pub upward-asks : row ≤ high .row → BlockPartAsks s (row * width + low .col) (row * width + high .col + 1) sum
   upward-asks l =
       let u = place-under (h .height) width row (high .col) (omega (arith, h .asks .«high-row»)) (h .asks .«high-col») in
       record { room = omega (arith, h .asks .room); few = omega (arith, h .asks .few); small = omega (arith, h .small) }
 
-  pub upward-more : row ≤ high .row → (r : ℕ) → PartIs s (row * width + low .col) (row * width + high .col + 1) sum r → Upward width s low high (row + 1) r
+  pub upward-more : row ≤ high .row → (r : ℕ) → BlockPartIs s (row * width + low .col) (row * width + high .col + 1) sum r → Upward width s low high (row + 1) r
   upward-more l r p =
       let e : (row + 1) * width ≡ row * width + width = rw (add-mul row 1 width) (omega arith) in
       record {
@@ -235,7 +235,7 @@ module _ {width : ℕ} {s : List ℕ} {low high : Block} {row sum : ℕ} (h : Up
         small = rw e (omega (arith, p .small, h .small, h .asks .«high-col»));
       }
 
-  pub upward-done : (height w : ℕ) → width ≡ w → Asks w height s low high → high .row < row → sum ≡ addedBelow w s low high (height * w)
+  pub upward-done : (height w : ℕ) → width ≡ w → BlocksAsk w height s low high → high .row < row → sum ≡ addedBelow w s low high (height * w)
   upward-done height w e a l =
       rw e at (h .so-far)
       ∙ sym (out-to w s low high (row * w) (height * w) (mul-le-mul-right w (top (decLt (low .row) row))) (λ b p q. rows-over w s low high row b (omega (arith, a .«low-col»)) l p))

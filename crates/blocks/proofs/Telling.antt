@@ -16,7 +16,7 @@ use lib.ListN.{length, getD, set, replicate, length-set}
 use lib.Seq.{getD-set-same, getD-set-other}
 use Rattle.tables.specs.Lists.{sum}
 use Rattle.blocks.specs.Blocks.{along, blockOf, told, saidBelow}
-use Rattle.blocks.specs.Inside.{Fills, Told, Row, Filled}
+use Rattle.blocks.specs.Inside.{Fills, Told, BlockRow, BlocksFilled}
 use Rattle.blocks.proofs.Places.{block-at, block-under, block-there, along-over}
 
 module _ (cols : ℕ) (offsets : List ℕ) where
@@ -104,7 +104,7 @@ said-beyond cols rows offsets b l =
 -- ---- the loop over a row: the cells before x are added
 
 pub record Across (cols : ℕ) (offsets : List ℕ) (at first : ℕ) (was summary : List ℕ) (x block : ℕ) : Type 0 where
-  pub begun : Row cols offsets at first was
+  pub begun : BlockRow cols offsets at first was
   pub len : length summary ≡ length was
   pub at-most : x ≤ cols
   pub passed : ℕ
@@ -112,7 +112,7 @@ pub record Across (cols : ℕ) (offsets : List ℕ) (at first : ℕ) (was summar
   pub here : x < cols → x ≡ 16 * passed
   pub told : Told cols offsets (at + x) summary
 
-pub across-none : (cols : ℕ) (offsets : List ℕ) (at first : ℕ) (s : List ℕ) → Row cols offsets at first s → Across cols offsets at first s s 0 first
+pub across-none : (cols : ℕ) (offsets : List ℕ) (at first : ℕ) (s : List ℕ) → BlockRow cols offsets at first s → Across cols offsets at first s s 0 first
 across-none cols offsets at first s h =
     let e : at + 0 ≡ at = omega arith in
     record {
@@ -208,7 +208,7 @@ module _ {cols : ℕ} {offsets : List ℕ} {at first : ℕ} {was summary : List 
         }
 
 module _ {cols : ℕ} {offsets : List ℕ} {at first : ℕ} {was summary : List ℕ} {x block : ℕ} (h : Across cols offsets at first was summary x block) where
-  pub across-done : cols ≤ x → Filled cols offsets (at + cols) was summary
+  pub across-done : cols ≤ x → BlocksFilled cols offsets (at + cols) was summary
   across-done l =
       let e : at + x ≡ at + cols = omega (arith, h .at-most) in
       record { len = h .len; told = rw e at (h .told) }
@@ -227,7 +227,7 @@ downward-none {cols} f t =
     record { fills = f; len = refl; at-most = omega arith; told = rw e t }
 
 module _ {cols rows : ℕ} {offsets was summary : List ℕ} {row : ℕ} (h : Downward cols rows offsets was summary row) where
-  pub row-asks : row < rows → {at first : ℕ} → at ≡ row * cols → first ≡ row / 16 * along cols → Row cols offsets at first summary
+  pub row-asks : row < rows → {at first : ℕ} → at ≡ row * cols → first ≡ row / 16 * along cols → BlockRow cols offsets at first summary
   row-asks l e f =
       record {
         rows = rows;
@@ -247,10 +247,10 @@ module _ {cols rows : ℕ} {offsets was summary : List ℕ} {row : ℕ} (h : Dow
       let m : row / 16 * along cols ≤ along rows * along cols = mul-le-mul-right (along cols) (let u = along-over rows row l in omega arith) in
       omega (arith, h .fills .room)
 
-  pub downward-more : row < rows → {at : ℕ} → at ≡ row * cols → {now : List ℕ} → Filled cols offsets (at + cols) summary now → Downward cols rows offsets was now (row + 1)
+  pub downward-more : row < rows → {at : ℕ} → at ≡ row * cols → {now : List ℕ} → BlocksFilled cols offsets (at + cols) summary now → Downward cols rows offsets was now (row + 1)
   downward-more l {at} e {now} f =
       let u : at + cols ≡ (row + 1) * cols = rw (add-mul row 1 cols) (omega arith) in
       record { fills = h .fills; len = f .len ∙ h .len; at-most = omega arith; told = rw u at (f .told) }
 
-  pub downward-done : rows ≤ row → Filled cols offsets (rows * cols) was summary
+  pub downward-done : rows ≤ row → BlocksFilled cols offsets (rows * cols) was summary
   downward-done l = let e : row ≡ rows = omega (arith, h .at-most) in record { len = h .len; told = rw e at (h .told) }

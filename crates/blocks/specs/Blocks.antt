@@ -45,8 +45,8 @@ abbrev pub said : Grid → List ℕ → ℕ → ℕ
 said g offsets b = saidBelow (g .cols) offsets (g .rows * g .cols) b
 
 -- the summary: the number of items of each block
-unfoldable pub numbers : Grid → List ℕ → List ℕ
-numbers g offsets = tabulate (said g offsets) (blocks g)
+unfoldable pub blockTotals : Grid → List ℕ → List ℕ
+blockTotals g offsets = tabulate (said g offsets) (blocks g)
 
 -- the tables' own summary: each number equals what the offsets say; what stands beyond the blocks does not count
 pub record Own (g : Grid) (offsets summary : List ℕ) : Type 0 where
@@ -73,7 +73,7 @@ summaryCheck g len = unless (leb (blocks g) len) 3 0
 
 -- after refusals 3, 2, 8 and 10
 unfoldable pub makeEnd : Grid → Tables → ℕ → Answer (List ℕ)
-makeEnd g t len = summaryCheck g len then standingCheck g t then gives (numbers g (t .offsets))
+makeEnd g t len = summaryCheck g len then standingCheck g t then gives (blockTotals g (t .offsets))
 
 -- how many blocks there are, or the refusal that is due
 unfoldable pub makeAnswer : Answer (List ℕ) → Made

@@ -22,7 +22,7 @@ pub record Told (cols : ℕ) (offsets : List ℕ) (n : ℕ) (summary : List ℕ)
   pub at : (b : ℕ) → getD summary b 0 ≡ saidBelow cols offsets n b
 
 -- the row whose first cell is `at`, in the row of blocks that begins with `block`: the cells before it are added
-pub record Row (cols : ℕ) (offsets : List ℕ) (at block : ℕ) (summary : List ℕ) : Type 0 where
+pub record BlockRow (cols : ℕ) (offsets : List ℕ) (at block : ℕ) (summary : List ℕ) : Type 0 where
   pub rows : ℕ
   pub row : ℕ
   pub under : row < rows
@@ -32,14 +32,14 @@ pub record Row (cols : ℕ) (offsets : List ℕ) (at block : ℕ) (summary : Lis
   pub told : Told cols offsets at summary
 
 -- the cells below n are added
-pub record Filled (cols : ℕ) (offsets : List ℕ) (n : ℕ) (was now : List ℕ) : Type 0 where
+pub record BlocksFilled (cols : ℕ) (offsets : List ℕ) (n : ℕ) (was now : List ℕ) : Type 0 where
   pub len : length now ≡ length was
   pub told : Told cols offsets n now
 
 -- ---- adding up a rectangle
 
 -- a summary of `height` rows of `width` blocks, and two corners that are there
-pub record Asks (width height : ℕ) (summary : List ℕ) (low high : Block) : Type 0 where
+pub record BlocksAsk (width height : ℕ) (summary : List ℕ) (low high : Block) : Type 0 where
   pub room : height * width ≤ length summary
   pub few : height * width ≤ 4148
   pub «low-row» : low .row < height
@@ -52,12 +52,12 @@ unfoldable pub runBelow : List ℕ → ℕ → ℕ
 runBelow summary n = sum (λ b. getD summary b 0) n
 
 -- the numbers from `from` on that are below `below` are there, and what they are added to is no more than all numbers before them can be
-pub record PartAsks (summary : List ℕ) (from below so-far : ℕ) : Type 0 where
+pub record BlockPartAsks (summary : List ℕ) (from below so-far : ℕ) : Type 0 where
   pub room : below ≤ length summary
   pub few : below ≤ 4148
   pub small : so-far ≤ from * 4294967295
 
 -- they are added
-pub record PartIs (summary : List ℕ) (from below so-far r : ℕ) : Type 0 where
+pub record BlockPartIs (summary : List ℕ) (from below so-far r : ℕ) : Type 0 where
   pub is : r ≡ so-far + (runBelow summary below - runBelow summary from)
   pub small : r ≤ so-far + (below - from) * 4294967295

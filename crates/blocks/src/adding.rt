@@ -6,7 +6,7 @@ use grid::Grid;
 ghost use mathlib.Core.Path.{_≡_};
 ghost use Rattle.blocks.specs.Blocks.{along};
 ghost use Rattle.blocks.specs.Query.{itemsIn};
-ghost use Rattle.blocks.specs.Inside.{Asks, PartAsks, PartIs};
+ghost use Rattle.blocks.specs.Inside.{BlocksAsk, BlockPartAsks, BlockPartIs};
 
 fn number(n: u32) -> u64
     ensures { λ r. ⌜ r ≡ n ⌝ }
@@ -16,8 +16,8 @@ fn number(n: u32) -> u64
 
 // Adds the numbers from `from` on that are below `below`, none where these are out of order.
 fn add_part(summary: &[u32], from: usize, below: usize, so_far: u64) -> u64
-    requires { ⌜ PartAsks (now summary) from below «so_far» ⌝ }
-    ensures { λ r. ⌜ PartIs (now (summary .entry)) from below «so_far» r ⌝ }
+    requires { ⌜ BlockPartAsks (now summary) from below «so_far» ⌝ }
+    ensures { λ r. ⌜ BlockPartIs (now (summary .entry)) from below «so_far» r ⌝ }
 {
     let mut block = from;
     let mut sum = so_far;
@@ -30,7 +30,7 @@ fn add_part(summary: &[u32], from: usize, below: usize, so_far: u64) -> u64
 
 // Adds the rows of the rectangle, none where these are out of order. In a row its blocks stand side by side.
 pub(crate) fn add_rectangle(grid: Grid, summary: &[u32], low: Block, high: Block) -> u64
-    requires { ⌜ Asks (along (grid .cols)) (along (grid .rows)) (now summary) low high ⌝ }
+    requires { ⌜ BlocksAsk (along (grid .cols)) (along (grid .rows)) (now summary) low high ⌝ }
     ensures { λ r. ⌜ r ≡ itemsIn grid (now (summary .entry)) low high ⌝ }
 {
     let width = blocks_along(grid.cols);

@@ -4,12 +4,12 @@ use crate::blocks_along;
 use crate::wide;
 use grid::Grid;
 ghost use Prim.Native.Nat.{_+_, _*_};
-ghost use Rattle.blocks.specs.Inside.{Fills, Told, Row, Filled};
+ghost use Rattle.blocks.specs.Inside.{Fills, Told, BlockRow, BlocksFilled};
 
 // Adds the cells of a row, whose first cell is `at`, to the blocks from `first` on.
 fn add_row(offsets: &[u32], cols: usize, at: usize, first: usize, summary: &mut [u32])
-    requires { ⌜ Row cols (now offsets) at first (now summary) ⌝ }
-    ensures { λ _. ⌜ Filled cols (now (offsets .entry)) (at + cols) (now (summary .entry)) (now (summary .exit)) ⌝ }
+    requires { ⌜ BlockRow cols (now offsets) at first (now summary) ⌝ }
+    ensures { λ _. ⌜ BlocksFilled cols (now (offsets .entry)) (at + cols) (now (summary .entry)) (now (summary .exit)) ⌝ }
 {
     let mut x = 0;
     let mut block = first;
@@ -26,7 +26,7 @@ fn add_row(offsets: &[u32], cols: usize, at: usize, first: usize, summary: &mut 
 // Adds the cells of all rows to a summary of zeros.
 pub(crate) fn add_rows(grid: Grid, offsets: &[u32], summary: &mut [u32])
     requires { ⌜ Fills (grid .cols) (grid .rows) (now offsets) (now summary) ⌝ ∗ ⌜ Told (grid .cols) (now offsets) 0 (now summary) ⌝ }
-    ensures { λ _. ⌜ Filled (grid .cols) (now (offsets .entry)) (grid .rows * grid .cols) (now (summary .entry)) (now (summary .exit)) ⌝ }
+    ensures { λ _. ⌜ BlocksFilled (grid .cols) (now (offsets .entry)) (grid .rows * grid .cols) (now (summary .entry)) (now (summary .exit)) ⌝ }
 {
     let cols = wide(grid.cols);
     let rows = wide(grid.rows);

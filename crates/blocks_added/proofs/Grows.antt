@@ -18,7 +18,7 @@ use Rattle.tables.specs.Tables.{Tables, tables, cells, listOf}
 use Rattle.tables.specs.Fit.{TablesFit}
 use Rattle.tables.specs.Lists.{only, long, noneIf, sum, start, tabulate, offsetsOf}
 use Rattle.tables.proofs.Laws.{sum-same, take-tabulate}
-use Rattle.blocks.specs.Blocks.{along, blocks, blockOf, told, saidBelow, said, numbers, Own}
+use Rattle.blocks.specs.Blocks.{along, blocks, blockOf, told, saidBelow, said, blockTotals, Own}
 use Rattle.blocks.proofs.Places.{block-there}
 use Rattle.blocks.proofs.Telling.{said-most}
 use Rattle.blocks.proofs.Entry.{length-tabulate}
@@ -144,8 +144,8 @@ module _ (g : Grid) (n : ℕ) (o xs gs : List ℕ) (found : ℕ) where
                 omega (arith, own .at b l);
           }
 
-      pub grown : (mid : List ℕ) → Raised (g .cols) v kept mid → (m : ℕ) → m ≡ blocks g → (now : List ℕ) → now ≡ clearedFrom m mid → now ≡ zeroBeyond 0 (length kept) (numbers g new)
-      unfolding clearedFrom zeroBeyond numbers
+      pub grown : (mid : List ℕ) → Raised (g .cols) v kept mid → (m : ℕ) → m ≡ blocks g → (now : List ℕ) → now ≡ clearedFrom m mid → now ≡ zeroBeyond 0 (length kept) (blockTotals g new)
+      unfolding clearedFrom zeroBeyond blockTotals
       grown mid h m e now c =
           c
           ∙ rw (

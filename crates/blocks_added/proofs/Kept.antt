@@ -28,12 +28,12 @@ use Rattle.walk.specs.Segment.{segmentOf}
 use Rattle.walk.proofs.Visits.{Cells, segment-visits}
 use Rattle.tables.specs.Tables.{Tables, tables, cells}
 use Rattle.tables.specs.Fit.{TablesFit}
-use Rattle.blocks.specs.Blocks.{blocks, numbers, Own}
+use Rattle.blocks.specs.Blocks.{blocks, blockTotals, Own}
 use Rattle.blocks.proofs.Owns.{own-says}
 use Rattle.blocks.proofs.Laws.{numbers-own}
 use Rattle.added.specs.declared.Added.{Added}
 use Rattle.added.specs.declared.Added.the-variants as added
-use Rattle.added.specs.Added.{listing, totalWith, cellsCheck, edgeCheck, askCheck, spaceCheck, roomFor, addEnd, addedOf, keptIn, cleared, front, AddIs}
+use Rattle.added.specs.Added.{listing, totalWith, cellsCheck, edgeCheck, askCheck, spaceWithCheck, roomFor, addEnd, addedOf, keptIn, cleared, front, AddIs}
 use Rattle.added.proofs.Asking.{asked}
 use Rattle.added.proofs.Promise.{is-refused, cleared-refused, cleared-made}
 use Rattle.blocks_added.specs.Beside.{besideEnd, offsetsWith, BesideIs}
@@ -73,7 +73,7 @@ module _ (mode : Mode) (g : Grid) (line : Segment) (n : ℕ) (o xs gs : List ℕ
     list-refused h e =
         record {
           tables-are = rw alike (cleared-refused h e);
-          summary-is = rw alike (stays (λ visited. zeroBeyond 0 (length kept) (numbers g (offsetsWith t visited))) end (rw e at h));
+          summary-is = rw alike (stays (λ visited. zeroBeyond 0 (length kept) (blockTotals g (offsetsWith t visited))) end (rw e at h));
         }
 
     -- ---- the line is in its lists, and the cells that list it are at the front of the scratch y
@@ -106,7 +106,7 @@ module _ (mode : Mode) (g : Grid) (line : Segment) (n : ℕ) (o xs gs : List ℕ
         (and-right (fit g) (ltb 0 (g .cols)) (unless-fine (fit g && ltb 0 (g .cols)) 8 0 (andThen-left _ _ (andThen-right _ _ (andThen-right _ _ (andThen-right _ _ a))))))
 
     pub went : {q : Added} {i j l : ℕ} {o′ xs′ gs′ y : List ℕ} → AddIs t end s (front s) q o′ xs′ gs′ y → q ≡ added.Tables i j l → Went i y
-    unfolding answerBy addedOf leftIn front addEnd roomFor spaceCheck
+    unfolding answerBy addedOf leftIn front addEnd roomFor spaceWithCheck
     went {q} {i} {j} {l} {o′} {xs′} {gs′} {y} h e = go end refl (rw e at h)
       where
         go : (a : Answer (List ℕ)) → end ≡ a → AddIs t a s (front s) (added.Tables i j l) o′ xs′ gs′ y → Went i y
@@ -116,9 +116,9 @@ module _ (mode : Mode) (g : Grid) (line : Segment) (n : ℕ) (o xs gs : List ℕ
             let p = then-passed (askCheck g line t (length s)) (edgeCheck g line then roomFor mode g line t) d in
             let u = then-passed (edgeCheck g line) (roomFor mode g line t) (p .1) in
             let a = asked {g = g} {line = line} {t = t} {s = s} (p .0) in
-            into-passed (segmentOf mode g line) (λ w. spaceCheck t w then gives w) (u .1)
+            into-passed (segmentOf mode g line) (λ w. spaceWithCheck t w then gives w) (u .1)
             (λ w m x.
-            let z = then-passed (spaceCheck t w) (gives w) x in
+            let z = then-passed (spaceWithCheck t w) (gives w) x in
             let same : w ≡ v = cc (z .1) in
             let c = segment-visits mode g line (a .walkable .fits) w m in
             record {
@@ -142,7 +142,7 @@ module _ (mode : Mode) (g : Grid) (line : Segment) (n : ℕ) (o xs gs : List ℕ
           (raise-asks g n o xs gs found (w .tables-fit) (w .visited) (w .order) (w .below) kept (w .own) (first-room mode g line n o xs gs found kept s f) (w .some) (w .small))
 
       went-grown : {mid now : List ℕ} → Raised (g .cols) (take i y) kept mid → (m : ℕ) → m ≡ blocks g → now ≡ clearedFrom m mid
-          → now ≡ zeroBeyond 0 (length kept) (numbers g (offsetsWith t (w .visited)))
+          → now ≡ zeroBeyond 0 (length kept) (blockTotals g (offsetsWith t (w .visited)))
       went-grown {mid} {now} h m e c =
           grown g n o xs gs found (w .tables-fit) (w .visited) (w .order) (w .below) kept (w .own) (first-room mode g line n o xs gs found kept s f) mid (rw (w .at-front) at h) m e now c
 
@@ -185,6 +185,6 @@ pub kept-own : {mode : Mode} {g : Grid} {line : Segment} {t : Tables} {kept s : 
 unfolding keptIn answerBy addedOf
 kept-own {mode} {g} {line} {t} {kept} {s} {i} {j} {l} {o} {xs} {gs} {k} {z} h = go (besideEnd mode g line t kept (length s)) (h .tables-are) (h .summary-is)
   where
-    go : (a : Answer (List ℕ)) → AddIs t a s (cleared s) (added.Tables i j l) o xs gs z → k ≡ keptIn kept a (λ visited. zeroBeyond 0 (length kept) (numbers g (offsetsWith t visited))) → Own g o k
+    go : (a : Answer (List ℕ)) → AddIs t a s (cleared s) (added.Tables i j l) o xs gs z → k ≡ keptIn kept a (λ visited. zeroBeyond 0 (length kept) (blockTotals g (offsetsWith t visited))) → Own g o k
     go (refused why) a b = let x : _≡_ {A = ℕ} 0 1 = cc (a .answer) in absurd (omega arith)
     go (gives v) a b = rw (b, a .offsets-are) (numbers-own g (offsetsWith t v) (length kept))

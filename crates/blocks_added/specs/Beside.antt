@@ -11,7 +11,7 @@ use Rattle.grid.specs.declared.Segment.{Segment}
 use Rattle.walk.specs.declared.Mode.{Mode}
 use Rattle.tables.specs.Tables.{Tables, cells}
 use Rattle.tables.specs.Lists.{offsetsOf}
-use Rattle.blocks.specs.Blocks.{numbers, own, summaryCheck}
+use Rattle.blocks.specs.Blocks.{blockTotals, own, summaryCheck}
 use Rattle.added.specs.declared.Added.{Added}
 use Rattle.added.specs.Added.{listWith, edgeCheck, askCheck, roomFor, keptIn, cleared, AddIs}
 
@@ -36,4 +36,4 @@ offsetsWith t visited = offsetsOf (listWith t visited) (cells t) (length (t .off
 -- changes it.
 pub record BesideIs (mode : Mode) (g : Grid) (line : Segment) (t : Tables) (summary scratch : List ℕ) (r : Added) (offsets′ items′ globals′ summary′ scratch′ : List ℕ) : Type 0 where
   pub tables-are : AddIs t (besideEnd mode g line t summary (length scratch)) scratch (cleared scratch) r offsets′ items′ globals′ scratch′
-  pub summary-is : summary′ ≡ keptIn summary (besideEnd mode g line t summary (length scratch)) (λ visited. zeroBeyond 0 (length summary) (numbers g (offsetsWith t visited)))
+  pub summary-is : summary′ ≡ keptIn summary (besideEnd mode g line t summary (length scratch)) (λ visited. zeroBeyond 0 (length summary) (blockTotals g (offsetsWith t visited)))

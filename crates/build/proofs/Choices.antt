@@ -29,9 +29,9 @@ use Rattle.sizing.specs.Counts.{gridOf, emptyGrid}
 use Rattle.sizing.proofs.FitLaws.{AllFit, fit-now, fit-next, all-fit, empty-fits}
 use Rattle.fill.specs.declared.Filled.{Filled}
 use Rattle.fill.specs.declared.Filled.the-variants as filled
-use Rattle.fill.specs.OnGrid.{cells, listOn, globalsOn, total}
-use Rattle.fill.specs.Checks.{lentCheck, triedCheck, countingCheck, spaceCheck}
-use Rattle.fill.specs.Fill.{above, made, fillingOf, filledOf, writtenIn, FillIs}
+use Rattle.fill.specs.OnGrid.{gridCells, listOn, globalsOn, total}
+use Rattle.fill.specs.Checks.{onGridCheck, triedCheck, countingCheck, spaceCheck}
+use Rattle.fill.specs.Fill.{moreThan, made, fillingOf, filledOf, writtenIn, FillIs}
 use Rattle.fill.specs.Fill as filling
 use Rattle.fill.specs.Inside.{localOn}
 use Rattle.fill.proofs.Leaves.{tried-clears, space-clears}
@@ -54,7 +54,7 @@ then-then (Refused r) b c = refl
 
 module _ (mode : Mode) (g : Grid) (ls : Lines) (offsets scratch : ℕ) where
   counting-is : countingCheck mode g ls offsets scratch ≡ andThen (andThen (lentOf ls scratch) (gridCheck g)) (triedCheck mode g ls offsets)
-  unfolding countingCheck lentCheck
+  unfolding countingCheck onGridCheck
   counting-is = ap (λ (k : Check). andThen k (triedCheck mode g ls offsets)) (then-then (scratchCheck scratch) (linesCheck ls) (gridCheck g))
 
   counting-lent : (r : Refusal) → lentOf ls scratch ≡ Refused r → countingCheck mode g ls offsets scratch ≡ Refused r
@@ -104,13 +104,13 @@ endOn mode ls g next offsets items globals scratch = lentOf ls scratch then ((tr
 data Tried (mode : Mode) (ls : Lines) (g : Grid) (most : ℕ) (next : Answer Grid) (o t gs s : List ℕ) (w : Filled) (o′ t′ gs′ s′ : List ℕ) : Type 0 where
   ended : (b : Built) → attemptBy g w ≡ attempt.Ended b → BuildIs mode ls o t gs s b o′ t′ gs′ s′ (endOn mode ls g next (length o) (length t) (length gs) (length s))
       → Tried mode ls g most next o t gs s w o′ t′ gs′ s′
-  halved : attemptBy g w ≡ attempt.Halve → lentOf ls (length s) ≡ Fine → triedCheck mode g ls (length o) ≡ Fine → above most (λ c. length (listOn mode g ls c)) (cells g) ≡ true
+  halved : attemptBy g w ≡ attempt.Halve → lentOf ls (length s) ≡ Fine → triedCheck mode g ls (length o) ≡ Fine → moreThan most (λ c. length (listOn mode g ls c)) (gridCells g) ≡ true
       → Tried mode ls g most next o t gs s w o′ t′ gs′ s′
 
 module _ (mode : Mode) (ls : Lines) (g : Grid) (most : ℕ) (next : Answer Grid) {o t gs s : List ℕ} {w : Filled} {o′ t′ gs′ s′ : List ℕ}
     (k : FillIs mode g ls o t gs s w o′ t′ gs′ s′ (fillingOf mode g ls most (length o) (length t) (length gs) (length s)))
     (fits : lentOf ls (length s) ≡ Fine → fit g ≡ true)
-    (stop : lentOf ls (length s) ≡ Fine → above most (λ c. length (listOn mode g ls c)) (cells g) ≡ false → next ≡ gives g) where
+    (stop : lentOf ls (length s) ≡ Fine → moreThan most (λ c. length (listOn mode g ls c)) (gridCells g) ≡ false → next ≡ gives g) where
   abbrev Comes : Type 0
   Comes = Tried mode ls g most next o t gs s w o′ t′ gs′ s′
 
@@ -118,12 +118,12 @@ module _ (mode : Mode) (ls : Lines) (g : Grid) (most : ℕ) (next : Answer Grid)
     counting : countingCheck mode g ls (length o) (length s) ≡ Fine
     counting = counting-tried mode g ls (length o) (length s) lent (fits lent) ∙ tried
 
-    on-space : (c : Check) → spaceCheck mode g ls (length t) (length gs) ≡ c → above most (λ c. length (listOn mode g ls c)) (cells g) ≡ false → Comes
+    on-space : (c : Check) → spaceCheck mode g ls (length t) (length gs) ≡ c → moreThan most (λ c. length (listOn mode g ls c)) (gridCells g) ≡ false → Comes
     unfolding fillingOf _then_ _into_ roomOn
     on-space (Refused r) q b = let e = ends-refused r (rw (counting, b, q) at k) in ended (built.Refused r) (e .0) (rw (lent, tried, stop lent b, q) (e .1))
     on-space Fine q b = let e = ends-made (rw (counting, b, q) at k) in ended (builtOn mode ls g) (e .0) (rw (lent, tried, stop lent b, q) (e .1))
 
-    on-crowd : (b : Bool) → above most (λ c. length (listOn mode g ls c)) (cells g) ≡ b → Comes
+    on-crowd : (b : Bool) → moreThan most (λ c. length (listOn mode g ls c)) (gridCells g) ≡ b → Comes
     unfolding fillingOf _then_ answerBy filledOf
     on-crowd true b = halved (let f : FillIs mode g ls o t gs s w o′ t′ gs′ s′ (gives filling.crowded) = rw (counting, b) at k in ap (attemptBy g) (f .answer)) lent tried b
     on-crowd false b = on-space (spaceCheck mode g ls (length t) (length gs)) refl b
@@ -133,7 +133,7 @@ module _ (mode : Mode) (ls : Lines) (g : Grid) (most : ℕ) (next : Answer Grid)
   on-tried (Refused r) h q =
       let e = ends-refused r (rw (counting-tried mode g ls (length o) (length s) h (fits h), q) at k) in
       ended (built.Refused r) (e .0) (rw (h, q) (e .1))
-  on-tried Fine h q = on-crowd h q (above most (λ c. length (listOn mode g ls c)) (cells g)) refl
+  on-tried Fine h q = on-crowd h q (moreThan most (λ c. length (listOn mode g ls c)) (gridCells g)) refl
 
   on-lent : (c : Check) → lentOf ls (length s) ≡ c → Comes
   unfolding fillingOf _then_
@@ -147,26 +147,26 @@ module _ (mode : Mode) (ls : Lines) (g : Grid) (most : ℕ) (next : Answer Grid)
 
 -- ---- the limit: no cell lists more than all lines
 
-lists-most : (mode : Mode) (g : Grid) (ls : Lines) (scratch : ℕ) → lentOf ls scratch ≡ Fine → above 65536 (λ c. length (listOn mode g ls c)) (cells g) ≡ false
+lists-most : (mode : Mode) (g : Grid) (ls : Lines) (scratch : ℕ) → lentOf ls scratch ≡ Fine → moreThan 65536 (λ c. length (listOn mode g ls c)) (gridCells g) ≡ false
 unfolding listOn
 lists-most mode g ls scratch h =
     let f : LinesFit ls = lines-fine ls (andThen-right (scratchCheck scratch) (linesCheck ls) h) in
-    above-never 65536 _ (λ c. le-trans (lines-few (localOn mode g ls) (count ls) c) (f .few)) (cells g)
+    above-never 65536 _ (λ c. le-trans (lines-few (localOn mode g ls) (count ls) c) (f .few)) (gridCells g)
 
 pub most-none : (g : Grid) (left : ℕ) → left ≡ 0 → 65536 ≡ mostOn g left
 most-none g left h = rw h
 
-pub most-some : (g : Grid) (left : ℕ) → (left ≡ 0 → ⊥) → cells g < 250000 → 500 ≡ mostOn g left
+pub most-some : (g : Grid) (left : ℕ) → (left ≡ 0 → ⊥) → gridCells g < 250000 → 500 ≡ mostOn g left
 most-some g left h l =
     let a : 0 < left = omega arith in
-    let b : cells g * 4 < 1000000 = omega arith in
-    rw (lt-ltb 0 left a, lt-ltb (cells g * 4) 1000000 b)
+    let b : gridCells g * 4 < 1000000 = omega arith in
+    rw (lt-ltb 0 left a, lt-ltb (gridCells g * 4) 1000000 b)
 
-pub most-many : (g : Grid) (left : ℕ) → (left ≡ 0 → ⊥) → 250000 ≤ cells g → 65536 ≡ mostOn g left
+pub most-many : (g : Grid) (left : ℕ) → (left ≡ 0 → ⊥) → 250000 ≤ gridCells g → 65536 ≡ mostOn g left
 most-many g left h l =
     let a : 0 < left = omega arith in
-    let b : 1000000 ≤ cells g * 4 = omega arith in
-    rw (lt-ltb 0 left a, le-ltb (cells g * 4) 1000000 b)
+    let b : 1000000 ≤ gridCells g * 4 = omega arith in
+    rw (lt-ltb 0 left a, le-ltb (gridCells g * 4) 1000000 b)
 
 -- the number of cells of any two counts fits 64 bits
 pub cells-fit : (a b : ℕ) → a < 2 ^ 32 → b < 2 ^ 32 → a * b < 2 ^ 64
@@ -188,30 +188,30 @@ module _ (mode : Mode) (e : Extent) (size : Size) (ls : Lines) (offsets scratch 
   chosen-is (suc left) = refl
 
   module _ (lent : lentOf ls scratch ≡ Fine) where
-    limit : (b : Bool) → (above 65536 (λ c. length (listOn mode (gridOf e size) ls c)) (cells (gridOf e size)) ≡ true) → b ≡ false
+    limit : (b : Bool) → (moreThan 65536 (λ c. length (listOn mode (gridOf e size) ls c)) (gridCells (gridOf e size)) ≡ true) → b ≡ false
     limit b h = let z : _≡_ {A = Bool} true false = sym h ∙ lists-most mode (gridOf e size) ls scratch lent in let y : _≡_ {A = ℕ} 0 1 = cc in absurd (omega arith)
 
     -- no cell above the limit: the grid is settled on
-    next-stops : (left : ℕ) → above (mostOn (gridOf e size) left) (λ c. length (listOn mode (gridOf e size) ls c)) (cells (gridOf e size)) ≡ false → next left ≡ gives (gridOf e size)
+    next-stops : (left : ℕ) → moreThan (mostOn (gridOf e size) left) (λ c. length (listOn mode (gridOf e size) ls c)) (gridCells (gridOf e size)) ≡ false → next left ≡ gives (gridOf e size)
     unfolding next crowded
     next-stops zero h = refl
-    next-stops (suc left) h = go (ltb (cells (gridOf e size) * 4) 1000000) refl
+    next-stops (suc left) h = go (ltb (gridCells (gridOf e size) * 4) 1000000) refl
       where
         and-false : (p : Bool) → (p && false) ≡ false
         and-false true = refl
         and-false false = refl
 
-        go : (b : Bool) → ltb (cells (gridOf e size) * 4) 1000000 ≡ b → next (suc left) ≡ gives (gridOf e size)
+        go : (b : Bool) → ltb (gridCells (gridOf e size) * 4) 1000000 ≡ b → next (suc left) ≡ gives (gridOf e size)
         go true q = let a = rw (lt-ltb 0 (suc left) (omega arith), q) at h in rw a
-        go false q = rw (q, and-false (above 500 (λ c. length (listOn mode (gridOf e size) ls c)) (cells (gridOf e size))))
+        go false q = rw (q, and-false (moreThan 500 (λ c. length (listOn mode (gridOf e size) ls c)) (gridCells (gridOf e size))))
 
     -- some cell above it: the choice goes on from half the size
-    next-halves : (left : ℕ) → triedCheck mode (gridOf e size) ls offsets ≡ Fine → above (mostOn (gridOf e size) left) (λ c. length (listOn mode (gridOf e size) ls c)) (cells (gridOf e size)) ≡ true → Halved mode left e size ls offsets scratch
+    next-halves : (left : ℕ) → triedCheck mode (gridOf e size) ls offsets ≡ Fine → moreThan (mostOn (gridOf e size) left) (λ c. length (listOn mode (gridOf e size) ls c)) (gridCells (gridOf e size)) ≡ true → Halved mode left e size ls offsets scratch
     unfolding next crowded _then_
     next-halves zero t h = let z : _≡_ {A = Bool} true false = limit true h in let y : _≡_ {A = ℕ} 0 1 = cc in absurd (omega arith)
-    next-halves (suc left) t h = go (ltb (cells (gridOf e size) * 4) 1000000) refl
+    next-halves (suc left) t h = go (ltb (gridCells (gridOf e size) * 4) 1000000) refl
       where
-        go : (b : Bool) → ltb (cells (gridOf e size) * 4) 1000000 ≡ b → Halved mode (suc left) e size ls offsets scratch
+        go : (b : Bool) → ltb (gridCells (gridOf e size) * 4) 1000000 ≡ b → Halved mode (suc left) e size ls offsets scratch
         go true q =
             let a = rw (lt-ltb 0 (suc left) (omega arith), q) at h in
             let z : suc left - 1 ≡ left = omega arith in
@@ -326,8 +326,8 @@ module _ {mode : Mode} {ls : Lines} {o₀ t₀ gs₀ s₀ : List ℕ} {e : Exten
       rw (← end)
       (record {
         answer = d .answer;
-        «cell_offsets» = d .«cell_offsets» ∙ k .offsets (λ n g. offsetsOf (listOn mode g ls) (cells g) n);
-        «cell_items» = d .«cell_items» ∙ k .items (λ n g. itemsOf (listOn mode g ls) (cells g) n);
+        «cell_offsets» = d .«cell_offsets» ∙ k .offsets (λ n g. offsetsOf (listOn mode g ls) (gridCells g) n);
+        «cell_items» = d .«cell_items» ∙ k .items (λ n g. itemsOf (listOn mode g ls) (gridCells g) n);
         «global_lines» = d .«global_lines» ∙ k .globals (λ n g. zeroBeyond 0 n (globalsOn mode g ls));
         scratch-is = d .scratch-is ∙ k .scratch (λ n g. replicate {A = ℕ} n 0);
       })

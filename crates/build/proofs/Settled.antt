@@ -24,9 +24,9 @@ use Rattle.sizing.specs.Bounds.{extentOf}
 use Rattle.sizing.specs.Size.{firstSize, halfOf}
 use Rattle.sizing.specs.Counts.{gridOf, emptyGrid}
 use Rattle.sizing.proofs.FitLaws.{AllFit, all-fit, AllSome, all-some, empty-fits}
-use Rattle.fill.specs.OnGrid.{cells, listOn, globalsOn, total}
+use Rattle.fill.specs.OnGrid.{gridCells, listOn, globalsOn, total}
 use Rattle.fill.specs.Checks.{roomCheck, turnsCheck, triedCheck, spaceCheck}
-use Rattle.fill.specs.Fill.{above}
+use Rattle.fill.specs.Fill.{moreThan}
 use Rattle.build.specs.declared.Plan.{Plan}
 use Rattle.build.specs.Choice.{crowded, chosenFirst, chosenNone, choice}
 use Rattle.build.specs.Choice as choosing
@@ -46,10 +46,10 @@ pub record SettledOn (mode : Mode) (g : Grid) (ls : Lines) (room : ℕ) : Type 0
 settled-here : (mode : Mode) (f g : Grid) (ls : Lines) (room : ℕ) → fit f ≡ true → triedCheck mode f ls room ≡ Fine → _≡_ {A = Answer Grid} (gives f) (gives g) → SettledOn mode g ls room
 settled-here mode f g ls room a b h = let e : f ≡ g = cc in record { fits = rw e at a; tried = rw e at b }
 
-pub crowded-few : (mode : Mode) (g : Grid) (ls : Lines) → crowded mode g ls ≡ true → cells g * 4 < 1000000
+pub crowded-few : (mode : Mode) (g : Grid) (ls : Lines) → crowded mode g ls ≡ true → gridCells g * 4 < 1000000
 unfolding crowded
 crowded-few mode g ls h =
-    ltb-true (cells g * 4) 1000000 (and-right (above 500 (λ c. length (listOn mode g ls c)) (cells g)) (ltb (cells g * 4) 1000000) h)
+    ltb-true (gridCells g * 4) 1000000 (and-right (moreThan 500 (λ c. length (listOn mode g ls c)) (gridCells g)) (ltb (gridCells g * 4) 1000000) h)
 
 -- from a size on of which every grid that can be tried is fit
 chosen-settled : (mode : Mode) (e : Extent) (ls : Lines) (room : ℕ) (g : Grid) (left : ℕ) (s : Size) → AllFit left e s → choosing.chosen mode left e s ls room ≡ gives g → SettledOn mode g ls room
@@ -99,10 +99,10 @@ turns-say : (mode : Mode) (g : Grid) (ls : Lines) (room : ℕ) → triedCheck mo
 unfolding triedCheck
 turns-say mode g ls room h = andThen-right (roomCheck g room) (turnsCheck mode g ls) h
 
-room-says : (mode : Mode) (g : Grid) (ls : Lines) (room : ℕ) → triedCheck mode g ls room ≡ Fine → cells g + 1 ≤ room
+room-says : (mode : Mode) (g : Grid) (ls : Lines) (room : ℕ) → triedCheck mode g ls room ≡ Fine → gridCells g + 1 ≤ room
 unfolding triedCheck roomCheck
 room-says mode g ls room h =
-    leb-true (cells g + 1) room (unless-fine (leb (cells g + 1) room) 4 (cells g + 1) (andThen-left (roomCheck g room) (turnsCheck mode g ls) h))
+    leb-true (gridCells g + 1) room (unless-fine (leb (gridCells g + 1) room) 4 (gridCells g + 1) (andThen-left (roomCheck g room) (turnsCheck mode g ls) h))
 
 module _ (mode : Mode) (g : Grid) (ls : Lines) (items globals : ℕ) (h : spaceCheck mode g ls items globals ≡ Fine) where
   space-items : total mode g ls ≤ items
@@ -120,7 +120,7 @@ pub record Made (mode : Mode) (ls : Lines) (offsets items globals : ℕ) (g : Gr
   pub fits : fit g ≡ true
   pub some : 1 ≤ count ls → 1 ≤ g .cols
   pub turns : turnsCheck mode g ls ≡ Fine
-  pub room : cells g + 1 ≤ offsets
+  pub room : gridCells g + 1 ≤ offsets
   pub space : total mode g ls ≤ items
   pub listed : length (globalsOn mode g ls) ≤ globals
 

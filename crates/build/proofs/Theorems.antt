@@ -22,7 +22,7 @@ use Rattle.tables.proofs.Standing.{Laid, laid-stands}
 use Rattle.build.specs.declared.Standing.{Standing}
 use Rattle.build.specs.declared.Built.{Built}
 use Rattle.build.specs.declared.Built.the-variants as built
-use Rattle.fill.specs.OnGrid.{cells, walkOn, ends, visited, cellsOn, listOn, globalsOn, total}
+use Rattle.fill.specs.OnGrid.{gridCells, walkOn, completes, visited, cellsOn, listOn, globalsOn, total}
 use Rattle.fill.specs.Checks.{turnsCheck}
 use Rattle.fill.proofs.Walks.{cells-walk}
 use Rattle.build.specs.declared.Plan.{Plan}
@@ -89,13 +89,13 @@ success plan {ls} {o} {t} {gs} {s} {r} {o′} {t′} {gs′} {s′} {st} h ok =
     let e = endOf plan ls (length o) (length t) (length gs) (length s) in
     let a = answer-made (plan .mode) e ls st (sym (h .answer) ∙ ok) in
     let m : Made (plan .mode) ls (length o) (length t) (length gs) g = made-says plan ls (length o) (length t) (length gs) (length s) g (a .0) in
-    let x : o′ ≡ offsetsOf (listOn (plan .mode) g ls) (cells g) (length o) = h .«cell_offsets» ∙ left-made e g o (λ g. offsetsOf (listOn (plan .mode) g ls) (cells g) (length o)) (a .0) in
-    let y : t′ ≡ itemsOf (listOn (plan .mode) g ls) (cells g) (length t) = h .«cell_items» ∙ left-made e g t (λ g. itemsOf (listOn (plan .mode) g ls) (cells g) (length t)) (a .0) in
+    let x : o′ ≡ offsetsOf (listOn (plan .mode) g ls) (gridCells g) (length o) = h .«cell_offsets» ∙ left-made e g o (λ g. offsetsOf (listOn (plan .mode) g ls) (gridCells g) (length o)) (a .0) in
+    let y : t′ ≡ itemsOf (listOn (plan .mode) g ls) (gridCells g) (length t) = h .«cell_items» ∙ left-made e g t (λ g. itemsOf (listOn (plan .mode) g ls) (gridCells g) (length t)) (a .0) in
     let z : gs′ ≡ globalsOn (plan .mode) g ls ++ replicate (length gs - length (globalsOn (plan .mode) g ls)) 0 =
     h .«global_lines» ∙ left-made e g gs (λ g. zeroBeyond 0 (length gs) (globalsOn (plan .mode) g ls)) (a .0) in
-    let l : suc (cells g) ≤ length o = omega (arith, m .room) in
-    let p : length o′ ≡ length o = ap length x ∙ length-offsets (listOn (plan .mode) g ls) (cells g) (length o) l in
-    let q : length t′ ≡ length t = ap length y ∙ length-items (listOn (plan .mode) g ls) (cells g) (length t) (m .space) in
+    let l : suc (gridCells g) ≤ length o = omega (arith, m .room) in
+    let p : length o′ ≡ length o = ap length x ∙ length-offsets (listOn (plan .mode) g ls) (gridCells g) (length o) l in
+    let q : length t′ ≡ length t = ap length y ∙ length-items (listOn (plan .mode) g ls) (gridCells g) (length t) (m .space) in
     let v : length gs′ ≡ length gs = ap length z ∙ length-globe (globalsOn (plan .mode) g ls) (length gs) (m .listed) in
     record {
       passed = made-passed plan ls (length o) (length t) (length gs) (length s) g (a .0);
@@ -114,7 +114,7 @@ success plan {ls} {o} {t} {gs} {s} {r} {o′} {t′} {gs′} {s′} {st} h ok =
           };
     }
 
-ended-found : (o : Outcome) → ends o ≡ true → o ≡ gives (visited o)
+ended-found : (o : Outcome) → completes o ≡ true → o ≡ gives (visited o)
 ended-found (refused why) h = let z : _≡_ {A = ℕ} 0 1 = cc in absurd (omega arith)
 ended-found (gives xs) h = refl
 
@@ -129,7 +129,7 @@ module _ (plan : Plan) {ls : Lines} {o t gs s : List ℕ} {r : Built} {o′ t′
   pub walks-end : (k : ℕ) → k < count ls → walkOn (plan .mode) (st .grid) ls k ≡ gives (cellsOn (plan .mode) (st .grid) ls k)
   unfolding turnsCheck cellsOn
   walks-end k l =
-      ended-found (walkOn (plan .mode) (st .grid) ls k) (each-says (λ i. ends (walkOn (plan .mode) (st .grid) ls i)) 7 (count ls) 0 k (success plan h ok .turns) (omega arith) (omega arith))
+      ended-found (walkOn (plan .mode) (st .grid) ls k) (each-says (λ i. completes (walkOn (plan .mode) (st .grid) ls i)) 7 (count ls) 0 k (success plan h ok .turns) (omega arith) (omega arith))
 
   -- the final grid is fit, and has a column where there is a line
   pub grid-fits : (fit (st .grid) ≡ true) × (1 ≤ count ls → 1 ≤ st .grid .cols)
@@ -144,8 +144,8 @@ module _ (plan : Plan) {ls : Lines} {o t gs s : List ℕ} {r : Built} {o′ t′
   lines-passed = success plan h ok .passed
 
   -- "invented .. item counts": the number of items is the sum of the lengths of the lists
-  pub items-counted : st .items ≡ sum (λ c. length (listIn o′ t′ c)) (cells (st .grid))
+  pub items-counted : st .items ≡ sum (λ c. length (listIn o′ t′ c)) (gridCells (st .grid))
   unfolding total listOn
   items-counted =
       success plan h ok .items-are
-      ∙ sym (sum-same (λ c. length (listIn o′ t′ c)) (λ c. length (listOn (plan .mode) (st .grid) ls c)) (cells (st .grid)) (λ c l. ap length (build-stands .lists c l)))
+      ∙ sym (sum-same (λ c. length (listIn o′ t′ c)) (λ c. length (listOn (plan .mode) (st .grid) ls c)) (gridCells (st .grid)) (λ c l. ap length (build-stands .lists c l)))

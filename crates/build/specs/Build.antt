@@ -10,7 +10,7 @@ use Rattle.walk.specs.declared.Mode.{Mode}
 use Rattle.tables.specs.Lists.{itemsOf, offsetsOf}
 use Rattle.build.specs.declared.Built.{Built}
 use Rattle.build.specs.declared.Built.the-variants as built
-use Rattle.fill.specs.OnGrid.{cells, listOn, globalsOn, total}
+use Rattle.fill.specs.OnGrid.{gridCells, listOn, globalsOn, total}
 use Rattle.fill.specs.Checks.{spaceCheck}
 use Rattle.build.specs.declared.Plan.{Plan}
 use Rattle.build.specs.Choice.{choice}
@@ -34,7 +34,7 @@ answerOf mode e ls = answerBy built.Refused (builtOn mode ls) e
 -- the entry's promise, in the mode of its plan
 pub record BuildIs (mode : Mode) (ls : Lines) (offsets items globals scratch : List ℕ) (r : Built) (offsets′ items′ globals′ scratch′ : List ℕ) (e : Answer Grid) : Type 0 where
   pub answer : r ≡ answerOf mode e ls
-  pub «cell_offsets» : offsets′ ≡ leftIn 0 offsets e (λ g. offsetsOf (listOn mode g ls) (cells g) (length offsets))
-  pub «cell_items» : items′ ≡ leftIn 0 items e (λ g. itemsOf (listOn mode g ls) (cells g) (length items))
+  pub «cell_offsets» : offsets′ ≡ leftIn 0 offsets e (λ g. offsetsOf (listOn mode g ls) (gridCells g) (length offsets))
+  pub «cell_items» : items′ ≡ leftIn 0 items e (λ g. itemsOf (listOn mode g ls) (gridCells g) (length items))
   pub «global_lines» : globals′ ≡ leftIn 0 globals e (λ g. zeroBeyond 0 (length globals) (globalsOn mode g ls))
   pub scratch-is : scratch′ ≡ leftIn 0 scratch e (λ g. replicate (length scratch) 0)

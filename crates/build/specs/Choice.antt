@@ -13,14 +13,14 @@ use Rattle.sizing.specs.declared.Size.{Size}
 use Rattle.sizing.specs.Bounds.{extentOf}
 use Rattle.sizing.specs.Size.{firstSize, halfOf}
 use Rattle.sizing.specs.Counts.{gridOf, emptyGrid}
-use Rattle.fill.specs.OnGrid.{cells, listOn}
+use Rattle.fill.specs.OnGrid.{gridCells, listOn}
 use Rattle.fill.specs.Checks.{triedCheck}
-use Rattle.fill.specs.Fill.{above}
+use Rattle.fill.specs.Fill.{moreThan}
 use Rattle.build.specs.declared.Plan.{Plan}
 
 -- the grid is to be refined: some cell has more than 500, and cells x 4 is below 1,000,000
 unfoldable pub crowded : Mode → Grid → Lines → Bool
-crowded mode g ls = above 500 (λ c. length (listOn mode g ls c)) (cells g) && ltb (cells g * 4) 1000000
+crowded mode g ls = moreThan 500 (λ c. length (listOn mode g ls c)) (gridCells g) && ltb (gridCells g * 4) 1000000
 
 -- The choice from a size on, with so many halvings left: at each grid tried what is refused there, else the grid, or what half the size leads to.
 unfoldable pub chosen : Mode → ℕ → Extent → Size → Lines → ℕ → Answer Grid

@@ -17,7 +17,7 @@ use Rattle.sizing.specs.Size.{halfOf}
 use Rattle.sizing.specs.Counts.{gridOf}
 use Rattle.fill.specs.declared.Filled.{Filled}
 use Rattle.fill.specs.declared.Filled.the-variants as filled
-use Rattle.fill.specs.OnGrid.{cells}
+use Rattle.fill.specs.OnGrid.{gridCells}
 use Rattle.build.specs.declared.Built.{Built}
 use Rattle.build.specs.declared.Built.the-variants as built
 use Rattle.build.specs.declared.Attempt.{Attempt}
@@ -27,7 +27,7 @@ use Rattle.build.specs.Build.{roomOn, BuildIs}
 
 -- 500 where the size can be halved, and else no limit: there are at most 65,536 lines
 abbrev pub mostOn : Grid → ℕ → ℕ
-mostOn g left = cond (ltb 0 left && ltb (cells g * 4) 1000000) 500 65536
+mostOn g left = cond (ltb 0 left && ltb (gridCells g * 4) 1000000) 500 65536
 
 -- what an answer of `fill` on a grid leads to
 abbrev pub attemptBy : Grid → Filled → Attempt
@@ -52,7 +52,7 @@ pub record Halved (mode : Mode) (left : ℕ) (e : Extent) (size : Size) (ls : Li
   pub some : 0 < left
   pub lent : lentOf ls scratch ≡ Fine
   pub next : chosen mode left e size ls offsets ≡ chosen mode (left - 1) e (halfOf size) ls offsets
-  pub few : cells (gridOf e size) * 4 < 1000000
+  pub few : gridCells (gridOf e size) * 4 < 1000000
 
 -- one size tried: the end of the build from it on, or the next halving
 abbrev pub AttemptIs : Mode → ℕ → Extent → Size → Lines → List ℕ → List ℕ → List ℕ → List ℕ → List ℕ → List ℕ → List ℕ → List ℕ → Attempt → Type 0

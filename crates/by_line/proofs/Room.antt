@@ -29,8 +29,8 @@ use Rattle.tables.proofs.Facts.{check-facts, all-within}
 use Rattle.tables.proofs.Laws.{sum-same}
 use Rattle.by_line.specs.declared.ByLine.{ByLine}
 use Rattle.by_line.specs.declared.ByLine.the-variants as answer
-use Rattle.by_line.specs.ByLine.{cellsOf, roomCheck, byLine, ByLineIs}
-use Rattle.by_line.specs.Inside.{ListAsks, TableAsks, MakeAsks, Made}
+use Rattle.by_line.specs.ByLine.{cellsListing, listsRoomCheck, byLine, ByLineIs}
+use Rattle.by_line.specs.Inside.{CellListAsks, TableAsks, MakeAsks, Made}
 
 -- ---- double counting
 
@@ -93,7 +93,7 @@ turned W n (suc i) k w l =
     )
 
 -- the lists between offsets end where the last offset is
-lists-sum : (offsets items : List ℕ) (m : ℕ) → getD offsets 0 0 ≡ 0 → ((c : ℕ) → c < m → ListAsks offsets items c)
+lists-sum : (offsets items : List ℕ) (m : ℕ) → getD offsets 0 0 ≡ 0 → ((c : ℕ) → c < m → CellListAsks offsets items c)
     → sum (λ c. length (listIn offsets items c)) m ≡ getD offsets m 0
 unfolding sum
 lists-sum offsets items zero z h = sym z
@@ -109,22 +109,22 @@ lists-sum offsets items (suc m) z h =
 
 -- the room: one test after another
 module _ (lines items starts listing : ℕ) where
-  pub room-starts : starts ≤ lines → unless false 3 0 ≡ roomCheck lines items starts listing
-  unfolding roomCheck
+  pub room-starts : starts ≤ lines → unless false 3 0 ≡ listsRoomCheck lines items starts listing
+  unfolding listsRoomCheck
   room-starts h = rw (le-ltb lines starts h)
 
-  pub room-listing : lines < starts → unless (leb items listing) 3 0 ≡ roomCheck lines items starts listing
-  unfolding roomCheck
+  pub room-listing : lines < starts → unless (leb items listing) 3 0 ≡ listsRoomCheck lines items starts listing
+  unfolding listsRoomCheck
   room-listing h = rw (lt-ltb lines starts h)
 
-  pub room-says : roomCheck lines items starts listing ≡ Fine → (lines < starts) × (items ≤ listing)
-  unfolding roomCheck
+  pub room-says : listsRoomCheck lines items starts listing ≡ Fine → (lines < starts) × (items ≤ listing)
+  unfolding listsRoomCheck
   room-says h =
       let b = unless-fine _ 3 0 h in
       (ltb-true lines starts (and-left (ltb lines starts) (leb items listing) b), leb-true items listing (and-right (ltb lines starts) (leb items listing) b))
 
-  room-spares : Clearing false (roomCheck lines items starts listing)
-  unfolding roomCheck clears
+  room-spares : Clearing false (listsRoomCheck lines items starts listing)
+  unfolding listsRoomCheck clears
   room-spares = clearing-unless _ 3 0 refl
 
 -- no check of tables refuses by 4 to 7
@@ -150,7 +150,7 @@ passed g t h =
     }
 
 module _ (t : Tables) (f : TablesFit t) where
-  pub list-asks : (c : ℕ) → c < cells t → ListAsks (t .offsets) (t .items) c
+  pub list-asks : (c : ℕ) → c < cells t → CellListAsks (t .offsets) (t .items) c
   list-asks c h =
       record {
         inside = omega (arith, f .long);
@@ -162,7 +162,7 @@ module _ (t : Tables) (f : TablesFit t) where
   table-walks = record { rises = λ c h. f .lists .lists c h .rises; below = λ c h. f .lists .lists c h .below }
 
   -- THE TOTAL: the lists by line have as many cells as there are items that count
-  pub by-line-total : start (cellsOf t) (t .lines) ≡ getD (t .offsets) (cells t) 0
+  pub by-line-total : start (cellsListing t) (t .lines) ≡ getD (t .offsets) (cells t) 0
   by-line-total =
       turned (listOf t) (t .lines) (cells t) (cells t) table-walks (omega arith)
       ∙ lists-sum (t .offsets) (t .items) (cells t) (f .lists .first) list-asks
@@ -180,16 +180,16 @@ module _ (g : Grid) (n : ℕ) (offsets items globals : List ℕ) (k : ℕ) (star
         let q = s .says r refl in
         record { answers = rw e; starts-are = rw e (sym (left-same 0 r starts q)); listing-is = rw e (sym (left-same 0 r listing q)) }
 
-    pub by-line-room : roomCheck n (length items) (length starts) (length listing) ≡ Refused r → ByLineIs g t starts listing (answer.Refused r) starts listing
+    pub by-line-room : listsRoomCheck n (length items) (length starts) (length listing) ≡ Refused r → ByLineIs g t starts listing (answer.Refused r) starts listing
     unfolding byLine
     by-line-room e = refused-is (rw e at (room-spares n (length items) (length starts) (length listing))) (then-refused _ _ r e)
 
-    pub by-line-tables : roomCheck n (length items) (length starts) (length listing) ≡ Fine → standingCheck g t ≡ Refused r
+    pub by-line-tables : listsRoomCheck n (length items) (length starts) (length listing) ≡ Fine → standingCheck g t ≡ Refused r
         → ByLineIs g t starts listing (answer.Refused r) starts listing
     unfolding byLine
     by-line-tables f e = refused-is (rw e at (standing-spares g t)) (then-fine _ _ f ∙ then-refused _ _ r e)
 
-  module _ (f : roomCheck n (length items) (length starts) (length listing) ≡ Fine) (h : standingCheck g t ≡ Fine) where
+  module _ (f : listsRoomCheck n (length items) (length starts) (length listing) ≡ Fine) (h : standingCheck g t ≡ Fine) where
     pub by-line-cells : g .rows * g .cols < 2 ^ 32
     by-line-cells = omega (arith, passed g t h .shape .counts .cells)
 
@@ -212,5 +212,5 @@ module _ (g : Grid) (n : ℕ) (offsets items globals : List ℕ) (k : ℕ) (star
         → ByLineIs g t starts listing (answer.Listed r) starts′ listing′
     unfolding byLine answerBy leftIn
     by-line-made q w =
-        let e : byLine g t starts listing ≡ gives (start (cellsOf t) n) = then-fine _ _ f ∙ then-fine _ _ h in
+        let e : byLine g t starts listing ≡ gives (start (cellsListing t) n) = then-fine _ _ f ∙ then-fine _ _ h in
         record { answers = rw (e, q, by-line-total t (passed g t h .fits)); starts-are = rw e (w .starts-are); listing-is = rw e (w .listing-is) }

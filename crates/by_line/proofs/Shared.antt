@@ -16,29 +16,29 @@ use Rattle.slices.specs.Lists.{elem}
 use Rattle.slices.proofs.Members.{any-append, elem-at}
 use Rattle.tables.specs.Lists.{only, linesAt}
 use Rattle.by_line.specs.First.{frontOf, someBelow, metBelow}
-use Rattle.by_line.specs.Marks.{placeOf, bitOf, bitsBack, markOf, MarksAre}
+use Rattle.by_line.specs.Marks.{bitPlace, bitOf, bitsBack, markOf, MarksAre}
 use Rattle.by_line.proofs.Bits.{bitAt, High, common-high, common-none, or-bit, or-left, or-right, zero-bit, power-bit, bit-power}
 use Rattle.by_line.proofs.Common.{Standing, front-lines}
 
 -- ---- the bit of a cell
 
 module _ (before low cell : ℕ) where
-  place-low : cell ≤ low → placeOf before low cell ≡ 0
-  unfolding placeOf
+  place-low : cell ≤ low → bitPlace before low cell ≡ 0
+  unfolding bitPlace
   place-low l = rw (le-leb cell low l)
 
   module _ (l : low < cell) where
-    place-before : cell ≡ before → placeOf before low cell ≡ 31
-    unfolding placeOf
+    place-before : cell ≡ before → bitPlace before low cell ≡ 31
+    unfolding bitPlace
     place-before e = rw (lt-leb cell low l, eq-eqb cell before e)
 
     module _ (n : cell ≡ before → ⊥) where
-      place-near : cell - low < 31 → placeOf before low cell ≡ cell - low
-      unfolding placeOf
+      place-near : cell - low < 31 → bitPlace before low cell ≡ cell - low
+      unfolding bitPlace
       place-near s = rw (lt-leb cell low l, ne-eqb cell before n, lt-ltb (cell - low) 31 s)
 
-      place-far : 31 ≤ cell - low → placeOf before low cell ≡ 0
-      unfolding placeOf
+      place-far : 31 ≤ cell - low → bitPlace before low cell ≡ 0
+      unfolding bitPlace
       place-far s = rw (lt-leb cell low l, ne-eqb cell before n, le-ltb (cell - low) 31 s)
 
       pub bit-near : cell - low < 31 → 2 ^ (cell - low) ≡ bitOf before low cell
@@ -61,7 +61,7 @@ module _ (before low cell : ℕ) where
 cellAt : ℕ → ℕ → ℕ → ℕ
 cellAt before low k = cond (eqb k 31) before (low + k)
 
-place-says : (before low cell k : ℕ) → suc k ≡ placeOf before low cell → cellAt before low (suc k) ≡ cell
+place-says : (before low cell k : ℕ) → suc k ≡ bitPlace before low cell → cellAt before low (suc k) ≡ cell
 unfolding cellAt
 place-says before low cell k e = go (decLe cell low)
   where
@@ -81,11 +81,11 @@ place-says before low cell k e = go (decLe cell low)
 
 bit-says : (before low cell k : ℕ) → bitAt (suc k) (bitOf before low cell) ≡ 1 → cellAt before low (suc k) ≡ cell
 unfolding bitOf
-bit-says before low cell k h = place-says before low cell k (power-bit (suc k) (placeOf before low cell) h)
+bit-says before low cell k h = place-says before low cell k (power-bit (suc k) (bitPlace before low cell) h)
 
-bit-stands : (before low cell : ℕ) → bitAt (placeOf before low cell) (bitOf before low cell) ≡ 1
+bit-stands : (before low cell : ℕ) → bitAt (bitPlace before low cell) (bitOf before low cell) ≡ 1
 unfolding bitOf
-bit-stands before low cell = bit-power (placeOf before low cell)
+bit-stands before low cell = bit-power (bitPlace before low cell)
 
 -- ---- the bits of a list's first entries
 
@@ -232,7 +232,7 @@ some-none (suc c) f h = rw (some-none c f (λ v l e. h v (omega arith) e)) (go (
 -- a cell below c that lists a line has its bit in the line's mark
 module _ (before low : ℕ) where
   lines-marked : (W : ℕ → List ℕ) (i v c : ℕ) → v < c → elem i (W v) ≡ true → (m : ℕ)
-      → bitAt (placeOf before low v) (bitsBack (linesAt W c i) before low (length (linesAt W c i)) m) ≡ 1
+      → bitAt (bitPlace before low v) (bitsBack (linesAt W c i) before low (length (linesAt W c i)) m) ≡ 1
   unfolding linesAt
   lines-marked W i v zero l e m = absurd (omega (arith, l))
   lines-marked W i v (suc c) l e m = go (elem i (W c)) refl (λ k m′. lines-marked W i v c k e m′)
@@ -247,28 +247,28 @@ module _ (before low : ℕ) where
       long = length-append xs (c ∷ []) ∙ omega arith
 
       -- the cell c is the last
-      stop : c ≤ low → bitAt (placeOf before low v) (bitsBack (xs ++ (c ∷ [])) before low (suc (length xs)) m) ≡ 1
+      stop : c ≤ low → bitAt (bitPlace before low v) (bitsBack (xs ++ (c ∷ [])) before low (suc (length xs)) m) ≡ 1
       stop k =
           let z : getD (xs ++ (c ∷ [])) (length xs) 0 ≤ low = rw last k in
-          let same : placeOf before low v ≡ placeOf before low c = place-low before low v (omega (arith, l, k)) ∙ sym (place-low before low c k) in
-          rw (← back-stop (xs ++ (c ∷ [])) before low (length xs) m z, last, same) (or-right (placeOf before low c) m (bitOf before low c) (bit-stands before low c))
+          let same : bitPlace before low v ≡ bitPlace before low c = place-low before low v (omega (arith, l, k)) ∙ sym (place-low before low c k) in
+          rw (← back-stop (xs ++ (c ∷ [])) before low (length xs) m z, last, same) (or-right (bitPlace before low c) m (bitOf before low c) (bit-stands before low c))
 
-      further : low < c → ((k : v < c) → (m′ : ℕ) → bitAt (placeOf before low v) (bitsBack xs before low (length xs) m′) ≡ 1)
-          → bitAt (placeOf before low v) (bitsBack (xs ++ (c ∷ [])) before low (suc (length xs)) m) ≡ 1
+      further : low < c → ((k : v < c) → (m′ : ℕ) → bitAt (bitPlace before low v) (bitsBack xs before low (length xs) m′) ≡ 1)
+          → bitAt (bitPlace before low v) (bitsBack (xs ++ (c ∷ [])) before low (suc (length xs)) m) ≡ 1
       further k ih =
           let z : low < getD (xs ++ (c ∷ [])) (length xs) 0 = rw last k in
           rw (← back-more (xs ++ (c ∷ [])) before low (length xs) m z, last, back-alike (xs ++ (c ∷ [])) xs before low (length xs) (bitOr m (bitOf before low c)) (λ q r. List·getD-append xs (c ∷ []) 0 q r))
           (here (ℕ-discrete v c))
         where
-          here : Dec (v ≡ c) → bitAt (placeOf before low v) (bitsBack xs before low (length xs) (bitOr m (bitOf before low c))) ≡ 1
-          here (yes q) = back-keeps xs before low (length xs) (bitOr m (bitOf before low c)) (placeOf before low v) (rw q (or-right (placeOf before low c) m (bitOf before low c) (bit-stands before low c)))
+          here : Dec (v ≡ c) → bitAt (bitPlace before low v) (bitsBack xs before low (length xs) (bitOr m (bitOf before low c))) ≡ 1
+          here (yes q) = back-keeps xs before low (length xs) (bitOr m (bitOf before low c)) (bitPlace before low v) (rw q (or-right (bitPlace before low c) m (bitOf before low c) (bit-stands before low c)))
           here (no n) = ih (omega (arith, l, n)) (bitOr m (bitOf before low c))
 
-      go : (p : Bool) → elem i (W c) ≡ p → ((k : v < c) → (m′ : ℕ) → bitAt (placeOf before low v) (bitsBack xs before low (length xs) m′) ≡ 1)
-          → bitAt (placeOf before low v) (bitsBack (xs ++ only p c) before low (length (xs ++ only p c)) m) ≡ 1
+      go : (p : Bool) → elem i (W c) ≡ p → ((k : v < c) → (m′ : ℕ) → bitAt (bitPlace before low v) (bitsBack xs before low (length xs) m′) ≡ 1)
+          → bitAt (bitPlace before low v) (bitsBack (xs ++ only p c) before low (length (xs ++ only p c)) m) ≡ 1
       go true q ih = rw long (at-c (decLe c low))
         where
-          at-c : Dec (c ≤ low) → bitAt (placeOf before low v) (bitsBack (xs ++ (c ∷ [])) before low (suc (length xs)) m) ≡ 1
+          at-c : Dec (c ≤ low) → bitAt (bitPlace before low v) (bitsBack (xs ++ (c ∷ [])) before low (suc (length xs)) m) ≡ 1
           at-c (yes k) = stop k
           at-c (no k) = further (omega (arith, k)) ih
       go false q ih = rw append-nil (ih (below (ℕ-discrete v c)) m)
@@ -292,7 +292,7 @@ module _ {W : ℕ → List ℕ} {m n : ℕ} {starts listing : List ℕ} {c : ℕ
       let y = lines-say W c b (cellAt before low (suc (q .k))) (rw (front-lines s b hb) at (mark-says b before low starts listing counts (q .k) (q .right))) in
       some-says c (λ k. elem a (W k) && elem b (W k)) (cellAt before low (suc (q .k))) (x .0) (rw (x .1, y .1))
 
-  cell-marked : (before low a v : ℕ) → a < n → v < c → elem a (W v) ≡ true → bitAt (placeOf before low v) (markOf a before low starts listing counts) ≡ 1
+  cell-marked : (before low a v : ℕ) → a < n → v < c → elem a (W v) ≡ true → bitAt (bitPlace before low v) (markOf a before low starts listing counts) ≡ 1
   unfolding markOf
   cell-marked before low a v ha l e = rw (front-lines s a ha) (lines-marked before low W a v c l e 0)
 
@@ -304,7 +304,7 @@ module _ {W : ℕ → List ℕ} {m n : ℕ} {starts listing : List ℕ} {c : ℕ
       some-none c (λ k. elem a (W k) && elem b (W k))
       (λ v l e.
       let q = and-says (elem a (W v)) (elem b (W v)) e in
-      common-none (placeOf before low v) (markOf a before low starts listing counts) (markOf b before low starts listing counts)
+      common-none (bitPlace before low v) (markOf a before low starts listing counts) (markOf b before low starts listing counts)
       (cell-marked before low a v ha l (q .0)) (cell-marked before low b v hb l (q .1)) d)
 
 -- ---- the marks of a list

@@ -14,7 +14,7 @@ use Rattle.tables.proofs.Facts.{part-slice}
 use Rattle.tables.proofs.Laws.{counts-sum, placed-none, table-of}
 use Rattle.fill.specs.Inside.{Summed, ShiftedBack}
 use Rattle.fill.proofs.Counts.{zeros-at}
-use Rattle.by_line.specs.Inside.{ListAsks, TableAsks, CountAsks, PlaceAsks, MakeAsks, Made}
+use Rattle.by_line.specs.Inside.{CellListAsks, TableAsks, ListCountAsks, ListPlaceAsks, MakeAsks, Made}
 
 -- ---- the list of a cell
 
@@ -52,7 +52,7 @@ pub record Counting (m n : ℕ) (offsets items counts₀ counts : List ℕ) (c :
   pub room : n ≤ length counts
   pub counted : Counted (linesAt (listIn offsets items) c) counts
 
-pub counting-none : {m n : ℕ} {offsets items counts : List ℕ} → CountAsks m n offsets items counts → Counting m n offsets items counts counts 0
+pub counting-none : {m n : ℕ} {offsets items counts : List ℕ} → ListCountAsks m n offsets items counts → Counting m n offsets items counts counts 0
 counting-none a = record { table = a .table; at = omega arith; len = refl; room = a .room; counted = a .counted }
 
 module _ {m n : ℕ} {offsets items counts₀ counts : List ℕ} {c : ℕ} (k : Counting m n offsets items counts₀ counts c) where
@@ -72,13 +72,13 @@ module _ {m n : ℕ} {offsets items counts₀ counts : List ℕ} {c : ℕ} (k : 
 -- ---- placing
 
 pub record Placing (m n : ℕ) (offsets items starts₀ listing₀ starts listing : List ℕ) (c : ℕ) : Type 0 where
-  pub asks : PlaceAsks m n offsets items starts₀ listing₀
+  pub asks : ListPlaceAsks m n offsets items starts₀ listing₀
   pub at : c ≤ m
   pub len : length starts ≡ length starts₀
   pub len-listing : length listing ≡ length listing₀
   pub placed : Placed (linesAt (listIn offsets items) m) n (linesAt (listIn offsets items) c) starts listing
 
-pub placing-none : {m n : ℕ} {offsets items starts listing : List ℕ} → PlaceAsks m n offsets items starts listing → Placing m n offsets items starts listing starts listing 0
+pub placing-none : {m n : ℕ} {offsets items starts listing : List ℕ} → ListPlaceAsks m n offsets items starts listing → Placing m n offsets items starts listing starts listing 0
 placing-none a = record { asks = a; at = omega arith; len = refl; len-listing = refl; placed = a .placed }
 
 module _ {m n : ℕ} {offsets items starts₀ listing₀ starts listing : List ℕ} {c : ℕ} (k : Placing m n offsets items starts₀ listing₀ starts listing c) where
@@ -113,7 +113,7 @@ unfolding linesAt
 counted-none W n e = record { count-is = λ c. rw e (zeros-at n c) }
 
 module _ {m n : ℕ} {offsets items starts listing : List ℕ} (a : MakeAsks m n offsets items starts listing) where
-  pub make-counts : {s : List ℕ} → s ≡ replicate (length starts) 0 → length s ≡ length starts → CountAsks m n offsets items s
+  pub make-counts : {s : List ℕ} → s ≡ replicate (length starts) 0 → length s ≡ length starts → ListCountAsks m n offsets items s
   make-counts e l = record { table = a .table; room = omega (arith, a .room); counted = counted-none (listIn offsets items) (length starts) e }
 
   module _ {s₁ : List ℕ} (k : Counted (linesAt (listIn offsets items) m) s₁) (l₁ : length s₁ ≡ length starts) where
@@ -121,7 +121,7 @@ module _ {m n : ℕ} {offsets items starts listing : List ℕ} (a : MakeAsks m n
     make-sums = (omega (arith, a .room), omega (arith, counts-sum k n, a .small))
 
     module _ {s₂ : List ℕ} {all : ℕ} (q : Summed s₁ s₂ n all) (l₂ : length s₂ ≡ length s₁) where
-      pub make-place : {t : List ℕ} → t ≡ replicate (length listing) 0 → length t ≡ length listing → PlaceAsks m n offsets items s₂ t
+      pub make-place : {t : List ℕ} → t ≡ replicate (length listing) 0 → length t ≡ length listing → ListPlaceAsks m n offsets items s₂ t
       make-place {t} z lt =
           record {
             table = a .table;
@@ -142,7 +142,7 @@ module _ {m n : ℕ} {offsets items starts listing : List ℕ} (a : MakeAsks m n
           }
 
 -- what a cell's list asks for, as the code has it
-module _ {offsets items : List ℕ} {c : ℕ} (a : ListAsks offsets items c) where
+module _ {offsets items : List ℕ} {c : ℕ} (a : CellListAsks offsets items c) where
   pub part-up : getD offsets c 0 ≤ getD offsets (c + 1) 0
   part-up = rw add-one (a .rises)
 

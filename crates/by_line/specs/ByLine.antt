@@ -19,20 +19,20 @@ abbrev pub cellsBefore : Tables → ℕ → ℕ → List ℕ
 cellsBefore t c line = linesAt (listOf t) c line
 
 -- THE LIST OF A LINE: all cells that list it, increasing
-abbrev pub cellsOf : Tables → ℕ → List ℕ
-cellsOf t line = cellsBefore t (cells t) line
+abbrev pub cellsListing : Tables → ℕ → List ℕ
+cellsListing t line = cellsBefore t (cells t) line
 
 -- 3: the starts need an entry for each line and one more, and the lists as many as there are items, whether these count or not
-unfoldable pub roomCheck : ℕ → ℕ → ℕ → ℕ → Check
-roomCheck lines items starts listing = unless (ltb lines starts && leb items listing) 3 0
+unfoldable pub listsRoomCheck : ℕ → ℕ → ℕ → ℕ → Check
+listsRoomCheck lines items starts listing = unless (ltb lines starts && leb items listing) 3 0
 
 -- 3; then 2, 8 and 10 of the tables; else how many cells the lists have in all
 unfoldable pub byLine : Grid → Tables → List ℕ → List ℕ → Answer ℕ
 byLine g t starts listing =
-    roomCheck (t .lines) (length (t .items)) (length starts) (length listing) then standingCheck g t then gives (start (cellsOf t) (t .lines))
+    listsRoomCheck (t .lines) (length (t .items)) (length starts) (length listing) then standingCheck g t then gives (start (cellsListing t) (t .lines))
 
 -- the answer r, and the two slices before and after: where the list of each line begins, and the lists one after another
 pub record ByLineIs (g : Grid) (t : Tables) (starts listing : List ℕ) (r : ByLine) (starts′ listing′ : List ℕ) : Type 0 where
   pub answers : r ≡ answerBy answer.Refused answer.Listed (byLine g t starts listing)
-  pub starts-are : starts′ ≡ leftIn 0 starts (byLine g t starts listing) (λ total. offsetsOf (cellsOf t) (t .lines) (length starts))
-  pub listing-is : listing′ ≡ leftIn 0 listing (byLine g t starts listing) (λ total. itemsOf (cellsOf t) (t .lines) (length listing))
+  pub starts-are : starts′ ≡ leftIn 0 starts (byLine g t starts listing) (λ total. offsetsOf (cellsListing t) (t .lines) (length starts))
+  pub listing-is : listing′ ≡ leftIn 0 listing (byLine g t starts listing) (λ total. itemsOf (cellsListing t) (t .lines) (length listing))

@@ -8,24 +8,24 @@ use Rattle.tables.specs.Lists.{Walks, linesAt, start, itemsOf, offsetsOf}
 use Rattle.tables.specs.States.{Counted, Placed}
 
 -- a cell, and its list within the items
-pub record ListAsks (offsets items : List ℕ) (c : ℕ) : Type 0 where
+pub record CellListAsks (offsets items : List ℕ) (c : ℕ) : Type 0 where
   pub inside : suc c < length offsets
   pub rises : getD offsets c 0 ≤ getD offsets (suc c) 0
   pub within : getD offsets (suc c) 0 ≤ length items
 
 -- the lists of m cells increase below n
 pub record TableAsks (m n : ℕ) (offsets items : List ℕ) : Type 0 where
-  pub lists : (c : ℕ) → c < m → ListAsks offsets items c
+  pub lists : (c : ℕ) → c < m → CellListAsks offsets items c
   pub walks : Walks (listIn offsets items) m n
   pub few-lines : n < 2 ^ 32
   pub few-cells : m < 2 ^ 32
 
-pub record CountAsks (m n : ℕ) (offsets items counts : List ℕ) : Type 0 where
+pub record ListCountAsks (m n : ℕ) (offsets items counts : List ℕ) : Type 0 where
   pub table : TableAsks m n offsets items
   pub room : n ≤ length counts
   pub counted : Counted (linesAt (listIn offsets items) 0) counts
 
-pub record PlaceAsks (m n : ℕ) (offsets items starts listing : List ℕ) : Type 0 where
+pub record ListPlaceAsks (m n : ℕ) (offsets items starts listing : List ℕ) : Type 0 where
   pub table : TableAsks m n offsets items
   pub room : n < length starts
   pub space : start (linesAt (listIn offsets items) m) n ≤ length listing

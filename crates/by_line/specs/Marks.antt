@@ -9,12 +9,12 @@ use lib.Bits.{bitOr}
 use Rattle.by_line.specs.First.{frontOf}
 
 -- the place of a cell's bit: 31 is that of the cell `before`, k that of the cell low + k, below 31; 0 is that of all others
-unfoldable pub placeOf : ℕ → ℕ → ℕ → ℕ
-placeOf before low cell = cond (leb cell low) 0 (cond (eqb cell before) 31 (cond (ltb (cell - low) 31) (cell - low) 0))
+unfoldable pub bitPlace : ℕ → ℕ → ℕ → ℕ
+bitPlace before low cell = cond (leb cell low) 0 (cond (eqb cell before) 31 (cond (ltb (cell - low) 31) (cell - low) 0))
 
 -- the bit of a cell
 unfoldable pub bitOf : ℕ → ℕ → ℕ → ℕ
-bitOf before low cell = 2 ^ placeOf before low cell
+bitOf before low cell = 2 ^ bitPlace before low cell
 
 -- the bits of the first i of a list, from the last back to one that is not above `low`, and those of m
 unfoldable pub bitsBack : List ℕ → ℕ → ℕ → ℕ → ℕ → ℕ

@@ -5,7 +5,7 @@ use refusals::Check;
 use refusals::Refusal;
 ghost use mathlib.Core.Path.{_≡_};
 ghost use Rattle.tables.specs.Tables.{tables};
-ghost use Rattle.by_line.specs.ByLine.{roomCheck, ByLineIs};
+ghost use Rattle.by_line.specs.ByLine.{listsRoomCheck, ByLineIs};
 ghost use Rattle.by_line.specs.Inside.{MakeAsks, Made};
 
 pub mod first;
@@ -21,7 +21,7 @@ pub enum ByLine {
 
 // Refusal 3: an entry of the starts for each line and one more, and as many entries as there are items.
 fn check_room(lines: usize, items: usize, starts: usize, listing: usize) -> Check
-    ensures { λ r. ⌜ r ≡ roomCheck lines items starts listing ⌝ }
+    ensures { λ r. ⌜ r ≡ listsRoomCheck lines items starts listing ⌝ }
 {
     if starts <= lines {
         return refusals::refuse_unless(false, 3, 0);

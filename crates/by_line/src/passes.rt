@@ -5,11 +5,11 @@ ghost use lib.ListN.{length};
 ghost use Rattle.tables.specs.Tables.{listIn};
 ghost use Rattle.tables.specs.Lists.{linesAt};
 ghost use Rattle.tables.specs.States.{CanCount, CanPlace, Counted, Placed};
-ghost use Rattle.by_line.specs.Inside.{ListAsks, CountAsks, PlaceAsks};
+ghost use Rattle.by_line.specs.Inside.{CellListAsks, ListCountAsks, ListPlaceAsks};
 
 // The list of a cell: a part of the items.
 fn list_of<'a>(offsets: &[u32], items: &'a [u32], cell: usize) -> &'a [u32]
-    requires { ⌜ ListAsks (now offsets) (now items) cell ⌝ }
+    requires { ⌜ CellListAsks (now offsets) (now items) cell ⌝ }
     ensures { λ r. ⌜ now r ≡ listIn (now (offsets .entry)) (now (items .entry)) cell ⌝ }
 {
     let from = offsets[cell] as usize;
@@ -39,7 +39,7 @@ pub(crate) fn count_all(
     items: &[u32],
     counts: &mut [u32],
 )
-    requires { ⌜ CountAsks cells lines (now offsets) (now items) (now counts) ⌝ }
+    requires { ⌜ ListCountAsks cells lines (now offsets) (now items) (now counts) ⌝ }
     ensures { λ _. ⌜ Counted (linesAt (listIn (now (offsets .entry)) (now (items .entry))) cells) (now (counts .exit)) ⌝ }
 {
     let mut cell = 0;
@@ -75,7 +75,7 @@ pub(crate) fn place_all(
     starts: &mut [u32],
     listing: &mut [u32],
 )
-    requires { ⌜ PlaceAsks cells lines (now offsets) (now items) (now starts) (now listing) ⌝ }
+    requires { ⌜ ListPlaceAsks cells lines (now offsets) (now items) (now starts) (now listing) ⌝ }
     ensures { λ _. let w = listIn (now (offsets .entry)) (now (items .entry)) in
         ⌜ Placed (linesAt w cells) lines (linesAt w cells) (now (starts .exit)) (now (listing .exit)) ⌝ }
 {

@@ -10,7 +10,7 @@ use Rattle.grid.specs.Domain.{Lines}
 use Rattle.grid.specs.Words.{gridWords, gridBy}
 use Rattle.fill.specs.Fill.{countOf}
 use Rattle.counts.specs.OnGrid.{countedOf, CountingIs, tablesOf, tabledOf, TablesAre}
-use Rattle.counts.specs.Adding.{addCheck, AddIs}
+use Rattle.counts.specs.Adding.{addCheck, SumIs}
 use Rattle.replies.specs.Replies.{Replies}
 use Rattle.replies.specs.Answers.{ofCheck}
 use Rattle.capi.specs.Few.{unlessFew}
@@ -19,13 +19,13 @@ use Rattle.capi_counts.specs.Answers.{ofCounted, ofTabled}
 
 -- ---- the count, on the grid that words say, in the mode that a number names
 
-abbrev pub countEnd : List ℕ → ℕ → Lines → List ℕ → List ℕ → Answer ℕ
-countEnd words mode ls counts scratch = countOf (modeBy mode) (gridBy words) ls (length counts) (length scratch)
+abbrev pub countCallEnd : List ℕ → ℕ → Lines → List ℕ → List ℕ → Answer ℕ
+countCallEnd words mode ls counts scratch = countOf (modeBy mode) (gridBy words) ls (length counts) (length scratch)
 
 pub record CountReplies (words : List ℕ) (mode : ℕ) (ls : Lines) (counts scratch out : List ℕ) (r : ℕ) (counts′ scratch′ out′ : List ℕ) : Type 0 where
-  pub replies : Replies 2 (unlessFew words (unlessUnwalked mode (ofCounted (countedOf (modeBy mode) (gridBy words) ls (countEnd words mode ls counts scratch))))) out r out′
+  pub replies : Replies 2 (unlessFew words (unlessUnwalked mode (ofCounted (countedOf (modeBy mode) (gridBy words) ls (countCallEnd words mode ls counts scratch))))) out r out′
   pub called :
-      let a = countEnd words mode ls counts scratch in
+      let a = countCallEnd words mode ls counts scratch in
       2 ≤ length out → gridWords ≤ length words → mode ≤ lastMode → CountingIs (modeBy mode) (gridBy words) ls counts scratch (countedOf (modeBy mode) (gridBy words) ls a) counts′ scratch′ a
   pub short : length out < 2 → (counts′ ≡ counts) × (scratch′ ≡ scratch)
   pub few : length words < gridWords → (counts′ ≡ counts) × (scratch′ ≡ scratch)
@@ -35,7 +35,7 @@ pub record CountReplies (words : List ℕ) (mode : ℕ) (ls : Lines) (counts scr
 
 pub record AddReplies (a b out : List ℕ) (r : ℕ) (a′ out′ : List ℕ) : Type 0 where
   pub replies : Replies 1 (ofCheck (addCheck a b)) out r out′
-  pub called : 1 ≤ length out → AddIs a b (addCheck a b) a′
+  pub called : 1 ≤ length out → SumIs a b (addCheck a b) a′
   pub short : length out < 1 → a′ ≡ a
 
 -- ---- tables, on the grid that words say, in the mode that a number names

@@ -11,7 +11,7 @@ ghost use Rattle.replies.specs.Answers.{ofCells};
 ghost use Rattle.capi_pairs.specs.Answers.{ofOnce};
 ghost use Rattle.capi_pairs.specs.Lent.{OnceReplies};
 ghost use Rattle.samples.specs.Samples.{samples};
-ghost use Rattle.crossings.specs.Crossings.{beside, crossingsBy};
+ghost use Rattle.crossings.specs.Crossings.{besideSamples, crossingsBy};
 
 // The number of a function that is handed too few words to say a grid.
 const FEW: u32 = 101;
@@ -48,7 +48,7 @@ pub extern "C" fn mt_crossings(
     ensures { λ r. let ss = samples (now («start_x» .entry)) (now («start_y» .entry)) (now («end_x» .entry)) (now («end_y» .entry)) in
         let w = now (grid .entry) in
         let g = gridBy w in
-        let t = beside ss g (now (offsets .entry)) (now (items .entry)) (now (globals .entry)) «global_count» in
+        let t = besideSamples ss g (now (offsets .entry)) (now (items .entry)) (now (globals .entry)) «global_count» in
         let end = crossingsBy ss g t (now (first .entry)) (now (second .entry)) (now (starts .entry)) (now (listing .entry)) (now (counts .entry)) in
         ⌜ OnceReplies w end (now (first .entry)) (now (second .entry)) (now (starts .entry)) (now (listing .entry)) (now (counts .entry)) (now (out .entry)) r
         (now (first .exit)) (now (second .exit)) (now (starts .exit)) (now (listing .exit)) (now (counts .exit)) (now (out .exit)) ⌝ }

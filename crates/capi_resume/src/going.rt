@@ -7,7 +7,7 @@ use replies::SHORT;
 use resume::Cursor;
 ghost use Rattle.grid.specs.Words.{gridBy};
 ghost use Rattle.grid.specs.Domain.{lines};
-ghost use Rattle.seek.specs.Bookmarks.{beside};
+ghost use Rattle.tables.specs.Tables.{beside};
 ghost use Rattle.resume.specs.Cursors.{cursor};
 ghost use Rattle.capi_resume.specs.Lent.{NextReplies};
 

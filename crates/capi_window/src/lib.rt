@@ -9,7 +9,7 @@ use window::Listing;
 ghost use mathlib.Core.Path.{_≡_};
 ghost use Rattle.grid.specs.Domain.{lines};
 ghost use Rattle.grid.specs.Words.{gridBy};
-ghost use Rattle.window.specs.Window.{beside};
+ghost use Rattle.tables.specs.Tables.{beside};
 ghost use Rattle.replies.specs.Answers.{ofCells};
 ghost use Rattle.capi_window.specs.Lent.{corners, ofListing, WindowReplies};
 

@@ -18,10 +18,10 @@ use Rattle.build.specs.Build.{endOf, builtOn, answerOf, BuildIs}
 use Rattle.build.specs.declared.Standing.{Standing}
 use Rattle.build.specs.declared.Built.{Built}
 use Rattle.build.specs.declared.Built.the-variants as built
-use Rattle.tables.specs.Tables.{Tables}
+use Rattle.tables.specs.Tables.{Tables, beside}
 use Rattle.seek.specs.Tests.{Pair}
 use Rattle.visit.specs.Batches.{overlapping}
-use Rattle.seek.specs.Bookmarks.{beside, visitCheck}
+use Rattle.seek.specs.Bookmarks.{visitCheck}
 use Rattle.report.specs.Pages.{page, Puts}
 use Rattle.report.specs.Lines.{refusedLine}
 use Rattle.report.proofs.Written.{Written, written}

@@ -19,10 +19,10 @@ use Rattle.fill.specs.OnGrid.{total}
 use Rattle.build.specs.declared.Plan.{Plan}
 use Rattle.build.specs.Build.{endOf}
 use Rattle.build.proofs.Settled.{Made, made-says}
-use Rattle.tables.specs.Tables.{Tables, cells, listOf, globalsOf}
+use Rattle.tables.specs.Tables.{Tables, cells, listOf, globalsOf, beside}
 use Rattle.tables.specs.Fit.{TablesFit}
 use Rattle.tables.proofs.Facts.{all-within}
-use Rattle.seek.specs.Bookmarks.{visitCheck, beside}
+use Rattle.seek.specs.Bookmarks.{visitCheck}
 use Rattle.seek.specs.Tests.{Pair}
 use Rattle.visit.specs.Batches.{overlapping}
 use Rattle.seek.proofs.Standing.{stands}

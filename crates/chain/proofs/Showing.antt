@@ -11,7 +11,7 @@ use Rattle.report.specs.Lines.{cellLine}
 use Rattle.report.proofs.Putting.{puts-none, puts-then, puts-text}
 use Rattle.tables.proofs.Facts.{part-slice}
 use Rattle.chain.specs.Printed.{cellLines}
-use Rattle.chain.specs.Inside.{CellAsks, TablesAsk}
+use Rattle.chain.specs.Inside.{PrintAsks, TablesAsk}
 
 pub cells-none : (t : Tables) (p : Page) → Puts (cellLines t 0) p p
 unfolding cellLines
@@ -33,7 +33,7 @@ pub record PartOf (t : Tables) (c from to : ℕ) : Type 0 where
   pub high : to ≤ length (t .items)
   pub is : take (to - from) (drop from (t .items)) ≡ listOf t c
 
-pub part-of : (t : Tables) (cell c from to : ℕ) → CellAsks t cell → c ≡ cell → from ≡ getD (t .offsets) c 0 → to ≡ getD (t .offsets) (c + 1) 0 → PartOf t cell from to
+pub part-of : (t : Tables) (cell c from to : ℕ) → PrintAsks t cell → c ≡ cell → from ≡ getD (t .offsets) c 0 → to ≡ getD (t .offsets) (c + 1) 0 → PartOf t cell from to
 part-of t cell c from to a e f g =
     let g′ : to ≡ getD (t .offsets) (suc cell) 0 = g ∙ ap (λ (n : ℕ). getD (t .offsets) n 0) (add-one c ∙ ap suc e) in
     let f′ : from ≡ getD (t .offsets) cell 0 = f ∙ ap (λ (n : ℕ). getD (t .offsets) n 0) e in

@@ -5,11 +5,11 @@ use native.Mathlib.Omega.{arith}
 use Rattle.refusals.specs.declared.Check.the-variants.{Fine}
 use Rattle.grid.specs.declared.Grid.{Grid}
 use Rattle.grid.specs.Domain.{Lines, count}
-use Rattle.tables.specs.Tables.{Tables, tables, cells}
+use Rattle.tables.specs.Tables.{Tables, tables, cells, beside}
 use Rattle.tables.proofs.Facts.{all-within}
-use Rattle.seek.specs.Bookmarks.{visitCheck, beside}
+use Rattle.seek.specs.Bookmarks.{visitCheck}
 use Rattle.seek.proofs.Standing.{Stands, stands, has-columns, cells-few}
-use Rattle.chain.specs.Inside.{CellAsks, TablesAsk}
+use Rattle.chain.specs.Inside.{PrintAsks, TablesAsk}
 
 module _ (ls : Lines) (g : Grid) (t : Tables) (fine : visitCheck ls g t ≡ Fine) where
   pub shown : t .cols ≡ g .cols → t .rows ≡ g .rows → TablesAsk t

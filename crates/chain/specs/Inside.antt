@@ -18,7 +18,7 @@ use Rattle.chain.specs.declared.Visited.the-variants as visited
 -- ---- the report
 
 -- a cell of tables: its list is a part of the items
-pub record CellAsks (t : Tables) (c : ℕ) : Type 0 where
+pub record PrintAsks (t : Tables) (c : ℕ) : Type 0 where
   pub some : 0 < t .cols
   pub long : c + 1 < length (t .offsets)
   pub rises : getD (t .offsets) c 0 ≤ getD (t .offsets) (suc c) 0
@@ -27,7 +27,7 @@ pub record CellAsks (t : Tables) (c : ℕ) : Type 0 where
 -- tables whose lists are parts of the items and of the globals
 pub record TablesAsk (t : Tables) : Type 0 where
   pub few : cells t < 2 ^ 32
-  pub each : (c : ℕ) → c < cells t → CellAsks t c
+  pub each : (c : ℕ) → c < cells t → PrintAsks t c
   pub counted : t .«global_count» ≤ length (t .globals)
 
 -- ---- the visit

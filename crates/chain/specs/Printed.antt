@@ -15,10 +15,10 @@ use Rattle.tables.specs.Lists.{itemsOf, offsetsOf}
 use Rattle.fill.specs.OnGrid.{listOn, globalsOn, total}
 use Rattle.build.specs.declared.Plan.{Plan}
 use Rattle.build.specs.Build.{endOf}
-use Rattle.tables.specs.Tables.{Tables, cells, listOf, globalsOf}
+use Rattle.tables.specs.Tables.{Tables, cells, listOf, globalsOf, beside}
 use Rattle.seek.specs.Tests.{Pair, testsOf}
 use Rattle.visit.specs.Batches.{overlapping}
-use Rattle.seek.specs.Bookmarks.{beside, visitCheck}
+use Rattle.seek.specs.Bookmarks.{visitCheck}
 use Rattle.report.specs.Lines.{gridLine, cellLine, globalLine, visitLine, refusedLine}
 
 -- a refusal prints `refused` and the number

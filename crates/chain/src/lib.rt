@@ -3,7 +3,7 @@ ghost use mathlib.Core.Path.{_≡_};
 ghost use Prim.Native.Nat.{_≤_};
 ghost use lib.ListN.{length, take, replicate};
 ghost use Rattle.grid.specs.Domain.{lines};
-ghost use Rattle.seek.specs.Bookmarks.{beside};
+ghost use Rattle.tables.specs.Tables.{beside};
 ghost use Rattle.report.specs.Pages.{page, Puts};
 ghost use Rattle.chain.specs.Printed.{printedTables, printedLines, chainOf, printed, Prints};
 use build::Built;

@@ -4,7 +4,7 @@ ghost use Rattle.tables.specs.Tables.{tables, cells};
 ghost use Rattle.report.specs.Pages.{page, Puts};
 ghost use Rattle.report.specs.Lines.{cellLine};
 ghost use Rattle.chain.specs.Printed.{cellLines, reportOf};
-ghost use Rattle.chain.specs.Inside.{CellAsks, TablesAsk};
+ghost use Rattle.chain.specs.Inside.{PrintAsks, TablesAsk};
 ghost use Rattle.tables.specs.Tables.{listOf};
 ghost use Prim.Native.Nat.{_/_, _%_};
 use grid::Grid;
@@ -28,7 +28,7 @@ fn put_cell(
     out: &mut [u8],
     at: usize,
 ) -> usize
-    requires { ⌜ CellAsks (tables grid lines (now offsets) (now items) (now globals) «global_count») cell ⌝ }
+    requires { ⌜ PrintAsks (tables grid lines (now offsets) (now items) (now globals) «global_count») cell ⌝ }
     ensures { λ r. let t = tables grid lines (now (offsets .entry)) (now (items .entry)) (now (globals .entry)) «global_count» in
         ⌜ Puts (cellLine (cell / grid .cols) (cell % grid .cols) (listOf t cell)) (page (now (out .entry)) at) (page (now (out .exit)) r) ⌝ }
 {

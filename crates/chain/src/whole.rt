@@ -1,7 +1,7 @@
 // A full visit, in batches.
 ghost use mathlib.Core.Path.{_≡_};
 ghost use Rattle.grid.specs.Domain.{lines};
-ghost use Rattle.seek.specs.Bookmarks.{beside};
+ghost use Rattle.tables.specs.Tables.{beside};
 ghost use Rattle.chain.specs.Inside.{batchFrom, fullVisit};
 use crate::Visited;
 use grid::Grid;

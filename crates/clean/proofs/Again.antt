@@ -12,7 +12,7 @@ use Rattle.wkb.proofs.LineStrings.{gives-same}
 use Rattle.members.specs.Held.{pointsOf, chainsOf, heldCheck}
 use Rattle.members.proofs.Held.{points-back, chains-back}
 use Rattle.clean.specs.Cleaning.{cleaned, reasons, kept}
-use Rattle.clean.specs.Calls.{Outputs, outputs, outputsCheck, cleaning, cleanedOf, holds, keptAxis, keptLengths, outputsLeft, CleanedAs}
+use Rattle.clean.specs.Calls.{Outputs, outputs, keptRoomCheck, cleaning, cleanedOf, holds, keptAxis, keptLengths, outputsLeft, CleanedAs}
 use Rattle.clean.specs.declared.Cleaned.the-variants.{Kept, Refused}
 use Rattle.clean.proofs.Rules.{cleaned-again}
 
@@ -30,7 +30,7 @@ found : (x y ns : List ℕ) (o : Outputs) (pss : List (List Point)) → cleaning
 unfolding cleaning
 found x y ns o pss e =
     let a = then-passed (heldCheck (length x) (length y) ns) _ e in
-    let b = then-passed (outputsCheck (length x) o) _ (a .1) in
+    let b = then-passed (keptRoomCheck (length x) o) _ (a .1) in
     sym (gives-same (b .1))
 
 kept-points : {n m k l : ℕ} → Kept n m ≡ Kept k l → n ≡ k

@@ -10,13 +10,13 @@ use lib.Ieee.{Float, binary64, ofBits, eq}
 use lib.ListN.{length, take, drop, getD, set, replicate, length-append, length-map, length-drop, take-append-drop, drop-of-length-le}
 use lib.Seq.{slice, slice-empty, slice-cons, length-slice, take-suc, take-take, take-nil, drop-drop, drop-cons, set-at, length-take-le}
 use Rattle.wkb.specs.Bytes.{Point}
-use Rattle.wkb.specs.Steps.{Put}
+use Rattle.wkb.specs.Inside.{PutIn}
 use Rattle.wkb.proofs.Stores.{put-none, put-one, put-more, put-length, Filling, fill-none, fill-length, fill-more, fill-all, fill-cleared}
 use Rattle.members.specs.Held.{pointsOf, chainsOf}
 use Rattle.members.proofs.Held.{length-points-of, point-at, origin}
 use Rattle.members.proofs.Along.{Along, Fitting, along-next, along-more, chains-next}
-use Rattle.clean.specs.Cleaning.{good, same, thinAfter, thin, long, keptOf, cleanedMember, cleaned, kept, range, repeat, short, reasonsAfter, reasonsBy, pieceReasons, memberReasons, reasons, keptBy}
-use Rattle.clean.specs.Steps.{pointIn, part, AllGood, none, more, Part, PieceEnds, Marked, Room, Did, valueIf, PutKept}
+use Rattle.clean.specs.Cleaning.{good, samePoint, thinAfter, thin, isPiece, keptOf, cleanedMember, cleaned, kept, range, repeat, short, reasonsAfter, reasonsBy, pieceReasons, memberReasons, reasons, keptValues}
+use Rattle.clean.specs.Inside.{pointIn, part, AllGood, none, more, Part, PieceEnds, ReasonsMarked, CleanRoom, Did, valueIf, PutKept}
 use Rattle.clean.proofs.Rules.{pieces-whole, reasons-whole, reasons-broken, cleaned-whole, cleaned-broken, length-piece, kept-twice, thin-most, kept-long, kept-short, reasons-long, reasons-short, all-repeats}
 
 -- ---- parts of a list
@@ -72,12 +72,12 @@ module _ (xs ys : List ℕ) (alike : length ys ≡ length xs) where
 
 -- ---- a test of two points
 
-pub same-yes : (p q : Point) {a b c d : Float} → a ≡ ofBits binary64 (p .x) → b ≡ ofBits binary64 (q .x) → c ≡ ofBits binary64 (p .y) → d ≡ ofBits binary64 (q .y) → eq a b ≡ true → eq c d ≡ same p q
-unfolding same
+pub same-yes : (p q : Point) {a b c d : Float} → a ≡ ofBits binary64 (p .x) → b ≡ ofBits binary64 (q .x) → c ≡ ofBits binary64 (p .y) → d ≡ ofBits binary64 (q .y) → eq a b ≡ true → eq c d ≡ samePoint p q
+unfolding samePoint
 same-yes p q ea eb ec ed t = rw (← ea, ← eb, ← ec, ← ed, t)
 
-pub same-no : (p q : Point) {a b : Float} → a ≡ ofBits binary64 (p .x) → b ≡ ofBits binary64 (q .x) → eq a b ≡ false → false ≡ same p q
-unfolding same
+pub same-no : (p q : Point) {a b : Float} → a ≡ ofBits binary64 (p .x) → b ≡ ofBits binary64 (q .x) → eq a b ≡ false → false ≡ samePoint p q
+unfolding samePoint
 same-no p q ea eb t = rw (← ea, ← eb, t)
 
 -- ---- the end of a piece
@@ -148,7 +148,7 @@ module _ {xs ys : List ℕ} {from to : ℕ} {s₀ s : List ℕ} {last count i : 
   thin-next : thinAfter (pointIn xs ys last) (part xs ys i to) ≡ thinAfter (pointIn xs ys last) (pointIn xs ys i ∷ part xs ys (i + 1) to)
   thin-next = ap (thinAfter (pointIn xs ys last)) (part-next xs ys (m .lies .alike) i to h (m .lies .within))
 
-  marking-repeat : true ≡ same (pointIn xs ys last) (pointIn xs ys i) → Marking xs ys from to s₀ (set s i repeat) last (count + 0) (i + 1)
+  marking-repeat : true ≡ samePoint (pointIn xs ys last) (pointIn xs ys i) → Marking xs ys from to s₀ (set s i repeat) last (count + 0) (i + 1)
   unfolding reasonsAfter thinAfter
   marking-repeat e =
       let r : reasonsAfter kept (pointIn xs ys last) (part xs ys i to) ≡ (repeat ∷ []) ++ reasonsAfter kept (pointIn xs ys last) (part xs ys (i + 1) to) = reasons-next ∙ rw (← e) in
@@ -163,7 +163,7 @@ module _ {xs ys : List ℕ} {from to : ℕ} {s₀ s : List ℕ} {last count i : 
         counted = let u = ap length t in omega (arith, m .counted);
       }
 
-  marking-other : false ≡ same (pointIn xs ys last) (pointIn xs ys i) → Marking xs ys from to s₀ (set s i kept) i (count + 1) (i + 1)
+  marking-other : false ≡ samePoint (pointIn xs ys last) (pointIn xs ys i) → Marking xs ys from to s₀ (set s i kept) i (count + 1) (i + 1)
   unfolding reasonsAfter thinAfter
   marking-other e =
       let r : reasonsAfter kept (pointIn xs ys last) (part xs ys i to) ≡ (kept ∷ []) ++ reasonsAfter kept (pointIn xs ys i) (part xs ys (i + 1) to) = reasons-next ∙ rw (← e) in
@@ -178,7 +178,7 @@ module _ {xs ys : List ℕ} {from to : ℕ} {s₀ s : List ℕ} {last count i : 
         counted = let u = ap length t in omega (arith, m .counted);
       }
 
-  pub marking-more : (again : Bool) {v last′ one : ℕ} → again ≡ same (pointIn xs ys last) (pointIn xs ys i) → v ≡ cond again repeat kept → last′ ≡ cond again last i → one ≡ cond again 0 1
+  pub marking-more : (again : Bool) {v last′ one : ℕ} → again ≡ samePoint (pointIn xs ys last) (pointIn xs ys i) → v ≡ cond again repeat kept → last′ ≡ cond again last i → one ≡ cond again 0 1
       → Marking xs ys from to s₀ (set s i v) last′ (count + one) (i + 1)
   marking-more true e ev el eo = rw (ev, el, eo) (marking-repeat e)
   marking-more false e ev el eo = rw (ev, el, eo) (marking-other e)
@@ -187,7 +187,7 @@ pub one-most : (again : Bool) {n : ℕ} → n ≡ cond again 0 1 → n ≤ 1
 one-most true e = omega arith
 one-most false e = omega arith
 
-pub marking-all : {xs ys : List ℕ} {from to : ℕ} {s₀ s : List ℕ} {last count i : ℕ} → Marking xs ys from to s₀ s last count i → to ≤ i → Marked xs ys from to s₀ count s
+pub marking-all : {xs ys : List ℕ} {from to : ℕ} {s₀ s : List ℕ} {last count i : ℕ} → Marking xs ys from to s₀ s last count i → to ≤ i → ReasonsMarked xs ys from to s₀ count s
 unfolding reasonsAfter thinAfter
 marking-all {xs} {ys} {from} {to} {s₀} {s} {last} {count} {i} m h =
     let e : i ≡ to = omega (arith, m .up) in
@@ -200,7 +200,7 @@ marking-all {xs} {ys} {from} {to} {s₀} {s} {last} {count} {i} m h =
 -- ---- a piece
 
 -- one more in front of what was put
-put-before : {at : ℕ} {xs s₀ s₁ : List ℕ} (y : ℕ) → Put (at + 1) xs s₀ s₁ → Put at (y ∷ xs) s₀ (set s₁ at y)
+put-before : {at : ℕ} {xs s₀ s₁ : List ℕ} (y : ℕ) → PutIn (at + 1) xs s₀ s₁ → PutIn at (y ∷ xs) s₀ (set s₁ at y)
 put-before {at} {xs} {s₀} {s₁} y p =
     let n : length (take at s₀) ≡ at = length-take-le at s₀ (omega (arith, p .within)) in
     let e : at + 1 + length xs ≡ at + suc (length xs) = omega arith in
@@ -213,7 +213,7 @@ module _ (xs ys : List ℕ) (from to : ℕ) (lies : Part xs ys from to) (some : 
   piece = part-next xs ys (lies .alike) from to some (lies .within)
 
   -- of a piece of which fewer than two are left, the first is left alone
-  pub short-first : {s₀ s₁ : List ℕ} {n : ℕ} → Marked xs ys from to s₀ n s₁ → n < 2 → Put from (pieceReasons (part xs ys from to)) s₀ (set s₁ from 3)
+  pub short-first : {s₀ s₁ : List ℕ} {n : ℕ} → ReasonsMarked xs ys from to s₀ n s₁ → n < 2 → PutIn from (pieceReasons (part xs ys from to)) s₀ (set s₁ from 3)
   unfolding reasonsBy thin
   short-first {s₀} {s₁} {n} m h =
       let a = pointIn xs ys from in
@@ -222,7 +222,7 @@ module _ (xs ys : List ℕ) (from to : ℕ) (lies : Part xs ys from to) (some : 
       let e : reasonsAfter kept a ps ≡ reasonsAfter short a ps = all-repeats kept short a ps (omega arith) in
       rw (piece, reasons-short (a ∷ ps) k, ← e) (put-before 3 (m .marks))
 
-  pub long-first : {s₀ s₁ : List ℕ} {n : ℕ} → Marked xs ys from to s₀ n s₁ → 2 ≤ n → Put from (pieceReasons (part xs ys from to)) s₀ (set s₁ from 0)
+  pub long-first : {s₀ s₁ : List ℕ} {n : ℕ} → ReasonsMarked xs ys from to s₀ n s₁ → 2 ≤ n → PutIn from (pieceReasons (part xs ys from to)) s₀ (set s₁ from 0)
   unfolding reasonsBy
   long-first {s₀} {s₁} {n} m h =
       let a = pointIn xs ys from in
@@ -230,10 +230,10 @@ module _ (xs ys : List ℕ) (from to : ℕ) (lies : Part xs ys from to) (some : 
       let k : 2 ≤ length (thin (a ∷ ps)) = let u = ap length (ap thin piece) in omega (arith, m .count) in
       rw (piece, reasons-long (a ∷ ps) k) (put-before 0 (m .marks))
 
-  pub marked-most : {s₀ s₁ : List ℕ} {n : ℕ} → Marked xs ys from to s₀ n s₁ → n ≤ to - from
+  pub marked-most : {s₀ s₁ : List ℕ} {n : ℕ} → ReasonsMarked xs ys from to s₀ n s₁ → n ≤ to - from
   marked-most m = omega (arith, m .count, thin-most (part xs ys from to), part-length xs ys (lies .alike) from to (lies .within))
 
-  module _ {rs₀ ls₀ rs₁ : List ℕ} {at n : ℕ} (room : Room xs rs₀ ls₀ from at) (m : Marked xs ys from to rs₀ n rs₁) where
+  module _ {rs₀ ls₀ rs₁ : List ℕ} {at n : ℕ} (room : CleanRoom xs rs₀ ls₀ from at) (m : ReasonsMarked xs ys from to rs₀ n rs₁) where
     pub did-short : n < 2 → Did from (pieceReasons (part xs ys from to)) (keptOf (part xs ys from to)) rs₀ ls₀ at at (set rs₁ from 3) ls₀
     did-short h =
         let k : length (thin (part xs ys from to)) < 2 = omega (arith, m .count) in
@@ -260,9 +260,9 @@ module _ (xs ys : List ℕ) (from to : ℕ) (lies : Part xs ys from to) (some : 
           }
 
 -- a piece of no points
-pub did-none : (xs ys : List ℕ) (from to : ℕ) → Part xs ys from to → from ≡ to → {rs ls : List ℕ} {at : ℕ} → Room xs rs ls from at
+pub did-none : (xs ys : List ℕ) (from to : ℕ) → Part xs ys from to → from ≡ to → {rs ls : List ℕ} {at : ℕ} → CleanRoom xs rs ls from at
     → Did from (pieceReasons (part xs ys from to)) (keptOf (part xs ys from to)) rs ls at at rs ls
-unfolding pieceReasons reasonsBy keptOf thin long
+unfolding pieceReasons reasonsBy keptOf thin isPiece
 did-none xs ys from to lies e {rs} {ls} {at} room =
     let n : part xs ys from to ≡ [] = rw (← e) (part-none xs ys (lies .alike) from) in
     record {
@@ -278,16 +278,16 @@ pub record Keeping (vs rs s₀ s : List ℕ) (at i : ℕ) : Type 0 where
   pub room : length vs ≤ length s₀
   pub few : at ≤ i
   pub within : i ≤ length vs
-  pub filled : Filling 0 (keptBy rs vs) (keptBy (drop i rs) (drop i vs)) at s₀ s
+  pub filled : Filling 0 (keptValues rs vs) (keptValues (drop i rs) (drop i vs)) at s₀ s
 
 pub keeping-none : (vs rs s : List ℕ) → length vs ≤ length rs → length vs ≤ length s → Keeping vs rs s s 0 0
-keeping-none vs rs s h k = record { long = h; room = k; few = omega arith; within = omega arith; filled = fill-none 0 (keptBy rs vs) s (omega arith) }
+keeping-none vs rs s h k = record { long = h; room = k; few = omega arith; within = omega arith; filled = fill-none 0 (keptValues rs vs) s (omega arith) }
 
-if-or : (r v : ℕ) (rs vs : List ℕ) → keptBy (r ∷ rs) (v ∷ vs) ≡ valueIf r v ++ keptBy rs vs
-unfolding keptBy valueIf
+if-or : (r v : ℕ) (rs vs : List ℕ) → keptValues (r ∷ rs) (v ∷ vs) ≡ valueIf r v ++ keptValues rs vs
+unfolding keptValues valueIf
 if-or r v rs vs = go (leb r kept)
   where
-    go : (b : Bool) → cond b (v ∷ keptBy rs vs) (keptBy rs vs) ≡ cond b (v ∷ []) [] ++ keptBy rs vs
+    go : (b : Bool) → cond b (v ∷ keptValues rs vs) (keptValues rs vs) ≡ cond b (v ∷ []) [] ++ keptValues rs vs
     go true = refl
     go false = refl
 
@@ -303,13 +303,13 @@ module _ {vs rs s₀ s : List ℕ} {at i : ℕ} (k : Keeping vs rs s₀ s at i) 
   pub keeping-room : at < length s
   keeping-room = omega (arith, k .few, k .room, fill-length (k .filled))
 
-  keeping-next : keptBy (drop i rs) (drop i vs) ≡ valueIf (getD rs i 0) (getD vs i 0) ++ keptBy (drop (i + 1) rs) (drop (i + 1) vs)
+  keeping-next : keptValues (drop i rs) (drop i vs) ≡ valueIf (getD rs i 0) (getD vs i 0) ++ keptValues (drop (i + 1) rs) (drop (i + 1) vs)
   keeping-next =
       let e : drop i rs ≡ getD rs i 0 ∷ drop (i + 1) rs = rw (add-one i) (drop-cons rs i 0 (omega (arith, k .long))) in
       let f : drop i vs ≡ getD vs i 0 ∷ drop (i + 1) vs = rw (add-one i) (drop-cons vs i 0 h) in
       rw (e, f) (if-or (getD rs i 0) (getD vs i 0) (drop (i + 1) rs) (drop (i + 1) vs))
 
-  pub keeping-more : {s′ : List ℕ} {r : ℕ} → Put at (valueIf (getD rs i 0) (getD vs i 0)) s s′ → r ≡ at + length (valueIf (getD rs i 0) (getD vs i 0)) → Keeping vs rs s₀ s′ r (i + 1)
+  pub keeping-more : {s′ : List ℕ} {r : ℕ} → PutIn at (valueIf (getD rs i 0) (getD vs i 0)) s s′ → r ≡ at + length (valueIf (getD rs i 0) (getD vs i 0)) → Keeping vs rs s₀ s′ r (i + 1)
   keeping-more {s′} {r} p e = record {
     long = k .long;
     room = k .room;
@@ -319,14 +319,14 @@ module _ {vs rs s₀ s : List ℕ} {at i : ℕ} (k : Keeping vs rs s₀ s at i) 
   }
 
 pub keeping-all : {vs rs s₀ s s′ : List ℕ} {at i : ℕ} → Keeping vs rs s₀ s at i → length vs ≤ i → s′ ≡ take at s ++ replicate (length s - at) 0 → PutKept rs vs s₀ at s′
-unfolding keptBy
+unfolding keptValues
 keeping-all {vs} {rs} {s₀} {s} {s′} {at} {i} k h e =
-    let n : keptBy (drop i rs) (drop i vs) ≡ [] = ap (keptBy (drop i rs)) (drop-of-length-le vs h) ∙ kept-none (drop i rs) in
+    let n : keptValues (drop i rs) (drop i vs) ≡ [] = ap (keptValues (drop i rs)) (drop-of-length-le vs h) ∙ kept-none (drop i rs) in
     record {
       is = fill-cleared 0 (k .filled) n e;
-      count = let l : length (keptBy rs vs) ≡ length (k .filled .done) + 0 = ap length (k .filled .is) ∙ rw n (length-append (k .filled .done) []) in omega (arith, k .filled .count);
+      count = let l : length (keptValues rs vs) ≡ length (k .filled .done) + 0 = ap length (k .filled .is) ∙ rw n (length-append (k .filled .done) []) in omega (arith, k .filled .count);
     }
   where
-    kept-none : (ts : List ℕ) → keptBy {A = ℕ} ts [] ≡ []
+    kept-none : (ts : List ℕ) → keptValues {A = ℕ} ts [] ≡ []
     kept-none [] = refl
     kept-none (t ∷ ts) = refl

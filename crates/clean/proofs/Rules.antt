@@ -12,8 +12,8 @@ use borrow.Author.Tests.{le-leb, lt-leb, leb-true}
 use lib.Dec.{leb}
 use lib.ListN.{length, replicate, length-append, length-map, replicate-append-replicate}
 use Rattle.wkb.specs.Bytes.{Point}
-use Rattle.clean.specs.Cleaning.{good, same, onto, pieces, thinAfter, thin, long, keptOf, cleanedMember, cleaned, kept, range, repeat, short, reasonsAfter, reasonsBy, pieceReasons, between, memberReasons, reasons, keptBy}
-use Rattle.clean.specs.Steps.{AllGood, none, more}
+use Rattle.clean.specs.Cleaning.{good, samePoint, onto, pieces, thinAfter, thin, isPiece, keptOf, cleanedMember, cleaned, kept, range, repeat, short, reasonsAfter, reasonsBy, pieceReasons, betweenPieces, memberReasons, reasons, keptValues}
+use Rattle.clean.specs.Inside.{AllGood, none, more}
 
 -- ---- a member and its pieces
 
@@ -51,11 +51,11 @@ has (whole {g} h) = record { first = g; others = []; is = pieces-whole h }
 has (broken {g} rest b h f s) = record { first = g; others = pieces rest; is = pieces-broken rest b h f }
 
 pub reasons-whole : {g : List Point} → AllGood g → memberReasons g ≡ pieceReasons g
-unfolding memberReasons between
+unfolding memberReasons betweenPieces
 reasons-whole h = rw (pieces-whole h)
 
 pub reasons-broken : (rest : List Point) (b : Point) {g : List Point} → AllGood g → good b ≡ false → memberReasons (g ++ (b ∷ rest)) ≡ pieceReasons g ++ (range ∷ memberReasons rest)
-unfolding memberReasons between
+unfolding memberReasons betweenPieces
 reasons-broken rest b h f =
     let s = has (split rest) in
     rw (pieces-broken rest b h f, s .is)
@@ -73,7 +73,7 @@ cleaned-broken rest b h f = rw (pieces-broken rest b h f)
 length-after : (r : ℕ) (a : Point) (ps : List Point) → length (reasonsAfter r a ps) ≡ length ps
 unfolding reasonsAfter
 length-after r a [] = refl
-length-after r a (p ∷ ps) = go (same a p) (length-after r a ps) (length-after r p ps)
+length-after r a (p ∷ ps) = go (samePoint a p) (length-after r a ps) (length-after r p ps)
   where
     go : (b : Bool) → length (reasonsAfter r a ps) ≡ length ps → length (reasonsAfter r p ps) ≡ length ps
         → length (cond b (repeat ∷ reasonsAfter r a ps) (r ∷ reasonsAfter r p ps)) ≡ suc (length ps)
@@ -87,7 +87,7 @@ length-by r (p ∷ ps) = ap suc (length-after r p ps)
 
 pub length-piece : (ps : List Point) → length (pieceReasons ps) ≡ length ps
 unfolding pieceReasons
-length-piece ps = length-by (cond (long (thin ps)) kept short) ps
+length-piece ps = length-by (cond (isPiece (thin ps)) kept short) ps
 
 length-split : {ps : List Point} → Split ps → length (memberReasons ps) ≡ length ps
 length-split (whole {g} h) = ap length (reasons-whole h) ∙ length-piece g
@@ -108,7 +108,7 @@ length-reasons (ps ∷ pss) = simp length-append (let u = length-member ps in le
 pub after-most : (a : Point) (ps : List Point) → length (thinAfter a ps) ≤ length ps
 unfolding thinAfter
 after-most a [] = omega arith
-after-most a (p ∷ ps) = go (same a p) (after-most a ps) (after-most p ps)
+after-most a (p ∷ ps) = go (samePoint a p) (after-most a ps) (after-most p ps)
   where
     go : (b : Bool) → length (thinAfter a ps) ≤ length ps → length (thinAfter p ps) ≤ length ps → length (cond b (thinAfter a ps) (p ∷ thinAfter p ps)) ≤ suc (length ps)
     go true h k = omega arith
@@ -121,7 +121,7 @@ thin-most (p ∷ ps) = let u = after-most p ps in omega arith
 
 -- a piece that is kept has two points
 pub kept-twice : (ps : List Point) → 2 * length (keptOf ps) ≤ length ps
-unfolding keptOf long
+unfolding keptOf isPiece
 kept-twice ps = go (leb 2 (length (thin ps))) refl
   where
     go : (b : Bool) → leb 2 (length (thin ps)) ≡ b → 2 * length (cond b (thin ps ∷ []) []) ≤ length ps
@@ -140,26 +140,26 @@ cleaned-twice ps = twice-split (split ps)
 -- ---- one of the two
 
 pub kept-long : (ps : List Point) → 2 ≤ length (thin ps) → keptOf ps ≡ thin ps ∷ []
-unfolding keptOf long
+unfolding keptOf isPiece
 kept-long ps h = rw (le-leb 2 (length (thin ps)) h)
 
 pub kept-short : (ps : List Point) → length (thin ps) < 2 → _≡_ {A = List (List Point)} (keptOf ps) []
-unfolding keptOf long
+unfolding keptOf isPiece
 kept-short ps h = rw (lt-leb 2 (length (thin ps)) h)
 
 pub reasons-long : (ps : List Point) → 2 ≤ length (thin ps) → pieceReasons ps ≡ reasonsBy kept ps
-unfolding pieceReasons long
+unfolding pieceReasons isPiece
 reasons-long ps h = rw (le-leb 2 (length (thin ps)) h)
 
 pub reasons-short : (ps : List Point) → length (thin ps) < 2 → pieceReasons ps ≡ reasonsBy short ps
-unfolding pieceReasons long
+unfolding pieceReasons isPiece
 reasons-short ps h = rw (lt-leb 2 (length (thin ps)) h)
 
 -- where nothing is left after a kept point, all are repeats, whatever the others would be
 pub all-repeats : (r s : ℕ) (a : Point) (ps : List Point) → length (thinAfter a ps) ≡ 0 → reasonsAfter r a ps ≡ reasonsAfter s a ps
 unfolding thinAfter reasonsAfter
 all-repeats r s a [] h = refl
-all-repeats r s a (p ∷ ps) h = go (same a p) (all-repeats r s a ps) h
+all-repeats r s a (p ∷ ps) h = go (samePoint a p) (all-repeats r s a ps) h
   where
     go : (b : Bool) → (length (thinAfter a ps) ≡ 0 → reasonsAfter r a ps ≡ reasonsAfter s a ps) → length (cond b (thinAfter a ps) (p ∷ thinAfter p ps)) ≡ 0
         → cond b (repeat ∷ reasonsAfter r a ps) (r ∷ reasonsAfter r p ps) ≡ cond b (repeat ∷ reasonsAfter s a ps) (s ∷ reasonsAfter s p ps)
@@ -169,82 +169,82 @@ all-repeats r s a (p ∷ ps) h = go (same a p) (all-repeats r s a ps) h
 -- ---- kept and dropped together are the input
 
 module _ {A : Type 0} where
-  pub kept-append : (rs rs′ : List ℕ) (vs vs′ : List A) → length rs ≡ length vs → keptBy (rs ++ rs′) (vs ++ vs′) ≡ keptBy rs vs ++ keptBy rs′ vs′
-  unfolding keptBy
+  pub kept-append : (rs rs′ : List ℕ) (vs vs′ : List A) → length rs ≡ length vs → keptValues (rs ++ rs′) (vs ++ vs′) ≡ keptValues rs vs ++ keptValues rs′ vs′
+  unfolding keptValues
   kept-append [] rs′ [] vs′ e = refl
   kept-append [] rs′ (v ∷ vs) vs′ e = absurd (omega arith)
   kept-append (r ∷ rs) rs′ [] vs′ e = absurd (omega arith)
   kept-append (r ∷ rs) rs′ (v ∷ vs) vs′ e = go (leb r kept) (kept-append rs rs′ vs vs′ (omega arith))
     where
-      go : (b : Bool) → keptBy (rs ++ rs′) (vs ++ vs′) ≡ keptBy rs vs ++ keptBy rs′ vs′
-          → cond b (v ∷ keptBy (rs ++ rs′) (vs ++ vs′)) (keptBy (rs ++ rs′) (vs ++ vs′)) ≡ cond b (v ∷ keptBy rs vs) (keptBy rs vs) ++ keptBy rs′ vs′
+      go : (b : Bool) → keptValues (rs ++ rs′) (vs ++ vs′) ≡ keptValues rs vs ++ keptValues rs′ vs′
+          → cond b (v ∷ keptValues (rs ++ rs′) (vs ++ vs′)) (keptValues (rs ++ rs′) (vs ++ vs′)) ≡ cond b (v ∷ keptValues rs vs) (keptValues rs vs) ++ keptValues rs′ vs′
       go true ih = ap (λ (l : List A). v ∷ l) ih
       go false ih = ih
 
-  pub kept-most : (rs : List ℕ) (vs : List A) → length (keptBy rs vs) ≤ length vs
-  unfolding keptBy
+  pub kept-most : (rs : List ℕ) (vs : List A) → length (keptValues rs vs) ≤ length vs
+  unfolding keptValues
   kept-most [] vs = omega arith
   kept-most (r ∷ rs) [] = omega arith
   kept-most (r ∷ rs) (v ∷ vs) = go (leb r kept) (kept-most rs vs)
     where
-      go : (b : Bool) → length (keptBy rs vs) ≤ length vs → length (cond b (v ∷ keptBy rs vs) (keptBy rs vs)) ≤ suc (length vs)
+      go : (b : Bool) → length (keptValues rs vs) ≤ length vs → length (cond b (v ∷ keptValues rs vs) (keptValues rs vs)) ≤ suc (length vs)
       go true h = omega arith
       go false h = omega arith
 
   -- zeros beyond the values change nothing
-  pub kept-beyond : (rs zs : List ℕ) (vs : List A) → length rs ≡ length vs → keptBy (rs ++ zs) vs ≡ keptBy rs vs
-  unfolding keptBy
+  pub kept-beyond : (rs zs : List ℕ) (vs : List A) → length rs ≡ length vs → keptValues (rs ++ zs) vs ≡ keptValues rs vs
+  unfolding keptValues
   kept-beyond [] [] [] e = refl
   kept-beyond [] (z ∷ zs) [] e = refl
   kept-beyond [] zs (v ∷ vs) e = absurd (omega arith)
   kept-beyond (r ∷ rs) zs [] e = absurd (omega arith)
   kept-beyond (r ∷ rs) zs (v ∷ vs) e = rw (kept-beyond rs zs vs (omega arith))
 
-pub kept-map : {A B : Type 0} (f : A → B) (rs : List ℕ) (vs : List A) → keptBy rs (map f vs) ≡ map f (keptBy rs vs)
-unfolding keptBy
+pub kept-map : {A B : Type 0} (f : A → B) (rs : List ℕ) (vs : List A) → keptValues rs (map f vs) ≡ map f (keptValues rs vs)
+unfolding keptValues
 kept-map f [] vs = refl
 kept-map f (r ∷ rs) [] = refl
 kept-map {A} {B} f (r ∷ rs) (v ∷ vs) = go (leb r kept) (kept-map f rs vs)
   where
-    go : (b : Bool) → keptBy rs (map f vs) ≡ map f (keptBy rs vs) → cond b (f v ∷ keptBy rs (map f vs)) (keptBy rs (map f vs)) ≡ map f (cond b (v ∷ keptBy rs vs) (keptBy rs vs))
+    go : (b : Bool) → keptValues rs (map f vs) ≡ map f (keptValues rs vs) → cond b (f v ∷ keptValues rs (map f vs)) (keptValues rs (map f vs)) ≡ map f (cond b (v ∷ keptValues rs vs) (keptValues rs vs))
     go true ih = ap (λ (l : List B). f v ∷ l) ih
     go false ih = ih
 
-kept-after : (a : Point) (ps : List Point) → keptBy (reasonsAfter kept a ps) ps ≡ thinAfter a ps
-unfolding keptBy reasonsAfter thinAfter
+kept-after : (a : Point) (ps : List Point) → keptValues (reasonsAfter kept a ps) ps ≡ thinAfter a ps
+unfolding keptValues reasonsAfter thinAfter
 kept-after a [] = refl
-kept-after a (p ∷ ps) = go (same a p) (kept-after a ps) (kept-after p ps)
+kept-after a (p ∷ ps) = go (samePoint a p) (kept-after a ps) (kept-after p ps)
   where
-    go : (b : Bool) → keptBy (reasonsAfter kept a ps) ps ≡ thinAfter a ps → keptBy (reasonsAfter kept p ps) ps ≡ thinAfter p ps
-        → keptBy (cond b (repeat ∷ reasonsAfter kept a ps) (kept ∷ reasonsAfter kept p ps)) (p ∷ ps) ≡ cond b (thinAfter a ps) (p ∷ thinAfter p ps)
+    go : (b : Bool) → keptValues (reasonsAfter kept a ps) ps ≡ thinAfter a ps → keptValues (reasonsAfter kept p ps) ps ≡ thinAfter p ps
+        → keptValues (cond b (repeat ∷ reasonsAfter kept a ps) (kept ∷ reasonsAfter kept p ps)) (p ∷ ps) ≡ cond b (thinAfter a ps) (p ∷ thinAfter p ps)
     go true h k = h
     go false h k = ap (λ (l : List Point). p ∷ l) k
 
-none-after : (a : Point) (ps : List Point) → keptBy (reasonsAfter short a ps) ps ≡ []
-unfolding keptBy reasonsAfter
+none-after : (a : Point) (ps : List Point) → keptValues (reasonsAfter short a ps) ps ≡ []
+unfolding keptValues reasonsAfter
 none-after a [] = refl
-none-after a (p ∷ ps) = go (same a p) (none-after a ps) (none-after p ps)
+none-after a (p ∷ ps) = go (samePoint a p) (none-after a ps) (none-after p ps)
   where
-    go : (b : Bool) → keptBy (reasonsAfter short a ps) ps ≡ [] → keptBy (reasonsAfter short p ps) ps ≡ []
-        → keptBy (cond b (repeat ∷ reasonsAfter short a ps) (short ∷ reasonsAfter short p ps)) (p ∷ ps) ≡ []
+    go : (b : Bool) → keptValues (reasonsAfter short a ps) ps ≡ [] → keptValues (reasonsAfter short p ps) ps ≡ []
+        → keptValues (cond b (repeat ∷ reasonsAfter short a ps) (short ∷ reasonsAfter short p ps)) (p ∷ ps) ≡ []
     go true h k = h
     go false h k = k
 
-kept-thin : (ps : List Point) → keptBy (reasonsBy kept ps) ps ≡ thin ps
-unfolding keptBy reasonsBy thin
+kept-thin : (ps : List Point) → keptValues (reasonsBy kept ps) ps ≡ thin ps
+unfolding keptValues reasonsBy thin
 kept-thin [] = refl
 kept-thin (p ∷ ps) = ap (λ (l : List Point). p ∷ l) (kept-after p ps)
 
-none-thin : (ps : List Point) → keptBy (reasonsBy short ps) ps ≡ []
-unfolding keptBy reasonsBy
+none-thin : (ps : List Point) → keptValues (reasonsBy short ps) ps ≡ []
+unfolding keptValues reasonsBy
 none-thin [] = refl
 none-thin (p ∷ ps) = none-after p ps
 
-kept-piece : (ps : List Point) → keptBy (pieceReasons ps) ps ≡ flatten (keptOf ps)
+kept-piece : (ps : List Point) → keptValues (pieceReasons ps) ps ≡ flatten (keptOf ps)
 unfolding pieceReasons keptOf flatten
-kept-piece ps = go (long (thin ps))
+kept-piece ps = go (isPiece (thin ps))
   where
-    go : (b : Bool) → keptBy (reasonsBy (cond b kept short) ps) ps ≡ flatten (cond b (thin ps ∷ []) [])
+    go : (b : Bool) → keptValues (reasonsBy (cond b kept short) ps) ps ≡ flatten (cond b (thin ps ∷ []) [])
     go true = kept-thin ps ∙ sym (append-nil (thin ps))
     go false = none-thin ps
 
@@ -253,17 +253,17 @@ unfolding flatten
 flatten-append [] yss = refl
 flatten-append (xs ∷ xss) yss = rw (flatten-append xss yss) (sym (append-assoc xs (flatten xss) (flatten yss)))
 
-kept-split : {ps : List Point} → Split ps → keptBy (memberReasons ps) ps ≡ flatten (cleanedMember ps)
-unfolding keptBy
+kept-split : {ps : List Point} → Split ps → keptValues (memberReasons ps) ps ≡ flatten (cleanedMember ps)
+unfolding keptValues
 kept-split (whole {g} h) = rw (reasons-whole h, cleaned-whole h) (kept-piece g)
 kept-split (broken {g} rest b h f s) =
-    ap (λ (rs : List ℕ). keptBy rs (g ++ (b ∷ rest))) (reasons-broken rest b h f)
+    ap (λ (rs : List ℕ). keptValues rs (g ++ (b ∷ rest))) (reasons-broken rest b h f)
     ∙ kept-append (pieceReasons g) (range ∷ memberReasons rest) g (b ∷ rest) (length-piece g)
     ∙ rw (kept-piece g, kept-split s) (sym (ap flatten (cleaned-broken rest b h f) ∙ flatten-append (keptOf g) (cleanedMember rest)))
 
 -- OF THE POINTS OF MEMBERS, those whose reason is `kept` are the kept ones, in order. Each point has one reason (`length-reasons`).
-pub kept-are : (pss : List (List Point)) → keptBy (reasons pss) (flatten pss) ≡ flatten (cleaned pss)
-unfolding reasons cleaned flatMap flatten keptBy
+pub kept-are : (pss : List (List Point)) → keptValues (reasons pss) (flatten pss) ≡ flatten (cleaned pss)
+unfolding reasons cleaned flatMap flatten keptValues
 kept-are [] = refl
 kept-are (ps ∷ pss) =
     kept-append (memberReasons ps) (flatMap memberReasons pss) ps (flatten pss) (length-member ps)
@@ -281,7 +281,7 @@ pub record Clean (ps : List Point) : Type 0 where
 good-after : (a : Point) {ps : List Point} → AllGood ps → AllGood (thinAfter a ps)
 unfolding thinAfter
 good-after a none = none
-good-after a (more {p} {ps} e g) = go (same a p) (good-after a g) (good-after p g)
+good-after a (more {p} {ps} e g) = go (samePoint a p) (good-after a g) (good-after p g)
   where
     go : (b : Bool) → AllGood (thinAfter a ps) → AllGood (thinAfter p ps) → AllGood (cond b (thinAfter a ps) (p ∷ thinAfter p ps))
     go true h k = h
@@ -299,9 +299,9 @@ Thinned a ps = (thinAfter a ps ≡ ps) × (reasonsAfter kept a ps ≡ replicate 
 after-again : (a : Point) (ps : List Point) → Thinned a (thinAfter a ps)
 unfolding thinAfter reasonsAfter
 after-again a [] = (refl, refl)
-after-again a (p ∷ ps) = go (same a p) refl (after-again a ps) (after-again p ps)
+after-again a (p ∷ ps) = go (samePoint a p) refl (after-again a ps) (after-again p ps)
   where
-    go : (b : Bool) → same a p ≡ b → Thinned a (thinAfter a ps) → Thinned p (thinAfter p ps) → Thinned a (cond b (thinAfter a ps) (p ∷ thinAfter p ps))
+    go : (b : Bool) → samePoint a p ≡ b → Thinned a (thinAfter a ps) → Thinned p (thinAfter p ps) → Thinned a (cond b (thinAfter a ps) (p ∷ thinAfter p ps))
     go true e h k = h
     go false e h k = (rw e (ap (λ (l : List Point). p ∷ l) (k .0)), rw e (ap (λ (l : List ℕ). kept ∷ l) (k .1)))
 
@@ -321,7 +321,7 @@ clean-append [] qss h k = k
 clean-append (ps ∷ pss) qss h k = (h .0, clean-append pss qss (h .1) k)
 
 clean-piece : {ps : List Point} → AllGood ps → AllClean (keptOf ps)
-unfolding keptOf long
+unfolding keptOf isPiece
 clean-piece {ps} g = go (leb 2 (length (thin ps))) refl
   where
     go : (b : Bool) → leb 2 (length (thin ps)) ≡ b → AllClean (cond b (thin ps ∷ []) [])

@@ -7,7 +7,7 @@ use lib.Count.{trailingZeros}
 use Rattle.numbers.specs.Order.{magnitudeOf}
 use Rattle.grid.specs.Domain.{coordinate, point}
 use Rattle.wkb.specs.Bytes.{Point}
-use Rattle.clean.specs.Cleaning.{good, same, onto, pieces, thinAfter, thin, long, keptOf, cleanedMember, cleaned, kept, range, repeat, short, reasonsAfter, reasonsBy, pieceReasons, between, memberReasons, reasons}
+use Rattle.clean.specs.Cleaning.{good, samePoint, onto, pieces, thinAfter, thin, isPiece, keptOf, cleanedMember, cleaned, kept, range, repeat, short, reasonsAfter, reasonsBy, pieceReasons, betweenPieces, memberReasons, reasons}
 
 -- two points, and one that is no number, with a payload
 abbrev a : Point
@@ -38,5 +38,5 @@ why ps rs = reasons (ps ∷ []) ≡ rs
 pub vectors : why (a ∷ a ∷ []) (short ∷ repeat ∷ []) × why (a ∷ a ∷ gap ∷ a ∷ []) (short ∷ repeat ∷ range ∷ short ∷ []) × why (a ∷ gap ∷ a ∷ b ∷ []) (short ∷ range ∷ kept ∷ kept ∷ [])
     × why (a ∷ b ∷ a ∷ []) (kept ∷ kept ∷ kept ∷ []) × why (zero ∷ minus ∷ a ∷ []) (kept ∷ repeat ∷ kept ∷ []) × why (edge ∷ a ∷ above ∷ []) (kept ∷ kept ∷ range ∷ [])
     × (cleaned ((zero ∷ minus ∷ a ∷ gap ∷ b ∷ []) ∷ (b ∷ a ∷ []) ∷ []) ≡ (zero ∷ a ∷ []) ∷ (b ∷ a ∷ []) ∷ [])
-unfolding round neg lt le eq isNan size span climb units odd ofInt ofBits ofFields trailingZeros magnitudeOf coordinate point good same onto pieces thinAfter thin long keptOf cleanedMember cleaned reasonsAfter reasonsBy pieceReasons between memberReasons reasons flatMap
+unfolding round neg lt le eq isNan size span climb units odd ofInt ofBits ofFields trailingZeros magnitudeOf coordinate point good samePoint onto pieces thinAfter thin isPiece keptOf cleanedMember cleaned reasonsAfter reasonsBy pieceReasons betweenPieces memberReasons reasons flatMap
 vectors = (refl, refl, refl, refl, refl, refl, refl)

@@ -11,7 +11,7 @@ use Rattle.members.specs.Held.{pointsOf, chainsOf}
 use Rattle.members.proofs.Held.{Held}
 use Rattle.members.proofs.Along.{Along, along-none, along-next, along-more, Fitting, chains-next, chains-over}
 use Rattle.clean.specs.Cleaning.{good, keptOf, cleanedMember, cleaned, range, pieceReasons, memberReasons, reasons}
-use Rattle.clean.specs.Steps.{pointIn, part, Part, PieceEnds, Room, Did, MarkedAll}
+use Rattle.clean.specs.Inside.{pointIn, part, Part, PieceEnds, CleanRoom, Did, MarkedAll}
 use Rattle.clean.proofs.Rules.{reasons-whole, reasons-broken, cleaned-whole, cleaned-broken, length-piece, length-member, kept-twice, cleaned-twice}
 use Rattle.clean.proofs.Parts.{part-length, part-broken, part-member}
 
@@ -27,14 +27,14 @@ done-all {A} {start} {goal} {rest} f e =
 pub record InMember (xs ys : List ℕ) (from end : ℕ) (rs₀ ls₀ rs ls : List ℕ) (at₀ at start : ℕ) : Type 0 where
   pub lies : Part xs ys from end
   pub few : end - from ≤ 1024
-  pub room : Room xs rs₀ ls₀ from at₀
+  pub room : CleanRoom xs rs₀ ls₀ from at₀
   pub up : from ≤ start
   pub within : start ≤ end
   pub twice : 2 * at ≤ start
   pub whys : Filling from (memberReasons (part xs ys from end)) (memberReasons (part xs ys start end)) start rs₀ rs
   pub lens : Filling at₀ (map length (cleanedMember (part xs ys from end))) (map length (cleanedMember (part xs ys start end))) at ls₀ ls
 
-pub in-first : {xs ys : List ℕ} {from end : ℕ} {rs ls : List ℕ} {at : ℕ} → Part xs ys from end → end - from ≤ 1024 → Room xs rs ls from at → InMember xs ys from end rs ls rs ls at at from
+pub in-first : {xs ys : List ℕ} {from end : ℕ} {rs ls : List ℕ} {at : ℕ} → Part xs ys from end → end - from ≤ 1024 → CleanRoom xs rs ls from at → InMember xs ys from end rs ls rs ls at at from
 in-first {xs} {ys} {from} {end} {rs} {ls} {at} p h r = record {
   lies = p;
   few = h;
@@ -50,7 +50,7 @@ module _ {xs ys : List ℕ} {from end : ℕ} {rs₀ ls₀ rs ls : List ℕ} {at�
   pub in-lies : Part xs ys start end
   in-lies = record { alike = m .lies .alike; up = m .within; within = m .lies .within }
 
-  pub in-room : Room xs rs ls start at
+  pub in-room : CleanRoom xs rs ls start at
   in-room = record { marks = omega (arith, m .room .marks, fill-length (m .whys)); halves = omega (arith, m .room .halves, fill-length (m .lens)); twice = m .twice }
 
   module _ {to : ℕ} (e : PieceEnds xs ys start end to) where
@@ -123,12 +123,12 @@ left xs ys ns k from = chainsOf (drop k ns) (drop from (pointsOf xs ys))
 pub record Walked (xs ys ns rs₀ ls₀ rs ls : List ℕ) (at from k : ℕ) : Type 0 where
   pub along : Along ns (length xs) k from
   pub alike : length ys ≡ length xs
-  pub room : Room xs rs₀ ls₀ 0 0
+  pub room : CleanRoom xs rs₀ ls₀ 0 0
   pub twice : 2 * at ≤ from
   pub whys : Filling 0 (reasons (left xs ys ns 0 0)) (reasons (left xs ys ns k from)) from rs₀ rs
   pub lens : Filling 0 (map length (cleaned (left xs ys ns 0 0))) (map length (cleaned (left xs ys ns k from))) at ls₀ ls
 
-pub walked-none : {xs ys ns rs ls : List ℕ} → Held (length xs) (length ys) ns → Room xs rs ls 0 0 → Walked xs ys ns rs ls rs ls 0 0 0
+pub walked-none : {xs ys ns rs ls : List ℕ} → Held (length xs) (length ys) ns → CleanRoom xs rs ls 0 0 → Walked xs ys ns rs ls rs ls 0 0 0
 walked-none {xs} {ys} {ns} {rs} {ls} h r = record {
   along = along-none ns (length xs) (h .each) (h .sum);
   alike = h .alike;
@@ -145,7 +145,7 @@ module _ {xs ys ns rs₀ ls₀ rs ls : List ℕ} {at from k : ℕ} (w : Walked x
   pub walked-lies : Part xs ys from (from + n)
   walked-lies = record { alike = w .alike; up = omega arith; within = walked-fitting .within }
 
-  pub walked-room : Room xs rs ls from at
+  pub walked-room : CleanRoom xs rs ls from at
   walked-room = record { marks = omega (arith, w .room .marks, fill-length (w .whys)); halves = omega (arith, w .room .halves, fill-length (w .lens)); twice = w .twice }
 
   next-left : left xs ys ns k from ≡ part xs ys from (from + n) ∷ left xs ys ns (k + 1) (from + n)

@@ -24,13 +24,13 @@ abbrev pub outputs : List ℕ → List ℕ → List ℕ → List ℕ → Outputs
 outputs x y lengths reasons = record { x = x; y = y; lengths = lengths; reasons = reasons }
 
 -- 3: the kept point slices differ, or one of the four is shorter than n points may ask for: n points, n / 2 pieces, n reasons
-unfoldable pub outputsCheck : ℕ → Outputs → Check
-outputsCheck n o =
+unfoldable pub keptRoomCheck : ℕ → Outputs → Check
+keptRoomCheck n o =
     unless (eqb (length (o .x)) (length (o .y)) && (leb n (length (o .x)) && (leb (n / 2) (length (o .lengths)) && leb n (length (o .reasons))))) 3 0
 
 -- the members that are cleaned
 unfoldable pub cleaning : List ℕ → List ℕ → List ℕ → Outputs → Answer (List (List Point))
-cleaning x y lengths o = heldCheck (length x) (length y) lengths then outputsCheck (length x) o then gives (chainsOf lengths (pointsOf x y))
+cleaning x y lengths o = heldCheck (length x) (length y) lengths then keptRoomCheck (length x) o then gives (chainsOf lengths (pointsOf x y))
 
 -- the answer: how many points and pieces are kept, or the refusal
 unfoldable pub cleanedOf : Answer (List (List Point)) → Cleaned

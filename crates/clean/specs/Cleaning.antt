@@ -17,8 +17,8 @@ unfoldable pub good : Point → Bool
 good p = point (ofBits binary64 (p .x)) (ofBits binary64 (p .y))
 
 -- equal by value on both axes
-unfoldable pub same : Point → Point → Bool
-same p q = eq (ofBits binary64 (p .x)) (ofBits binary64 (q .x)) && eq (ofBits binary64 (p .y)) (ofBits binary64 (q .y))
+unfoldable pub samePoint : Point → Point → Bool
+samePoint p q = eq (ofBits binary64 (p .x)) (ofBits binary64 (q .x)) && eq (ofBits binary64 (p .y)) (ofBits binary64 (q .y))
 
 -- ---- what is kept
 
@@ -35,7 +35,7 @@ pieces (p ∷ ps) = cond (good p) (onto p (pieces ps)) ([] ∷ pieces ps)
 -- of the points after a kept one, those that do not equal the kept one just before them
 unfoldable pub thinAfter : Point → List Point → List Point
 thinAfter before [] = []
-thinAfter before (p ∷ ps) = cond (same before p) (thinAfter before ps) (p ∷ thinAfter p ps)
+thinAfter before (p ∷ ps) = cond (samePoint before p) (thinAfter before ps) (p ∷ thinAfter p ps)
 
 -- a piece without its repeats
 unfoldable pub thin : List Point → List Point
@@ -43,12 +43,12 @@ thin [] = []
 thin (p ∷ ps) = p ∷ thinAfter p ps
 
 -- two points or more
-unfoldable pub long : List Point → Bool
-long ps = leb 2 (length ps)
+unfoldable pub isPiece : List Point → Bool
+isPiece ps = leb 2 (length ps)
 
 -- what is kept of a piece: the piece without its repeats, if two points or more are left
 unfoldable pub keptOf : List Point → List (List Point)
-keptOf ps = cond (long (thin ps)) (thin ps ∷ []) []
+keptOf ps = cond (isPiece (thin ps)) (thin ps ∷ []) []
 
 -- of a member
 unfoldable pub cleanedMember : List Point → List (List Point)
@@ -76,7 +76,7 @@ short = 3
 -- of points after a kept one, r being the reason of those that are no repeats
 unfoldable pub reasonsAfter : ℕ → Point → List Point → List ℕ
 reasonsAfter r before [] = []
-reasonsAfter r before (p ∷ ps) = cond (same before p) (repeat ∷ reasonsAfter r before ps) (r ∷ reasonsAfter r p ps)
+reasonsAfter r before (p ∷ ps) = cond (samePoint before p) (repeat ∷ reasonsAfter r before ps) (r ∷ reasonsAfter r p ps)
 
 unfoldable pub reasonsBy : ℕ → List Point → List ℕ
 reasonsBy r [] = []
@@ -84,24 +84,24 @@ reasonsBy r (p ∷ ps) = r ∷ reasonsAfter r p ps
 
 -- of a piece: its repeats are dropped first, and the others with it if fewer than two are left
 unfoldable pub pieceReasons : List Point → List ℕ
-pieceReasons ps = reasonsBy (cond (long (thin ps)) kept short) ps
+pieceReasons ps = reasonsBy (cond (isPiece (thin ps)) kept short) ps
 
 -- lists with a number between each and the next
-unfoldable pub between : ℕ → List (List ℕ) → List ℕ
-between n [] = []
-between n (xs ∷ []) = xs
-between n (xs ∷ (ys ∷ more)) = xs ++ (n ∷ between n (ys ∷ more))
+unfoldable pub betweenPieces : ℕ → List (List ℕ) → List ℕ
+betweenPieces n [] = []
+betweenPieces n (xs ∷ []) = xs
+betweenPieces n (xs ∷ (ys ∷ more)) = xs ++ (n ∷ betweenPieces n (ys ∷ more))
 
 -- of a member: between two pieces is a point outside the rule
 unfoldable pub memberReasons : List Point → List ℕ
-memberReasons ps = between range (map pieceReasons (pieces ps))
+memberReasons ps = betweenPieces range (map pieceReasons (pieces ps))
 
 -- THE REASON OF EACH POINT of members, in their order
 unfoldable pub reasons : List (List Point) → List ℕ
 reasons pss = flatMap memberReasons pss
 
 -- of values beside reasons, those that are kept
-unfoldable pub keptBy : {A : Type 0} → List ℕ → List A → List A
-keptBy [] vs = []
-keptBy (r ∷ rs) [] = []
-keptBy (r ∷ rs) (v ∷ vs) = cond (leb r kept) (v ∷ keptBy rs vs) (keptBy rs vs)
+unfoldable pub keptValues : {A : Type 0} → List ℕ → List A → List A
+keptValues [] vs = []
+keptValues (r ∷ rs) [] = []
+keptValues (r ∷ rs) (v ∷ vs) = cond (leb r kept) (v ∷ keptValues rs vs) (keptValues rs vs)

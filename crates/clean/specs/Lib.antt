@@ -1,5 +1,5 @@
 -- `Cleaning`: what is kept of chains and why a point is dropped, after document 02. `Calls`: what the call over lent slices answers and leaves.
--- `Steps`: what private functions ask and promise.
+-- `Inside`: what private functions ask and promise.
 pub mod Cleaning
 pub mod Calls
-pub mod Steps
+pub mod Inside

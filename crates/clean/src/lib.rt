@@ -10,7 +10,7 @@ ghost use mathlib.Core.Path.{_≡_};
 ghost use mathlib.Core.Bool.{_&&_};
 ghost use Prim.Native.Nat.{_/_};
 ghost use lib.Dec.{leb, eqb};
-ghost use Rattle.clean.specs.Calls.{outputs, outputsCheck, CleanedAs};
+ghost use Rattle.clean.specs.Calls.{outputs, keptRoomCheck, CleanedAs};
 
 // What cleaning answers: how many points and pieces it kept, or why it cleaned nothing.
 pub enum Cleaned {
@@ -22,21 +22,12 @@ pub enum Cleaned {
 fn has_room(n: usize, x: usize, y: usize, lengths: usize, reasons: usize) -> bool
     ensures { λ r. ⌜ r ≡ (eqb x y && (leb n x && (leb (n / 2) lengths && leb n reasons))) ⌝ }
 {
-    if x != y {
-        return false;
-    }
-    if x < n {
-        return false;
-    }
-    if lengths < n / 2 {
-        return false;
-    }
-    n <= reasons
+    (x == y) & ((n <= x) & ((n / 2 <= lengths) & (n <= reasons)))
 }
 
 // 3: outputs that are short, or whose points differ in length.
 fn check_outputs(n: usize, x: &[u64], y: &[u64], lengths: &[u32], reasons: &[u32]) -> Check
-    ensures { λ r. ⌜ r ≡ outputsCheck n (outputs (now (x .entry)) (now (y .entry)) (now (lengths .entry)) (now (reasons .entry))) ⌝ }
+    ensures { λ r. ⌜ r ≡ keptRoomCheck n (outputs (now (x .entry)) (now (y .entry)) (now (lengths .entry)) (now (reasons .entry))) ⌝ }
 {
     refusals::refuse_unless(
         has_room(n, x.len(), y.len(), lengths.len(), reasons.len()),

@@ -6,7 +6,7 @@ ghost use lib.ListN.{length};
 ghost use Rattle.refusals.specs.declared.Check.the-variants.{Fine};
 ghost use Rattle.members.specs.Held.{pointsOf, chainsOf, heldCheck};
 ghost use Rattle.clean.specs.Cleaning.{keptOf, cleanedMember, pieceReasons, memberReasons, kept, repeat};
-ghost use Rattle.clean.specs.Steps.{part, Part, Marked, Room, Did, MarkedAll};
+ghost use Rattle.clean.specs.Inside.{part, Part, ReasonsMarked, CleanRoom, Did, MarkedAll};
 use crate::points;
 
 // A point that is no repeat is kept, as far as its piece is.
@@ -32,7 +32,7 @@ fn one_unless(again: bool) -> usize
 // Marks the points of a piece after its first: a repeat, or kept. Answers how many are kept, the first among them.
 fn mark_repeats(x: &[u64], y: &[u64], from: usize, to: usize, reasons: &mut [u32]) -> usize
     requires { ⌜ Part (now x) (now y) from to × (from < to) × (to ≤ length (now reasons)) ⌝ }
-    ensures { λ r. ⌜ Marked (now (x .entry)) (now (y .entry)) from to (now (reasons .entry)) r (now (reasons .exit)) ⌝ }
+    ensures { λ r. ⌜ ReasonsMarked (now (x .entry)) (now (y .entry)) from to (now (reasons .entry)) r (now (reasons .exit)) ⌝ }
 {
     let mut last = from;
     let mut count = 1;
@@ -58,7 +58,7 @@ fn mark_piece(
     lengths: &mut [u32],
     at: usize,
 ) -> usize
-    requires { ⌜ Part (now x) (now y) from to × (to - from ≤ 1024) × Room (now x) (now reasons) (now lengths) from at ⌝ }
+    requires { ⌜ Part (now x) (now y) from to × (to - from ≤ 1024) × CleanRoom (now x) (now reasons) (now lengths) from at ⌝ }
     ensures { λ r. let ps = part (now (x .entry)) (now (y .entry)) from to in
         ⌜ Did from (pieceReasons ps) (keptOf ps) (now (reasons .entry)) (now (lengths .entry)) at r (now (reasons .exit)) (now (lengths .exit)) ⌝ }
 {
@@ -85,7 +85,7 @@ fn mark_member(
     lengths: &mut [u32],
     at: usize,
 ) -> usize
-    requires { ⌜ Part (now x) (now y) from end × (end - from ≤ 1024) × Room (now x) (now reasons) (now lengths) from at ⌝ }
+    requires { ⌜ Part (now x) (now y) from end × (end - from ≤ 1024) × CleanRoom (now x) (now reasons) (now lengths) from at ⌝ }
     ensures { λ r. let ps = part (now (x .entry)) (now (y .entry)) from end in
         ⌜ Did from (memberReasons ps) (cleanedMember ps) (now (reasons .entry)) (now (lengths .entry)) at r (now (reasons .exit)) (now (lengths .exit)) ⌝ }
 {
@@ -116,7 +116,7 @@ pub(crate) fn mark_members(
     reasons: &mut [u32],
     kept_lengths: &mut [u32],
 ) -> usize
-    requires { ⌜ (heldCheck (length (now x)) (length (now y)) (now lengths) ≡ Fine) × Room (now x) (now reasons) (now «kept_lengths») 0 0 ⌝ }
+    requires { ⌜ (heldCheck (length (now x)) (length (now y)) (now lengths) ≡ Fine) × CleanRoom (now x) (now reasons) (now «kept_lengths») 0 0 ⌝ }
     ensures { λ r. let pss = chainsOf (now (lengths .entry)) (pointsOf (now (x .entry)) (now (y .entry))) in
         ⌜ MarkedAll pss (now (reasons .entry)) (now («kept_lengths» .entry)) r (now (reasons .exit)) (now («kept_lengths» .exit)) ⌝ }
 {

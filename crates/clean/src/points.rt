@@ -2,8 +2,8 @@
 ghost use mathlib.Core.Path.{_≡_};
 ghost use Prim.Native.Nat.{_<_};
 ghost use lib.ListN.{length};
-ghost use Rattle.clean.specs.Cleaning.{good, same};
-ghost use Rattle.clean.specs.Steps.{pointIn, Part, PieceEnds};
+ghost use Rattle.clean.specs.Cleaning.{good, samePoint};
+ghost use Rattle.clean.specs.Inside.{pointIn, Part, PieceEnds};
 use numbers::bits::from_bits;
 
 // Document 01's coordinate rule.
@@ -17,7 +17,7 @@ fn is_good(x: &[u64], y: &[u64], i: usize) -> bool
 // Equal by value on both axes: zeros of either sign are.
 pub(crate) fn is_same(x: &[u64], y: &[u64], i: usize, j: usize) -> bool
     requires { ⌜ (i < length (now x)) × (i < length (now y)) × (j < length (now x)) × (j < length (now y)) ⌝ }
-    ensures { λ r. ⌜ r ≡ same (pointIn (now (x .entry)) (now (y .entry)) i) (pointIn (now (x .entry)) (now (y .entry)) j) ⌝ }
+    ensures { λ r. ⌜ r ≡ samePoint (pointIn (now (x .entry)) (now (y .entry)) i) (pointIn (now (x .entry)) (now (y .entry)) j) ⌝ }
 {
     if from_bits(x[i]) == from_bits(x[j]) {
         return from_bits(y[i]) == from_bits(y[j]);

@@ -3,13 +3,13 @@ ghost use mathlib.Core.Path.{_≡_};
 ghost use Prim.Native.Nat.{_+_, _-_, _≤_, _<_};
 ghost use mathlib.Core.List.{_++_};
 ghost use lib.ListN.{length, take, replicate};
-ghost use Rattle.wkb.specs.Steps.{Put};
-ghost use Rattle.clean.specs.Steps.{valueIf, PutKept};
+ghost use Rattle.wkb.specs.Inside.{PutIn};
+ghost use Rattle.clean.specs.Inside.{valueIf, PutKept};
 
 // A value goes to the place `at` if its reason says that it is kept. Answers the place of the next.
 fn put_if(reason: u32, value: u64, kept: &mut [u64], at: usize) -> usize
     requires { ⌜ at < length (now kept) ⌝ }
-    ensures { λ r. ⌜ Put at (valueIf reason value) (now (kept .entry)) (now (kept .exit)) × (r ≡ at + length (valueIf reason value)) ⌝ }
+    ensures { λ r. ⌜ PutIn at (valueIf reason value) (now (kept .entry)) (now (kept .exit)) × (r ≡ at + length (valueIf reason value)) ⌝ }
 {
     if reason <= 0 {
         kept[at] = value;

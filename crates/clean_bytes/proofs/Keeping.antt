@@ -26,14 +26,14 @@ use Rattle.members.specs.declared.Written.the-variants as written
 use Rattle.members.proofs.Held.{Held, held-says, held-fine, all-first, length-points-of, flatten-chains, lengths-chains, length-chains-of}
 use Rattle.members.proofs.Putting.{length-multi}
 use Rattle.clean.specs.Cleaning.{cleaned, memberReasons, reasons}
-use Rattle.clean.specs.Calls.{Outputs, outputsCheck, cleaning, cleanedOf, CleanedAs}
+use Rattle.clean.specs.Calls.{Outputs, keptRoomCheck, cleaning, cleanedOf, CleanedAs}
 use Rattle.clean.specs.declared.Cleaned.{Cleaned}
 use Rattle.clean.specs.declared.Cleaned.the-variants.{Kept, Refused}
 use Rattle.clean.proofs.Rules.{Clean, AllClean, length-reasons, cleaned-clean}
 use Rattle.clean.proofs.Again.{Gave, gave}
 use Rattle.clean_bytes.specs.declared.Ends.{Ends}
 use Rattle.clean_bytes.specs.Printed.{sizesCheck, chainsIn, textFrom, textOf, fileOf, fileLeft, CleansAs}
-use Rattle.clean_bytes.specs.Steps.{Widened, Asks, Fits, Wrote, NoFile}
+use Rattle.clean_bytes.specs.Inside.{Widened, BytesAsk, Fits, WroteText, NoFile}
 use Rattle.clean_bytes.proofs.Sizes.{AllMost, cleaned-size, cleaned-most, kept-lengths}
 use Rattle.clean_bytes.proofs.Reading.{Few, few-lines}
 use Rattle.clean_bytes.proofs.Loading.{within, Loaded, loaded, held, chains-are, unread, members-read}
@@ -64,7 +64,7 @@ module _ {x y ns b₀ b₁ : List ℕ} {r : Written} (w : WrittenAs x y ns b₀ 
   bytes-count : {m n : ℕ} → written.Bytes m ≡ written.Bytes n → m ≡ n
   bytes-count e = cc
 
-  pub wrote : {n : ℕ} → r ≡ written.Bytes n → Wrote (chainsOf ns (pointsOf x y)) b₀ n b₁
+  pub wrote : {n : ℕ} → r ≡ written.Bytes n → WroteText (chainsOf ns (pointsOf x y)) b₀ n b₁
   unfolding writtenOf answerBy bytesLeft leftIn
   wrote {n} e =
       let d : written.Bytes n ≡ written.Bytes (length bs) = sym e ∙ w .answer ∙ ap writtenOf is in
@@ -96,7 +96,7 @@ kept-few pss f =
     }
 
 -- the members of slices
-module _ {x y ns file : List ℕ} (a : Asks x y ns file) where
+module _ {x y ns file : List ℕ} (a : BytesAsk x y ns file) where
   abbrev chains : List (List Point)
   chains = chainsOf ns (pointsOf x y)
 
@@ -135,7 +135,7 @@ module _ {x y ns file : List ℕ} (a : Asks x y ns file) where
   -- the outputs have room
   module _ (o : Outputs) (ex : length (o .x) ≡ 4096) (ey : length (o .y) ≡ 4096) (el : length (o .lengths) ≡ 2048) (er : length (o .reasons) ≡ 4096) where
     gives-all : cleaning x y ns o ≡ gives chains
-    unfolding cleaning outputsCheck unless _then_
+    unfolding cleaning keptRoomCheck unless _then_
     gives-all =
         let b = a .few in
         rw (a .held, ex, ey, el, er, le-leb (length x) 4096 (omega arith), le-leb (length x / 2) 2048 (omega arith))
@@ -173,11 +173,11 @@ module _ {x y ns file : List ℕ} (a : Asks x y ns file) where
     text-is : chainsOf ns (o′ .reasons) ≡ map memberReasons chains
     text-is = ap (chainsOf ns) (told .in-reasons) ∙ ap (λ (ks : List ℕ). chainsOf ks (zeroBeyond 0 (length (o .reasons)) (reasons chains))) (sym lengths-are) ∙ cut-reasons chains (length (o .reasons))
 
-    pub cleans : {f₁ t₀ t₁ : List ℕ} {k end : ℕ} → Wrote (chainsOf (take m (o′ .lengths)) (pointsOf (take n (o′ .x)) (take n (o′ .y)))) file k f₁
+    pub cleans : {f₁ t₀ t₁ : List ℕ} {k end : ℕ} → WroteText (chainsOf (take m (o′ .lengths)) (pointsOf (take n (o′ .x)) (take n (o′ .y)))) file k f₁
         → Puts (textFrom 0 (chainsOf ns (o′ .reasons))) (page t₀ 0) (page t₁ end) → CleansAs (gives chains) file t₀ (record { bytes = k; text = end }) f₁ t₁
     unfolding fileOf fileLeft textOf answerBy
     cleans {f₁} {t₀} {t₁} {k} {end} w p =
-        let v : Wrote (cleaned chains) file k f₁ = subst (λ (q : List (List Point)). Wrote q file k f₁) (chains-are kept-load) w in
+        let v : WroteText (cleaned chains) file k f₁ = subst (λ (q : List (List Point)). WroteText q file k f₁) (chains-are kept-load) w in
         record { bytes = v .count; file = v .is; text = puts-text (ap (textFrom 0) text-is) p }
 
 -- ---- the reader's answers, cleaned

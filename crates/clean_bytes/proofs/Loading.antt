@@ -13,7 +13,7 @@ use Rattle.wkb.specs.Multi.{foundMulti, multiOutcome, multiReadOf, axisLeft, le
 use Rattle.members.specs.Held.{pointsOf, chainsOf}
 use Rattle.members.proofs.Held.{Held, held-fine, points-back, chains-back, sum-back}
 use Rattle.clean.proofs.Again.{start}
-use Rattle.clean_bytes.specs.Steps.{Parts, Asks}
+use Rattle.clean_bytes.specs.Inside.{Parts, BytesAsk}
 use Rattle.clean_bytes.proofs.Reading.{Few, few-of, all-read}
 
 -- entries at the start of a slice are within it
@@ -66,7 +66,7 @@ module _ {pss : List (List Point)} {x y l : List ℕ} {points members : ℕ} (d 
         sum = rw (d .in-lengths) (sum-back pss) ∙ sym length-x;
       }
 
-  pub asked : {file : List ℕ} → Few pss → 65545 ≤ length file → Asks (take points x) (take points y) (take members l) file
+  pub asked : {file : List ℕ} → Few pss → 65545 ≤ length file → BytesAsk (take points x) (take points y) (take members l) file
   asked f r =
       let b = f .bytes in
       let n = length-l in

@@ -24,8 +24,8 @@ use Rattle.wkb.specs.declared.MultiRead.{MultiRead}
 use Rattle.wkb.specs.declared.MultiRead.the-variants as multi
 use Rattle.wkb.specs.Bytes.{Point, orderByte, littleBytes, wordBytes, LineString, Members, none, more, multiHead, MultiLineString}
 use Rattle.wkb.specs.Reading.{found, slicesCheck, outcome, readOf, ReadAs}
-use Rattle.wkb.specs.Multi.{startsOf, foundMulti, pairCheck, roomCheck, multiOutcome, multiReadOf, axisLeft, lengthsLeft, MultiReadAs}
-use Rattle.wkb.specs.Steps.{Put}
+use Rattle.wkb.specs.Multi.{startsOf, foundMulti, pairCheck, membersRoomCheck, multiOutcome, multiReadOf, axisLeft, lengthsLeft, MultiReadAs}
+use Rattle.wkb.specs.Inside.{PutIn}
 use Rattle.wkb.proofs.Words.{length-word}
 use Rattle.wkb.proofs.Stores.{put-length, put-more, put-then}
 use Rattle.wkb.proofs.Chains.{Some, length-starts}
@@ -33,7 +33,7 @@ use Rattle.wkb.proofs.MultiLineStrings.{multi-complete}
 use Rattle.members.specs.Held.{pointsOf, chainsOf, allLengths, heldCheck}
 use Rattle.members.proofs.Held.{Held, held-fine, points-back, chains-back, sum-back}
 use Rattle.clean_bytes.specs.Printed.{chainsFound}
-use Rattle.clean_bytes.specs.Steps.{Widened, Parts, Asks}
+use Rattle.clean_bytes.specs.Inside.{Widened, Parts, BytesAsk}
 use Rattle.clean_bytes.proofs.Sizes.{Sized, sized}
 
 -- ---- a LineString
@@ -80,20 +80,20 @@ line-none {bs} {x₀} {y₀} {x₁} {y₁} {r} {q} a e ex ey = go (found bs) ref
 
 -- ---- what is put at the start of a slice
 
-put-front : {xs s₀ s₁ : List ℕ} (n : ℕ) → Put 0 xs s₀ s₁ → length xs ≡ n → take n s₁ ≡ xs
+put-front : {xs s₀ s₁ : List ℕ} (n : ℕ) → PutIn 0 xs s₀ s₁ → length xs ≡ n → take n s₁ ≡ xs
 put-front {xs} n p e = ap (take n) (p .is) ∙ take-at xs _ n e
 
 -- bytes are copied one after another
-pub copy-more : (from : List ℕ) (at i : ℕ) {s₀ s : List ℕ} → i < length from → at + length from ≤ length s₀ → Put at (take i from) s₀ s → Put at (take (i + 1) from) s₀ (set s (at + i) (getD from i 0))
+pub copy-more : (from : List ℕ) (at i : ℕ) {s₀ s : List ℕ} → i < length from → at + length from ≤ length s₀ → PutIn at (take i from) s₀ s → PutIn at (take (i + 1) from) s₀ (set s (at + i) (getD from i 0))
 copy-more from at i {s₀} {s} h l p =
     let n : length (take i from) ≡ i = length-take-le i from (omega arith) in
     let e : take (i + 1) from ≡ take i from ++ (getD from i 0 ∷ []) = ap (λ (k : ℕ). take k from) (add-one i) ∙ take-suc from i 0 h in
-    subst (λ (xs : List ℕ). Put at xs s₀ (set s (at + i) (getD from i 0))) (sym e) (put-more (getD from i 0) p (omega arith) (omega arith))
+    subst (λ (xs : List ℕ). PutIn at xs s₀ (set s (at + i) (getD from i 0))) (sym e) (put-more (getD from i 0) p (omega arith) (omega arith))
 
-pub copy-all : (from : List ℕ) (at i : ℕ) {s₀ s : List ℕ} → length from ≤ i → Put at (take i from) s₀ s → Put at from s₀ s
-copy-all from at i {s₀} {s} h p = subst (λ (xs : List ℕ). Put at xs s₀ s) (take-all i from h) p
+pub copy-all : (from : List ℕ) (at i : ℕ) {s₀ s : List ℕ} → length from ≤ i → PutIn at (take i from) s₀ s → PutIn at from s₀ s
+copy-all from at i {s₀} {s} h p = subst (λ (xs : List ℕ). PutIn at xs s₀ s) (take-all i from h) p
 
-pub widened-line : {bs s₀ s₁ s₂ : List ℕ} → foundMulti (multiHead Little 1 ++ bs) ≡ chainsFound bs → Put 0 head s₀ s₁ → Put 9 bs s₁ s₂
+pub widened-line : {bs s₀ s₁ s₂ : List ℕ} → foundMulti (multiHead Little 1 ++ bs) ≡ chainsFound bs → PutIn 0 head s₀ s₁ → PutIn 9 bs s₁ s₂
     → Widened bs (9 + length bs) s₂
 widened-line {bs} {s₀} {s₁} {s₂} f p q =
     let all = put-then p q refl in
@@ -105,7 +105,7 @@ widened-line {bs} {s₀} {s₁} {s₂} f p q =
       is = ap foundMulti (put-front (9 + length bs) all (length-append head bs) ∙ ap (λ (h : List ℕ). h ++ bs) (sym head-is)) ∙ f;
     }
 
-pub widened-same : {bs s₀ s₁ : List ℕ} → foundMulti bs ≡ chainsFound bs → Put 0 bs s₀ s₁ → Widened bs (length bs) s₁
+pub widened-same : {bs s₀ s₁ : List ℕ} → foundMulti bs ≡ chainsFound bs → PutIn 0 bs s₀ s₁ → Widened bs (length bs) s₁
 widened-same {bs} f p =
     let e = put-length p in
     let w = p .within in
@@ -137,7 +137,7 @@ few-of {bs} {pss} l h =
 
 module _ {bs : List ℕ} (only : (pss : List (List Point)) → foundMulti bs ≡ gives pss → MultiLineString bs pss) (h : length bs ≤ 65545) where
   pub all-read : multiOutcome 4096 4096 4096 bs ≡ foundMulti bs
-  unfolding multiOutcome pairCheck roomCheck unless andThen _then_ _into_
+  unfolding multiOutcome pairCheck membersRoomCheck unless andThen _then_ _into_
   all-read = go (foundMulti bs) refl
     where
       go : (f : Answer (List (List Point))) → foundMulti bs ≡ f → multiOutcome 4096 4096 4096 bs ≡ f

@@ -12,8 +12,8 @@ use Rattle.wkb.proofs.LineStrings.{length-line}
 use Rattle.wkb.proofs.Chains.{Some}
 use Rattle.members.specs.Held.{allLengths}
 use Rattle.members.proofs.Held.{is-length}
-use Rattle.clean.specs.Cleaning.{good, thin, long, keptOf, cleanedMember, cleaned}
-use Rattle.clean.specs.Steps.{AllGood}
+use Rattle.clean.specs.Cleaning.{good, thin, isPiece, keptOf, cleanedMember, cleaned}
+use Rattle.clean.specs.Inside.{AllGood}
 use Rattle.clean.proofs.Rules.{Split, whole, broken, split, cleaned-whole, cleaned-broken, flatten-append, thin-most, Clean, AllClean, cleaned-clean}
 
 -- ---- what is found
@@ -50,7 +50,7 @@ most-append k (ps ∷ pss) qss h l = (h .0, most-append k pss qss (h .1) l)
 -- of a piece of at most k points
 piece-most : (k : ℕ) (ps : List Point) → length ps ≤ k → AllMost k (keptOf ps)
 unfolding keptOf
-piece-most k ps h = go (long (thin ps))
+piece-most k ps h = go (isPiece (thin ps))
   where
     go : (b : Bool) → AllMost k (cond b (thin ps ∷ []) [])
     go true = (let u = thin-most ps in omega arith, tt)
@@ -65,7 +65,7 @@ split-most k (broken {g} rest b h f s) l =
 -- 9 bytes for each piece, and 16 for each of its points
 piece-size : (ps : List Point) → 9 * length (keptOf ps) + 16 * length (flatten (keptOf ps)) ≤ 9 + 16 * length ps
 unfolding keptOf flatten
-piece-size ps = go (long (thin ps))
+piece-size ps = go (isPiece (thin ps))
   where
     go : (b : Bool) → 9 * length (cond b (thin ps ∷ []) []) + 16 * length (flatten (cond b (thin ps ∷ []) [])) ≤ 9 + 16 * length ps
     go true = simp length-append (let u = thin-most ps in omega arith)

@@ -27,7 +27,7 @@ use Rattle.wkb.proofs.LineStrings.{length-line, HeadStands, head-stands, sound,
 use Rattle.wkb.proofs.MultiLineStrings.{multi-sound, multi-complete}
 use Rattle.members.proofs.Held.{Fits, chains-fit, chains-back, sum-back}
 use Rattle.members.proofs.Putting.{length-multi, multi-is}
-use Rattle.clean.specs.Cleaning.{cleaned, kept, keptBy, memberReasons, reasons}
+use Rattle.clean.specs.Cleaning.{cleaned, kept, keptValues, memberReasons, reasons}
 use Rattle.clean.proofs.Rules.{kept-are, AllClean, Clean, cleaned-clean, clean-same, cleaned-again}
 use Rattle.clean.proofs.Again.{start}
 use Rattle.clean_bytes.specs.declared.Ends.{Ends}
@@ -49,13 +49,13 @@ members-patterns none = tt
 members-patterns (more {bs} {rest} {ps} {pss} l r) = patterns-append ps (flatten pss) (l .patterns) (members-patterns r)
 
 -- of some of them
-kept-patterns : (rs : List ℕ) (ps : List Point) → Patterns ps → Patterns (keptBy rs ps)
-unfolding keptBy
+kept-patterns : (rs : List ℕ) (ps : List Point) → Patterns ps → Patterns (keptValues rs ps)
+unfolding keptValues
 kept-patterns [] ps h = tt
 kept-patterns (r ∷ rs) [] h = tt
 kept-patterns (r ∷ rs) (p ∷ ps) h = go (leb r kept) (kept-patterns rs ps (h .2))
   where
-    go : (b : Bool) → Patterns (keptBy rs ps) → Patterns (cond b (p ∷ keptBy rs ps) (keptBy rs ps))
+    go : (b : Bool) → Patterns (keptValues rs ps) → Patterns (cond b (p ∷ keptValues rs ps) (keptValues rs ps))
     go true k = (h .0, h .1, k)
     go false k = k
 

@@ -1,3 +1,3 @@
--- `Printed`: what is written and printed for the bytes of an input, after document 02. `Steps`: what private functions ask and promise.
+-- `Printed`: what is written and printed for the bytes of an input, after document 02. `Inside`: what private functions ask and promise.
 pub mod Printed
-pub mod Steps
+pub mod Inside

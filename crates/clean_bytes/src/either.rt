@@ -2,14 +2,14 @@
 ghost use mathlib.Core.Path.{_≡_};
 ghost use Prim.Native.Nat.{_+_, _≤_};
 ghost use lib.ListN.{length};
-ghost use Rattle.wkb.specs.Steps.{Put};
-ghost use Rattle.clean_bytes.specs.Steps.{Widened};
+ghost use Rattle.wkb.specs.Inside.{PutIn};
+ghost use Rattle.clean_bytes.specs.Inside.{Widened};
 use wkb::Read;
 
 // Bytes, from the place `at` on.
 fn put_bytes(from: &[u8], s: &mut [u8], at: usize)
     requires { ⌜ at + length (now from) ≤ length (now s) ⌝ }
-    ensures { λ _. ⌜ Put at (now (from .entry)) (now (s .entry)) (now (s .exit)) ⌝ }
+    ensures { λ _. ⌜ PutIn at (now (from .entry)) (now (s .entry)) (now (s .exit)) ⌝ }
 {
     let mut i = 0;
     while i < from.len() {

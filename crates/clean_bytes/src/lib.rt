@@ -14,7 +14,7 @@ ghost use Rattle.report.specs.Lines.{refusedLine};
 ghost use Rattle.wkb.specs.Multi.{foundMulti};
 ghost use Rattle.members.specs.Held.{pointsOf, chainsOf};
 ghost use Rattle.clean_bytes.specs.Printed.{chainsIn, CleansAs};
-ghost use Rattle.clean_bytes.specs.Steps.{Parts, Asks, Fits, Wrote, NoFile};
+ghost use Rattle.clean_bytes.specs.Inside.{Parts, BytesAsk, Fits, WroteText, NoFile};
 
 // Where the file and the text end. A file of 0 bytes is none.
 pub struct Ends {
@@ -43,7 +43,7 @@ fn write_kept(
 ) -> usize
     requires { ⌜ Parts (now x) (now y) (now lengths) points members × Fits (take points (now x)) (take points (now y)) (take members (now lengths)) (now file) ⌝ }
     ensures { λ r. let pss = chainsOf (take members (now (lengths .entry))) (pointsOf (take points (now (x .entry))) (take points (now (y .entry)))) in
-        ⌜ Wrote pss (now (file .entry)) r (now (file .exit)) ⌝ }
+        ⌜ WroteText pss (now (file .entry)) r (now (file .exit)) ⌝ }
 {
     let written = members::write::write_multi_line_string(
         &x[..points],
@@ -59,7 +59,7 @@ fn write_kept(
 
 // Cleans members, writes what is kept, and prints a line for each dropped point.
 fn put_found(x: &[u64], y: &[u64], lengths: &[u32], file: &mut [u8], text: &mut [u8]) -> Ends
-    requires { ⌜ Asks (now x) (now y) (now lengths) (now file) ⌝ }
+    requires { ⌜ BytesAsk (now x) (now y) (now lengths) (now file) ⌝ }
     ensures { λ r. let pss = chainsOf (now (lengths .entry)) (pointsOf (now (x .entry)) (now (y .entry))) in
         ⌜ CleansAs (gives pss) (now (file .entry)) (now (text .entry)) r (now (file .exit)) (now (text .exit)) ⌝ }
 {
@@ -96,7 +96,7 @@ fn put_part(
     file: &mut [u8],
     text: &mut [u8],
 ) -> Ends
-    requires { ⌜ Parts (now x) (now y) (now lengths) points members × Asks (take points (now x)) (take points (now y)) (take members (now lengths)) (now file) ⌝ }
+    requires { ⌜ Parts (now x) (now y) (now lengths) points members × BytesAsk (take points (now x)) (take points (now y)) (take members (now lengths)) (now file) ⌝ }
     ensures { λ r. let pss = chainsOf (take members (now (lengths .entry))) (pointsOf (take points (now (x .entry))) (take points (now (y .entry)))) in
         ⌜ CleansAs (gives pss) (now (file .entry)) (now (text .entry)) r (now (file .exit)) (now (text .exit)) ⌝ }
 {

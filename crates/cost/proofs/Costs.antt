@@ -28,14 +28,14 @@ use Rattle.seek.specs.Tests.{testsOf}
 use Rattle.seek.proofs.Lengths.{tri-twice, tri-mono, length-increasing}
 use Rattle.seek.proofs.Standing.{cells-fit}
 use Rattle.seek.proofs.CellRests.{length-list}
-use Rattle.visit_laws.specs.Words.{half, sumBelow}
+use Rattle.visit_laws.specs.Words.{halfDown, sumBelow}
 use Rattle.visit_laws.proofs.Number.{half-is, sum-zero, sum-suc, tests-number}
 use borrow.Author.Tests.{leb-true}
 use Rattle.cost.specs.declared.Cost.{Cost}
 use Rattle.cost.specs.declared.CostAnswer.{CostAnswer}
 use Rattle.cost.specs.declared.CostAnswer.the-variants as answer
 use Rattle.cost.specs.Cost.{greatest, costOf, costAnswer}
-use Rattle.cost.specs.Inside.{gap, OffsetsAsk, CellsCost, GlobalsAsk}
+use Rattle.cost.specs.Inside.{gap, OffsetsAsk, CellsCost, CostAsks}
 
 -- ---- sums and greatest numbers over the cells
 
@@ -117,7 +117,7 @@ module _ {m : ℕ} {offsets : List ℕ} {cell tests longest : ℕ} (s : Adding m
 
 -- ---- the globals
 
-module _ (n g : ℕ) (a : GlobalsAsk n g) where
+module _ (n g : ℕ) (a : CostAsks n g) where
   pub globals-most : 0 < g → tri g ≤ g * (n - 1)
   globals-most h =
       let e : n ≡ suc (n - 1) = omega (arith, a .within) in
@@ -164,7 +164,7 @@ module _ (g : Grid) (n : ℕ) (offsets items globals : List ℕ) (m : ℕ) where
           short = λ c h. omega (arith, gap-at c h, length-increasing n (listOf t c) (fits .lists .lists c h), few-lines);
         }
 
-    pub globals-ask : GlobalsAsk n m
+    pub globals-ask : CostAsks n m
     globals-ask =
         record {
           few = few-lines;
@@ -177,9 +177,9 @@ module _ (g : Grid) (n : ℕ) (offsets items globals : List ℕ) (m : ℕ) where
 
       all-tests : l .tests + x ≡ length (testsOf t)
       all-tests =
-          let u : sumBelow (cells t) (λ c. half (length (listOf t c))) ≡ l .tests =
-          sum-alike (cells t) (λ c. half (length (listOf t c))) (λ c. tri (gap offsets c)) (λ c h. half-is (length (listOf t c)) ∙ ap tri (gap-at c h)) ∙ sym (w .tests) in
-          let v : m * (n - 1) - half m ≡ x = ap (λ (y : ℕ). m * (n - 1) - y) (half-is m) ∙ sym e in
+          let u : sumBelow (cells t) (λ c. halfDown (length (listOf t c))) ≡ l .tests =
+          sum-alike (cells t) (λ c. halfDown (length (listOf t c))) (λ c. tri (gap offsets c)) (λ c h. half-is (length (listOf t c)) ∙ ap tri (gap-at c h)) ∙ sym (w .tests) in
+          let v : m * (n - 1) - halfDown m ≡ x = ap (λ (y : ℕ). m * (n - 1) - y) (half-is m) ∙ sym e in
           sym (tests-number t fits ∙ rw (u, v))
 
       longest-is : l .longest ≡ greatest (λ c. length (listOf t c)) (cells t)

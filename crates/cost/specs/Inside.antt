@@ -25,6 +25,6 @@ pub record CellsCost (m : ℕ) (offsets : List ℕ) (r : Cost) : Type 0 where
   pub longest : r .longest ≡ greatest (gap offsets) m
   pub small : r .tests ≤ 2 ^ 62
 
-pub record GlobalsAsk (lines globals : ℕ) : Type 0 where
+pub record CostAsks (lines globals : ℕ) : Type 0 where
   pub few : lines ≤ 65536
   pub within : globals ≤ lines

@@ -10,7 +10,7 @@ ghost use lib.Dec.{leb};
 ghost use Rattle.tables.specs.Tables.{tables};
 ghost use Rattle.seek.specs.Inside.{tri};
 ghost use Rattle.cost.specs.Cost.{costAnswer};
-ghost use Rattle.cost.specs.Inside.{OffsetsAsk, CellsCost, GlobalsAsk};
+ghost use Rattle.cost.specs.Inside.{OffsetsAsk, CellsCost, CostAsks};
 
 // The tests of a full visit, and the lines of the longest list.
 pub struct Cost {
@@ -65,7 +65,7 @@ fn of_cells(cells: usize, offsets: &[u32]) -> Cost
 
 // The global lines: each with every line but itself and the lower globals.
 fn of_globals(lines: u32, globals: u32) -> u64
-    requires { ⌜ GlobalsAsk lines globals ⌝ }
+    requires { ⌜ CostAsks lines globals ⌝ }
     ensures { λ r. ⌜ r ≡ globals * (lines - 1) - tri globals ⌝ }
 {
     if globals == 0 {

@@ -24,7 +24,7 @@ use Rattle.refusals.proofs.Answers.{then-fine, then-refused, then-passed, into-
 use Rattle.refusals.proofs.Leaving.{Clearing, clearing-unless, clearing-then, clearing-each, left-same}
 use Rattle.tables.specs.Lists.{tabulate}
 use Rattle.tables.proofs.Laws.{take-tabulate}
-use Rattle.counts.specs.Adding.{sumAt, sumsCheck, addCheck, added, addOf, AddIs, Small, zeros, Agree}
+use Rattle.counts.specs.Adding.{sumAt, sumsCheck, addCheck, added, addOf, SumIs, SmallCounts, zeros, Agree}
 use Rattle.counts.proofs.Lists.{length-tabulate, getD-tabulate, each-passes, getD-zeros}
 
 pub sum-at : (a b : List ℕ) (c : ℕ) → sumAt a b c ≡ getD a c 0 + getD b c 0
@@ -118,11 +118,11 @@ module _ (a b : List ℕ) where
 
   -- ---- what add leaves
 
-  left-alone : (r : Refusal) → addCheck a b ≡ Refused r → clears (r .number) ≡ false → AddIs a b (Refused r) a
+  left-alone : (r : Refusal) → addCheck a b ≡ Refused r → clears (r .number) ≡ false → SumIs a b (Refused r) a
   unfolding addOf _then_ leftIn
   left-alone r h s = record { answer = sym h; table = rw h (sym (left-same 0 r a s)) }
 
-  pub add-unequal : (length b ≡ length a → ⊥) → AddIs a b (Refused (refusal 3 0)) a
+  pub add-unequal : (length b ≡ length a → ⊥) → SumIs a b (Refused (refusal 3 0)) a
   unfolding addCheck unless andThen clears
   add-unequal n = left-alone (refusal 3 0) (rw (ne-eqb (length b) (length a) n)) refl
 
@@ -134,15 +134,15 @@ module _ (a b : List ℕ) where
   unfolding sumsCheck clears
   sums-spare = clearing-each (λ c. leb (sumAt a b c) 65536) 13 (length a) 0 refl
 
-  pub add-above : length b ≡ length a → (r : Refusal) → sumsCheck a b ≡ Refused r → AddIs a b (Refused r) a
+  pub add-above : length b ≡ length a → (r : Refusal) → sumsCheck a b ≡ Refused r → SumIs a b (Refused r) a
   add-above e r h = left-alone r (lengths-pass e ∙ h) (sums-spare .says r h)
 
-  pub add-done : (t : List ℕ) → length b ≡ length a → sumsCheck a b ≡ Fine → t ≡ added a b → AddIs a b Fine t
+  pub add-done : (t : List ℕ) → length b ≡ length a → sumsCheck a b ≡ Fine → t ≡ added a b → SumIs a b Fine t
   unfolding addOf _then_ leftIn
   add-done t e h k = record { answer = sym (lengths-pass e ∙ h); table = rw (lengths-pass e ∙ h) k }
 
 -- the promise settles everything
-pub one-sum : {a b : List ℕ} {r r₁ : Check} {t t₁ : List ℕ} → AddIs a b r t → AddIs a b r₁ t₁ → (r ≡ r₁) × (t ≡ t₁)
+pub one-sum : {a b : List ℕ} {r r₁ : Check} {t t₁ : List ℕ} → SumIs a b r t → SumIs a b r₁ t₁ → (r ≡ r₁) × (t ≡ t₁)
 one-sum h k = (h .answer ∙ sym (k .answer), h .table ∙ sym (k .table))
 
 -- ---- THE LAWS OF ADDING
@@ -163,8 +163,8 @@ sum-zero : (a : List ℕ) → sumAt a (zeros (length a)) ≡ (λ (c : ℕ). getD
 unfolding sumAt
 sum-zero a = fun-ext (λ c. rw (getD-zeros (length a) c) (omega arith))
 
-pub identity : (a : List ℕ) → Small a → addOf a (zeros (length a)) ≡ gives a
-unfolding Small added
+pub identity : (a : List ℕ) → SmallCounts a → addOf a (zeros (length a)) ≡ gives a
+unfolding SmallCounts added
 identity a s =
     adds-gives a (zeros (length a)) (record { same = length-replicate (length a) 0; within = λ c l. rw (sum-zero a) (s c) })
     ∙ rw (sum-zero a) (ap gives (sym (take-tabulate (λ c. getD a c 0) a (length a) (omega arith) (λ c l. refl)) ∙ take-length a))

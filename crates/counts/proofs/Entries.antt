@@ -19,15 +19,15 @@ use Rattle.sizing.specs.declared.Sizing.{Sizing}
 use Rattle.fill.specs.declared.Count.{Count}
 use Rattle.fill.specs.declared.Count.the-variants as counting
 use Rattle.fill.specs.declared.Filled.{Filled}
-use Rattle.fill.specs.OnGrid.{cells, cellsOn, listOn, globalsOn, total, countsOn}
+use Rattle.fill.specs.OnGrid.{gridCells, cellsOn, listOn, globalsOn, total, countsOn}
 use Rattle.fill.specs.Checks.{countingCheck, spaceCheck}
-use Rattle.fill.specs.Fill.{countOf, CountIs, above, Filling, crowded, made, fillingOf, filledOf, writtenIn, FillIs}
+use Rattle.fill.specs.Fill.{countOf, CountIs, moreThan, Filling, crowded, made, fillingOf, filledOf, writtenIn, FillIs}
 use Rattle.fill.proofs.Lines.{total-small}
 use Rattle.fill.proofs.Sums.{above-never}
 use Rattle.counts.specs.declared.Counted.the-variants as counted
 use Rattle.counts.specs.declared.Tabled.{Tabled}
 use Rattle.counts.specs.declared.GridAnswer.the-variants as agreed
-use Rattle.counts.specs.OnGrid.{CountingIs, tabledBy, tablesCheck, tablesOf, TablesAre}
+use Rattle.counts.specs.OnGrid.{CountingIs, tabledBy, tablesRoomCheck, tablesOf, TablesAre}
 use Rattle.counts.specs.Agreed.{boundsOf, agreedOn, agreedOf}
 use Rattle.counts.proofs.Passing.{Passes, fine-passes, tableWith, table-in, length-table}
 
@@ -58,19 +58,19 @@ module _ {mode : Mode} {g : Grid} {ls : Lines} {o s : List ℕ} {r : Count} {o�
     unfolding countOf _then_ leftIn countsOn
     counted-table = rw (counted-passed .0) at (h .counts-are)
 
-    counted-sum : sum (λ k. getD o′ k 0) (cells g) ≡ total mode g ls
+    counted-sum : sum (λ k. getD o′ k 0) (gridCells g) ≡ total mode g ls
     unfolding total
     counted-sum =
-        sum-same (λ k. getD o′ k 0) (λ c. length (listOn mode g ls c)) (cells g)
+        sum-same (λ k. getD o′ k 0) (λ c. length (listOn mode g ls c)) (gridCells g)
         (λ c l. ap (λ (t : List ℕ). getD t c 0) counted-table ∙ table-in (λ c. length (listOn mode g ls c)) g (length o) c l)
 
-    pub sum-asks : (m : ℕ) → m ≡ cells g → (m ≤ length o′) × (sum (λ k. getD o′ k 0) m < 2 ^ 32)
+    pub sum-asks : (m : ℕ) → m ≡ gridCells g → (m ≤ length o′) × (sum (λ k. getD o′ k 0) m < 2 ^ 32)
     sum-asks m d =
         let p = counted-passes in
         let l = ap length counted-table ∙ length-table (λ c. length (listOn mode g ls c)) g (length o) (p .roomy) in
         rw d (omega (arith, p .roomy, l), rw counted-sum (total-small mode g ls (p .few) (p .fits)))
 
-    pub count-made : (m t : ℕ) → m ≡ cells g → t ≡ sum (λ k. getD o′ k 0) m → CountingIs mode g ls o s (counted.Of t n) o′ s′ (countOf mode g ls (length o) (length s))
+    pub count-made : (m t : ℕ) → m ≡ gridCells g → t ≡ sum (λ k. getD o′ k 0) m → CountingIs mode g ls o s (counted.Of t n) o′ s′ (countOf mode g ls (length o) (length s))
     unfolding countOf _then_ answerBy
     count-made m t d k =
         let q = counted-passed in
@@ -88,9 +88,9 @@ module _ {mode : Mode} {g : Grid} {ls : Lines} {o s : List ℕ} {r : Count} {o�
 -- ---- the tables
 
 -- no cell lists more than 65,536 lines
-never-crowded : (mode : Mode) (g : Grid) (ls : Lines) → count ls ≤ 65536 → above 65536 (λ c. length (listOn mode g ls c)) (cells g) ≡ false
+never-crowded : (mode : Mode) (g : Grid) (ls : Lines) → count ls ≤ 65536 → moreThan 65536 (λ c. length (listOn mode g ls c)) (gridCells g) ≡ false
 unfolding listOn
-never-crowded mode g ls few = above-never 65536 (λ c. length (listOn mode g ls c)) (λ c. omega (arith, lines-few (local (cellsOn mode g ls)) (count ls) c)) (cells g)
+never-crowded mode g ls few = above-never 65536 (λ c. length (listOn mode g ls c)) (λ c. omega (arith, lines-few (local (cellsOn mode g ls)) (count ls) c)) (gridCells g)
 
 module _ {mode : Mode} {g : Grid} {ls : Lines} {o t gs s : List ℕ} {r : Filled} {o′ t′ gs′ s′ : List ℕ} where
   fill-refused : (q : Refusal) → FillIs mode g ls o t gs s r o′ t′ gs′ s′ (refused q) → TablesAre mode g ls o t gs s (tabledBy r) o′ t′ gs′ s′ (refused q)
@@ -105,11 +105,11 @@ module _ {mode : Mode} {g : Grid} {ls : Lines} {o t gs s : List ℕ} {r : Filled
 
   pub tables-made : FillIs mode g ls o t gs s r o′ t′ gs′ s′ (fillingOf mode g ls 65536 (length o) (length t) (length gs) (length s))
       → TablesAre mode g ls o t gs s (tabledBy r) o′ t′ gs′ s′ (tablesOf mode g ls (length o) (length t) (length gs) (length s))
-  unfolding fillingOf tablesOf tablesCheck _then_ andThen
+  unfolding fillingOf tablesOf tablesRoomCheck _then_ andThen
   tables-made = go (countingCheck mode g ls (length o) (length s)) refl (spaceCheck mode g ls (length t) (length gs))
     where
       go : (a : Check) → countingCheck mode g ls (length o) (length s) ≡ a → (b : Check)
-          → FillIs mode g ls o t gs s r o′ t′ gs′ s′ (a then cond (above 65536 (λ c. length (listOn mode g ls c)) (cells g)) (gives crowded) (b then gives made))
+          → FillIs mode g ls o t gs s r o′ t′ gs′ s′ (a then cond (moreThan 65536 (λ c. length (listOn mode g ls c)) (gridCells g)) (gives crowded) (b then gives made))
           → TablesAre mode g ls o t gs s (tabledBy r) o′ t′ gs′ s′ (andThen a b then gives g)
       go (Refused q) e b h = fill-refused q h
       go Fine e (Refused q) h = fill-refused q (rw (never-crowded mode g ls (fine-passes mode g ls (length o) (length s) e .few)) at h)

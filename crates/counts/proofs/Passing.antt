@@ -17,8 +17,8 @@ use Rattle.grid.specs.Domain.{Lines, count, Alike, lineFits, fit, lengthsCheck,
 use Rattle.grid.proofs.Fine.{LinesFit, lines-fine}
 use Rattle.walk.specs.declared.Mode.{Mode}
 use Rattle.tables.specs.Lists.{tabulate}
-use Rattle.fill.specs.OnGrid.{cells, walkOn, ends, listOn, countsOn}
-use Rattle.fill.specs.Checks.{lentCheck, roomCheck, turnsCheck, triedCheck, countingCheck}
+use Rattle.fill.specs.OnGrid.{gridCells, walkOn, completes, listOn, countsOn}
+use Rattle.fill.specs.Checks.{onGridCheck, roomCheck, turnsCheck, triedCheck, countingCheck}
 use Rattle.counts.proofs.Lists.{each-passes, length-tabulate, getD-tabulate, getD-zeros}
 
 -- ---- what passes 3, 2, 1, 8, 4 and 7
@@ -29,15 +29,15 @@ pub record Passes (mode : Mode) (g : Grid) (ls : Lines) (room scratch : ℕ) : T
   pub few : count ls ≤ 65536
   pub each : (i : ℕ) → i < count ls → lineFits ls i ≡ true
   pub fits : fit g ≡ true
-  pub roomy : cells g + 1 ≤ room
-  pub ended : (i : ℕ) → i < count ls → ends (walkOn mode g ls i) ≡ true
+  pub roomy : gridCells g + 1 ≤ room
+  pub ended : (i : ℕ) → i < count ls → completes (walkOn mode g ls i) ≡ true
 
 module _ (mode : Mode) (g : Grid) (ls : Lines) (room scratch : ℕ) where
   pub fine-passes : countingCheck mode g ls room scratch ≡ Fine → Passes mode g ls room scratch
-  unfolding countingCheck lentCheck triedCheck scratchCheck gridCheck roomCheck turnsCheck
+  unfolding countingCheck onGridCheck triedCheck scratchCheck gridCheck roomCheck turnsCheck
   fine-passes h =
-      let lent = andThen-left (lentCheck g ls scratch) (triedCheck mode g ls room) h in
-      let tried = andThen-right (lentCheck g ls scratch) (triedCheck mode g ls room) h in
+      let lent = andThen-left (onGridCheck g ls scratch) (triedCheck mode g ls room) h in
+      let tried = andThen-right (onGridCheck g ls scratch) (triedCheck mode g ls room) h in
       let rest = andThen-right (scratchCheck scratch) (andThen (linesCheck ls) (gridCheck g)) lent in
       let f : LinesFit ls = lines-fine ls (andThen-left (linesCheck ls) (gridCheck g) rest) in
       record {
@@ -46,12 +46,12 @@ module _ (mode : Mode) (g : Grid) (ls : Lines) (room scratch : ℕ) where
         few = f .few;
         each = f .each;
         fits = unless-fine (fit g) 8 0 (andThen-right (linesCheck ls) (gridCheck g) rest);
-        roomy = leb-true (cells g + 1) room (unless-fine (leb (cells g + 1) room) 4 (cells g + 1) (andThen-left (roomCheck g room) (turnsCheck mode g ls) tried));
-        ended = λ i l. each-says (λ i. ends (walkOn mode g ls i)) 7 (count ls) 0 i (andThen-right (roomCheck g room) (turnsCheck mode g ls) tried) (omega arith) (omega arith);
+        roomy = leb-true (gridCells g + 1) room (unless-fine (leb (gridCells g + 1) room) 4 (gridCells g + 1) (andThen-left (roomCheck g room) (turnsCheck mode g ls) tried));
+        ended = λ i l. each-says (λ i. completes (walkOn mode g ls i)) 7 (count ls) 0 i (andThen-right (roomCheck g room) (turnsCheck mode g ls) tried) (omega arith) (omega arith);
       }
 
   pub passes-fine : Passes mode g ls room scratch → countingCheck mode g ls room scratch ≡ Fine
-  unfolding countingCheck lentCheck triedCheck scratchCheck gridCheck roomCheck turnsCheck linesCheck lengthsCheck countCheck coordinatesCheck unless andThen
+  unfolding countingCheck onGridCheck triedCheck scratchCheck gridCheck roomCheck turnsCheck linesCheck lengthsCheck countCheck coordinatesCheck unless andThen
   passes-fine h =
       rw (
         le-leb 16384 scratch (h .space),
@@ -61,28 +61,28 @@ module _ (mode : Mode) (g : Grid) (ls : Lines) (room scratch : ℕ) where
         le-leb (count ls) 65536 (h .few),
         each-passes (lineFits ls) 1 (count ls) 0 (λ k _ l. h .each k (omega arith)),
         h .fits,
-        le-leb (cells g + 1) room (h .roomy),
-        each-passes (λ i. ends (walkOn mode g ls i)) 7 (count ls) 0 (λ k _ l. h .ended k (omega arith)),
+        le-leb (gridCells g + 1) room (h .roomy),
+        each-passes (λ i. completes (walkOn mode g ls i)) 7 (count ls) 0 (λ k _ l. h .ended k (omega arith)),
       )
 
 -- ---- the table of a function of the cells, in a slice of a length, and zero beyond
 
 abbrev pub tableWith : (ℕ → ℕ) → Grid → ℕ → List ℕ
-tableWith f g room = tabulate f (cells g) ++ replicate (room - cells g) 0
+tableWith f g room = tabulate f (gridCells g) ++ replicate (room - gridCells g) 0
 
 module _ (f : ℕ → ℕ) (g : Grid) (room : ℕ) where
-  pub length-table : cells g + 1 ≤ room → length (tableWith f g room) ≡ room
-  length-table l = rw (length-append, length-tabulate f (cells g), length-replicate) (omega arith)
+  pub length-table : gridCells g + 1 ≤ room → length (tableWith f g room) ≡ room
+  length-table l = rw (length-append, length-tabulate f (gridCells g), length-replicate) (omega arith)
 
-  pub table-in : (c : ℕ) → c < cells g → getD (tableWith f g room) c 0 ≡ f c
-  table-in c l = List·getD-append (tabulate f (cells g)) (replicate (room - cells g) 0) 0 c (omega (arith, length-tabulate f (cells g))) ∙ getD-tabulate f (cells g) c l
+  pub table-in : (c : ℕ) → c < gridCells g → getD (tableWith f g room) c 0 ≡ f c
+  table-in c l = List·getD-append (tabulate f (gridCells g)) (replicate (room - gridCells g) 0) 0 c (omega (arith, length-tabulate f (gridCells g))) ∙ getD-tabulate f (gridCells g) c l
 
-  pub table-out : (c : ℕ) → cells g ≤ c → getD (tableWith f g room) c 0 ≡ 0
+  pub table-out : (c : ℕ) → gridCells g ≤ c → getD (tableWith f g room) c 0 ≡ 0
   table-out c l =
-      let e : c ≡ length (tabulate f (cells g)) + (c - cells g) = omega (arith, length-tabulate f (cells g)) in
+      let e : c ≡ length (tabulate f (gridCells g)) + (c - gridCells g) = omega (arith, length-tabulate f (gridCells g)) in
       ap (λ (k : ℕ). getD (tableWith f g room) k 0) e
-      ∙ getD-append-add (tabulate f (cells g)) (replicate (room - cells g) 0) (c - cells g) 0
-      ∙ getD-zeros (room - cells g) (c - cells g)
+      ∙ getD-append-add (tabulate f (gridCells g)) (replicate (room - gridCells g) 0) (c - gridCells g) 0
+      ∙ getD-zeros (room - gridCells g) (c - gridCells g)
 
 pub counts-with : (mode : Mode) (g : Grid) (ls : Lines) (room : ℕ) → countsOn mode g ls room ≡ tableWith (λ c. length (listOn mode g ls c)) g room
 unfolding countsOn

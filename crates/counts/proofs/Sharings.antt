@@ -26,10 +26,10 @@ use Rattle.grid.specs.Domain.{Lines, count, segmentAt, Alike, lineFits, fit}
 use Rattle.walk.specs.declared.Mode.{Mode}
 use Rattle.tables.specs.Lists.{long, local, only, linesAt, globalLines, sum}
 use Rattle.tables.proofs.Laws.{sum-same, sum-most, lines-few}
-use Rattle.fill.specs.OnGrid.{cells, walkOn, ends, visited, cellsOn, listOn, globalsOn, total, countsOn, oneIf}
+use Rattle.fill.specs.OnGrid.{gridCells, walkOn, completes, visited, cellsOn, listOn, globalsOn, total, countsOn, oneIf}
 use Rattle.fill.specs.Checks.{countingCheck}
 use Rattle.counts.specs.Adding.{addOf, added, sumAt, Agree}
-use Rattle.counts.specs.Sharing.{entries, taken, Benches, bench, both, times, timesOn, Shared, tableOf, tableBy, globalsBy, listedBy}
+use Rattle.counts.specs.Sharing.{entries, taken, Benches, bench, both, timesCounted, timesOn, Shared, tableOf, tableBy, globalsOnAll, listedBy}
 use Rattle.counts.proofs.Lists.{length-tabulate}
 use Rattle.counts.proofs.AddLaws.{sum-at, Adds, adds-gives, length-added, getD-added, agree-by}
 use Rattle.counts.proofs.Passing.{Passes, fine-passes, passes-fine, tableWith, length-table, table-in, table-out, counts-with}
@@ -76,8 +76,8 @@ sum-only f x (suc n) l = go (λ k. sum-only f x n k) (ℕ-discrete n x)
     go ih (no d) = rw (ih (omega arith), ne-eqb n x d) (omega arith)
 
 -- a list of numbers below n, by how often each is there
-over-times : (f : ℕ → ℕ) (n : ℕ) (is : List ℕ) → ((i : ℕ) → n ≤ i → times i is ≡ 0) → over f is ≡ sum (λ i. times i is * f i) n
-unfolding over times sum
+over-times : (f : ℕ → ℕ) (n : ℕ) (is : List ℕ) → ((i : ℕ) → n ≤ i → timesCounted i is ≡ 0) → over f is ≡ sum (λ i. timesCounted i is * f i) n
+unfolding over timesCounted sum
 over-times f n [] h = sym (nothing n)
   where
     nothing : (m : ℕ) → sum (λ i. 0 * f i) m ≡ 0
@@ -87,8 +87,8 @@ over-times f n (x ∷ xs) h =
     let l : x < n = first (decLt x n) in
     let ih = over-times f n xs (λ i k. let z = h i k in omega arith) in
     ap₂ _+_ (sym (sum-only f x n l)) ih
-    ∙ sym (sum-adds (λ i. oneIf (eqb i x) * f i) (λ i. times i xs * f i) n)
-    ∙ sum-same (λ i. oneIf (eqb i x) * f i + times i xs * f i) (λ i. (oneIf (eqb i x) + times i xs) * f i) n (λ i _. sym (add-mul (oneIf (eqb i x)) (times i xs) (f i)))
+    ∙ sym (sum-adds (λ i. oneIf (eqb i x) * f i) (λ i. timesCounted i xs * f i) n)
+    ∙ sum-same (λ i. oneIf (eqb i x) * f i + timesCounted i xs * f i) (λ i. (oneIf (eqb i x) + timesCounted i xs) * f i) n (λ i _. sym (add-mul (oneIf (eqb i x)) (timesCounted i xs) (f i)))
   where
     first : Dec (x < n) → x < n
     first (yes l) = l
@@ -198,7 +198,7 @@ module _ (mode : Mode) (g : Grid) (ls : Lines) where
 
 -- ---- tables of functions, added
 
-module _ (g : Grid) (room : ℕ) (l : cells g + 1 ≤ room) (f h : ℕ → ℕ) (few : (c : ℕ) → f c + h c ≤ 65536) where
+module _ (g : Grid) (room : ℕ) (l : gridCells g + 1 ≤ room) (f h : ℕ → ℕ) (few : (c : ℕ) → f c + h c ≤ 65536) where
   abbrev F : List ℕ
   F = tableWith f g room
 
@@ -209,16 +209,16 @@ module _ (g : Grid) (room : ℕ) (l : cells g + 1 ≤ room) (f h : ℕ → ℕ) 
   FH = tableWith (λ c. f c + h c) g room
 
   entry-adds : (c : ℕ) → getD F c 0 + getD H c 0 ≡ getD FH c 0
-  entry-adds c = go (decLt c (cells g))
+  entry-adds c = go (decLt c (gridCells g))
     where
-      go : Dec (c < cells g) → getD F c 0 + getD H c 0 ≡ getD FH c 0
+      go : Dec (c < gridCells g) → getD F c 0 + getD H c 0 ≡ getD FH c 0
       go (yes k) = rw (table-in f g room c k, table-in h g room c k, table-in (λ c. f c + h c) g room c k)
       go (no k) = rw (table-out f g room c (omega arith), table-out h g room c (omega arith), table-out (λ c. f c + h c) g room c (omega arith))
 
   entry-few : (c : ℕ) → getD FH c 0 ≤ 65536
-  entry-few c = go (decLt c (cells g))
+  entry-few c = go (decLt c (gridCells g))
     where
-      go : Dec (c < cells g) → getD FH c 0 ≤ 65536
+      go : Dec (c < gridCells g) → getD FH c 0 ≤ 65536
       go (yes k) = rw (table-in (λ c. f c + h c) g room c k) (few c)
       go (no k) = rw (table-out (λ c. f c + h c) g room c (omega arith)) (omega arith)
 
@@ -234,30 +234,30 @@ module _ (g : Grid) (room : ℕ) (l : cells g + 1 ≤ room) (f h : ℕ → ℕ) 
 module _ (mode : Mode) (g : Grid) (room scratch : ℕ) (ls : Lines) where
   record Counts (i : ℕ) : Type 0 where
     fits : lineFits ls i ≡ true
-    ended : ends (walkOn mode g ls i) ≡ true
+    ended : completes (walkOn mode g ls i) ≡ true
 
   -- what does not depend on the lines
   record Common : Type 0 where
     space : 16384 ≤ scratch
     fits : fit g ≡ true
-    roomy : cells g + 1 ≤ room
+    roomy : gridCells g + 1 ≤ room
 
-  there : (is : List ℕ) (j : ℕ) → j < length is → 1 ≤ times (getD is j 0) is
-  unfolding times
+  there : (is : List ℕ) (j : ℕ) → j < length is → 1 ≤ timesCounted (getD is j 0) is
+  unfolding timesCounted
   there [] j l = absurd (omega arith)
   there (i ∷ is) zero l = rw (eq-eqb i i refl) (omega arith)
   there (i ∷ is) (suc j) l = omega (arith, there is j (omega arith))
 
-  found : (P : ℕ → Type 0) (is : List ℕ) → ((j : ℕ) → j < length is → P (getD is j 0)) → (i : ℕ) → 1 ≤ times i is → P i
-  unfolding times
+  found : (P : ℕ → Type 0) (is : List ℕ) → ((j : ℕ) → j < length is → P (getD is j 0)) → (i : ℕ) → 1 ≤ timesCounted i is → P i
+  unfolding timesCounted
   found P [] h i l = absurd (omega arith)
   found P (x ∷ xs) h i l = go (ℕ-discrete i x) (found P xs (λ j k. h (suc j) (omega arith)) i)
     where
-      go : Dec (i ≡ x) → (1 ≤ times i xs → P i) → P i
+      go : Dec (i ≡ x) → (1 ≤ timesCounted i xs → P i) → P i
       go (yes e) later = rw e (h 0 (omega arith))
-      go (no d) later = later (let z : 1 ≤ oneIf false + times i xs = rw (ne-eqb i x d) at l in omega arith)
+      go (no d) later = later (let z : 1 ≤ oneIf false + timesCounted i xs = rw (ne-eqb i x d) at l in omega arith)
 
-  bench-passes : (is : List ℕ) → Common → length is ≤ 65536 → ((i : ℕ) → 1 ≤ times i is → Counts i) → Passes mode g (taken ls is) room scratch
+  bench-passes : (is : List ℕ) → Common → length is ≤ 65536 → ((i : ℕ) → 1 ≤ timesCounted i is → Counts i) → Passes mode g (taken ls is) room scratch
   bench-passes is c few h =
       record {
         space = c .space;
@@ -266,14 +266,14 @@ module _ (mode : Mode) (g : Grid) (room scratch : ℕ) (ls : Lines) where
         each = λ j l. let k : j < length is = omega (arith, taken-count ls is) in taken-fits ls is j k ∙ h (getD is j 0) (there is j k) .fits;
         fits = c .fits;
         roomy = c .roomy;
-        ended = λ j l. let k : j < length is = omega (arith, taken-count ls is) in ap ends (taken-walk ls is mode g j k) ∙ h (getD is j 0) (there is j k) .ended;
+        ended = λ j l. let k : j < length is = omega (arith, taken-count ls is) in ap completes (taken-walk ls is mode g j k) ∙ h (getD is j 0) (there is j k) .ended;
       }
 
-  passes-bench : (is : List ℕ) → Passes mode g (taken ls is) room scratch → Common × ((i : ℕ) → 1 ≤ times i is → Counts i)
+  passes-bench : (is : List ℕ) → Passes mode g (taken ls is) room scratch → Common × ((i : ℕ) → 1 ≤ timesCounted i is → Counts i)
   passes-bench is p = (
     record { space = p .space; fits = p .fits; roomy = p .roomy },
     found Counts is (λ j l. let k : j < count (taken ls is) = omega (arith, taken-count ls is) in
-        record { fits = sym (taken-fits ls is j l) ∙ p .each j k; ended = sym (ap ends (taken-walk ls is mode g j l)) ∙ p .ended j k }),
+        record { fits = sym (taken-fits ls is j l) ∙ p .each j k; ended = sym (ap completes (taken-walk ls is mode g j l)) ∙ p .ended j k }),
   )
 
   -- ---- all benches
@@ -372,21 +372,21 @@ module _ (mode : Mode) (g : Grid) (room scratch : ℕ) (ls : Lines) where
 -- ---- the two numbers
 
 module _ (mode : Mode) (g : Grid) (ls : Lines) where
-  globals-by : (bs : Benches) → globalsBy mode g ls bs ≡ overOn (isGlobal mode g ls) bs
-  unfolding globalsBy overOn
+  globals-by : (bs : Benches) → globalsOnAll mode g ls bs ≡ overOn (isGlobal mode g ls) bs
+  unfolding globalsOnAll overOn
   globals-by (bench is) = taken-globals mode g ls is
   globals-by (both a b) = ap₂ _+_ (globals-by a) (globals-by b)
 
-  listed-by : (bs : Benches) → listedBy mode g ls bs ≡ sum (λ c. overOn (lists mode g ls c) bs) (cells g)
+  listed-by : (bs : Benches) → listedBy mode g ls bs ≡ sum (λ c. overOn (lists mode g ls c) bs) (gridCells g)
   unfolding listedBy overOn total
-  listed-by (bench is) = sum-same (λ c. length (listOn mode g (taken ls is) c)) (λ c. over (lists mode g ls c) is) (cells g) (λ c _. taken-listed mode g ls is c)
+  listed-by (bench is) = sum-same (λ c. length (listOn mode g (taken ls is) c)) (λ c. over (lists mode g ls c) is) (gridCells g) (λ c _. taken-listed mode g ls is c)
   listed-by (both a b) =
-      ap₂ _+_ (listed-by a) (listed-by b) ∙ sym (sum-adds (λ c. overOn (lists mode g ls c) a) (λ c. overOn (lists mode g ls c) b) (cells g))
+      ap₂ _+_ (listed-by a) (listed-by b) ∙ sym (sum-adds (λ c. overOn (lists mode g ls c) a) (λ c. overOn (lists mode g ls c) b) (gridCells g))
 
   module _ (bs : Benches) (h : Shared (count ls) bs) where
-    pub globals-shared : globalsBy mode g ls bs ≡ length (globalsOn mode g ls)
+    pub globals-shared : globalsOnAll mode g ls bs ≡ length (globalsOn mode g ls)
     globals-shared = globals-by bs ∙ shared-globals mode g ls bs h
 
     pub listed-shared : listedBy mode g ls bs ≡ total mode g ls
     unfolding total
-    listed-shared = listed-by bs ∙ sum-same (λ c. overOn (lists mode g ls c) bs) (λ c. length (listOn mode g ls c)) (cells g) (λ c _. shared-listed mode g ls bs h c)
+    listed-shared = listed-by bs ∙ sum-same (λ c. overOn (lists mode g ls c) bs) (λ c. length (listOn mode g ls c)) (gridCells g) (λ c _. shared-listed mode g ls bs h c)

@@ -26,7 +26,7 @@ use Rattle.tables.specs.States.{Table}
 use Rattle.tables.specs.Stands.{Stands}
 use Rattle.tables.proofs.Laws.{sum-same, table-made, table-offset, length-offsets, length-items}
 use Rattle.tables.proofs.Standing.{Laid, laid-stands}
-use Rattle.fill.specs.OnGrid.{cells, cellsOn, listOn, globalsOn, total, countsOn}
+use Rattle.fill.specs.OnGrid.{gridCells, cellsOn, listOn, globalsOn, total, countsOn}
 use Rattle.fill.specs.Checks.{countingCheck, spaceCheck}
 use Rattle.fill.proofs.Counts.{turns-all}
 use Rattle.fill.proofs.Walks.{cells-walk}
@@ -38,7 +38,7 @@ use Rattle.build.proofs.Settled.{Made, made-says}
 use Rattle.counts.specs.declared.Counted.{Counted}
 use Rattle.counts.specs.declared.Tabled.{Tabled}
 use Rattle.counts.specs.declared.Tabled.the-variants as tabled
-use Rattle.counts.specs.OnGrid.{CountingIs, tablesCheck, tablesOf, TablesAre}
+use Rattle.counts.specs.OnGrid.{CountingIs, tablesRoomCheck, tablesOf, TablesAre}
 use Rattle.counts.specs.Sharing.{Benches, Shared, tableOf, tableBy}
 use Rattle.counts.proofs.Passing.{Passes, fine-passes, passes-fine, table-in}
 use Rattle.counts.proofs.Sharings.{shared-counts}
@@ -68,8 +68,8 @@ record Fills (mode : Mode) (g : Grid) (ls : Lines) (offsets items globals scratc
   listed : length (globalsOn mode g ls) ≤ globals
 
 module _ (mode : Mode) (g : Grid) (ls : Lines) (offsets items globals scratch : ℕ) where
-  fine-fills : tablesCheck mode g ls offsets items globals scratch ≡ Fine → Fills mode g ls offsets items globals scratch
-  unfolding tablesCheck spaceCheck
+  fine-fills : tablesRoomCheck mode g ls offsets items globals scratch ≡ Fine → Fills mode g ls offsets items globals scratch
+  unfolding tablesRoomCheck spaceCheck
   fine-fills h =
       let s = andThen-right (countingCheck mode g ls offsets scratch) (spaceCheck mode g ls items globals) h in
       record {
@@ -79,7 +79,7 @@ module _ (mode : Mode) (g : Grid) (ls : Lines) (offsets items globals scratch : 
       }
 
   fills-given : Fills mode g ls offsets items globals scratch → tablesOf mode g ls offsets items globals scratch ≡ gives g
-  unfolding tablesOf tablesCheck spaceCheck unless andThen _then_
+  unfolding tablesOf tablesRoomCheck spaceCheck unless andThen _then_
   fills-given f =
       rw (
         passes-fine mode g ls offsets scratch (f .passes),
@@ -99,9 +99,9 @@ module _ {mode : Mode} {g : Grid} {ls : Lines} {o t gs s : List ℕ} {r : Tabled
       go Fine e = (refl, cc)
       go (Refused q) e = let z : _≡_ {A = ℕ} 0 1 = cc in absurd (omega arith)
 
-  check-passed : (tablesCheck mode g ls (length o) (length t) (length gs) (length s) ≡ Fine) × (globals ≡ length (globalsOn mode g ls))
+  check-passed : (tablesRoomCheck mode g ls (length o) (length t) (length gs) (length s) ≡ Fine) × (globals ≡ length (globalsOn mode g ls))
   unfolding tablesOf
-  check-passed = passed (tablesCheck mode g ls (length o) (length t) (length gs) (length s)) (h .answer)
+  check-passed = passed (tablesRoomCheck mode g ls (length o) (length t) (length gs) (length s)) (h .answer)
 
   filled : Fills mode g ls (length o) (length t) (length gs) (length s)
   filled = fine-fills mode g ls (length o) (length t) (length gs) (length s) (check-passed .0)
@@ -117,12 +117,12 @@ module _ {mode : Mode} {g : Grid} {ls : Lines} {o t gs s : List ℕ} {r : Tabled
   unfolding total listOn globalsOn zeroBeyond
   laid =
       let f = filled in
-      let x : o′ ≡ offsetsOf (listOn mode g ls) (cells g) (length o) = h .offsets-are ∙ left o (λ g. offsetsOf (listOn mode g ls) (cells g) (length o)) in
-      let y : t′ ≡ itemsOf (listOn mode g ls) (cells g) (length t) = h .items-are ∙ left t (λ g. itemsOf (listOn mode g ls) (cells g) (length t)) in
+      let x : o′ ≡ offsetsOf (listOn mode g ls) (gridCells g) (length o) = h .offsets-are ∙ left o (λ g. offsetsOf (listOn mode g ls) (gridCells g) (length o)) in
+      let y : t′ ≡ itemsOf (listOn mode g ls) (gridCells g) (length t) = h .items-are ∙ left t (λ g. itemsOf (listOn mode g ls) (gridCells g) (length t)) in
       let z : gs′ ≡ globalsOn mode g ls ++ replicate (length gs - length (globalsOn mode g ls)) 0 = h .globals-are ∙ left gs (λ g. zeroBeyond 0 (length gs) (globalsOn mode g ls)) in
-      let l : suc (cells g) ≤ length o = omega (arith, f .passes .roomy) in
-      let p : length o′ ≡ length o = ap length x ∙ length-offsets (listOn mode g ls) (cells g) (length o) l in
-      let q : length t′ ≡ length t = ap length y ∙ length-items (listOn mode g ls) (cells g) (length t) (f .space) in
+      let l : suc (gridCells g) ≤ length o = omega (arith, f .passes .roomy) in
+      let p : length o′ ≡ length o = ap length x ∙ length-offsets (listOn mode g ls) (gridCells g) (length o) l in
+      let q : length t′ ≡ length t = ap length y ∙ length-items (listOn mode g ls) (gridCells g) (length t) (f .space) in
       let v : length gs′ ≡ length gs = ap length z ∙ length-globe (globalsOn mode g ls) (length gs) (f .listed) in
       record {
         grid-fit = f .passes .fits;
@@ -140,7 +140,7 @@ module _ {mode : Mode} {g : Grid} {ls : Lines} {o t gs s : List ℕ} {r : Tabled
   tables-stand = laid-stands laid
 
   -- ITS OFFSETS ARE THE RUNNING SUMS OF THE COUNT
-  pub offsets-sum : (room c : ℕ) → c ≤ cells g → getD o′ c 0 ≡ sum (λ k. getD (countsOn mode g ls room) k 0) c
+  pub offsets-sum : (room c : ℕ) → c ≤ gridCells g → getD o′ c 0 ≡ sum (λ k. getD (countsOn mode g ls room) k 0) c
   unfolding listOn countsOn
   offsets-sum room c l =
       table-offset (laid .table) c l
@@ -148,7 +148,7 @@ module _ {mode : Mode} {g : Grid} {ls : Lines} {o t gs s : List ℕ} {r : Tabled
 
   -- THE ADDED COUNT TABLES ARE THE LENGTHS OF THE LISTS, for any sharing of the lines
   pub lengths-added : (room scratch : ℕ) (bs : Benches) (u : List ℕ) → Shared (count ls) bs → tableBy mode g room scratch ls bs ≡ gives u
-      → (c : ℕ) → c < cells g → getD u c 0 ≡ length (listIn o′ t′ c)
+      → (c : ℕ) → c < gridCells g → getD u c 0 ≡ length (listIn o′ t′ c)
   unfolding listOn countsOn
   lengths-added room scratch bs u shared e c l =
       let p = filled .passes in
@@ -193,8 +193,8 @@ build-is-tables plan {ls} {o} {t} {gs} {s} {g = g} h e =
     }) in
     record {
       answer = answer-on (plan .mode) ls g a;
-      offsets-are = h .«cell_offsets» ∙ left-on o (λ g. offsetsOf (listOn (plan .mode) g ls) (cells g) (length o)) e a;
-      items-are = h .«cell_items» ∙ left-on t (λ g. itemsOf (listOn (plan .mode) g ls) (cells g) (length t)) e a;
+      offsets-are = h .«cell_offsets» ∙ left-on o (λ g. offsetsOf (listOn (plan .mode) g ls) (gridCells g) (length o)) e a;
+      items-are = h .«cell_items» ∙ left-on t (λ g. itemsOf (listOn (plan .mode) g ls) (gridCells g) (length t)) e a;
       globals-are = h .«global_lines» ∙ left-on gs (λ g. zeroBeyond 0 (length gs) (globalsOn (plan .mode) g ls)) e a;
       scratch-is = h .scratch-is ∙ left-on s (λ _. replicate (length s) 0) e a;
     }

@@ -31,15 +31,15 @@ unfoldable pub addOf : List ℕ → List ℕ → Answer (List ℕ)
 addOf a b = addCheck a b then gives (added a b)
 
 -- the promise: the sum in the place of the first table; both refusals change nothing
-pub record AddIs (a b : List ℕ) (r : Check) (a′ : List ℕ) : Type 0 where
+pub record SumIs (a b : List ℕ) (r : Check) (a′ : List ℕ) : Type 0 where
   pub answer : r ≡ addCheck a b
   pub table : a′ ≡ leftIn 0 a (addOf a b) (λ sum. sum)
 
 -- ---- words of the laws
 
 -- no entry above 65,536
-unfoldable pub Small : List ℕ → Type 0
-Small t = (c : ℕ) → getD t c 0 ≤ 65536
+unfoldable pub SmallCounts : List ℕ → Type 0
+SmallCounts t = (c : ℕ) → getD t c 0 ≤ 65536
 
 -- a table of zeros
 abbrev pub zeros : ℕ → List ℕ

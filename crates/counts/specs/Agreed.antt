@@ -1,7 +1,8 @@
 -- The grid that benches agree on. Document 02 has one agreed grid and does not say which: this is the first that a build of all lines tries, from
 -- their bounds and their number alone. Definitions only.
 use Prim.Native.Nat.{ℕ, zero, suc}
-use lib.Ieee.{binary64, sub}
+use lib.Ieee.{}
+use Rattle.numbers.specs.Arithmetic.{_-₆₄_}
 use Rattle.numbers.specs.Order.{leastOf, greatestOf}
 use Rattle.refusals.specs.Refusals.{Answer, gives, _then_, answerBy}
 use Rattle.grid.specs.declared.Grid.{Grid}
@@ -20,8 +21,8 @@ boundsOf c =
     record {
       «min_x» = leastOf (c .«start_x») (c .«end_x»);
       «min_y» = leastOf (c .«start_y») (c .«end_y»);
-      width = sub binary64 (greatestOf (c .«end_x») (c .«start_x»)) (leastOf (c .«start_x») (c .«end_x»));
-      height = sub binary64 (greatestOf (c .«end_y») (c .«start_y»)) (leastOf (c .«start_y») (c .«end_y»));
+      width = greatestOf (c .«end_x») (c .«start_x») -₆₄ leastOf (c .«start_x») (c .«end_x»);
+      height = greatestOf (c .«end_y») (c .«start_y») -₆₄ leastOf (c .«start_y») (c .«end_y»);
     }
 
 -- the grid of the first size for so many lines; no lines have the grid of a build of no lines

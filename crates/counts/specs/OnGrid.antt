@@ -11,7 +11,7 @@ use Rattle.walk.specs.declared.Mode.{Mode}
 use Rattle.tables.specs.Lists.{itemsOf, offsetsOf}
 use Rattle.fill.specs.declared.Filled.{Filled}
 use Rattle.fill.specs.declared.Filled.the-variants as filled
-use Rattle.fill.specs.OnGrid.{cells, listOn, globalsOn, total, countsOn}
+use Rattle.fill.specs.OnGrid.{gridCells, listOn, globalsOn, total, countsOn}
 use Rattle.fill.specs.Checks.{countingCheck, spaceCheck}
 use Rattle.counts.specs.declared.Counted.{Counted}
 use Rattle.counts.specs.declared.Counted.the-variants as counted
@@ -33,12 +33,12 @@ pub record CountingIs (mode : Mode) (g : Grid) (ls : Lines) (counts scratch : Li
 -- ---- the tables
 
 -- what a count checks; then 5 and 6, as a build's on one grid
-unfoldable pub tablesCheck : Mode → Grid → Lines → ℕ → ℕ → ℕ → ℕ → Check
-tablesCheck mode g ls offsets items globals scratch = andThen (countingCheck mode g ls offsets scratch) (spaceCheck mode g ls items globals)
+unfoldable pub tablesRoomCheck : Mode → Grid → Lines → ℕ → ℕ → ℕ → ℕ → Check
+tablesRoomCheck mode g ls offsets items globals scratch = andThen (countingCheck mode g ls offsets scratch) (spaceCheck mode g ls items globals)
 
 -- the grid of the tables, or the refusal
 unfoldable pub tablesOf : Mode → Grid → Lines → ℕ → ℕ → ℕ → ℕ → Answer Grid
-tablesOf mode g ls offsets items globals scratch = tablesCheck mode g ls offsets items globals scratch then gives g
+tablesOf mode g ls offsets items globals scratch = tablesRoomCheck mode g ls offsets items globals scratch then gives g
 
 -- what filling a grid comes to where at most 65,536 lines may be in a cell; it is never crowded
 abbrev pub tabledBy : Filled → Tabled
@@ -53,7 +53,7 @@ tabledOf mode ls a = answerBy tabled.Refused (λ g. tabled.Tables (total mode g 
 -- the promise: the answer; the tables, with zeros beyond, and a scratch of zeros
 pub record TablesAre (mode : Mode) (g : Grid) (ls : Lines) (offsets items globals scratch : List ℕ) (r : Tabled) (offsets′ items′ globals′ scratch′ : List ℕ) (a : Answer Grid) : Type 0 where
   pub answer : r ≡ tabledOf mode ls a
-  pub offsets-are : offsets′ ≡ leftIn 0 offsets a (λ g. offsetsOf (listOn mode g ls) (cells g) (length offsets))
-  pub items-are : items′ ≡ leftIn 0 items a (λ g. itemsOf (listOn mode g ls) (cells g) (length items))
+  pub offsets-are : offsets′ ≡ leftIn 0 offsets a (λ g. offsetsOf (listOn mode g ls) (gridCells g) (length offsets))
+  pub items-are : items′ ≡ leftIn 0 items a (λ g. itemsOf (listOn mode g ls) (gridCells g) (length items))
   pub globals-are : globals′ ≡ leftIn 0 globals a (λ g. zeroBeyond 0 (length globals) (globalsOn mode g ls))
   pub scratch-is : scratch′ ≡ leftIn 0 scratch a (λ _. replicate (length scratch) 0)

@@ -33,12 +33,12 @@ pub data Benches : Type 0 where
   both : Benches → Benches → Benches
 
 -- how often line i is counted
-unfoldable pub times : ℕ → List ℕ → ℕ
-times i [] = 0
-times i (k ∷ ks) = oneIf (eqb i k) + times i ks
+unfoldable pub timesCounted : ℕ → List ℕ → ℕ
+timesCounted i [] = 0
+timesCounted i (k ∷ ks) = oneIf (eqb i k) + timesCounted i ks
 
 unfoldable pub timesOn : ℕ → Benches → ℕ
-timesOn i (bench is) = times i is
+timesOn i (bench is) = timesCounted i is
 timesOn i (both a b) = timesOn i a + timesOn i b
 
 -- of n lines each is counted on exactly one bench, and there once; nothing else is counted
@@ -59,9 +59,9 @@ tableBy mode g room scratch ls (both a b) =
     tableBy mode g room scratch ls a into (λ t. tableBy mode g room scratch ls b into (λ u. addOf t u))
 
 -- how many lines are global on all benches, and how much all their tables count
-unfoldable pub globalsBy : Mode → Grid → Lines → Benches → ℕ
-globalsBy mode g ls (bench is) = length (globalsOn mode g (taken ls is))
-globalsBy mode g ls (both a b) = globalsBy mode g ls a + globalsBy mode g ls b
+unfoldable pub globalsOnAll : Mode → Grid → Lines → Benches → ℕ
+globalsOnAll mode g ls (bench is) = length (globalsOn mode g (taken ls is))
+globalsOnAll mode g ls (both a b) = globalsOnAll mode g ls a + globalsOnAll mode g ls b
 
 unfoldable pub listedBy : Mode → Grid → Lines → Benches → ℕ
 listedBy mode g ls (bench is) = total mode g (taken ls is)

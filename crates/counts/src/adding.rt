@@ -3,7 +3,7 @@ ghost use mathlib.Core.Path.{_≡_};
 ghost use Prim.Native.Nat.{_+_};
 ghost use lib.ListN.{length};
 ghost use Rattle.refusals.specs.declared.Check.the-variants.{Fine};
-ghost use Rattle.counts.specs.Adding.{sumsCheck, added, AddIs};
+ghost use Rattle.counts.specs.Adding.{sumsCheck, added, SumIs};
 use refusals::Check;
 use refusals::Refusal;
 
@@ -45,7 +45,7 @@ fn add_all(into: &mut [u32], from: &[u32])
 
 // Adds one count table into another of the same length. Nothing is written before all is checked.
 pub fn add(into: &mut [u32], from: &[u32]) -> Check
-    ensures { λ r. ⌜ AddIs (now (into .entry)) (now (from .entry)) r (now (into .exit)) ⌝ }
+    ensures { λ r. ⌜ SumIs (now (into .entry)) (now (from .entry)) r (now (into .exit)) ⌝ }
 {
     if from.len() != into.len() {
         return Check::Refused(Refusal {

@@ -8,7 +8,7 @@ ghost use mathlib.Core.Path.{_≡_};
 ghost use lib.ListN.{length, getD};
 ghost use Rattle.grid.specs.Domain.{lines};
 ghost use Rattle.tables.specs.Lists.{sum};
-ghost use Rattle.fill.specs.OnGrid.{cells};
+ghost use Rattle.fill.specs.OnGrid.{gridCells};
 ghost use Rattle.fill.specs.Fill.{countOf};
 ghost use Rattle.counts.specs.OnGrid.{CountingIs, tabledBy, tablesOf, TablesAre};
 use fill::Filled;
@@ -35,7 +35,7 @@ pub enum GridAnswer {
 }
 
 fn cell_count(grid: Grid) -> usize
-    ensures { λ r. ⌜ r ≡ cells grid ⌝ }
+    ensures { λ r. ⌜ r ≡ gridCells grid ⌝ }
 {
     (grid.rows as usize) * (grid.cols as usize)
 }

@@ -10,8 +10,8 @@ use lib.ListN.{length, take, length-append}
 use lib.Seq.{length-take-le}
 use Rattle.slices.proofs.Laws.{le-or}
 use Rattle.cover.specs.declared.Ends.{Ends}
-use Rattle.cover.specs.Rule.{cellOf, bottomOf, topOf, spanOf, slopeOf, asideOf, leftOf, rightOf, firstRow, lastRow, run, rowCells, rowsFrom, cellsBetween}
-use Rattle.cover.specs.Inside.{Grown, Front, Across, Level, Rises, Row, ColumnsAre, RowRoom}
+use Rattle.cover.specs.Rule.{fineCell, bottomOf, topOf, spanOf, slopeOf, asideOf, leftOf, rightOf, firstRow, lastRow, run, rowCells, rowsFrom, cellsBetween}
+use Rattle.cover.specs.Inside.{Grown, Front, Across, Level, Rises, CoveredRow, ColumnsAre, RowRoom}
 use Rattle.cover.proofs.Slope.{aside-under, aside-over}
 use Rattle.cover.proofs.Sides.{top-before, top-last, left-at-start, right-at-start, left-at-end, right-at-end, left-by-bottom, right-by-bottom, first-level, last-level, first-rising, last-rising, first-in, last-in}
 use Rattle.cover.proofs.Growing.{length-run}
@@ -55,7 +55,7 @@ module _ (e : Ends) (s y : ℕ) (p : Across e s y) where
 
 -- ---- a row of a line that crosses rows
 
-module _ {cols rows : ℕ} {e : Ends} {s last r : ℕ} (p : Row cols rows e s last r) where
+module _ {cols rows : ℕ} {e : Ends} {s last r : ℕ} (p : CoveredRow cols rows e s last r) where
   steep : e .«from_y» < e .«to_y»
   steep = omega (arith, p .rises)
 
@@ -82,11 +82,11 @@ module _ {cols rows : ℕ} {e : Ends} {s last r : ℕ} (p : Row cols rows e s la
   across-top y k = rw k (record { small = p .small; steep = steep; slope-is = p .slope-is; from = top-in .0; to = top-in .1 })
 
   pub columns-rising : {bottom top near far left right first to : ℕ} → bottom ≡ bottomOf e r → near ≡ asideOf e bottom → top ≡ topOf e last r → far ≡ asideOf e top
-      → left ≡ leftOf e near far → first ≡ cellOf cols left → right ≡ rightOf e near far → to ≡ cellOf cols right → ColumnsAre cols rows e r first to
+      → left ≡ leftOf e near far → first ≡ fineCell cols left → right ≡ rightOf e near far → to ≡ fineCell cols right → ColumnsAre cols rows e r first to
   columns-rising a b c d f g h k =
       record {
-        first-is = g ∙ ap (cellOf cols) (rw (f, b, d, a, c, p .last-is)) ∙ sym (first-rising cols rows e r (p .rises));
-        last-is = k ∙ ap (cellOf cols) (rw (h, b, d, a, c, p .last-is)) ∙ sym (last-rising cols rows e r (p .rises));
+        first-is = g ∙ ap (fineCell cols) (rw (f, b, d, a, c, p .last-is)) ∙ sym (first-rising cols rows e r (p .rises));
+        last-is = k ∙ ap (fineCell cols) (rw (h, b, d, a, c, p .last-is)) ∙ sym (last-rising cols rows e r (p .rises));
       }
 
   -- the line begins in the first row, and has come no way there
@@ -99,19 +99,19 @@ module _ {cols rows : ℕ} {e : Ends} {s last r : ℕ} (p : Row cols rows e s la
       rw (z, zero-mul, zero-div)
 
   pub columns-start-right : {top far right first to : ℕ} → r ≡ firstRow rows e → top ≡ topOf e last r → far ≡ asideOf e top → e .«from_x» ≤ e .«to_x»
-      → first ≡ cellOf cols (e .«from_x») → right ≡ rightOf e 0 far → to ≡ cellOf cols right → ColumnsAre cols rows e r first to
+      → first ≡ fineCell cols (e .«from_x») → right ≡ rightOf e 0 far → to ≡ fineCell cols right → ColumnsAre cols rows e r first to
   columns-start-right {far} k a b h f g i =
       let z = start-near k in
       columns-rising refl (sym z) a b (sym (left-at-start e far h)) f g i
 
   pub columns-start-left : {top far left first to : ℕ} → r ≡ firstRow rows e → top ≡ topOf e last r → far ≡ asideOf e top → e .«to_x» < e .«from_x»
-      → left ≡ leftOf e 0 far → first ≡ cellOf cols left → to ≡ cellOf cols (e .«from_x») → ColumnsAre cols rows e r first to
+      → left ≡ leftOf e 0 far → first ≡ fineCell cols left → to ≡ fineCell cols (e .«from_x») → ColumnsAre cols rows e r first to
   columns-start-left {far} k a b h f g i =
       let z = start-near k in
       columns-rising refl (sym z) a b f g (sym (right-at-start e far h)) i
 
 -- the last row of such a line
-module _ {cols rows : ℕ} {e : Ends} {s r : ℕ} (p : Row cols rows e s r r) where
+module _ {cols rows : ℕ} {e : Ends} {s r : ℕ} (p : CoveredRow cols rows e s r r) where
   -- it ends there, and has come all the way but for less than 2
   all-far : spanOf e ≤ asideOf e (topOf e r r) + 5
   unfolding asideOf slopeOf
@@ -123,12 +123,12 @@ module _ {cols rows : ℕ} {e : Ends} {s r : ℕ} (p : Row cols rows e s r r) wh
       rw (top-last e r r (omega arith)) (omega arith)
 
   pub columns-end-right : {bottom near left first to : ℕ} → bottom ≡ bottomOf e r → near ≡ asideOf e bottom → e .«from_x» ≤ e .«to_x»
-      → left ≡ leftOf e near 0 → first ≡ cellOf cols left → to ≡ cellOf cols (e .«to_x») → ColumnsAre cols rows e r first to
+      → left ≡ leftOf e near 0 → first ≡ fineCell cols left → to ≡ fineCell cols (e .«to_x») → ColumnsAre cols rows e r first to
   columns-end-right {near} a b h f g i =
       columns-rising p a b refl refl (f ∙ left-by-bottom e near 0 _ h) g (sym (right-at-end e near _ all-far h)) i
 
   pub columns-end-left : {bottom near right first to : ℕ} → bottom ≡ bottomOf e r → near ≡ asideOf e bottom → e .«to_x» < e .«from_x»
-      → first ≡ cellOf cols (e .«to_x») → right ≡ rightOf e near 0 → to ≡ cellOf cols right → ColumnsAre cols rows e r first to
+      → first ≡ fineCell cols (e .«to_x») → right ≡ rightOf e near 0 → to ≡ fineCell cols right → ColumnsAre cols rows e r first to
   columns-end-left {near} a b h f g i =
       columns-rising p a b refl refl (sym (left-at-end e near _ all-far h)) f (g ∙ right-by-bottom e near 0 _ h) i
 
@@ -184,7 +184,7 @@ module _ {cols rows : ℕ} {e : Ends} {first last s : ℕ} where
       }
 
   module _ {xs ys : List ℕ} {r n : ℕ} (p : Climbing cols rows e first last s xs ys r n) where
-    pub climbing-row : r ≤ last → Row cols rows e s last r
+    pub climbing-row : r ≤ last → CoveredRow cols rows e s last r
     climbing-row h =
         let b = p .base in
         let f = b .frame in
@@ -259,15 +259,15 @@ module _ {cols rows : ℕ} {e : Ends} {first last s : ℕ} where
 -- ---- a line in one row
 
 module _ {cols rows : ℕ} {e : Ends} {r room : ℕ} (p : Level cols rows e r room) {least most a b : ℕ}
-    (f : least ≡ min (e .«from_x») (e .«to_x»)) (g : a ≡ cellOf cols least) (h : most ≡ max (e .«from_x») (e .«to_x»)) (i : b ≡ cellOf cols most) where
+    (f : least ≡ min (e .«from_x») (e .«to_x»)) (g : a ≡ fineCell cols least) (h : most ≡ max (e .«from_x») (e .«to_x»)) (i : b ≡ fineCell cols most) where
   one-row : lastRow rows e ≤ firstRow rows e
   one-row = rw (← p .first-is) (p .one-row)
 
   columns-level : ColumnsAre cols rows e r a b
   columns-level =
       record {
-        first-is = g ∙ ap (cellOf cols) f ∙ sym (first-level cols rows e r one-row);
-        last-is = i ∙ ap (cellOf cols) h ∙ sym (last-level cols rows e r one-row);
+        first-is = g ∙ ap (fineCell cols) f ∙ sym (first-level cols rows e r one-row);
+        last-is = i ∙ ap (fineCell cols) h ∙ sym (last-level cols rows e r one-row);
       }
 
   -- the cells of the row are those of the line

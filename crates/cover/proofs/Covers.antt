@@ -9,7 +9,7 @@ use native.Mathlib.Omega.{arith}
 use lib.Dec.{T, leb, leb→le, nleb→lt, lit<}
 use Rattle.slices.proofs.Laws.{le-or}
 use Rattle.cover.specs.declared.Ends.{Ends}
-use Rattle.cover.specs.Rule.{cellOf, bottomOf, topOf, spanOf, slopeOf, asideOf, leftOf, rightOf, firstRow, lastRow, nearIn, farIn, firstCol, lastCol}
+use Rattle.cover.specs.Rule.{fineCell, bottomOf, topOf, spanOf, slopeOf, asideOf, leftOf, rightOf, firstRow, lastRow, nearIn, farIn, firstCol, lastCol}
 use Rattle.cover.proofs.Slope.{aside-under, aside-over}
 use Rattle.cover.proofs.Sides.{top-before, top-last, left-going-right, right-going-right, left-going-left, right-going-left, first-level, last-level, first-rising, last-rising, cell-mono}
 
@@ -93,7 +93,7 @@ min-by P x y p q = go (leb x y) (leb→le x y) (nleb→lt x y)
 module _ (cols rows : ℕ) (e : Ends) (v w gx gy : ℕ) (Q : 0 < v + w) (up : e .«from_y» ≤ e .«to_y») (tall : e .«to_y» ≤ 4294967296)
     (px : At v w (e .«from_x») (e .«to_x») gx) (py : At v w (e .«from_y») (e .«to_y») gy) where
   abbrev row : ℕ
-  row = cellOf rows gy
+  row = fineCell rows gy
 
   abbrev last : ℕ
   last = lastRow rows e
@@ -186,19 +186,19 @@ module _ (cols rows : ℕ) (e : Ends) (v w gx gy : ℕ) (Q : 0 < v + w) (up : e 
   steep-of : firstRow rows e < last → e .«from_y» < e .«to_y»
   steep-of h = omega arith
 
-  column-from : firstCol cols rows e row ≤ cellOf cols gx
+  column-from : firstCol cols rows e row ≤ fineCell cols gx
   column-from = elim (le-or last (firstRow rows e)) [
     | inl h ↦ rw (first-level cols rows e row h) (cell-mono cols (min (e .«from_x») (e .«to_x»)) gx (px .from))
     | inr h ↦ rw (first-rising cols rows e row h) (cell-mono cols (leftOf e (nearIn e row) (farIn rows e row)) gx (low-side (steep-of h)))
   ]
 
-  column-to : cellOf cols gx ≤ lastCol cols rows e row
+  column-to : fineCell cols gx ≤ lastCol cols rows e row
   column-to = elim (le-or last (firstRow rows e)) [
     | inl h ↦ rw (last-level cols rows e row h) (cell-mono cols gx (max (e .«from_x») (e .«to_x»)) (px .to))
     | inr h ↦ rw (last-rising cols rows e row h) (cell-mono cols gx (rightOf e (nearIn e row) (farIn rows e row)) (high-side (steep-of h)))
   ]
 
-  pub covers : Listed cols rows e row (cellOf cols gx)
+  pub covers : Listed cols rows e row (fineCell cols gx)
   covers =
       record {
         row-from = cell-mono rows (e .«from_y») gy (let f = py .from in omega arith);

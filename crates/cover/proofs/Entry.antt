@@ -26,7 +26,7 @@ use Rattle.cover.specs.declared.Ends.{Ends}
 use Rattle.cover.specs.declared.Covered.the-variants.{Found, Everywhere, Refused}
 use Rattle.cover.specs.Fine.{fineOn, nearOn}
 use Rattle.cover.specs.Rule.{run, cellsBetween}
-use Rattle.cover.specs.Covering.{endPasses, passes, ordered, endsOf, everyCell, unlessNone, coveringOf, offGrid, everywhere, roomCheck, foundOf, coveredOf, CoverIs}
+use Rattle.cover.specs.Covering.{endPasses, passes, ordered, fineEnds, everyCell, unlessNoColumn, coveringOf, offGrid, everywhere, scratchShapeCheck, foundOf, coveredOf, CoverIs}
 use Rattle.cover.specs.Inside.{Grown, Front, Small, Frame}
 use Rattle.cover.proofs.Guarding.{fine-small}
 
@@ -56,14 +56,14 @@ near-by v e h = rw e h
 
 module _ (g : Grid) (line : Segment) {x y x' y' : Axis} {a b c d : ℕ} (hx : x ≡ xAxis g) (ha : a ≡ fineOn x (line .«start_x»)) (hy : y ≡ yAxis g) (hb : b ≡ fineOn y (line .«start_y»))
     (hx' : x' ≡ xAxis g) (hc : c ≡ fineOn x' (line .«end_x»)) (hy' : y' ≡ yAxis g) (hd : d ≡ fineOn y' (line .«end_y»)) where
-  ends-are : ordered a b c d ≡ endsOf g line
-  unfolding endsOf
+  ends-are : ordered a b c d ≡ fineEnds g line
+  unfolding fineEnds
   ends-are = rw (ha, hx, hb, hy, hc, hx', hd, hy')
 
-  pub ends-up : b ≤ d → _≡_ {A = Ends} (record { «from_x» = a; «from_y» = b; «to_x» = c; «to_y» = d }) (endsOf g line)
+  pub ends-up : b ≤ d → _≡_ {A = Ends} (record { «from_x» = a; «from_y» = b; «to_x» = c; «to_y» = d }) (fineEnds g line)
   ends-up h = rw (← ends-are, le-leb b d h)
 
-  pub ends-down : d < b → _≡_ {A = Ends} (record { «from_x» = c; «from_y» = d; «to_x» = a; «to_y» = b }) (endsOf g line)
+  pub ends-down : d < b → _≡_ {A = Ends} (record { «from_x» = c; «from_y» = d; «to_x» = a; «to_y» = b }) (fineEnds g line)
   ends-down h = rw (← ends-are, lt-leb b d h)
 
 ordered-small : (a b c d : ℕ) → a < 4294967296 → b < 4294967296 → c < 4294967296 → d < 4294967296 → Small (ordered a b c d) × (ordered a b c d .«from_y» ≤ ordered a b c d .«to_y»)
@@ -75,14 +75,14 @@ ordered-small a b c d p q r s = go (leb b d) refl
 
 -- the ends of a line that passes, on a grid with cells
 module _ (g : Grid) (line : Segment) (h : passes g line ≡ true) where
-  pub ends-small : Small (endsOf g line) × (endsOf g line .«from_y» ≤ endsOf g line .«to_y»)
-  unfolding endsOf
+  pub ends-small : Small (fineEnds g line) × (fineEnds g line .«from_y» ≤ fineEnds g line .«to_y»)
+  unfolding fineEnds
   ends-small =
       let p = passes-says g line h in
       ordered-small (fineOn (xAxis g) (line .«start_x»)) (fineOn (yAxis g) (line .«start_y»)) (fineOn (xAxis g) (line .«end_x»)) (fineOn (yAxis g) (line .«end_y»))
       (fine-small (xAxis g) (line .«start_x») (p .start-x)) (fine-small (yAxis g) (line .«start_y») (p .start-y)) (fine-small (xAxis g) (line .«end_x») (p .end-x)) (fine-small (yAxis g) (line .«end_y») (p .end-y))
 
-  pub frame-of : (e : Ends) (n : ℕ) → e ≡ endsOf g line → Shape (g .cols) (g .rows) → 0 < g .cols → 16384 ≤ n → Frame (g .cols) (g .rows) e n
+  pub frame-of : (e : Ends) (n : ℕ) → e ≡ fineEnds g line → Shape (g .cols) (g .rows) → 0 < g .cols → 16384 ≤ n → Frame (g .cols) (g .rows) e n
   frame-of e n k s c l =
       let z = ends-small in
       rw k
@@ -98,13 +98,13 @@ module _ (g : Grid) (line : Segment) (h : passes g line ≡ true) where
 
 -- ---- what a scratch and the counts of a grid say that pass the checks
 
-module _ (n : ℕ) (g : Grid) (h : roomCheck n g ≡ Fine) where
+module _ (n : ℕ) (g : Grid) (h : scratchShapeCheck n g ≡ Fine) where
   pub room-for : 16384 ≤ n
-  unfolding roomCheck scratchCheck
+  unfolding scratchShapeCheck scratchCheck
   room-for = leb-true 16384 n (unless-fine _ 3 0 (andThen-left _ _ h))
 
   pub room-shape : Shape (g .cols) (g .rows)
-  unfolding roomCheck
+  unfolding scratchShapeCheck
   room-shape = shape-says (g .cols) (g .rows) (unless-fine (shape (g .cols) (g .rows)) 8 0 (andThen-right _ _ h))
 
   found-is : (line : Segment) → coveredOf n g line ≡ foundOf g line
@@ -115,15 +115,15 @@ module _ (n : ℕ) (g : Grid) (h : roomCheck n g ≡ Fine) where
 
 module _ (g : Grid) (line : Segment) where
   pub covering-none : g .cols ≡ 0 → coveringOf g line ≡ []
-  unfolding coveringOf unlessNone
+  unfolding coveringOf unlessNoColumn
   covering-none e = rw e
 
-  some : (n : ℕ) (xs : List ℕ) → 0 < n → unlessNone n xs ≡ xs
-  unfolding unlessNone
+  some : (n : ℕ) (xs : List ℕ) → 0 < n → unlessNoColumn n xs ≡ xs
+  unfolding unlessNoColumn
   some zero xs h = absurd (omega arith)
   some (suc n) xs h = refl
 
-  pub covering-by-rule : 0 < g .cols → passes g line ≡ true → coveringOf g line ≡ cellsBetween (g .cols) (g .rows) (endsOf g line)
+  pub covering-by-rule : 0 < g .cols → passes g line ≡ true → coveringOf g line ≡ cellsBetween (g .cols) (g .rows) (fineEnds g line)
   unfolding coveringOf
   covering-by-rule c h = some (g .cols) _ c ∙ rw h
 
@@ -167,11 +167,11 @@ module _ (g : Grid) (line : Segment) where
 -- ---- the answer
 
 module _ (g : Grid) (line : Segment) (was : List ℕ) where
-  pub refused-answer : (r : Refusal) → roomCheck (length was) g ≡ check.Refused r → CoverIs g line was (Refused r) was
+  pub refused-answer : (r : Refusal) → scratchShapeCheck (length was) g ≡ check.Refused r → CoverIs g line was (Refused r) was
   unfolding coveredOf answerBy
   refused-answer r e = record { answer = rw (then-refused _ _ r e); size = refl; left = refl }
 
-  module _ (fine : roomCheck (length was) g ≡ Fine) where
+  module _ (fine : scratchShapeCheck (length was) g ≡ Fine) where
     -- the cells are found
     found-answer : (now : List ℕ) (n : ℕ) → everywhere g line ≡ false → length now ≡ length was → n ≡ length (coveringOf g line) → take n now ≡ coveringOf g line → CoverIs g line was (Found n) now
     unfolding foundOf
@@ -186,7 +186,7 @@ module _ (g : Grid) (line : Segment) (was : List ℕ) where
         ap-zero : (r c : ℕ) → c ≡ 0 → r * c ≤ 2048
         ap-zero r c h = rw h (omega arith)
 
-    pub rule-answer : (now : List ℕ) (e : Ends) (n : ℕ) → 0 < g .cols → passes g line ≡ true → e ≡ endsOf g line → length now ≡ length was → Front (cellsBetween (g .cols) (g .rows) e) now n → CoverIs g line was (Found n) now
+    pub rule-answer : (now : List ℕ) (e : Ends) (n : ℕ) → 0 < g .cols → passes g line ≡ true → e ≡ fineEnds g line → length now ≡ length was → Front (cellsBetween (g .cols) (g .rows) e) now n → CoverIs g line was (Found n) now
     rule-answer now e n c h k l f =
         let z : cellsBetween (g .cols) (g .rows) e ≡ coveringOf g line = ap (cellsBetween (g .cols) (g .rows)) k ∙ sym (covering-by-rule g line c h) in
         found-answer now n (everywhere-not g line h) l (f .count ∙ ap length z) (f .is ∙ z)

@@ -13,7 +13,7 @@ use lib.Ieee.Positive.{num, den}
 use Rattle.numbers.proofs.FloatQuotient.{num-pos}
 use Rattle.numbers.proofs.FloatFractions.{nonneg-of-value, round-value, finite-under}
 use Rattle.cover.specs.declared.Ends.{Ends}
-use Rattle.cover.specs.Rule.{cellOf}
+use Rattle.cover.specs.Rule.{fineCell}
 use Rattle.cover.specs.Covering.{ordered}
 use Rattle.cover.proofs.Covers.{At, Listed, covers}
 use Rattle.cover.proofs.Offsets.{fineAt}
@@ -188,7 +188,7 @@ pub record Placed (f : Format) (dx dy : Float) (s : Offsets) : Type 0 where
 
 -- the column (row) of an exact offset p / q
 abbrev pub cellAt : Format → Float → ℕ → ℕ → ℕ → ℕ
-cellAt f d n p q = cellOf n (fineAt f d p q)
+cellAt f d n p q = fineCell n (fineAt f d p q)
 
 turned : (v w a b g : ℕ) → At v w a b g → At w v b a g
 turned v w a b g p = record { over = omega arith; under = omega arith; from = omega arith; to = omega arith }
@@ -238,7 +238,7 @@ module _ (f : Format) (dx dy : Float) (zx : Sized f dx) (zy : Sized f dy) (cols 
       Q' = omega (arith, Q)
 
       go : (t : Bool) → (T t → Y0 ≤ Y1) → (T (not t) → Y1 < Y0)
-          → Listed cols rows (cond t (record { «from_x» = X0; «from_y» = Y0; «to_x» = X1; «to_y» = Y1 }) (record { «from_x» = X1; «from_y» = Y1; «to_x» = X0; «to_y» = Y0 })) (cellOf rows GY) (cellOf cols GX)
+          → Listed cols rows (cond t (record { «from_x» = X0; «from_y» = Y0; «to_x» = X1; «to_y» = Y1 }) (record { «from_x» = X1; «from_y» = Y1; «to_x» = X0; «to_y» = Y0 })) (fineCell rows GY) (fineCell cols GX)
       go true h l = covers cols rows (record { «from_x» = X0; «from_y» = Y0; «to_x» = X1; «to_y» = Y1 }) v w GX GY Q (h tt) (loose Y1 (tall f dy zy (s .y1) (s .overY) (k .y-pos) (k .in-y1))) px py
       go false h l =
           covers cols rows (record { «from_x» = X1; «from_y» = Y1; «to_x» = X0; «to_y» = Y0 }) w v GX GY Q' (le-of-lt (l tt)) (loose Y0 (tall f dy zy (s .y0) (s .overY) (k .y-pos) (k .in-y0))) (turned v w X0 X1 GX px) (turned v w Y0 Y1 GY py)

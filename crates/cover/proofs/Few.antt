@@ -9,7 +9,7 @@ use native.Mathlib.Omega.{arith}
 use lib.ListN.{length, length-append}
 use Rattle.slices.proofs.Laws.{le-or}
 use Rattle.cover.specs.declared.Ends.{Ends}
-use Rattle.cover.specs.Rule.{cellOf, bottomOf, topOf, spanOf, slopeOf, asideOf, leftOf, rightOf, firstRow, lastRow, nearIn, farIn, firstCol, lastCol, rowCells, rowsFrom, cellsBetween}
+use Rattle.cover.specs.Rule.{fineCell, bottomOf, topOf, spanOf, slopeOf, asideOf, leftOf, rightOf, firstRow, lastRow, nearIn, farIn, firstCol, lastCol, rowCells, rowsFrom, cellsBetween}
 use Rattle.cover.specs.Inside.{Small}
 use Rattle.cover.proofs.Growing.{length-run}
 use Rattle.cover.proofs.Sides.{top-before, left-going-right, right-going-right, left-going-left, right-going-left, first-rising, last-rising, cell-mono, first-in, last-in}
@@ -37,7 +37,7 @@ low-low : (z a : ℕ) → max (z - 3) a ≤ max (z + 1048576 - 3) a
 low-low z a = omega arith
 
 -- ---- cells of places that are near
-cell-near : (n x y : ℕ) → x ≤ y + 1048576 → cellOf n x ≤ cellOf n y + 1
+cell-near : (n x y : ℕ) → x ≤ y + 1048576 → fineCell n x ≤ fineCell n y + 1
 cell-near n x y h = omega arith
 
 right-near : (a b u v : ℕ) → u ≤ v + 24577 → min (a + u + 5) b ≤ max (a + v - 3) a + 1048576
@@ -116,10 +116,10 @@ module _ (cols rows : ℕ) (e : Ends) (small : Small e) (C : 0 < cols) (R : 0 < 
   crosses : firstRow rows e < last
   crosses = omega (arith, tall)
 
-  first-at : (r : ℕ) → firstCol cols rows e r ≡ cellOf cols (leftOf e (nearIn e r) (farIn rows e r))
+  first-at : (r : ℕ) → firstCol cols rows e r ≡ fineCell cols (leftOf e (nearIn e r) (farIn rows e r))
   first-at r = first-rising cols rows e r crosses
 
-  last-at : (r : ℕ) → lastCol cols rows e r ≡ cellOf cols (rightOf e (nearIn e r) (farIn rows e r))
+  last-at : (r : ℕ) → lastCol cols rows e r ≡ fineCell cols (rightOf e (nearIn e r) (farIn rows e r))
   last-at r = last-rising cols rows e r crosses
 
   -- to the right

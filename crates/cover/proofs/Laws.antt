@@ -27,7 +27,7 @@ use Rattle.grid.proofs.Shapes.{Fit, fit-says}
 use Rattle.cover.specs.declared.Ends.{Ends}
 use Rattle.cover.specs.Fine.{unitOn, unitsOn, fineOn, nearOn}
 use Rattle.cover.specs.Rule.{cellsBetween}
-use Rattle.cover.specs.Covering.{passes, endsOf, everyCell, coveringOf, offGrid, everywhere, Common}
+use Rattle.cover.specs.Covering.{passes, fineEnds, everyCell, coveringOf, offGrid, everywhere, Common}
 use Rattle.cover.proofs.Covers.{Listed}
 use Rattle.cover.proofs.Growing.{length-run}
 use Rattle.cover.proofs.Cells.{listed, listed-below, in-all, all-rise, cells-rise}
@@ -162,8 +162,8 @@ module _ (g : Grid) (h : fit g ≡ true) where
   abbrev pub onY : Measure binary64
   onY = measured (yAxis g) (f .«min-y») (f .«cell-height»)
 
-  pub ends-same : (line : Segment) → lineEnds binary64 onX onY line ≡ endsOf g line
-  unfolding lineEnds endsOf fineOf fineOn unitsOn
+  pub ends-same : (line : Segment) → lineEnds binary64 onX onY line ≡ fineEnds g line
+  unfolding lineEnds fineEnds fineOf fineOn unitsOn
   ends-same line = refl
 
   pub ready : (line : Segment) → passes g line ≡ true → Ready binary64 onX onY line
@@ -186,7 +186,7 @@ module _ (g : Grid) (h : fit g ≡ true) where
       go zero e b p = rw (covering-none g line e) (tt, tt)
       go (suc n) e true p =
           let C : 0 < g .cols = omega arith in
-          let z = cells-rise (g .cols) (g .rows) (endsOf g line) C (f .counts .alike C) in
+          let z = cells-rise (g .cols) (g .rows) (fineEnds g line) C (f .counts .alike C) in
           rw (covering-by-rule g line C p) (z .rising, z .below)
       go (suc n) e false p =
           let C : 0 < g .cols = omega arith in
@@ -201,7 +201,7 @@ module _ (g : Grid) (h : fit g ≡ true) where
       go zero e = rw (covering-none g line e) (omega arith)
       go (suc n) e =
           let C : 0 < g .cols = omega arith in
-          rw (covering-by-rule g line C p) (cells-few (g .cols) (g .rows) (endsOf g line) (ends-small g line p .0) C (f .counts .alike C))
+          rw (covering-by-rule g line C p) (cells-few (g .cols) (g .rows) (fineEnds g line) (ends-small g line p .0) C (f .counts .alike C))
 
   everywhere-short : (line : Segment) → everywhere g line ≡ false → passes g line ≡ false → g .rows * g .cols ≤ 2048
   unfolding everywhere
@@ -228,28 +228,28 @@ module _ (g : Grid) (h : fit g ≡ true) (C : 0 < g .cols) where
   R : 0 < g .rows
   R = fit-says g h .counts .alike C
 
-  both : (l k : Segment) → passes g l ≡ true → passes g k ≡ true → Meet l k → Common (cellsBetween (g .cols) (g .rows) (endsOf g l)) (cellsBetween (g .cols) (g .rows) (endsOf g k))
+  both : (l k : Segment) → passes g l ≡ true → passes g k ≡ true → Meet l k → Common (cellsBetween (g .cols) (g .rows) (fineEnds g l)) (cellsBetween (g .cols) (g .rows) (fineEnds g k))
   both l k p q t =
       let z = shared binary64 (onX g h) (onY g h) (g .cols) (g .rows) l k (ready g h l p) (ready g h k q) t in
-      let u : Listed (g .cols) (g .rows) (endsOf g l) (z .row) (z .col) = subst (λ (e : Ends). Listed (g .cols) (g .rows) e (z .row) (z .col)) (ends-same g h l) (z .first) in
-      let v : Listed (g .cols) (g .rows) (endsOf g k) (z .row) (z .col) = subst (λ (e : Ends). Listed (g .cols) (g .rows) e (z .row) (z .col)) (ends-same g h k) (z .second) in
+      let u : Listed (g .cols) (g .rows) (fineEnds g l) (z .row) (z .col) = subst (λ (e : Ends). Listed (g .cols) (g .rows) e (z .row) (z .col)) (ends-same g h l) (z .first) in
+      let v : Listed (g .cols) (g .rows) (fineEnds g k) (z .row) (z .col) = subst (λ (e : Ends). Listed (g .cols) (g .rows) e (z .row) (z .col)) (ends-same g h k) (z .second) in
       record {
         cell = z .row * g .cols + z .col;
-        in-first = listed (g .cols) (g .rows) (endsOf g l) (z .row) (z .col) u;
-        in-second = listed (g .cols) (g .rows) (endsOf g k) (z .row) (z .col) v;
+        in-first = listed (g .cols) (g .rows) (fineEnds g l) (z .row) (z .col) u;
+        in-second = listed (g .cols) (g .rows) (fineEnds g k) (z .row) (z .col) v;
       }
 
   -- a line that passes lists a cell of the grid: that of an end
   itself : (l : Segment) → Meet l l
   itself l = record { v = 1; w = 0; v' = 1; w' = 0; some = lit< tt; some' = lit< tt; on-x = record { is = refl }; on-y = record { is = refl } }
 
-  one-of : (l : Segment) → passes g l ≡ true → Common (cellsBetween (g .cols) (g .rows) (endsOf g l)) (everyCell g)
+  one-of : (l : Segment) → passes g l ≡ true → Common (cellsBetween (g .cols) (g .rows) (fineEnds g l)) (everyCell g)
   one-of l p =
       let z = both l l p p (itself l) in
       record {
         cell = z .cell;
         in-first = z .in-first;
-        in-second = in-all (g .rows * g .cols) (z .cell) (listed-below (g .cols) (g .rows) (endsOf g l) C R (z .cell) (z .in-first));
+        in-second = in-all (g .rows * g .cols) (z .cell) (listed-below (g .cols) (g .rows) (fineEnds g l) C R (z .cell) (z .in-first));
       }
 
   turn : {xs ys : List ℕ} → Common xs ys → Common ys xs

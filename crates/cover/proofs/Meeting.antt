@@ -11,7 +11,7 @@ use Rattle.numbers.proofs.FloatOrder.{le→cross}
 use Rattle.grid.specs.declared.Segment.{Segment}
 use Rattle.cover.specs.declared.Ends.{Ends}
 use Rattle.cover.specs.Fine.{limit}
-use Rattle.cover.specs.Rule.{cellOf}
+use Rattle.cover.specs.Rule.{fineCell}
 use Rattle.cover.specs.Covering.{ordered}
 use Rattle.cover.proofs.Covers.{Listed}
 use Rattle.cover.proofs.Offsets.{Apart, gap, fineOf, fineAt, fine-of, fine-same, apart-of, off-same, mean-off, meanP, meanN, meanD}
@@ -181,8 +181,8 @@ shared f X Y cols rows l l' k k' t =
       first = line-covered f X Y cols rows l k (t .v) (t .w) (t .some);
       second =
           rw (
-            ap (cellOf rows) (same-fine f Y (l .«start_y») (l .«end_y») (l' .«start_y») (l' .«end_y») (k .start-y) (k .end-y) (k' .start-y) (k' .end-y) (t .v) (t .w) (t .v') (t .w') (t .some) (t .some') (t .on-y)),
-            ap (cellOf cols) (same-fine f X (l .«start_x») (l .«end_x») (l' .«start_x») (l' .«end_x») (k .start-x) (k .end-x) (k' .start-x) (k' .end-x) (t .v) (t .w) (t .v') (t .w') (t .some) (t .some') (t .on-x)),
+            ap (fineCell rows) (same-fine f Y (l .«start_y») (l .«end_y») (l' .«start_y») (l' .«end_y») (k .start-y) (k .end-y) (k' .start-y) (k' .end-y) (t .v) (t .w) (t .v') (t .w') (t .some) (t .some') (t .on-y)),
+            ap (fineCell cols) (same-fine f X (l .«start_x») (l .«end_x») (l' .«start_x») (l' .«end_x») (k .start-x) (k .end-x) (k' .start-x) (k' .end-x) (t .v) (t .w) (t .v') (t .w') (t .some) (t .some') (t .on-x)),
           )
           (line-covered f X Y cols rows l' k' (t .v') (t .w') (t .some'));
     }

@@ -5,7 +5,7 @@ use Prim.Native.Nat.{ℕ, _+_, _-_, _*_, _≤_, _<_, min, max}
 use native.Mathlib.Omega.{arith}
 use borrow.Author.Tests.{le-leb, lt-leb}
 use Rattle.cover.specs.declared.Ends.{Ends}
-use Rattle.cover.specs.Rule.{cellOf, topOf, spanOf, leftOf, rightOf, firstRow, lastRow, nearIn, farIn, firstCol, lastCol}
+use Rattle.cover.specs.Rule.{fineCell, topOf, spanOf, leftOf, rightOf, firstRow, lastRow, nearIn, farIn, firstCol, lastCol}
 
 -- ---- the top of a row
 
@@ -77,29 +77,29 @@ module _ (e : Ends) (near far other : ℕ) where
 
 module _ (cols rows : ℕ) (e : Ends) (r : ℕ) where
   module _ (h : lastRow rows e ≤ firstRow rows e) where
-    pub first-level : firstCol cols rows e r ≡ cellOf cols (min (e .«from_x») (e .«to_x»))
+    pub first-level : firstCol cols rows e r ≡ fineCell cols (min (e .«from_x») (e .«to_x»))
     unfolding firstCol
     first-level = rw (le-leb (lastRow rows e) (firstRow rows e) h)
 
-    pub last-level : lastCol cols rows e r ≡ cellOf cols (max (e .«from_x») (e .«to_x»))
+    pub last-level : lastCol cols rows e r ≡ fineCell cols (max (e .«from_x») (e .«to_x»))
     unfolding lastCol
     last-level = rw (le-leb (lastRow rows e) (firstRow rows e) h)
 
   module _ (h : firstRow rows e < lastRow rows e) where
-    pub first-rising : firstCol cols rows e r ≡ cellOf cols (leftOf e (nearIn e r) (farIn rows e r))
+    pub first-rising : firstCol cols rows e r ≡ fineCell cols (leftOf e (nearIn e r) (farIn rows e r))
     unfolding firstCol
     first-rising = rw (lt-leb (lastRow rows e) (firstRow rows e) h)
 
-    pub last-rising : lastCol cols rows e r ≡ cellOf cols (rightOf e (nearIn e r) (farIn rows e r))
+    pub last-rising : lastCol cols rows e r ≡ fineCell cols (rightOf e (nearIn e r) (farIn rows e r))
     unfolding lastCol
     last-rising = rw (lt-leb (lastRow rows e) (firstRow rows e) h)
 
 -- ---- cells
 
-pub cell-mono : (n x y : ℕ) → x ≤ y → cellOf n x ≤ cellOf n y
+pub cell-mono : (n x y : ℕ) → x ≤ y → fineCell n x ≤ fineCell n y
 cell-mono n x y h = omega arith
 
-pub cell-in : (n x : ℕ) → 0 < n → cellOf n x < n
+pub cell-in : (n x : ℕ) → 0 < n → fineCell n x < n
 cell-in n x h = omega arith
 
 module _ (cols rows : ℕ) (e : Ends) (C : 0 < cols) (r : ℕ) where

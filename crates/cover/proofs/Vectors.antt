@@ -13,7 +13,7 @@ use Rattle.grid.specs.Domain.{coordinate, point, shape, sizeFits, sizesFit, fit
 use Rattle.grid.specs.Points.{qTimes, SharePoint}
 use Rattle.cover.specs.Fine.{unitOn, unitsOn, fineOn, nearOn}
 use Rattle.cover.specs.Rule.{bottomOf, topOf, asideOf, leftOf, rightOf, run, cellsBetween}
-use Rattle.cover.specs.Covering.{endPasses, passes, endsOf, unlessNone, coveringOf, everywhere, Common}
+use Rattle.cover.specs.Covering.{endPasses, passes, fineEnds, unlessNoColumn, coveringOf, everywhere, Common}
 use Rattle.cover.proofs.Laws.{common}
 
 abbrev nought : Float
@@ -57,7 +57,7 @@ pub cells-shared : Common (coveringOf eight rising) (coveringOf eight falling)
 cells-shared = common eight eight-fits (lit< tt) rising falling crossing
 
 pub cells-rising : coveringOf eight rising ≡ 0 ∷ 2 ∷ 3 ∷ 4 ∷ 5 ∷ 7 ∷ []
-unfolding coveringOf unlessNone passes endPasses nearOn unitsOn unitOn endsOf fineOn cellsBetween run leftOf rightOf asideOf bottomOf topOf le lt div sub toUnsigned
+unfolding coveringOf unlessNoColumn passes endPasses nearOn unitsOn unitOn fineEnds fineOn cellsBetween run leftOf rightOf asideOf bottomOf topOf le lt div sub toUnsigned
 cells-rising = refl
 
 -- a line that begins left of the grid is in every cell; these are few, so it is not everywhere
@@ -65,7 +65,7 @@ abbrev leaving : Segment
 leaving = record { «start_x» = fin true 1 (pos 0); «start_y» = nought; «end_x» = two; «end_y» = nought }
 
 pub cells-leaving : coveringOf eight leaving ≡ 0 ∷ 1 ∷ 2 ∷ 3 ∷ 4 ∷ 5 ∷ 6 ∷ 7 ∷ []
-unfolding coveringOf unlessNone passes endPasses nearOn unitsOn unitOn endsOf fineOn cellsBetween run leftOf rightOf asideOf bottomOf topOf le lt div sub toUnsigned
+unfolding coveringOf unlessNoColumn passes endPasses nearOn unitsOn unitOn fineEnds fineOn cellsBetween run leftOf rightOf asideOf bottomOf topOf le lt div sub toUnsigned
 cells-leaving = refl
 
 pub leaving-few : everywhere eight leaving ≡ false

@@ -36,8 +36,8 @@ ordered x₀ y₀ x₁ y₁ =
     cond (leb y₀ y₁) (record { «from_x» = x₀; «from_y» = y₀; «to_x» = x₁; «to_y» = y₁ }) (record { «from_x» = x₁; «from_y» = y₁; «to_x» = x₀; «to_y» = y₀ })
 
 -- the ends of a line, in fine units
-unfoldable pub endsOf : Grid → Segment → Ends
-endsOf g line =
+unfoldable pub fineEnds : Grid → Segment → Ends
+fineEnds g line =
     ordered (fineOn (xAxis g) (line .«start_x»)) (fineOn (yAxis g) (line .«start_y»)) (fineOn (xAxis g) (line .«end_x»)) (fineOn (yAxis g) (line .«end_y»))
 
 -- every cell of the grid
@@ -45,14 +45,14 @@ abbrev pub everyCell : Grid → List ℕ
 everyCell g = run (g .rows * g .cols) 0
 
 -- none on a grid of 0 columns
-unfoldable pub unlessNone : ℕ → List ℕ → List ℕ
-unlessNone zero xs = []
-unlessNone (suc n) xs = xs
+unfoldable pub unlessNoColumn : ℕ → List ℕ → List ℕ
+unlessNoColumn zero xs = []
+unlessNoColumn (suc n) xs = xs
 
 -- the cells of a segment: those of the rule, and every cell where an end does not pass the guard
 unfoldable pub coveringOf : Grid → Segment → List ℕ
-unfolding passes endsOf cellsBetween run
-coveringOf g line = unlessNone (g .cols) (cond (passes g line) (cellsBetween (g .cols) (g .rows) (endsOf g line)) (everyCell g))
+unfolding passes fineEnds cellsBetween run
+coveringOf g line = unlessNoColumn (g .cols) (cond (passes g line) (cellsBetween (g .cols) (g .rows) (fineEnds g line)) (everyCell g))
 
 -- an end does not pass, on a grid that has cells: the line is in all of them
 unfoldable pub offGrid : Grid → Segment → Bool
@@ -71,8 +71,8 @@ pub record Common (xs ys : List ℕ) : Type 0 where
 -- ---- the answer
 
 -- 3, by n entries of scratch, and 8, by the counts of the grid alone: all that the cells of any line need to have room there
-unfoldable pub roomCheck : ℕ → Grid → Check
-roomCheck n g = andThen (scratchCheck n) (unless (shape (g .cols) (g .rows)) 8 0)
+unfoldable pub scratchShapeCheck : ℕ → Grid → Check
+scratchShapeCheck n g = andThen (scratchCheck n) (unless (shape (g .cols) (g .rows)) 8 0)
 
 -- how many cells there are, or that they are every cell of a grid of more than 2,048
 unfoldable pub foundOf : Grid → Segment → Covered
@@ -82,18 +82,18 @@ foundOf g line = cond (everywhere g line) Everywhere (Found (length (coveringOf 
 -- the first refusal that applies, else that
 unfoldable pub coveredOf : ℕ → Grid → Segment → Covered
 unfolding foundOf
-coveredOf n g line = answerBy Refused (λ c. c) (roomCheck n g then gives (foundOf g line))
+coveredOf n g line = answerBy Refused (λ c. c) (scratchShapeCheck n g then gives (foundOf g line))
 
 -- ---- what is left of the scratch
 
 -- the cells at its start, and what is beyond them is open; every other answer changes nothing
-abbrev pub Left : List ℕ → List ℕ → Covered → List ℕ → Type 0
-Left cells was (Found n) now = take n now ≡ cells
-Left cells was Everywhere now = now ≡ was
-Left cells was (Refused r) now = now ≡ was
+abbrev pub CoverLeft : List ℕ → List ℕ → Covered → List ℕ → Type 0
+CoverLeft cells was (Found n) now = take n now ≡ cells
+CoverLeft cells was Everywhere now = now ≡ was
+CoverLeft cells was (Refused r) now = now ≡ was
 
 -- what the covering walk promises, of a grid and a segment as they are
 pub record CoverIs (g : Grid) (line : Segment) (was : List ℕ) (r : Covered) (now : List ℕ) : Type 0 where
   pub answer : r ≡ coveredOf (length was) g line
   pub size : length now ≡ length was
-  pub left : Left (coveringOf g line) was r now
+  pub left : CoverLeft (coveringOf g line) was r now

@@ -3,16 +3,17 @@
 use Prim.Native.Nat.{ℕ}
 use mathlib.Core.Bool.{Bool, false, _&&_}
 use lib.IntN.{pos}
-use lib.Ieee.{Float, fin, binary64, sub, div, le, lt, toUnsigned}
+use lib.Ieee.{Float, fin, le, lt, toUnsigned}
+use Rattle.numbers.specs.Arithmetic.{_-₆₄_, _/₆₄_}
 use Rattle.grid.specs.declared.Axis.{Axis}
 
 -- a fine unit: the cell size of the axis by 2^20
 unfoldable pub unitOn : Axis → Float
-unitOn a = div binary64 (a .size) (fin false 1 (pos 20))
+unitOn a = a .size /₆₄ fin false 1 (pos 20)
 
 -- (coordinate - min) / unit
 unfoldable pub unitsOn : Axis → Float → Float
-unitsOn a v = div binary64 (sub binary64 v (a .low)) (unitOn a)
+unitsOn a v = (v -₆₄ a .low) /₆₄ unitOn a
 
 -- the fine coordinate: the whole part of that
 unfoldable pub fineOn : Axis → Float → ℕ

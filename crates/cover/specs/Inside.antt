@@ -60,7 +60,7 @@ pub record Rises (cols rows : ℕ) (e : Ends) (first last room : ℕ) : Type 0 w
   pub rises : first < last
 
 -- the row r of such a line, whose slope is s
-pub record Row (cols rows : ℕ) (e : Ends) (s last r : ℕ) : Type 0 where
+pub record CoveredRow (cols rows : ℕ) (e : Ends) (s last r : ℕ) : Type 0 where
   pub small : Small e
   pub up : e .«from_y» ≤ e .«to_y»
   pub some-rows : 0 < rows

@@ -12,8 +12,8 @@ use lib.Dec.{leb}
 use Rattle.cover.specs.declared.Ends.{Ends}
 
 -- the cell of a fine coordinate, of n cells: what is beyond the last cell is in it
-abbrev pub cellOf : ℕ → ℕ → ℕ
-cellOf n fine = min (fine / 1048576) (n - 1)
+abbrev pub fineCell : ℕ → ℕ → ℕ
+fineCell n fine = min (fine / 1048576) (n - 1)
 
 -- ---- heights
 
@@ -50,10 +50,10 @@ rightOf e near far = cond (leb (e .«from_x») (e .«to_x»)) (min (e .«from_x�
 
 -- the rows of the two ends
 abbrev pub firstRow : ℕ → Ends → ℕ
-firstRow rows e = cellOf rows (e .«from_y»)
+firstRow rows e = fineCell rows (e .«from_y»)
 
 abbrev pub lastRow : ℕ → Ends → ℕ
-lastRow rows e = cellOf rows (e .«to_y»)
+lastRow rows e = fineCell rows (e .«to_y»)
 
 -- how far the line has come at the bottom and at the top of the row r
 abbrev pub nearIn : Ends → ℕ → ℕ
@@ -65,11 +65,11 @@ farIn rows e r = asideOf e (topOf e (lastRow rows e) r)
 -- the first and the last column of the row r
 unfoldable pub firstCol : ℕ → ℕ → Ends → ℕ → ℕ
 firstCol cols rows e r =
-    cellOf cols (cond (leb (lastRow rows e) (firstRow rows e)) (min (e .«from_x») (e .«to_x»)) (leftOf e (nearIn e r) (farIn rows e r)))
+    fineCell cols (cond (leb (lastRow rows e) (firstRow rows e)) (min (e .«from_x») (e .«to_x»)) (leftOf e (nearIn e r) (farIn rows e r)))
 
 unfoldable pub lastCol : ℕ → ℕ → Ends → ℕ → ℕ
 lastCol cols rows e r =
-    cellOf cols (cond (leb (lastRow rows e) (firstRow rows e)) (max (e .«from_x») (e .«to_x»)) (rightOf e (nearIn e r) (farIn rows e r)))
+    fineCell cols (cond (leb (lastRow rows e) (firstRow rows e)) (max (e .«from_x») (e .«to_x»)) (rightOf e (nearIn e r) (farIn rows e r)))
 
 -- ---- cells
 

@@ -6,7 +6,7 @@ use grid::Segment;
 ghost use mathlib.Core.Path.{_≡_};
 ghost use mathlib.Core.Bool.{true};
 ghost use Rattle.cover.specs.Fine.{unitsOn, fineOn, nearOn};
-ghost use Rattle.cover.specs.Covering.{endPasses, passes, endsOf};
+ghost use Rattle.cover.specs.Covering.{endPasses, passes, fineEnds};
 
 fn units(axis: Axis, v: f64) -> f64
     ensures { λ r. ⌜ r ≡ unitsOn axis v ⌝ }
@@ -51,7 +51,7 @@ pub(crate) fn passes(grid: Grid, line: Segment) -> bool
 
 pub(crate) fn ends_of(grid: Grid, line: Segment) -> Ends
     requires { ⌜ passes grid line ≡ true ⌝ }
-    ensures { λ r. ⌜ r ≡ endsOf grid line ⌝ }
+    ensures { λ r. ⌜ r ≡ fineEnds grid line ⌝ }
 {
     let start_x = fine(grid.x_axis(), line.start_x);
     let start_y = fine(grid.y_axis(), line.start_y);

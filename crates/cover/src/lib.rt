@@ -15,7 +15,7 @@ use rows::cells_between;
 use runs::put_run;
 ghost use mathlib.Core.Path.{_≡_};
 ghost use lib.ListN.{length};
-ghost use Rattle.cover.specs.Covering.{offGrid, roomCheck, CoverIs};
+ghost use Rattle.cover.specs.Covering.{offGrid, scratchShapeCheck, CoverIs};
 
 // The number of cells, which stand in the lent scratch; or that the line is in every cell of a grid of more than 2,048, since one of its ends is off the
 // grid; or a refusal. Behind the last two the scratch is as it was.
@@ -54,7 +54,7 @@ pub fn is_off(grid: Grid, line: Segment) -> bool
 
 // Refusals 3 and 8, of n entries of scratch and the counts of a grid: few comparisons of whole numbers, which a walk makes for every line.
 pub fn check_room(grid: Grid, n: usize) -> Check
-    ensures { λ r. ⌜ r ≡ roomCheck n grid ⌝ }
+    ensures { λ r. ⌜ r ≡ scratchShapeCheck n grid ⌝ }
 {
     let lent = grid::checks::check_scratch(n);
     if let Check::Refused(r) = lent {

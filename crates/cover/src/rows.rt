@@ -5,8 +5,8 @@ use crate::runs::put_run;
 ghost use mathlib.Core.Path.{_≡_};
 ghost use Prim.Native.Nat.{_+_, _-_, _*_, _<_, _≤_, min, max};
 ghost use lib.ListN.{length};
-ghost use Rattle.cover.specs.Rule.{cellOf, bottomOf, topOf, slopeOf, asideOf, leftOf, rightOf, firstRow, run, cellsBetween};
-ghost use Rattle.cover.specs.Inside.{Small, Across, Row, ColumnsAre, RowRoom, Frame, Level, Rises, Front, Grown};
+ghost use Rattle.cover.specs.Rule.{fineCell, bottomOf, topOf, slopeOf, asideOf, leftOf, rightOf, firstRow, run, cellsBetween};
+ghost use Rattle.cover.specs.Inside.{Small, Across, CoveredRow, ColumnsAre, RowRoom, Frame, Level, Rises, Front, Grown};
 
 fn lesser(a: u64, b: u64) -> u64
     ensures { λ r. ⌜ r ≡ min a b ⌝ }
@@ -39,7 +39,7 @@ fn less(a: u64, b: u64) -> u64
 // The cell of a fine coordinate, of n cells.
 fn cell(n: u64, fine: u64) -> u64
     requires { ⌜ 0 < n ⌝ }
-    ensures { λ r. ⌜ r ≡ cellOf n fine ⌝ }
+    ensures { λ r. ⌜ r ≡ fineCell n fine ⌝ }
 {
     lesser(fine / 1048576, n - 1)
 }
@@ -101,7 +101,7 @@ fn right(e: Ends, near: u64, far: u64) -> u64
 
 // The columns of a row r before the last, of a line with the slope s that crosses rows.
 fn columns(e: Ends, s: u64, cols: u64, rows: u64, last: u64, r: u64) -> Columns
-    requires { ⌜ Row cols rows e s last r ⌝ ∗ ⌜ r < last ⌝ }
+    requires { ⌜ CoveredRow cols rows e s last r ⌝ ∗ ⌜ r < last ⌝ }
     ensures { λ c. ⌜ ColumnsAre cols rows e r (c .first) (c .last) ⌝ }
 {
     let near = aside(e, s, bottom(e, r));
@@ -116,7 +116,7 @@ fn columns(e: Ends, s: u64, cols: u64, rows: u64, last: u64, r: u64) -> Columns
 
 // The columns of the first row: the line begins in it, so it has come no way at its bottom.
 fn start_columns(e: Ends, s: u64, cols: u64, rows: u64, last: u64, r: u64) -> Columns
-    requires { ⌜ Row cols rows e s last r ⌝ ∗ ⌜ r ≡ firstRow rows e ⌝ }
+    requires { ⌜ CoveredRow cols rows e s last r ⌝ ∗ ⌜ r ≡ firstRow rows e ⌝ }
     ensures { λ c. ⌜ ColumnsAre cols rows e r (c .first) (c .last) ⌝ }
 {
     let far = aside(e, s, top(e, last, r));
@@ -136,7 +136,7 @@ fn start_columns(e: Ends, s: u64, cols: u64, rows: u64, last: u64, r: u64) -> Co
 
 // The columns of the last row: the line ends in it, so at its top it has come all the way.
 fn end_columns(e: Ends, s: u64, cols: u64, rows: u64, r: u64) -> Columns
-    requires { ⌜ Row cols rows e s r r ⌝ }
+    requires { ⌜ CoveredRow cols rows e s r r ⌝ }
     ensures { λ c. ⌜ ColumnsAre cols rows e r (c .first) (c .last) ⌝ }
 {
     let near = aside(e, s, bottom(e, r));

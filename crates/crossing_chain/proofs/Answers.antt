@@ -27,7 +27,7 @@ use Rattle.once.specs.Once.{PairsAre}
 use Rattle.lent.specs.declared.OnceAnswer.{OnceAnswer}
 use Rattle.lent.specs.declared.OnceAnswer.the-variants as answer
 use Rattle.samples.specs.Samples.{Samples, samples, sampleLinesCheck}
-use Rattle.crossings.specs.Crossings.{beside}
+use Rattle.crossings.specs.Crossings.{besideSamples}
 use Rattle.report.specs.Pages.{Page, page, Puts}
 use Rattle.report.specs.Lines.{crossingsLine, pairLine, refusedLine}
 use Rattle.report.proofs.Putting.{puts-none, puts-then, puts-text}
@@ -35,8 +35,8 @@ use Rattle.chain.specs.Printed.{refusedText}
 use Rattle.wkb.specs.Reading.{found}
 use Rattle.chain.proofs.Chains.{linesOf}
 use Rattle.crossing_chain.specs.Whole.{wholeOf, wholeLines}
-use Rattle.crossing_chain.specs.Printed.{pairLines, crossingsText, crossingsIn, printedTables, tablesOn, crossingsBuilt, printedSamples, printedLines, printedPoints, printed}
-use Rattle.crossing_chain.specs.Inside.{Held, Wholes}
+use Rattle.crossing_chain.specs.Printed.{pairLines, crossingsText, crossingsIn, crossingsOfTables, tablesBeside, crossingsBuilt, printedSamples, crossingsOfLines, crossingsOfPoints, crossingsPrinted}
+use Rattle.crossing_chain.specs.Inside.{LengthsHeld, Wholes}
 
 -- ---- a line for each pair
 
@@ -93,7 +93,7 @@ module _ (plan : Plan) (ls : Lines) {o i gs s o′ i′ gs′ s′ : List ℕ} {
 
   module _ (ss : Samples) (fine : sampleLinesCheck ss ≡ Fine) where
     refused-end : (e : Answer Grid) → BuildIs (plan .mode) ls o i gs s r o′ i′ gs′ s′ e → (q : Refusal) → r ≡ built.Refused q
-        → refusedLine (q .number) ≡ answerBy refusedText crossingsText (sampleLinesCheck ss then (e into (λ g. crossingsIn ss g (tablesOn plan ss ls g))))
+        → refusedLine (q .number) ≡ answerBy refusedText crossingsText (sampleLinesCheck ss then (e into (λ g. crossingsIn ss g (tablesBeside plan ss ls g))))
     unfolding answerOf answerBy builtOn _then_ _into_
     refused-end (refused p) b q x = let w : q ≡ p = cc (b .answer) in rw fine (ap refusedText w)
     refused-end (gives g) b q x = absurd (let z : _≡_ {A = ℕ} 0 1 = cc (b .answer) in omega arith)
@@ -103,14 +103,14 @@ module _ (plan : Plan) (ls : Lines) {o i gs s o′ i′ gs′ s′ : List ℕ} {
     build-refused b {q} x = refused-end _ (at-end _ refl b) q x
 
     made-end : (e : Answer Grid) → BuildIs (plan .mode) ls o i gs s r o′ i′ gs′ s′ e → (st : Standing) → r ≡ built.Tables st
-        → printedTables ss (st .grid) (beside ss (st .grid) o′ i′ gs′ (st .globals)) ≡ answerBy refusedText crossingsText (sampleLinesCheck ss then (e into (λ g. crossingsIn ss g (tablesOn plan ss ls g))))
-    unfolding answerOf answerBy builtOn leftIn tablesOn printedTables _then_ _into_
+        → crossingsOfTables ss (st .grid) (besideSamples ss (st .grid) o′ i′ gs′ (st .globals)) ≡ answerBy refusedText crossingsText (sampleLinesCheck ss then (e into (λ g. crossingsIn ss g (tablesBeside plan ss ls g))))
+    unfolding answerOf answerBy builtOn leftIn tablesBeside crossingsOfTables _then_ _into_
     made-end (refused p) b st x = absurd (let z : _≡_ {A = ℕ} 0 1 = cc (b .answer) in omega arith)
     made-end (gives g) b st x =
         let w : st ≡ record { grid = g; items = total (plan .mode) g ls; globals = length (globalsOn (plan .mode) g ls) } = cc (b .answer) in
         rw (fine, w, b .«cell_offsets», b .«cell_items», b .«global_lines», eo, ei, eg)
 
-    pub build-made : BuildIs (plan .mode) ls o i gs s r o′ i′ gs′ s′ (endOf plan ls (length o) (length i) (length gs) (length s)) → {st : Standing} → r ≡ built.Tables st → printedTables ss (st .grid) (beside ss (st .grid) o′ i′ gs′ (st .globals)) ≡ printedSamples plan ss ls
+    pub build-made : BuildIs (plan .mode) ls o i gs s r o′ i′ gs′ s′ (endOf plan ls (length o) (length i) (length gs) (length s)) → {st : Standing} → r ≡ built.Tables st → crossingsOfTables ss (st .grid) (besideSamples ss (st .grid) o′ i′ gs′ (st .globals)) ≡ printedSamples plan ss ls
     unfolding printedSamples crossingsBuilt
     build-made b {st} x = made-end _ (at-end _ refl b) st x
 
@@ -128,14 +128,14 @@ wholes-took {xs} {was} {ys} {n} h e = rw (h .are) (take-at (map wholeOf xs) (dro
 pub wholes-size : {xs : List Float} {was ys : List ℤ} {n : ℕ} → Wholes xs was ys → length xs ≡ n → n ≡ length (take n ys)
 wholes-size {xs} h e = sym (ap length (wholes-took h e) ∙ length-map xs wholeOf ∙ e)
 
-pub lines-samples : (plan : Plan) (x₀ y₀ x₁ y₁ : List Float) {a b c d : List ℤ} → a ≡ map wholeOf x₀ → b ≡ map wholeOf y₀ → c ≡ map wholeOf x₁ → d ≡ map wholeOf y₁ → printedSamples plan (samples a b c d) (lines x₀ y₀ x₁ y₁) ≡ printedLines plan (lines x₀ y₀ x₁ y₁)
-unfolding printedLines wholeLines
+pub lines-samples : (plan : Plan) (x₀ y₀ x₁ y₁ : List Float) {a b c d : List ℤ} → a ≡ map wholeOf x₀ → b ≡ map wholeOf y₀ → c ≡ map wholeOf x₁ → d ≡ map wholeOf y₁ → printedSamples plan (samples a b c d) (lines x₀ y₀ x₁ y₁) ≡ crossingsOfLines plan (lines x₀ y₀ x₁ y₁)
+unfolding crossingsOfLines wholeLines
 lines-samples plan x₀ y₀ x₁ y₁ ea eb ec ed = rw (ea, eb, ec, ed)
 
 -- ---- points
 
 -- the lines of at most 1,024 points
-pub held : (n : ℕ) (xs ys : List Float) → 1 ≤ n → n ≤ 1024 → n ≤ length xs → n ≤ length ys → Held (take (n - 1) xs) (take (n - 1) ys) (take (n - 1) (drop 1 xs)) (take (n - 1) (drop 1 ys))
+pub held : (n : ℕ) (xs ys : List Float) → 1 ≤ n → n ≤ 1024 → n ≤ length xs → n ≤ length ys → LengthsHeld (take (n - 1) xs) (take (n - 1) ys) (take (n - 1) (drop 1 xs)) (take (n - 1) (drop 1 ys))
 held n xs ys h m k l =
     let a = length-take-le (n - 1) xs (omega arith) in
     let b = length-take-le (n - 1) ys (omega arith) in
@@ -144,6 +144,6 @@ held n xs ys h m k l =
     record { room = omega arith; in-y₀ = b ∙ sym a; in-x₁ = c ∙ sym a; in-y₁ = d ∙ sym a }
 
 -- what is printed of the bytes, by the lines of points
-pub printed-by : (plan : Plan) (bs : List ℕ) → answerBy refusedText (λ ps. printedLines plan (linesOf ps)) (found bs) ≡ printed plan bs
-unfolding printed printedPoints
+pub printed-by : (plan : Plan) (bs : List ℕ) → answerBy refusedText (λ ps. crossingsOfLines plan (linesOf ps)) (found bs) ≡ crossingsPrinted plan bs
+unfolding crossingsPrinted crossingsOfPoints
 printed-by plan bs = refl

@@ -23,7 +23,7 @@ use Rattle.samples.specs.Samples.{Samples, sampleLinesCheck}
 use Rattle.crossings.specs.Crossings.{crossingsOf, crossingsBy}
 use Rattle.report.proofs.Sizes.{crossings-size, pair-size, refused-size}
 use Rattle.chain.specs.Printed.{refusedText}
-use Rattle.crossing_chain.specs.Printed.{pairLines, crossingsText, crossingsIn, tablesOn, crossingsBuilt, printedSamples, printedLines, printedPoints, printed}
+use Rattle.crossing_chain.specs.Printed.{pairLines, crossingsText, crossingsIn, tablesBeside, crossingsBuilt, printedSamples, crossingsOfLines, crossingsOfPoints, crossingsPrinted}
 
 pairs-size : (ms ns : List ℕ) → length (pairLines ms ns) ≤ 47 * length ms
 unfolding pairLines
@@ -61,16 +61,16 @@ built-room : (plan : Plan) (ss : Samples) (ls : Lines) (ps : List Pair) → cros
 unfolding crossingsBuilt _into_
 built-room plan ss ls ps h = go (endOf plan ls 4096 4096 64 16384) (then-passed (sampleLinesCheck ss) _ h .1)
   where
-    go : (e : Answer Grid) → (e into (λ g. crossingsIn ss g (tablesOn plan ss ls g))) ≡ gives ps → length ps ≤ 4096
+    go : (e : Answer Grid) → (e into (λ g. crossingsIn ss g (tablesBeside plan ss ls g))) ≡ gives ps → length ps ≤ 4096
     go (refused r) k = absurd (let z : _≡_ {A = ℕ} 0 1 = cc in omega arith)
-    go (gives g) k = room ss g (tablesOn plan ss ls g) ps k
+    go (gives g) k = room ss g (tablesBeside plan ss ls g) ps k
 
-found-size : (plan : Plan) (f : Answer (List Point)) → length (answerBy refusedText (printedPoints plan) f) ≤ 192600
-unfolding answerBy printedPoints printedLines printedSamples
+found-size : (plan : Plan) (f : Answer (List Point)) → length (answerBy refusedText (crossingsOfPoints plan) f) ≤ 192600
+unfolding answerBy crossingsOfPoints crossingsOfLines printedSamples
 found-size plan (refused r) = let s = refused-size (r .number) in omega arith
 found-size plan (gives ps) = answer-size _ (built-room plan _ _)
 
 -- 192,600 bytes hold every text
-pub printed-fits : (plan : Plan) (bs : List ℕ) → length (printed plan bs) ≤ 192600
-unfolding printed
+pub printed-fits : (plan : Plan) (bs : List ℕ) → length (crossingsPrinted plan bs) ≤ 192600
+unfolding crossingsPrinted
 printed-fits plan bs = found-size plan (found bs)

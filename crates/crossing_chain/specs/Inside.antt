@@ -8,7 +8,7 @@ use lib.ListN.{length, drop}
 use Rattle.crossing_chain.specs.Whole.{wholeOf}
 
 -- lines in four slices of one length, for which there is room
-pub record Held (x₀ y₀ x₁ y₁ : List Float) : Type 0 where
+pub record LengthsHeld (x₀ y₀ x₁ y₁ : List Float) : Type 0 where
   pub room : length x₀ ≤ 1024
   pub in-y₀ : length y₀ ≡ length x₀
   pub in-x₁ : length x₁ ≡ length x₀

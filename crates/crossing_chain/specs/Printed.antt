@@ -17,7 +17,7 @@ use Rattle.build.specs.Build.{endOf}
 use Rattle.seek.specs.Tests.{Pair}
 use Rattle.visit.specs.Batches.{firsts, seconds}
 use Rattle.samples.specs.Samples.{Samples, sampleLinesCheck}
-use Rattle.crossings.specs.Crossings.{beside, crossingsBy}
+use Rattle.crossings.specs.Crossings.{besideSamples, crossingsBy}
 use Rattle.report.specs.Lines.{crossingsLine, pairLine}
 use Rattle.chain.specs.Printed.{refusedText, chainOf}
 use Rattle.crossing_chain.specs.Whole.{wholeLines}
@@ -40,32 +40,32 @@ crossingsText ps = crossingsLine (length ps) ++ pairLines (firsts ps) (seconds p
 unfoldable pub crossingsIn : Samples → Grid → Tables → Answer (List Pair)
 crossingsIn ss g t = crossingsBy ss g t (replicate 4096 0) (replicate 4096 0) (replicate 1024 0) (replicate 4096 0) (replicate 1024 0)
 
-unfoldable pub printedTables : Samples → Grid → Tables → List ℕ
-printedTables ss g t = answerBy refusedText crossingsText (crossingsIn ss g t)
+unfoldable pub crossingsOfTables : Samples → Grid → Tables → List ℕ
+crossingsOfTables ss g t = answerBy refusedText crossingsText (crossingsIn ss g t)
 
 -- ---- lines
 
 -- the tables that a build of a plan leaves in 4,096 offsets, 4,096 items and 64 globals, beside the samples
-unfoldable pub tablesOn : Plan → Samples → Lines → Grid → Tables
-tablesOn plan ss ls g =
-    beside ss g (offsetsOf (listOn (plan .mode) g ls) (g .rows * g .cols) 4096) (itemsOf (listOn (plan .mode) g ls) (g .rows * g .cols) 4096)
+unfoldable pub tablesBeside : Plan → Samples → Lines → Grid → Tables
+tablesBeside plan ss ls g =
+    besideSamples ss g (offsetsOf (listOn (plan .mode) g ls) (g .rows * g .cols) 4096) (itemsOf (listOn (plan .mode) g ls) (g .rows * g .cols) 4096)
     (zeroBeyond 0 64 (globalsOn (plan .mode) g ls)) (length (globalsOn (plan .mode) g ls))
 
 -- 15 of the samples; then the build's 4, 7, 5, 6; then 5 for the pairs; else the crossings
 unfoldable pub crossingsBuilt : Plan → Samples → Lines → Answer (List Pair)
-crossingsBuilt plan ss ls = sampleLinesCheck ss then (endOf plan ls 4096 4096 64 16384 into (λ g. crossingsIn ss g (tablesOn plan ss ls g)))
+crossingsBuilt plan ss ls = sampleLinesCheck ss then (endOf plan ls 4096 4096 64 16384 into (λ g. crossingsIn ss g (tablesBeside plan ss ls g)))
 
 unfoldable pub printedSamples : Plan → Samples → Lines → List ℕ
 printedSamples plan ss ls = answerBy refusedText crossingsText (crossingsBuilt plan ss ls)
 
-unfoldable pub printedLines : Plan → Lines → List ℕ
-printedLines plan ls = printedSamples plan (wholeLines ls) ls
+unfoldable pub crossingsOfLines : Plan → Lines → List ℕ
+crossingsOfLines plan ls = printedSamples plan (wholeLines ls) ls
 
 -- ---- the input
 
-unfoldable pub printedPoints : Plan → List Point → List ℕ
-printedPoints plan ps = printedLines plan (chainOf (map (λ (p : Point). ofBits binary64 (p .x)) ps) (map (λ (p : Point). ofBits binary64 (p .y)) ps))
+unfoldable pub crossingsOfPoints : Plan → List Point → List ℕ
+crossingsOfPoints plan ps = crossingsOfLines plan (chainOf (map (λ (p : Point). ofBits binary64 (p .x)) ps) (map (λ (p : Point). ofBits binary64 (p .y)) ps))
 
 -- WHAT THE PROGRAM OF CROSSINGS PRINTS in a plan for the bytes of its input
-unfoldable pub printed : Plan → List ℕ → List ℕ
-printed plan bs = answerBy refusedText (printedPoints plan) (found bs)
+unfoldable pub crossingsPrinted : Plan → List ℕ → List ℕ
+crossingsPrinted plan bs = answerBy refusedText (crossingsOfPoints plan) (found bs)

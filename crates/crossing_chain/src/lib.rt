@@ -5,11 +5,11 @@ ghost use Prim.Native.Nat.{_≤_};
 ghost use lib.ListN.{length, take};
 ghost use Rattle.grid.specs.Domain.{lines};
 ghost use Rattle.samples.specs.Samples.{samples};
-ghost use Rattle.crossings.specs.Crossings.{beside};
+ghost use Rattle.crossings.specs.Crossings.{besideSamples};
 ghost use Rattle.report.specs.Pages.{page, Puts};
 ghost use Rattle.chain.specs.Printed.{chainOf, Prints};
-ghost use Rattle.crossing_chain.specs.Printed.{printedTables, printedSamples, printedLines, printed};
-ghost use Rattle.crossing_chain.specs.Inside.{Held};
+ghost use Rattle.crossing_chain.specs.Printed.{crossingsOfTables, printedSamples, crossingsOfLines, crossingsPrinted};
+ghost use Rattle.crossing_chain.specs.Inside.{LengthsHeld};
 use build::Built;
 use build::Plan;
 use grid::Grid;
@@ -34,8 +34,8 @@ fn put_tables(
     out: &mut [u8],
 ) -> usize
     ensures { λ r. let ss = samples (now («start_x» .entry)) (now («start_y» .entry)) (now («end_x» .entry)) (now («end_y» .entry)) in
-        let t = beside ss grid (now (offsets .entry)) (now (items .entry)) (now (globals .entry)) «global_count» in
-        ⌜ Puts (printedTables ss grid t) (page (now (out .entry)) 0) (page (now (out .exit)) r) ⌝ }
+        let t = besideSamples ss grid (now (offsets .entry)) (now (items .entry)) (now (globals .entry)) «global_count» in
+        ⌜ Puts (crossingsOfTables ss grid t) (page (now (out .entry)) 0) (page (now (out .exit)) r) ⌝ }
 {
     let mut first = [0u32; 4096];
     let mut second = [0u32; 4096];
@@ -131,9 +131,9 @@ fn put_lines(
     plan: Plan,
     out: &mut [u8],
 ) -> usize
-    requires { ⌜ Held (now «start_x») (now «start_y») (now «end_x») (now «end_y») ⌝ }
+    requires { ⌜ LengthsHeld (now «start_x») (now «start_y») (now «end_x») (now «end_y») ⌝ }
     ensures { λ r. let ls = lines (now («start_x» .entry)) (now («start_y» .entry)) (now («end_x» .entry)) (now («end_y» .entry)) in
-        ⌜ Puts (printedLines plan ls) (page (now (out .entry)) 0) (page (now (out .exit)) r) ⌝ }
+        ⌜ Puts (crossingsOfLines plan ls) (page (now (out .entry)) 0) (page (now (out .exit)) r) ⌝ }
 {
     let n = start_x.len();
     let mut whole_start_x = [0i32; 1024];
@@ -161,7 +161,7 @@ fn put_lines(
 // The crossings of a chain of n points, the first of two slices. Consecutive points make lines.
 fn put_points(x: &[f64], y: &[f64], n: usize, plan: Plan, out: &mut [u8]) -> usize
     requires { ⌜ (1 ≤ n) × (n ≤ 1024) × (n ≤ length (now x)) × (n ≤ length (now y)) ⌝ }
-    ensures { λ r. ⌜ Puts (printedLines plan (chainOf (take n (now (x .entry))) (take n (now (y .entry))))) (page (now (out .entry)) 0) (page (now (out .exit)) r) ⌝ }
+    ensures { λ r. ⌜ Puts (crossingsOfLines plan (chainOf (take n (now (x .entry))) (take n (now (y .entry))))) (page (now (out .entry)) 0) (page (now (out .exit)) r) ⌝ }
 {
     let last = n - 1;
     put_lines(&x[..last], &y[..last], &x[1..n], &y[1..n], plan, out)
@@ -169,7 +169,7 @@ fn put_points(x: &[f64], y: &[f64], n: usize, plan: Plan, out: &mut [u8]) -> usi
 
 // The crossings of the chain that stands in bytes.
 fn put_chain(bytes: &[u8], plan: Plan, out: &mut [u8]) -> usize
-    ensures { λ r. ⌜ Puts (printed plan (now (bytes .entry))) (page (now (out .entry)) 0) (page (now (out .exit)) r) ⌝ }
+    ensures { λ r. ⌜ Puts (crossingsPrinted plan (now (bytes .entry))) (page (now (out .entry)) 0) (page (now (out .exit)) r) ⌝ }
 {
     let mut x = [0.0f64; 1024];
     let mut y = [0.0f64; 1024];
@@ -182,7 +182,7 @@ fn put_chain(bytes: &[u8], plan: Plan, out: &mut [u8]) -> usize
 
 // Writes what the program of crossings prints in a plan for the bytes of its input, as far as there is room, and zero beyond; answers where it ends.
 pub fn print_crossings(bytes: &[u8], plan: Plan, out: &mut [u8]) -> usize
-    ensures { λ r. ⌜ Prints (printed plan (now (bytes .entry))) (now (out .entry)) (now (out .exit)) r ⌝ }
+    ensures { λ r. ⌜ Prints (crossingsPrinted plan (now (bytes .entry))) (now (out .entry)) (now (out .exit)) r ⌝ }
 {
     let end = put_chain(bytes, plan, out);
     chain::clear(&mut out[end..]);

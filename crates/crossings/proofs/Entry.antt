@@ -25,11 +25,11 @@ use Rattle.lent.proofs.Beginning.{begun-passed}
 use Rattle.once.specs.Once.{keptBy, keeps, firstTests, PairsAre}
 use Rattle.once.specs.Scan.{Grown}
 use Rattle.once.proofs.Ends.{pairs-stopped, pairs-end}
-use Rattle.crossings.specs.Crossings.{beside, crossingsOf, crossingsCheck, crossingsBy}
+use Rattle.crossings.specs.Crossings.{besideSamples, crossingsOf, crossingsCheck, crossingsBy}
 
 module _ (ss : Samples) (g : Grid) (offsets items globals : List ℕ) (k : ℕ) (first second starts listing counts : List ℕ) where
   abbrev t : Tables
-  t = beside ss g offsets items globals k
+  t = besideSamples ss g offsets items globals k
 
   abbrev end : Answer (List Pair)
   end = crossingsBy ss g t first second starts listing counts

@@ -13,12 +13,12 @@ use Rattle.tables.specs.Fit.{tablesCheck}
 use Rattle.seek.specs.Tests.{Pair}
 use Rattle.lent.specs.Lent.{lentCheck, pairsCheck}
 use Rattle.once.specs.Once.{firstTests}
-use Rattle.samples.specs.Samples.{Samples, count, sampleLinesCheck}
+use Rattle.samples.specs.Samples.{Samples, sampleCount, sampleLinesCheck}
 use Rattle.samples.specs.Sharing.{shares}
 
 -- the tables that are lent beside lines of samples
-abbrev pub beside : Samples → Grid → List ℕ → List ℕ → List ℕ → ℕ → Tables
-beside ss g offsets items globals n = tables g (count ss) offsets items globals n
+abbrev pub besideSamples : Samples → Grid → List ℕ → List ℕ → List ℕ → ℕ → Tables
+besideSamples ss g offsets items globals n = tables g (sampleCount ss) offsets items globals n
 
 -- THE CROSSINGS: the first tests of two lines that share a point, in the order of the visit
 unfoldable pub crossingsOf : Samples → Tables → List Pair

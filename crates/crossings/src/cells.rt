@@ -3,18 +3,18 @@ use crate::rows;
 ghost use Prim.Native.Nat.{_+_, _-_};
 ghost use mathlib.Core.Path.{_≡_};
 ghost use lib.ListN.{length};
-ghost use Rattle.samples.specs.Samples.{samples, count};
+ghost use Rattle.samples.specs.Samples.{samples, sampleCount};
 ghost use Rattle.samples.specs.Sharing.{shares};
 ghost use Rattle.tables.specs.Tables.{listIn};
 ghost use Rattle.tables.specs.Lists.{linesAt};
 ghost use Rattle.tables.specs.States.{CanCount, Counted};
-ghost use Rattle.by_line.specs.Inside.{ListAsks};
+ghost use Rattle.by_line.specs.Inside.{CellListAsks};
 ghost use Rattle.once.specs.Scan.{RowsAsk, RowsDone, CellsAsk, CellsDone};
 ghost use Rattle.once.specs.Marked.{RowsMarked};
 
 // The list of a cell: a part of the items.
 fn list_of<'a>(offsets: &[u32], items: &'a [u32], cell: usize) -> &'a [u32]
-    requires { ⌜ ListAsks (now offsets) (now items) cell ⌝ }
+    requires { ⌜ CellListAsks (now offsets) (now items) cell ⌝ }
     ensures { λ r. ⌜ now r ≡ listIn (now (offsets .entry)) (now (items .entry)) cell ⌝ }
 {
     let from = offsets[cell] as usize;
@@ -52,9 +52,9 @@ fn scan_rows(
     hits: usize,
 ) -> usize
     requires { let ss = samples (now «start_x») (now «start_y») (now «end_x») (now «end_y») in
-        ⌜ RowsMarked (count ss) (now list) (now marks) (now starts) (now listing) (now counts) hits ⌝ }
+        ⌜ RowsMarked (sampleCount ss) (now list) (now marks) (now starts) (now listing) (now counts) hits ⌝ }
     ensures { λ r. let ss = samples (now («start_x» .entry)) (now («start_y» .entry)) (now («end_x» .entry)) (now («end_y» .entry)) in
-        ⌜ RowsDone (shares ss) (count ss) (now (starts .entry)) (now (listing .entry)) (now (counts .entry)) (now (list .entry))
+        ⌜ RowsDone (shares ss) (sampleCount ss) (now (starts .entry)) (now (listing .entry)) (now (counts .entry)) (now (list .entry))
         (now (first .entry)) (now (second .entry)) hits (now (first .exit)) (now (second .exit)) r ⌝ }
 {
     let mut hits = hits;
@@ -129,9 +129,9 @@ fn scan_cell(
     hits: usize,
 ) -> usize
     requires { let ss = samples (now «start_x») (now «start_y») (now «end_x») (now «end_y») in
-        ⌜ RowsAsk (count ss) (now list) (now starts) (now listing) (now counts) hits ⌝ }
+        ⌜ RowsAsk (sampleCount ss) (now list) (now starts) (now listing) (now counts) hits ⌝ }
     ensures { λ r. let ss = samples (now («start_x» .entry)) (now («start_y» .entry)) (now («end_x» .entry)) (now («end_y» .entry)) in
-        ⌜ RowsDone (shares ss) (count ss) (now (starts .entry)) (now (listing .entry)) (now (counts .entry)) (now (list .entry))
+        ⌜ RowsDone (shares ss) (sampleCount ss) (now (starts .entry)) (now (listing .entry)) (now (counts .entry)) (now (list .entry))
         (now (first .entry)) (now (second .entry)) hits (now (first .exit)) (now (second .exit)) r ⌝ }
 {
     let low = back(back(cell, cols), 8);
@@ -169,9 +169,9 @@ pub(crate) fn scan_cells(
     second: &mut [u32],
 ) -> usize
     requires { let ss = samples (now «start_x») (now «start_y») (now «end_x») (now «end_y») in
-        ⌜ CellsAsk (count ss) cells (now offsets) (now items) (now starts) (now listing) (now counts) ⌝ }
+        ⌜ CellsAsk (sampleCount ss) cells (now offsets) (now items) (now starts) (now listing) (now counts) ⌝ }
     ensures { λ r. let ss = samples (now («start_x» .entry)) (now («start_y» .entry)) (now («end_x» .entry)) (now («end_y» .entry)) in
-        ⌜ CellsDone (shares ss) (count ss) cells (now (offsets .entry)) (now (items .entry)) (now (starts .entry)) (now (listing .entry)) (now (counts .exit))
+        ⌜ CellsDone (shares ss) (sampleCount ss) cells (now (offsets .entry)) (now (items .entry)) (now (starts .entry)) (now (listing .entry)) (now (counts .exit))
         (now (first .entry)) (now (second .entry)) (now (first .exit)) (now (second .exit)) r ⌝ }
 {
     let mut marks = [0u32; 4096];

@@ -1,6 +1,6 @@
 // The globals of a visit: each with every line but itself and the lower globals. All cells are behind.
 use crate::rows;
-ghost use Rattle.samples.specs.Samples.{samples, count};
+ghost use Rattle.samples.specs.Samples.{samples, sampleCount};
 ghost use Rattle.samples.specs.Sharing.{shares};
 ghost use Rattle.once.specs.Scan.{GlobalAsks, GlobalDone, GlobalsAsk, GlobalsDone};
 
@@ -21,9 +21,9 @@ fn scan_global(
     hits: usize,
 ) -> usize
     requires { let ss = samples (now «start_x») (now «start_y») (now «end_x») (now «end_y») in
-        ⌜ GlobalAsks (count ss) n p (now globals) (now starts) (now listing) (now counts) hits ⌝ }
+        ⌜ GlobalAsks (sampleCount ss) n p (now globals) (now starts) (now listing) (now counts) hits ⌝ }
     ensures { λ r. let ss = samples (now («start_x» .entry)) (now («start_y» .entry)) (now («end_x» .entry)) (now («end_y» .entry)) in
-        ⌜ GlobalDone (shares ss) (count ss) p (now (globals .entry)) (now (starts .entry)) (now (listing .entry)) (now (counts .entry))
+        ⌜ GlobalDone (shares ss) (sampleCount ss) p (now (globals .entry)) (now (starts .entry)) (now (listing .entry)) (now (counts .entry))
         (now (first .entry)) (now (second .entry)) hits (now (first .exit)) (now (second .exit)) r ⌝ }
 {
     let row = rows::row_of(globals[p], start_x, start_y, end_x, end_y);
@@ -84,9 +84,9 @@ pub(crate) fn scan_globals(
     hits: usize,
 ) -> usize
     requires { let ss = samples (now «start_x») (now «start_y») (now «end_x») (now «end_y») in
-        ⌜ GlobalsAsk (count ss) n (now globals) «global_count» (now starts) (now listing) (now counts) hits ⌝ }
+        ⌜ GlobalsAsk (sampleCount ss) n (now globals) «global_count» (now starts) (now listing) (now counts) hits ⌝ }
     ensures { λ r. let ss = samples (now («start_x» .entry)) (now («start_y» .entry)) (now («end_x» .entry)) (now («end_y» .entry)) in
-        ⌜ GlobalsDone (shares ss) (count ss) (now (globals .entry)) «global_count» (now (starts .entry)) (now (listing .entry)) (now (counts .entry))
+        ⌜ GlobalsDone (shares ss) (sampleCount ss) (now (globals .entry)) «global_count» (now (starts .entry)) (now (listing .entry)) (now (counts .entry))
         (now (first .entry)) (now (second .entry)) hits (now (first .exit)) (now (second .exit)) r ⌝ }
 {
     let mut hits = hits;

@@ -9,7 +9,7 @@ ghost use Rattle.once.specs.Once.{keeps, PairsAre};
 ghost use Rattle.once.specs.Scan.{Grown, RunAsks};
 ghost use Rattle.samples.specs.Samples.{samples};
 ghost use Rattle.samples.specs.Sharing.{shares};
-ghost use Rattle.crossings.specs.Crossings.{beside, crossingsBy};
+ghost use Rattle.crossings.specs.Crossings.{besideSamples, crossingsBy};
 
 mod cells;
 mod globals;
@@ -33,10 +33,10 @@ fn run(
     second: &mut [u32],
 ) -> usize
     requires { let ss = samples (now «start_x») (now «start_y») (now «end_x») (now «end_y») in
-        let t = beside ss grid (now offsets) (now items) (now globals) «global_count» in
+        let t = besideSamples ss grid (now offsets) (now items) (now globals) «global_count» in
         ⌜ RunAsks grid t (now starts) (now listing) (now counts) ⌝ }
     ensures { λ r. let ss = samples (now («start_x» .entry)) (now («start_y» .entry)) (now («end_x» .entry)) (now («end_y» .entry)) in
-        let t = beside ss grid (now (offsets .entry)) (now (items .entry)) (now (globals .entry)) «global_count» in
+        let t = besideSamples ss grid (now (offsets .entry)) (now (items .entry)) (now (globals .entry)) «global_count» in
         ⌜ Grown (keeps (shares ss) t) (testsOf t) (now (first .entry)) (now (second .entry)) 0 (now (first .exit)) (now (second .exit)) r ⌝ }
 {
     let cells = (grid.rows as usize) * (grid.cols as usize);
@@ -91,7 +91,7 @@ pub fn list_crossings(
     counts: &mut [u32],
 ) -> OnceAnswer
     ensures { λ r. let ss = samples (now («start_x» .entry)) (now («start_y» .entry)) (now («end_x» .entry)) (now («end_y» .entry)) in
-        let t = beside ss grid (now (offsets .entry)) (now (items .entry)) (now (globals .entry)) «global_count» in
+        let t = besideSamples ss grid (now (offsets .entry)) (now (items .entry)) (now (globals .entry)) «global_count» in
         let end = crossingsBy ss grid t (now (first .entry)) (now (second .entry)) (now (starts .entry)) (now (listing .entry)) (now (counts .entry)) in
         ⌜ PairsAre end (now (first .entry)) (now (second .entry)) (now (starts .entry)) (now (listing .entry)) (now (counts .entry)) r
         (now (first .exit)) (now (second .exit)) (now (starts .exit)) (now (listing .exit)) (now (counts .exit)) ⌝ }

@@ -2,7 +2,7 @@
 use samples::Raised;
 ghost use mathlib.Core.Path.{_≡_};
 ghost use Prim.Native.Nat.{_-_, _<_};
-ghost use Rattle.samples.specs.Samples.{samples, count};
+ghost use Rattle.samples.specs.Samples.{samples, sampleCount};
 ghost use Rattle.seek.specs.Inside.{numbers};
 ghost use Rattle.samples.specs.Sharing.{shares};
 ghost use Rattle.once.specs.Scan.{keepAt, PlaceAsks, PairAsks, RowGrown, ScanAsks};
@@ -37,7 +37,7 @@ fn shares_point(
     end_x: &[i32],
     end_y: &[i32],
 ) -> bool
-    requires { let ss = samples (now «start_x») (now «start_y») (now «end_x») (now «end_y») in ⌜ Held ss row (b < count ss) ⌝ }
+    requires { let ss = samples (now «start_x») (now «start_y») (now «end_x») (now «end_y») in ⌜ Held ss row (b < sampleCount ss) ⌝ }
     ensures { λ r. let ss = samples (now («start_x» .entry)) (now («start_y» .entry)) (now («end_x» .entry)) (now («end_y» .entry)) in ⌜ r ≡ shares ss (row .first) b ⌝ }
 {
     let other = samples::line_at(start_x, start_y, end_x, end_y, b as usize);
@@ -58,9 +58,9 @@ fn keeps_pair(
     counts: &[u32],
 ) -> bool
     requires { let ss = samples (now «start_x») (now «start_y») (now «end_x») (now «end_y») in
-        ⌜ Held ss row (PairAsks (count ss) (row .first) b (now starts) (now listing) (now counts)) ⌝ }
+        ⌜ Held ss row (PairAsks (sampleCount ss) (row .first) b (now starts) (now listing) (now counts)) ⌝ }
     ensures { λ r. let ss = samples (now («start_x» .entry)) (now («start_y» .entry)) (now («end_x» .entry)) (now («end_y» .entry)) in
-        ⌜ ((h : PlaceAsks (count ss) (now (starts .entry)) (now (listing .entry)) (now (counts .entry))) → r ≡ keepAt (shares ss) (h .W) (h .c) (row .first) b) ⌝ }
+        ⌜ ((h : PlaceAsks (sampleCount ss) (now (starts .entry)) (now (listing .entry)) (now (counts .entry))) → r ≡ keepAt (shares ss) (h .W) (h .c) (row .first) b) ⌝ }
 {
     if shares_point(row, b, start_x, start_y, end_x, end_y) {
         if by_line::first::met_before(row.first, b, starts, listing, counts) {
@@ -86,9 +86,9 @@ fn keeps_marked(
     counts: &[u32],
 ) -> bool
     requires { let ss = samples (now «start_x») (now «start_y») (now «end_x») (now «end_y») in
-        ⌜ Held ss row (MarkedPair (count ss) (row .first) b common (now starts) (now listing) (now counts)) ⌝ }
+        ⌜ Held ss row (MarkedPair (sampleCount ss) (row .first) b common (now starts) (now listing) (now counts)) ⌝ }
     ensures { λ r. let ss = samples (now («start_x» .entry)) (now («start_y» .entry)) (now («end_x» .entry)) (now («end_y» .entry)) in
-        ⌜ ((h : PlaceAsks (count ss) (now (starts .entry)) (now (listing .entry)) (now (counts .entry))) → r ≡ keepAt (shares ss) (h .W) (h .c) (row .first) b) ⌝ }
+        ⌜ ((h : PlaceAsks (sampleCount ss) (now (starts .entry)) (now (listing .entry)) (now (counts .entry))) → r ≡ keepAt (shares ss) (h .W) (h .c) (row .first) b) ⌝ }
 {
     if common == 0 {
         return shares_point(row, b, start_x, start_y, end_x, end_y);
@@ -125,9 +125,9 @@ pub(crate) fn scan_list(
     hits: usize,
 ) -> usize
     requires { let ss = samples (now «start_x») (now «start_y») (now «end_x») (now «end_y») in
-        ⌜ Held ss row (ScanAsks (count ss) (row .first) (now list) (now starts) (now listing) (now counts) hits) ⌝ }
+        ⌜ Held ss row (ScanAsks (sampleCount ss) (row .first) (now list) (now starts) (now listing) (now counts) hits) ⌝ }
     ensures { λ r. let ss = samples (now («start_x» .entry)) (now («start_y» .entry)) (now («end_x» .entry)) (now («end_y» .entry)) in
-        ⌜ RowGrown (shares ss) (count ss) (row .first) (now (starts .entry)) (now (listing .entry)) (now (counts .entry)) (now (list .entry))
+        ⌜ RowGrown (shares ss) (sampleCount ss) (row .first) (now (starts .entry)) (now (listing .entry)) (now (counts .entry)) (now (list .entry))
         (now (first .entry)) (now (second .entry)) hits (now (first .exit)) (now (second .exit)) r ⌝ }
 {
     let mut hits = hits;
@@ -171,9 +171,9 @@ pub(crate) fn scan_marked(
     hits: usize,
 ) -> usize
     requires { let ss = samples (now «start_x») (now «start_y») (now «end_x») (now «end_y») in
-        ⌜ Held ss row (MarkedRow (count ss) (row .first) mark (now list) (now marks) (now starts) (now listing) (now counts) hits) ⌝ }
+        ⌜ Held ss row (MarkedRow (sampleCount ss) (row .first) mark (now list) (now marks) (now starts) (now listing) (now counts) hits) ⌝ }
     ensures { λ r. let ss = samples (now («start_x» .entry)) (now («start_y» .entry)) (now («end_x» .entry)) (now («end_y» .entry)) in
-        ⌜ RowGrown (shares ss) (count ss) (row .first) (now (starts .entry)) (now (listing .entry)) (now (counts .entry)) (now (list .entry))
+        ⌜ RowGrown (shares ss) (sampleCount ss) (row .first) (now (starts .entry)) (now (listing .entry)) (now (counts .entry)) (now (list .entry))
         (now (first .entry)) (now (second .entry)) hits (now (first .exit)) (now (second .exit)) r ⌝ }
 {
     let mut hits = hits;
@@ -218,9 +218,9 @@ pub(crate) fn scan_lines(
     hits: usize,
 ) -> usize
     requires { let ss = samples (now «start_x») (now «start_y») (now «end_x») (now «end_y») in
-        ⌜ Held ss row (ScanAsks (count ss) (row .first) (numbers (stop - k) k) (now starts) (now listing) (now counts) hits) ⌝ }
+        ⌜ Held ss row (ScanAsks (sampleCount ss) (row .first) (numbers (stop - k) k) (now starts) (now listing) (now counts) hits) ⌝ }
     ensures { λ r. let ss = samples (now («start_x» .entry)) (now («start_y» .entry)) (now («end_x» .entry)) (now («end_y» .entry)) in
-        ⌜ RowGrown (shares ss) (count ss) (row .first) (now (starts .entry)) (now (listing .entry)) (now (counts .entry)) (numbers (stop - k) k)
+        ⌜ RowGrown (shares ss) (sampleCount ss) (row .first) (now (starts .entry)) (now (listing .entry)) (now (counts .entry)) (numbers (stop - k) k)
         (now (first .entry)) (now (second .entry)) hits (now (first .exit)) (now (second .exit)) r ⌝ }
 {
     let mut hits = hits;

@@ -10,7 +10,7 @@ use Rattle.grid.specs.Points.{SharePoint}
 use Rattle.tables.specs.Tables.{Tables}
 use Rattle.walk.specs.declared.Mode.the-variants.{Covering}
 use Rattle.visit.specs.Overlap.{overlap}
-use Rattle.samples.specs.Samples.{Samples, count, wholeAt}
+use Rattle.samples.specs.Samples.{Samples, sampleCount, wholeAt}
 use Rattle.demands.specs.Points.{Cross}
 use Rattle.demands.specs.Grown.{Grown}
 use Rattle.demands.proofs.Points.{nothing-dropped, crossings-overlap}

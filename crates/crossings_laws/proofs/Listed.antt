@@ -18,10 +18,10 @@ use Rattle.tables.specs.Fit.{TablesFit}
 use Rattle.tables.proofs.Facts.{check-facts}
 use Rattle.seek.specs.Tests.{Pair, testsOf}
 use Rattle.visit.specs.Batches.{firsts, seconds}
-use Rattle.visit_laws.specs.Words.{one, times}
+use Rattle.visit_laws.specs.Words.{oneWhere, times}
 use Rattle.visit_laws.proofs.Often.{one-true, one-false}
 use Rattle.once_laws.proofs.Once.{each-once}
-use Rattle.samples.specs.Samples.{Samples, count, wholeAt, raisedAt, allSamples, sampled, sampleLinesCheck}
+use Rattle.samples.specs.Samples.{Samples, sampleCount, wholeAt, raisedAt, allSamples, sampled, sampleLinesCheck}
 use Rattle.samples.specs.Sharing.{sharing, shares}
 use Rattle.samples.proofs.Checking.{sample-lines-fine}
 use Rattle.samples.proofs.Both.{sharing-swap, exact, shared}
@@ -64,11 +64,11 @@ module _ {ss : Samples} {g : Grid} {t : Tables} (c : CrossingsCall ss g t) where
   tables-fit = check-facts t (andThen-right _ _ (andThen-right _ _ (call-says .passed)))
 
   -- as often as the definition of the crossings has it
-  often-is : (a b : ℕ) → listedIn a b c ≡ one (shares ss a b && ltb 0 (times a b (testsOf t)))
+  often-is : (a b : ℕ) → listedIn a b c ≡ oneWhere (shares ss a b && ltb 0 (times a b (testsOf t)))
   unfolding crossingsOf
   often-is a b = call-says .often a b ∙ each-once t tables-fit (shares ss) (shares-swap ss) .once a b
 
-  fits : (a : ℕ) → a < count ss → allSamples (wholeAt ss a) ≡ true
+  fits : (a : ℕ) → a < sampleCount ss → allSamples (wholeAt ss a) ≡ true
   fits a l = sample-lines-fine ss samples-fine .each a l
 
   listed-once : (a b : ℕ) → Crossing ss a b → 0 < times a b (testsOf t) → listedIn a b c ≡ 1
@@ -77,7 +77,7 @@ module _ {ss : Samples} {g : Grid} {t : Tables} (c : CrossingsCall ss g t) where
       let e : sharing (raisedAt ss a) (raisedAt ss b) ≡ true = shared (wholeAt ss a) (wholeAt ss b) (fits a (x .first)) (fits b (x .second)) (x .point) in
       often-is a b ∙ rw (e, lt-ltb 0 (times a b (testsOf t)) k) one-true
 
-  listed-shares : (a b : ℕ) → a < count ss → b < count ss → 0 < listedIn a b c → WholeShare (wholeAt ss a) (wholeAt ss b)
+  listed-shares : (a b : ℕ) → a < sampleCount ss → b < sampleCount ss → 0 < listedIn a b c → WholeShare (wholeAt ss a) (wholeAt ss b)
   unfolding shares
   listed-shares a b l m k = go (sharing (raisedAt ss a) (raisedAt ss b)) refl
     where

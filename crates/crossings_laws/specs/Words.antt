@@ -13,21 +13,21 @@ use Rattle.seek.specs.Tests.{testsOf}
 use Rattle.visit_laws.specs.Words.{times}
 use Rattle.lent.specs.declared.OnceAnswer.the-variants.{Pairs}
 use Rattle.once.specs.Once.{PairsAre}
-use Rattle.samples.specs.Samples.{Samples, count, wholeAt}
+use Rattle.samples.specs.Samples.{Samples, sampleCount, wholeAt}
 use Rattle.crossings.specs.Crossings.{crossingsBy}
 use Rattle.demands.specs.Calls.{handedOut}
 
 -- two different lines of samples share a point
 pub record Crossing (ss : Samples) (a b : ℕ) : Type 0 where
   pub different : a ≡ b → ⊥
-  pub first : a < count ss
-  pub second : b < count ss
+  pub first : a < sampleCount ss
+  pub second : b < sampleCount ss
   pub point : WholeShare (wholeAt ss a) (wholeAt ss b)
 
 -- lines whose coordinates are the samples, as floats: each has the exact value of its sample
 pub record AsFloats (ls : Lines) (ss : Samples) : Type 0 where
-  pub many : domain.count ls ≡ count ss
-  pub each : (i : ℕ) → i < count ss → InParts 1 (segmentAt ls i) (wholeAt ss i)
+  pub many : domain.count ls ≡ sampleCount ss
+  pub each : (i : ℕ) → i < sampleCount ss → InParts 1 (segmentAt ls i) (wholeAt ss i)
 
 -- one call that was not refused: the five slices before it, the two outputs after it, and its answer
 pub record CrossingsCall (ss : Samples) (g : Grid) (t : Tables) : Type 0 where
@@ -51,7 +51,7 @@ listedIn a b c = handedOut a b (take (c .number) (c .first)) (take (c .number) (
 -- NONE IS LEFT OUT of those that are tested, none comes twice, and no other pair is listed
 pub record ListsCrossings (ss : Samples) (g : Grid) (t : Tables) : Type 0 where
   pub once : (c : CrossingsCall ss g t) (a b : ℕ) → Crossing ss a b → 0 < times a b (testsOf t) → listedIn a b c ≡ 1
-  pub only : (c : CrossingsCall ss g t) (a b : ℕ) → a < count ss → b < count ss → 0 < listedIn a b c → WholeShare (wholeAt ss a) (wholeAt ss b)
+  pub only : (c : CrossingsCall ss g t) (a b : ℕ) → a < sampleCount ss → b < sampleCount ss → 0 < listedIn a b c → WholeShare (wholeAt ss a) (wholeAt ss b)
 
 -- EVERY CROSSING IS LISTED, once
 abbrev pub ListsAll : Samples → Grid → Tables → Type 0

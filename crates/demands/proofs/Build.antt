@@ -9,7 +9,7 @@ use Rattle.build.specs.declared.Standing.{Standing}
 use Rattle.build.specs.declared.Built.{Built}
 use Rattle.build.specs.declared.Built.the-variants as built
 use Rattle.build.specs.Build.{endOf, BuildIs}
-use Rattle.seek.specs.Bookmarks.{beside}
+use Rattle.tables.specs.Tables.{beside}
 use Rattle.demands.specs.Build.{AfterBuild}
 use Rattle.demands.specs.Grown.{FromBuild, Grown, from-build}
 use Rattle.demands.proofs.Grown.{after-grown}

@@ -10,18 +10,18 @@ use Rattle.tables.specs.Tables.{Tables, cells, listOf, globalsOf}
 use Rattle.tables.specs.Stands.{Stands}
 use Rattle.tables.proofs.Standing.{lines-are}
 use Rattle.seek.specs.Tests.{testsOf}
-use Rattle.visit_laws.specs.Words.{half, sumBelow}
+use Rattle.visit_laws.specs.Words.{halfDown, sumBelow}
 use Rattle.visit_laws.proofs.Number.{tests-number}
 
 module _ {W : ℕ → List ℕ} {n : ℕ} {g : Grid} {t : Tables} (s : Stands W n g t) where
   -- G is the number of globals that is lent with the tables
-  pub number-lent : length (testsOf t) ≡ sumBelow (cells t) (λ c. half (length (listOf t c))) + (t .«global_count» * (n - 1) - half (t .«global_count»))
+  pub number-lent : length (testsOf t) ≡ sumBelow (cells t) (λ c. halfDown (length (listOf t c))) + (t .«global_count» * (n - 1) - halfDown (t .«global_count»))
   number-lent =
       tests-number t (s .tables-fit)
-      ∙ ap (λ (x : ℕ). sumBelow (cells t) (λ c. half (length (listOf t c))) + (t .«global_count» * (x - 1) - half (t .«global_count»))) (lines-are s)
+      ∙ ap (λ (x : ℕ). sumBelow (cells t) (λ c. halfDown (length (listOf t c))) + (t .«global_count» * (x - 1) - halfDown (t .«global_count»))) (lines-are s)
 
   -- and that is the length of the global list
-  pub number : length (testsOf t) ≡ sumBelow (cells t) (λ c. half (length (listOf t c))) + (length (globalsOf t) * (n - 1) - half (length (globalsOf t)))
+  pub number : length (testsOf t) ≡ sumBelow (cells t) (λ c. halfDown (length (listOf t c))) + (length (globalsOf t) * (n - 1) - halfDown (length (globalsOf t)))
   number =
       number-lent
-      ∙ ap (λ (G : ℕ). sumBelow (cells t) (λ c. half (length (listOf t c))) + (G * (n - 1) - half G)) (sym (length-take-le (t .«global_count») (t .globals) (s .tables-fit .counted)))
+      ∙ ap (λ (G : ℕ). sumBelow (cells t) (λ c. halfDown (length (listOf t c))) + (G * (n - 1) - halfDown G)) (sym (length-take-le (t .«global_count») (t .globals) (s .tables-fit .counted)))

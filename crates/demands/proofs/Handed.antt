@@ -17,7 +17,7 @@ use Rattle.seek.specs.Tests.{Pair, testsOf}
 use Rattle.visit.specs.Overlap.{overlap}
 use Rattle.visit.specs.Batches.{made, overlapping, firsts, seconds}
 use Rattle.visit.specs.Entries.{tallyOf, BatchIs}
-use Rattle.visit_laws.specs.Words.{half, sumBelow, one, testOfBoth, times}
+use Rattle.visit_laws.specs.Words.{halfDown, sumBelow, oneWhere, testOfBoth, times}
 use Rattle.visit_laws.proofs.Often.{handed-often, handed-never}
 use Rattle.demands.specs.Words.{due}
 use Rattle.demands.specs.Calls.{Call, FullVisit, firstsOf, secondsOf, testsIn, handedOut}
@@ -30,7 +30,7 @@ use Rattle.demands.proofs.Calls.{visit-firsts, visit-seconds, visit-tes
 pub pairs-times : (a b : ℕ) (ps : List Pair) → handedOut a b (firsts ps) (seconds ps) ≡ times a b ps
 unfolding handedOut times testOfBoth
 pairs-times a b [] = refl
-pairs-times a b (p ∷ ps) = ap (λ (n : ℕ). one (testOfBoth a b p) + n) (pairs-times a b ps)
+pairs-times a b (p ∷ ps) = ap (λ (n : ℕ). oneWhere (testOfBoth a b p) + n) (pairs-times a b ps)
 
 module _ {W : ℕ → List ℕ} {n : ℕ} {g : Grid} {t : Tables} (s : Stands W n g t) (ls : Lines) where
   -- HANDED OUT EACH TIME that they are tested if their boxes overlap, and else never
@@ -45,7 +45,7 @@ module _ {W : ℕ → List ℕ} {n : ℕ} {g : Grid} {t : Tables} (s : Stands W 
 
   -- THE TEST COUNT of a full visit
   pub tests-made : (cs : List Call) → FullVisit ls g t cs
-      → testsIn cs ≡ sumBelow (cells t) (λ c. half (length (listOf t c))) + (length (globalsOf t) * (n - 1) - half (length (globalsOf t)))
+      → testsIn cs ≡ sumBelow (cells t) (λ c. halfDown (length (listOf t c))) + (length (globalsOf t) * (n - 1) - halfDown (length (globalsOf t)))
   tests-made cs h = visit-tests ls g t cs h ∙ count-laws.number s
 
   -- ONE BATCH IS A FULL VISIT, if its outputs have one length and more room than there are overlaps

@@ -13,7 +13,7 @@ use Rattle.tables.specs.Tables.{Tables, cells, listOf, globalsOf}
 use Rattle.tables.specs.Lists.{only, sum}
 use Rattle.tables.specs.Stands.{Stands}
 use Rattle.tables.proofs.Standing.{listed, global, few-lists}
-use Rattle.visit_laws.specs.Words.{one, countBelow, Apart}
+use Rattle.visit_laws.specs.Words.{oneWhere, countBelow, Apart}
 use Rattle.visit_laws.proofs.Number.{sum-zero, sum-suc}
 use Rattle.demands.specs.Words.{isGlobal, visits}
 
@@ -23,16 +23,16 @@ not-both true true v h = refl
 not-both true false v h = absurd (true≢false (sym h))
 not-both false l v h = refl
 
-one-is : (b : Bool) (k : ℕ) → one b ≡ length (only b k)
-unfolding one
+one-is : (b : Bool) (k : ℕ) → oneWhere b ≡ length (only b k)
+unfolding oneWhere
 one-is true k = refl
 one-is false k = refl
 
 -- the two ways to count
 count-sum : (m : ℕ) (f : ℕ → Bool) (k : ℕ) → countBelow m f ≡ sum (λ c. length (only (f c) k)) m
 unfolding countBelow sum
-count-sum zero f k = sum-zero (λ c. one (f c))
-count-sum (suc m) f k = omega (arith, sum-suc m (λ c. one (f c)), one-is (f m) k, count-sum m f k)
+count-sum zero f k = sum-zero (λ c. oneWhere (f c))
+count-sum (suc m) f k = omega (arith, sum-suc m (λ c. oneWhere (f c)), one-is (f m) k, count-sum m f k)
 
 module _ {W : ℕ → List ℕ} {n : ℕ} {g : Grid} {t : Tables} (s : Stands W n g t) where
   -- a cell lists a line that is not global exactly where the line visits it

@@ -11,7 +11,7 @@ use Rattle.tables.specs.Tables.{Tables, cells, listOf}
 use Rattle.tables.specs.Stands.{Stands}
 use Rattle.tables.proofs.Standing.{lines-are}
 use Rattle.seek.specs.Tests.{testsOf}
-use Rattle.visit_laws.specs.Words.{one, countBelow, times, Different}
+use Rattle.visit_laws.specs.Words.{oneWhere, countBelow, times, Different}
 use Rattle.visit_laws.proofs.Number.{sum-zero, sum-suc}
 use Rattle.visit_laws.proofs.Often.{tests-no-global, tests-global, tests-most}
 use Rattle.visit_laws.proofs.Different.{tests-different}
@@ -20,13 +20,13 @@ use Rattle.demands.proofs.Listed.{listed-line, global-line, apart, few-
 
 count-same : (m : ℕ) (f g : ℕ → Bool) → ((c : ℕ) → c < m → f c ≡ g c) → countBelow m f ≡ countBelow m g
 unfolding countBelow
-count-same zero f g h = sum-zero (λ c. one (f c)) ∙ sym (sum-zero (λ c. one (g c)))
+count-same zero f g h = sum-zero (λ c. oneWhere (f c)) ∙ sym (sum-zero (λ c. oneWhere (g c)))
 count-same (suc m) f g h =
     omega (
       arith,
-      sum-suc m (λ c. one (f c)),
-      sum-suc m (λ c. one (g c)),
-      ap one (h m (omega arith)),
+      sum-suc m (λ c. oneWhere (f c)),
+      sum-suc m (λ c. oneWhere (g c)),
+      ap oneWhere (h m (omega arith)),
       count-same m f g (λ c l. h c (omega arith)),
     )
 

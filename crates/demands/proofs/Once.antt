@@ -19,7 +19,7 @@ use Rattle.seek.specs.Tests.{Pair, testsOf}
 use Rattle.visit.specs.Batches.{overlapping, firsts, seconds}
 use Rattle.seek.specs.Bookmarks.{visitCheck}
 use Rattle.seek.proofs.Standing.{stands}
-use Rattle.visit_laws.specs.Words.{one, times}
+use Rattle.visit_laws.specs.Words.{oneWhere, times}
 use Rattle.visit_laws.proofs.Often.{one-true, handed-often}
 use Rattle.lent.specs.declared.OnceAnswer.the-variants as answer
 use Rattle.once.specs.Once.{onceOf, onceBy}
@@ -71,7 +71,7 @@ module _ {ls : Lines} {g : Grid} {t : Tables} (c : OnceCall ls g t) where
       same d = cc
 
   -- as often as the definition of a visit has it
-  often-is : (a b : ℕ) → onceOut a b c ≡ one (ltb 0 (times a b (overlapping ls (testsOf t))))
+  often-is : (a b : ℕ) → onceOut a b c ≡ oneWhere (ltb 0 (times a b (overlapping ls (testsOf t))))
   often-is a b = call-says .often a b ∙ once-as-visit t (stands ls g t (call-says .passed) .tables) ls a b
 
 -- AS A FULL VISIT DOES, EACH PAIR ONCE

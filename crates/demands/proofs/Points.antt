@@ -20,7 +20,7 @@ use Rattle.walk.proofs.Reaching.{covering-given}
 use Rattle.tables.specs.Tables.{Tables}
 use Rattle.fill.specs.OnGrid.{walkOn, visited, cellsOn}
 use Rattle.visit.specs.Overlap.{overlap}
-use Rattle.visit_laws.specs.Words.{one, countBelow}
+use Rattle.visit_laws.specs.Words.{oneWhere, countBelow}
 use Rattle.visit_laws.proofs.Number.{sum-suc}
 use Rattle.demands.specs.Words.{isGlobal, visits, sharedCells, due}
 use Rattle.demands.specs.Points.{Cross, NothingDropped}
@@ -30,11 +30,11 @@ use Rattle.demands.proofs.Grown.{grown-says, after-grown}
 -- ---- a shared cell is counted
 
 count-some : (m : ℕ) (f : ℕ → Bool) (c : ℕ) → c < m → f c ≡ true → 0 < countBelow m f
-unfolding countBelow one
+unfolding countBelow oneWhere
 count-some zero f c l h = absurd (omega arith)
 count-some (suc m) f c l h = elim (ℕ-discrete c m) [
-  | yes e ↦ let k : one (f m) ≡ 1 = ap one (subst (λ (x : ℕ). f x ≡ true) e h) in omega (arith, sum-suc m (λ c. one (f c)))
-  | no n ↦ let k = count-some m f c (omega (arith, n)) h in omega (arith, sum-suc m (λ c. one (f c)))
+  | yes e ↦ let k : oneWhere (f m) ≡ 1 = ap oneWhere (subst (λ (x : ℕ). f x ≡ true) e h) in omega (arith, sum-suc m (λ c. oneWhere (f c)))
+  | no n ↦ let k = count-some m f c (omega (arith, n)) h in omega (arith, sum-suc m (λ c. oneWhere (f c)))
 ]
 
 -- two lines that share a cell of the grid are due

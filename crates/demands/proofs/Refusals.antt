@@ -13,7 +13,7 @@ use Rattle.refusals.specs.Refusals.{unless, andThen, gives, _then_, answerBy}
 use Rattle.refusals.proofs.Answers.{then-fine}
 use Rattle.grid.specs.declared.Grid.{Grid}
 use Rattle.grid.specs.Domain.{Lines, count, countCheck, linesCheck, gridCheck}
-use Rattle.tables.specs.Tables.{Tables}
+use Rattle.tables.specs.Tables.{Tables, beside}
 use Rattle.tables.specs.Fit.{tablesCheck, standingCheck}
 use Rattle.tables.specs.Stands.{Stands}
 use Rattle.tables.proofs.Facts.{facts-check}
@@ -23,7 +23,7 @@ use Rattle.visit.specs.declared.TestAnswer.the-variants as answer
 use Rattle.visit.specs.declared.BatchAnswer.{BatchAnswer}
 use Rattle.visit.specs.declared.BatchAnswer.the-variants as batch
 use Rattle.seek.specs.Tests.{Pair, testsOf}
-use Rattle.seek.specs.Bookmarks.{beside, visitCheck, bookmarkCheck, testsFrom}
+use Rattle.seek.specs.Bookmarks.{visitCheck, bookmarkCheck, testsFrom}
 use Rattle.visit.specs.Entries.{outputsCheck, testOf, nextTest, testAt, batchTests, batchOf, batchAnswer, tallyOf, BatchIs}
 use Rattle.seek.proofs.FindLaws.{book-in}
 use Rattle.seek.specs.Places.{placeCheck, listCheck}

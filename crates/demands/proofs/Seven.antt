@@ -10,7 +10,7 @@ use Rattle.grid.specs.declared.Grid.{Grid}
 use Rattle.grid.specs.Domain.{Lines, count, segmentAt}
 use Rattle.walk.specs.declared.Mode.the-variants.{Covering}
 use Rattle.walk.proofs.Reaching.{covering-given}
-use Rattle.fill.specs.OnGrid.{walkOn, ends}
+use Rattle.fill.specs.OnGrid.{walkOn, completes}
 use Rattle.fill.specs.Checks.{turnsCheck}
 use Rattle.build.specs.declared.Plan.{Plan}
 use Rattle.build.specs.declared.Built.{Built}
@@ -21,7 +21,7 @@ use Rattle.straight.proofs.Builds.{each-fine, not-7-by}
 -- every walk of the covering mode ends
 turns-fine : (g : Grid) (ls : Lines) → turnsCheck Covering g ls ≡ Fine
 unfolding turnsCheck walkOn
-turns-fine g ls = each-fine (λ i. ends (walkOn Covering g ls i)) 7 (count ls) 0 (λ k l m. ap ends (covering-given g (segmentAt ls k)))
+turns-fine g ls = each-fine (λ i. completes (walkOn Covering g ls i)) 7 (count ls) 0 (λ k l m. ap completes (covering-given g (segmentAt ls k)))
 
 pub never-7 : (plan : Plan) → plan .mode ≡ Covering → {ls : Lines} {o t gs s : List ℕ} {r : Built} {o′ t′ gs′ s′ : List ℕ}
     → BuildIs (plan .mode) ls o t gs s r o′ t′ gs′ s′ (endOf plan ls (length o) (length t) (length gs) (length s)) → (value : ℕ) → r ≡ built.Refused (refusal 7 value) → ⊥

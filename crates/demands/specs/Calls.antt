@@ -13,7 +13,7 @@ use Rattle.visit.specs.declared.Tally.{Tally}
 use Rattle.visit.specs.declared.BatchAnswer.the-variants as batch
 use Rattle.seek.specs.Tests.{testsOf}
 use Rattle.visit.specs.Entries.{BatchIs}
-use Rattle.visit_laws.specs.Words.{one}
+use Rattle.visit_laws.specs.Words.{oneWhere}
 
 -- one call that was not refused: the two outputs before and after it, and its answer
 pub record Call : Type 0 where
@@ -52,4 +52,4 @@ testsIn (c ∷ cs) = c .tally .tests + testsIn cs
 unfoldable pub handedOut : ℕ → ℕ → List ℕ → List ℕ → ℕ
 handedOut a b [] ys = 0
 handedOut a b (x ∷ xs) [] = 0
-handedOut a b (x ∷ xs) (y ∷ ys) = one ((eqb x a && eqb y b) || (eqb x b && eqb y a)) + handedOut a b xs ys
+handedOut a b (x ∷ xs) (y ∷ ys) = oneWhere ((eqb x a && eqb y b) || (eqb x b && eqb y a)) + handedOut a b xs ys

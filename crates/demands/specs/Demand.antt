@@ -14,7 +14,7 @@ use Rattle.seek.specs.Tests.{Pair, testsOf}
 use Rattle.visit.specs.Overlap.{overlap}
 use Rattle.visit.specs.Batches.{overlapping, firsts, seconds}
 use Rattle.visit.specs.Entries.{testOf, testAt}
-use Rattle.visit_laws.specs.Words.{half, sumBelow, times, Different}
+use Rattle.visit_laws.specs.Words.{halfDown, sumBelow, times, Different}
 use Rattle.demands.specs.Words.{isGlobal, visits, due}
 use Rattle.demands.specs.Calls.{Call, FullVisit, firstsOf, secondsOf, testsIn, handedOut}
 
@@ -41,6 +41,6 @@ pub record Demand3 (ls : Lines) (g : Grid) (W : ℕ → List ℕ) (t : Tables) :
       → handedOut a b (firstsOf cs) (secondsOf cs) ≡ cond (overlap ls a b) (due g W a b) 0
   -- "Its test count is the sum of k(k-1)/2 over list lengths k, plus G(n-1) - G(G-1)/2 for G globals among n lines;"
   pub number : (cs : List Call) → FullVisit ls g t cs
-      → testsIn cs ≡ sumBelow (cells t) (λ c. half (length (listOf t c))) + (length (globalsOf t) * (count ls - 1) - half (length (globalsOf t)))
+      → testsIn cs ≡ sumBelow (cells t) (λ c. halfDown (length (listOf t c))) + (length (globalsOf t) * (count ls - 1) - halfDown (length (globalsOf t)))
   -- "a pair without a global is tested at most 2,048 times."
   pub at-most : (a b : ℕ) → (a ≡ b → ⊥) → a < count ls → b < count ls → isGlobal W a ≡ false → isGlobal W b ≡ false → times a b (testsOf t) ≤ 2048

@@ -8,7 +8,7 @@ use Rattle.grid.specs.declared.Grid.{Grid}
 use Rattle.grid.specs.declared.Segment.{Segment}
 use Rattle.grid.specs.Domain.{Lines, lines, count}
 use Rattle.walk.specs.declared.Mode.{Mode}
-use Rattle.tables.specs.Tables.{Tables, tables, cells, listOf, globalsOf}
+use Rattle.tables.specs.Tables.{Tables, tables, cells, listOf, globalsOf, beside}
 use Rattle.tables.specs.Fit.{TablesFit}
 use Rattle.build.specs.declared.Plan.{Plan}
 use Rattle.build.specs.declared.Standing.{Standing}
@@ -18,7 +18,6 @@ use Rattle.build.specs.Build.{endOf, BuildIs}
 use Rattle.added.specs.declared.Added.{Added}
 use Rattle.added.specs.declared.Added.the-variants as added
 use Rattle.added.specs.Added.{addEnd, AddIs}
-use Rattle.seek.specs.Bookmarks.{beside}
 
 -- a build that succeeded, in some slices
 pub record FromBuild (mode : Mode) (g : Grid) (ls : Lines) (t : Tables) : Type 0 where

@@ -8,7 +8,7 @@ use lib.ListN.{take}
 use Rattle.grid.specs.declared.Grid.{Grid}
 use Rattle.grid.specs.Domain.{Lines}
 use Rattle.tables.specs.Tables.{Tables}
-use Rattle.visit_laws.specs.Words.{one}
+use Rattle.visit_laws.specs.Words.{oneWhere}
 use Rattle.lent.specs.declared.OnceAnswer.the-variants.{Pairs}
 use Rattle.once.specs.Once.{onceBy, PairsAre}
 use Rattle.demands.specs.Calls.{Call, FullVisit, firstsOf, secondsOf, handedOut}
@@ -36,7 +36,7 @@ onceOut a b c = handedOut a b (take (c .number) (c .first)) (take (c .number) (c
 -- once if a full visit, as calls of `batch`, hands them out at all, and else never
 abbrev pub VisitOnce : Lines → Grid → Tables → Type 0
 VisitOnce ls g t =
-    (c : OnceCall ls g t) (cs : List Call) → FullVisit ls g t cs → (a b : ℕ) → onceOut a b c ≡ one (ltb 0 (handedOut a b (firstsOf cs) (secondsOf cs)))
+    (c : OnceCall ls g t) (cs : List Call) → FullVisit ls g t cs → (a b : ℕ) → onceOut a b c ≡ oneWhere (ltb 0 (handedOut a b (firstsOf cs) (secondsOf cs)))
 
 -- and once if they share an exact point
 abbrev pub CrossingsOnce : Lines → Grid → Tables → Type 0

@@ -22,7 +22,7 @@ use Rattle.tables.specs.States.{CanCount}
 use Rattle.tables.proofs.Laws.{counted-none}
 use Rattle.fill.specs.declared.passes.Walked.{Walked}
 use Rattle.fill.specs.declared.Count.the-variants as counted
-use Rattle.fill.specs.OnGrid.{cells, walkOn, ends, cellsOn, globalsOn, oneIf}
+use Rattle.fill.specs.OnGrid.{gridCells, walkOn, completes, cellsOn, globalsOn, oneIf}
 use Rattle.fill.specs.Checks.{roomCheck, turnsCheck}
 use Rattle.fill.specs.Inside.{CountAs, Walkable, WalkAsks, WalkedIs, localOn, VisitsCounted, CountedTo, CountAsks, LineCounted, PassAsks, AllCounted}
 use Rattle.fill.proofs.Walks.{walk-ends}
@@ -46,7 +46,7 @@ pub record CountingAll (mode : Mode) (g : Grid) (ls : Lines) (o₀ s₀ o s : Li
   pub at : i ≤ count ls
   pub len : length o ≡ length o₀
   pub len-scratch : length s ≡ length s₀
-  pub turns : turnsCheck mode g ls ≡ eachFrom (λ i. ends (walkOn mode g ls i)) 7 (count ls - i) i
+  pub turns : turnsCheck mode g ls ≡ eachFrom (λ i. completes (walkOn mode g ls i)) 7 (count ls - i) i
   pub found : globals ≡ length (globalLines (cellsOn mode g ls) i)
   pub most : globals ≤ i
   pub counted : CountedTo mode g ls i o
@@ -69,7 +69,7 @@ module _ {mode : Mode} {g : Grid} {ls : Lines} {o₀ s₀ o s : List ℕ} {globa
 
   module _ {s′ : List ℕ} {w : Walked} (v : WalkedIs mode g ls i s′ w) where
     pub counting-over : w .over ≡ true → turnsCheck mode g ls ≡ Refused (refusal 7 i)
-    counting-over e = k .turns ∙ each-bad (λ i. ends (walkOn mode g ls i)) 7 (count ls) i l (walk-ends mode g ls i (w .over) false (v .over-is) e)
+    counting-over e = k .turns ∙ each-bad (λ i. completes (walkOn mode g ls i)) 7 (count ls) i l (walk-ends mode g ls i (w .over) false (v .over-is) e)
 
     module _ (e : w .over ≡ false) where
       pub counting-can : w .cells ≤ 2048 → CanCount o s′ (w .cells)
@@ -90,7 +90,7 @@ module _ {mode : Mode} {g : Grid} {ls : Lines} {o₀ s₀ o s : List ℕ} {globa
               at = omega arith;
               len = a ∙ k .len;
               len-scratch = b ∙ k .len-scratch;
-              turns = k .turns ∙ each-good (λ i. ends (walkOn mode g ls i)) 7 (count ls) i l (walk-ends mode g ls i (w .over) true (v .over-is) e);
+              turns = k .turns ∙ each-good (λ i. completes (walkOn mode g ls i)) 7 (count ls) i l (walk-ends mode g ls i (w .over) true (v .over-is) e);
               found = omega (arith, k .found, h .kind, globals-count (cellsOn mode g ls) i);
               most = omega (arith, k .most, h .kind, one-if (long (cellsOn mode g ls i)));
               counted = h .next;
@@ -100,24 +100,24 @@ pub counting-end : {mode : Mode} {g : Grid} {ls : Lines} {o₀ s₀ o s : List �
 unfolding globalsOn
 counting-end {mode} {g} {ls} {i = i} k l =
     let e : i ≡ count ls = omega (arith, k .at) in
-    (k .turns ∙ each-over (λ i. ends (walkOn mode g ls i)) 7 (count ls) i l, record { found = rw e at (k .found); counted = rw e at (k .counted) })
+    (k .turns ∙ each-over (λ i. completes (walkOn mode g ls i)) 7 (count ls) i l, record { found = rw e at (k .found); counted = rw e at (k .counted) })
 
 -- where no walk is refused, each ends
-pub turns-all : (mode : Mode) (g : Grid) (ls : Lines) → turnsCheck mode g ls ≡ Fine → (i : ℕ) → i < count ls → ends (walkOn mode g ls i) ≡ true
+pub turns-all : (mode : Mode) (g : Grid) (ls : Lines) → turnsCheck mode g ls ≡ Fine → (i : ℕ) → i < count ls → completes (walkOn mode g ls i) ≡ true
 unfolding turnsCheck
-turns-all mode g ls h i l = each-says (λ i. ends (walkOn mode g ls i)) 7 (count ls) 0 i h (omega arith) (omega arith)
+turns-all mode g ls h i l = each-says (λ i. completes (walkOn mode g ls i)) 7 (count ls) 0 i h (omega arith) (omega arith)
 
 -- ---- from the start
 
 -- 4: the offsets hold a grid's cells and one more
-module _ (g : Grid) (room n : ℕ) (e : n ≡ cells g) where
+module _ (g : Grid) (room n : ℕ) (e : n ≡ gridCells g) where
   pub room-short : room < n + 1 → Refused (refusal 4 (n + 1)) ≡ roomCheck g room
   unfolding roomCheck unless
-  room-short l = let k : room < cells g + 1 = omega arith in rw (lt-leb (cells g + 1) room k, e)
+  room-short l = let k : room < gridCells g + 1 = omega arith in rw (lt-leb (gridCells g + 1) room k, e)
 
   pub room-fine : n + 1 ≤ room → Fine ≡ roomCheck g room
   unfolding roomCheck unless
-  room-fine l = let k : cells g + 1 ≤ room = omega arith in rw (le-leb (cells g + 1) room k)
+  room-fine l = let k : gridCells g + 1 ≤ room = omega arith in rw (le-leb (gridCells g + 1) room k)
 
 pub zeros-at : (n k : ℕ) → getD (replicate {A = ℕ} n 0) k 0 ≡ 0
 zeros-at zero k = refl
@@ -128,5 +128,5 @@ zeros-at (suc n) (suc k) = zeros-at n k
 pub counted-clear : (mode : Mode) (g : Grid) (ls : Lines) (o o′ : List ℕ) → o′ ≡ replicate (length o) 0 → length o′ ≡ length o → roomCheck g (length o) ≡ Fine → CountedTo mode g ls 0 o′
 unfolding roomCheck
 counted-clear mode g ls o o′ e s f =
-    let l : cells g + 1 ≤ length o = leb-true (cells g + 1) (length o) (unless-fine _ 4 _ f) in
+    let l : gridCells g + 1 ≤ length o = leb-true (gridCells g + 1) (length o) (unless-fine _ 4 _ f) in
     record { room = omega arith; counts = counted-none (localOn mode g ls) o′ (λ k. rw e (zeros-at (length o) k)) }

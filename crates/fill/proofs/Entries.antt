@@ -24,9 +24,9 @@ use Rattle.fill.specs.declared.Count.{Count}
 use Rattle.fill.specs.declared.Count.the-variants as counted
 use Rattle.fill.specs.declared.Filled.{Filled}
 use Rattle.fill.specs.declared.Filled.the-variants as filled
-use Rattle.fill.specs.OnGrid.{cells, listOn, globalsOn, total, countsOn}
-use Rattle.fill.specs.Checks.{lentCheck, turnsCheck, roomCheck, triedCheck, countingCheck, spaceCheck}
-use Rattle.fill.specs.Fill.{countOf, CountIs, above, Filling, crowded, made, fillingOf, filledOf, writtenIn, FillIs}
+use Rattle.fill.specs.OnGrid.{gridCells, listOn, globalsOn, total, countsOn}
+use Rattle.fill.specs.Checks.{onGridCheck, turnsCheck, roomCheck, triedCheck, countingCheck, spaceCheck}
+use Rattle.fill.specs.Fill.{countOf, CountIs, moreThan, Filling, crowded, made, fillingOf, filledOf, writtenIn, FillIs}
 use Rattle.fill.specs.Inside.{CountAs, Walkable, localOn, CountedTo, PassAsks, AllCounted, CountLent, Summed, FillAsks, LayAsks, DueRefusal, PlanAs, PlanIs, ruleOf}
 use Rattle.fill.proofs.Filled.{the-type}
 use Rattle.fill.proofs.Walks.{all-walks}
@@ -47,30 +47,30 @@ first-passes a b h = rw h
 -- 3, 2, 1, 8, then 4
 module _ (g : Grid) (ls : Lines) (scratch room : ℕ) where
   abbrev checkOf : Check
-  checkOf = andThen (lentCheck g ls scratch) (roomCheck g room)
+  checkOf = andThen (onGridCheck g ls scratch) (roomCheck g room)
 
   pub scratch-refused : (k : Check) (r : Refusal) → k ≡ scratchCheck scratch → k ≡ Refused r → k ≡ checkOf
-  unfolding lentCheck andThen
+  unfolding onGridCheck andThen
   scratch-refused k r h e = let f : scratchCheck scratch ≡ Refused r = sym h ∙ e in rw (f) e
 
   pub lines-refused : (k : Check) (r : Refusal) → scratchCheck scratch ≡ Fine → k ≡ linesCheck ls → k ≡ Refused r → k ≡ checkOf
-  unfolding lentCheck andThen
+  unfolding onGridCheck andThen
   lines-refused k r a h e = let f : linesCheck ls ≡ Refused r = sym h ∙ e in rw (a, f) e
 
   pub grid-refused : (k : Check) (r : Refusal) → scratchCheck scratch ≡ Fine → linesCheck ls ≡ Fine → k ≡ gridCheck g → k ≡ Refused r → k ≡ checkOf
-  unfolding lentCheck andThen
+  unfolding onGridCheck andThen
   grid-refused k r a b h e = let f : gridCheck g ≡ Refused r = sym h ∙ e in rw (a, b, f) e
 
   pub room-last : scratchCheck scratch ≡ Fine → linesCheck ls ≡ Fine → gridCheck g ≡ Fine → roomCheck g room ≡ checkOf
-  unfolding lentCheck andThen
+  unfolding onGridCheck andThen
   room-last a b d = rw (a, b, d)
 
 pub grid-fits : (g : Grid) → gridCheck g ≡ Fine → fit g ≡ true
 unfolding gridCheck
 grid-fits g h = unless-fine (fit g) 8 0 h
 
-pub lent-walkable : {g : Grid} {ls : Lines} {s : List ℕ} → lentCheck g ls (length s) ≡ Fine → Walkable g ls s
-unfolding lentCheck scratchCheck gridCheck
+pub lent-walkable : {g : Grid} {ls : Lines} {s : List ℕ} → onGridCheck g ls (length s) ≡ Fine → Walkable g ls s
+unfolding onGridCheck scratchCheck gridCheck
 lent-walkable {g} {ls} {s} h =
     let n : ℕ = length s in
     let k = andThen-right (scratchCheck n) (andThen (linesCheck ls) (gridCheck g)) h in
@@ -88,7 +88,7 @@ lent-walkable {g} {ls} {s} h =
 -- the order of what a count checks, by what is checked first
 counting-is : (mode : Mode) (g : Grid) (ls : Lines) (room scratch : ℕ) → countingCheck mode g ls room scratch ≡ andThen (checkOf g ls scratch room) (turnsCheck mode g ls)
 unfolding countingCheck triedCheck andThen
-counting-is mode g ls room scratch = go (lentCheck g ls scratch)
+counting-is mode g ls room scratch = go (onGridCheck g ls scratch)
   where
     go : (a : Check) → andThen a (andThen (roomCheck g room) (turnsCheck mode g ls)) ≡ andThen (andThen a (roomCheck g room)) (turnsCheck mode g ls)
     go Fine = refl
@@ -107,8 +107,8 @@ module _ {mode : Mode} {g : Grid} {ls : Lines} (o : List ℕ) {s : List ℕ} whe
     pub lent-asks : {o₁ : List ℕ} → o₁ ≡ replicate (length o) 0 → length o₁ ≡ length o → PassAsks mode g ls o₁ s
     lent-asks {o₁} z e =
         record {
-          walkable = lent-walkable (andThen-left (lentCheck g ls (length s)) (roomCheck g (length o)) h);
-          counted = counted-clear mode g ls o o₁ z e (andThen-right (lentCheck g ls (length s)) (roomCheck g (length o)) h);
+          walkable = lent-walkable (andThen-left (onGridCheck g ls (length s)) (roomCheck g (length o)) h);
+          counted = counted-clear mode g ls o o₁ z e (andThen-right (onGridCheck g ls (length s)) (roomCheck g (length o)) h);
         }
 
     pub lent-counted : {r : Count} {o′ s′ : List ℕ} → CountAs (turnsCheck mode g ls) (AllCounted mode g ls o′) r → length o′ ≡ length o → length s′ ≡ length s → CountLent mode g ls o s r o′ s′
@@ -126,7 +126,7 @@ counts-are : {mode : Mode} {g : Grid} {ls : Lines} {o : List ℕ} → fit g ≡ 
 unfolding countsOn listOn
 counts-are {mode} {g} {ls} {o} f h =
     let W = localOn mode g ls in
-    let n : ℕ = cells g in
+    let n : ℕ = gridCells g in
     let l : n ≤ length o = let r = h .room in omega arith in
     sym (take-append-drop n o)
     ∙ ap₂ _++_ (take-tabulate (λ c. length (linesAt W (count ls) c)) o n l (λ c _. h .counts .count-is c))
@@ -139,7 +139,7 @@ module _ {mode : Mode} {g : Grid} {ls : Lines} {o s : List ℕ} {r : Count} {o�
 
   counting-walkable : (n : ℕ) → r ≡ counted.Of n → Walkable g ls s
   unfolding countingCheck
-  counting-walkable n e = lent-walkable (andThen-left (lentCheck g ls (length s)) (triedCheck mode g ls (length o)) (counting-fine n e .0))
+  counting-walkable n e = lent-walkable (andThen-left (onGridCheck g ls (length s)) (triedCheck mode g ls (length o)) (counting-fine n e .0))
 
   pub count-done : (n : ℕ) {s₂ : List ℕ} {long : ℕ} → r ≡ counted.Of n → length o₁ ≡ length o → s₂ ≡ replicate long 0 → long ≡ length s
       → CountIs mode g ls o s r o₁ s₂ (countOf mode g ls (length o) (length s))
@@ -169,7 +169,7 @@ module _ {mode : Mode} {g : Grid} {ls : Lines} {o s : List ℕ} {r : Count} {o�
       let k = counting-fine n e in
       record {
         walkable = walkable-again (counting-walkable n e) b;
-        turns = andThen-right (roomCheck g (length o)) (turnsCheck mode g ls) (andThen-right (lentCheck g ls (length s)) (triedCheck mode g ls (length o)) (k .0));
+        turns = andThen-right (roomCheck g (length o)) (turnsCheck mode g ls) (andThen-right (onGridCheck g ls (length s)) (triedCheck mode g ls (length o)) (k .0));
         all = k .1;
       }
 
@@ -181,7 +181,7 @@ module _ {mode : Mode} {g : Grid} {ls : Lines} {o s : List ℕ} {r : Count} {o�
     unfolding fillingOf _then_
     plan-refused q e = record { due = rw (counting-refused q e); offsets = h .offsets q e; scratch = h .scratch q e }
 
-    module _ (n : ℕ) (e : r ≡ counted.Of n) (b : length s₁ ≡ length s) (m : ℕ) (d : m ≡ cells g) {x : Bool} (u : x ≡ above most (λ c. getD o₁ c 0) m) where
+    module _ (n : ℕ) (e : r ≡ counted.Of n) (b : length s₁ ≡ length s) (m : ℕ) (d : m ≡ gridCells g) {x : Bool} (u : x ≡ moreThan most (λ c. getD o₁ c 0) m) where
       pub plan-crowded : x ≡ true → due ≡ gives crowded
       unfolding fillingOf _then_
       plan-crowded y = rw (counting-fine n e .0, sym (counts-above (plan-asks n e b) most m d) ∙ sym u ∙ y)
@@ -241,7 +241,7 @@ module _ {mode : Mode} {g : Grid} {ls : Lines} {o t gs s o₁ s₁ : List ℕ} {
       rw ((rw e at (p .by)) .0)
       (record {
         answer = k .answer;
-        offsets-are = k .offsets-are ∙ ap (λ (n : ℕ). offsetsOf (listOn mode g ls) (cells g) n) a;
+        offsets-are = k .offsets-are ∙ ap (λ (n : ℕ). offsetsOf (listOn mode g ls) (gridCells g) n) a;
         items-are = k .items-are;
         globals-are = k .globals-are;
         scratch-is = k .scratch-is ∙ ap (λ (n : ℕ). replicate {A = ℕ} n 0) b;

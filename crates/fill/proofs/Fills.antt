@@ -20,9 +20,9 @@ use Rattle.tables.specs.States.{Counted, Placed, Table}
 use Rattle.tables.proofs.Laws.{counts-sum, placed-none, table-of}
 use Rattle.fill.specs.declared.Filled.{Filled}
 use Rattle.fill.specs.declared.Filled.the-variants as filled
-use Rattle.fill.specs.OnGrid.{cells, listOn, globalsOn, total}
+use Rattle.fill.specs.OnGrid.{gridCells, listOn, globalsOn, total}
 use Rattle.fill.specs.Checks.{spaceCheck}
-use Rattle.fill.specs.Fill.{above, Filling, crowded, made, filledOf, writtenIn, FillIs}
+use Rattle.fill.specs.Fill.{moreThan, Filling, crowded, made, filledOf, writtenIn, FillIs}
 use Rattle.fill.specs.Inside.{localOn, PlaceAsks, AllPlaced, Summed, ShiftedBack, FillAsks, LayAsks}
 use Rattle.fill.proofs.Walks.{all-walks}
 use Rattle.fill.proofs.Lines.{total-small}
@@ -41,12 +41,12 @@ cleared-at (suc n) (x ∷ xs) (suc p) l =
     rw e (cleared-at n xs p (omega arith))
 
 -- as `placed-none`, where the items are zero beyond the lists
-placed-cleared : {W : ℕ → List ℕ} {n cells : ℕ} {o₀ o t : List ℕ} → Walks W n cells → Counted (linesAt W n) o₀
-    → ((k : ℕ) → k ≤ cells → getD o k 0 ≡ sum (λ k. getD o₀ k 0) k) → ((k : ℕ) → cells < k → getD o k 0 ≡ getD o₀ k 0)
-    → ((p : ℕ) → start (linesAt W n) cells ≤ p → getD t p 0 ≡ 0) → Placed (linesAt W n) cells (linesAt W 0) o t
+placed-cleared : {W : ℕ → List ℕ} {n gridCells : ℕ} {o₀ o t : List ℕ} → Walks W n gridCells → Counted (linesAt W n) o₀
+    → ((k : ℕ) → k ≤ gridCells → getD o k 0 ≡ sum (λ k. getD o₀ k 0) k) → ((k : ℕ) → gridCells < k → getD o k 0 ≡ getD o₀ k 0)
+    → ((p : ℕ) → start (linesAt W n) gridCells ≤ p → getD t p 0 ≡ 0) → Placed (linesAt W n) gridCells (linesAt W 0) o t
 unfolding linesAt
-placed-cleared {W} {n} {cells} {o₀} {o} w h low high rest =
-    let z : Placed (linesAt W n) cells (linesAt W 0) o [] = placed-none w h low high (λ p. refl) in
+placed-cleared {W} {n} {gridCells} {o₀} {o} w h low high rest =
+    let z : Placed (linesAt W n) gridCells (linesAt W 0) o [] = placed-none w h low high (λ p. refl) in
     record { ptr = z .ptr; put = λ c k l. absurd (omega arith); rest = rest }
 
 -- ---- 5, then 6
@@ -67,24 +67,24 @@ module _ (mode : Mode) (g : Grid) (ls : Lines) (items globals all found : ℕ) (
 -- ---- the counts, once all lines are counted
 
 module _ {mode : Mode} {g : Grid} {ls : Lines} {found : ℕ} {o s : List ℕ} (a : FillAsks mode g ls found o s) where
-  sums-to : sum (λ k. getD o k 0) (cells g) ≡ total mode g ls
+  sums-to : sum (λ k. getD o k 0) (gridCells g) ≡ total mode g ls
   unfolding total listOn
-  sums-to = counts-sum (a .all .counted .counts) (cells g)
+  sums-to = counts-sum (a .all .counted .counts) (gridCells g)
 
-  pub sum-total : {o₁ : List ℕ} {all : ℕ} → Summed o o₁ (cells g) all → all ≡ total mode g ls
+  pub sum-total : {o₁ : List ℕ} {all : ℕ} → Summed o o₁ (gridCells g) all → all ≡ total mode g ls
   sum-total k = k .total ∙ sums-to
 
-  pub sum-asks : (n : ℕ) → n ≡ cells g → (n < length o) × (sum (λ k. getD o k 0) n < 2 ^ 32)
+  pub sum-asks : (n : ℕ) → n ≡ gridCells g → (n < length o) × (sum (λ k. getD o k 0) n < 2 ^ 32)
   sum-asks n e = rw e (a .all .counted .room, rw sums-to (total-small mode g ls (a .walkable .few) (a .walkable .fits)))
 
-  pub counts-above : (most n : ℕ) → n ≡ cells g → above most (λ c. getD o c 0) n ≡ above most (λ c. length (listOn mode g ls c)) (cells g)
+  pub counts-above : (most n : ℕ) → n ≡ gridCells g → moreThan most (λ c. getD o c 0) n ≡ moreThan most (λ c. length (listOn mode g ls c)) (gridCells g)
   unfolding listOn
-  counts-above most n e = rw e (ap (λ (f : ℕ → ℕ). above most f (cells g)) (fun-ext (a .all .counted .counts .count-is)))
+  counts-above most n e = rw e (ap (λ (f : ℕ → ℕ). moreThan most f (gridCells g)) (fun-ext (a .all .counted .counts .count-is)))
 
 -- ---- the tables
 
 module _ {mode : Mode} {g : Grid} {ls : Lines} {all found items globals : ℕ} {o s : List ℕ} (p : LayAsks mode g ls all found items globals o s) where
-  lay-start : all ≡ start (linesAt (localOn mode g ls) (count ls)) (cells g)
+  lay-start : all ≡ start (linesAt (localOn mode g ls) (count ls)) (gridCells g)
   unfolding total listOn
   lay-start = sum-total (p .asks) (p .summed)
 
@@ -106,18 +106,18 @@ module _ {mode : Mode} {g : Grid} {ls : Lines} {all found items globals : ℕ} {
         fits = omega (arith, a .all .found, p .listing);
       }
 
-  pub lay-made : {t gs o₂ o₃ t₂ gs₂ s₃ : List ℕ} {n room long : ℕ} → n ≡ cells g → AllPlaced mode g ls o₂ t₂ room gs₂ → ShiftedBack o₂ o₃ n → s₃ ≡ replicate long 0
+  pub lay-made : {t gs o₂ o₃ t₂ gs₂ s₃ : List ℕ} {n room long : ℕ} → n ≡ gridCells g → AllPlaced mode g ls o₂ t₂ room gs₂ → ShiftedBack o₂ o₃ n → s₃ ≡ replicate long 0
       → length o₃ ≡ length o → length t₂ ≡ length t → room ≡ length gs → long ≡ length s → FillIs mode g ls o t gs s (filled.Tables all found) o₃ t₂ gs₂ s₃ (gives made)
   unfolding answerBy leftIn filledOf writtenIn zeroBeyond listOn total
   lay-made {o₂ = o₂} {o₃} {t₂} e q k z b d f h =
       let a = p .asks in
       let w = all-walks mode g ls (a .walkable .fits) in
-      let tab : Table (linesAt (localOn mode g ls) (count ls)) (cells g) o₃ t₂ =
+      let tab : Table (linesAt (localOn mode g ls) (count ls)) (gridCells g) o₃ t₂ =
       table-of w (omega (arith, a .all .counted .room, p .same)) (q .last .space) (q .last .placed) (k .first) (rw e at (k .moved)) (rw e at (k .beyond)) in
       record {
         answer = rw (sum-total a (p .summed), a .all .found);
-        offsets-are = tab .offsets-are ∙ ap (λ (n : ℕ). offsetsOf (linesAt (localOn mode g ls) (count ls)) (cells g) n) b;
-        items-are = tab .items-are ∙ ap (λ (n : ℕ). itemsOf (linesAt (localOn mode g ls) (count ls)) (cells g) n) d;
+        offsets-are = tab .offsets-are ∙ ap (λ (n : ℕ). offsetsOf (linesAt (localOn mode g ls) (count ls)) (gridCells g) n) b;
+        items-are = tab .items-are ∙ ap (λ (n : ℕ). itemsOf (linesAt (localOn mode g ls) (count ls)) (gridCells g) n) d;
         globals-are = q .globals ∙ ap (λ (n : ℕ). globalsOn mode g ls ++ replicate (n - length (globalsOn mode g ls)) 0) f;
         scratch-is = z ∙ ap (λ (n : ℕ). replicate {A = ℕ} n 0) h;
       }

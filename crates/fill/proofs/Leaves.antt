@@ -8,12 +8,12 @@ use Rattle.refusals.proofs.Leaving.{Clearing, clearing-unless, clearing-then, c
 use Rattle.grid.specs.declared.Grid.{Grid}
 use Rattle.grid.specs.Domain.{Lines, count}
 use Rattle.walk.specs.declared.Mode.{Mode}
-use Rattle.fill.specs.OnGrid.{cells, walkOn, ends, globalsOn, total}
+use Rattle.fill.specs.OnGrid.{gridCells, walkOn, completes, globalsOn, total}
 use Rattle.fill.specs.Checks.{roomCheck, turnsCheck, triedCheck, spaceCheck}
 
 pub turns-clear : (mode : Mode) (g : Grid) (ls : Lines) → Clearing true (turnsCheck mode g ls)
 unfolding turnsCheck
-turns-clear mode g ls = clearing-each (λ i. ends (walkOn mode g ls i)) 7 (count ls) 0 (numbers-clear 7 (omega arith) (omega arith))
+turns-clear mode g ls = clearing-each (λ i. completes (walkOn mode g ls i)) 7 (count ls) 0 (numbers-clear 7 (omega arith) (omega arith))
 
 pub tried-clears : (mode : Mode) (g : Grid) (ls : Lines) (room : ℕ) → Clearing true (triedCheck mode g ls room)
 unfolding triedCheck roomCheck

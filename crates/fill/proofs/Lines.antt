@@ -15,8 +15,8 @@ use Rattle.tables.specs.Lists.{long, linesAt, start}
 use Rattle.tables.specs.States.{Counted, Placed, CanCount, CanPlace}
 use Rattle.tables.proofs.Laws.{total-few}
 use Rattle.tables.proofs.Lists.{local-long, local-few, list-none}
-use Rattle.fill.specs.OnGrid.{cells, cellsOn, listOn, total}
-use Rattle.fill.specs.Inside.{Front, localOn, VisitsCounted, CountedTo, CountAsks, LineCounted, VisitsPlaced, PlacedTo, LineAsks, LinePlaced}
+use Rattle.fill.specs.OnGrid.{gridCells, cellsOn, listOn, total}
+use Rattle.fill.specs.Inside.{LineFront, localOn, VisitsCounted, CountedTo, CountAsks, LineCounted, VisitsPlaced, PlacedTo, LineAsks, LinePlaced}
 use Rattle.fill.proofs.Walks.{is-long, is-short, all-walks, line-at}
 
 -- a global line is in no list
@@ -27,13 +27,13 @@ long-none mode g ls i h = list-none (localOn mode g ls) i (local-long (cellsOn m
 pub total-small : (mode : Mode) (g : Grid) (ls : Lines) → count ls ≤ 65536 → fit g ≡ true → total mode g ls < 2 ^ 32
 unfolding total listOn
 total-small mode g ls few h =
-    let t : start (linesAt (localOn mode g ls) (count ls)) (cells g) ≤ count ls * 2048 = total-few (localOn mode g ls) (count ls) (cells g) 2048 (all-walks mode g ls h) (λ i _. local-few (cellsOn mode g ls) i) in
+    let t : start (linesAt (localOn mode g ls) (count ls)) (gridCells g) ≤ count ls * 2048 = total-few (localOn mode g ls) (count ls) (gridCells g) 2048 (all-walks mode g ls h) (λ i _. local-few (cellsOn mode g ls) i) in
     let u : count ls * 2048 ≤ 65536 * 2048 = mul-le-mul-right 2048 few in
     omega arith
 
 -- ---- the first pass
 
-module _ {mode : Mode} {g : Grid} {ls : Lines} {i : ℕ} {o s₀ s : List ℕ} {n : ℕ} (a : CountAsks mode g ls i o s₀) (k : Front mode g ls i s n) where
+module _ {mode : Mode} {g : Grid} {ls : Lines} {i : ℕ} {o s₀ s : List ℕ} {n : ℕ} (a : CountAsks mode g ls i o s₀) (k : LineFront mode g ls i s n) where
   count-global : 2048 < n → LineCounted mode g ls i o 1
   count-global b =
       let h = is-long mode g ls i k b in
@@ -44,7 +44,7 @@ module _ {mode : Mode} {g : Grid} {ls : Lines} {i : ℕ} {o s₀ s : List ℕ} {
       record {
         W = localOn mode g ls;
         lines = count ls;
-        cells = cells g;
+        cells = gridCells g;
         i = i;
         line = line-at (a .walkable) (a .at) k b;
         room = omega (arith, a .counted .room);
@@ -68,7 +68,7 @@ module _ {mode : Mode} {g : Grid} {ls : Lines} {i : ℕ} {o s₀ s : List ℕ} {
 
 -- ---- the second pass
 
-module _ {mode : Mode} {g : Grid} {ls : Lines} {i : ℕ} {o t s₀ s : List ℕ} {n : ℕ} (a : LineAsks mode g ls i o t s₀) (k : Front mode g ls i s n) where
+module _ {mode : Mode} {g : Grid} {ls : Lines} {i : ℕ} {o t s₀ s : List ℕ} {n : ℕ} (a : LineAsks mode g ls i o t s₀) (k : LineFront mode g ls i s n) where
   place-global : 2048 < n → LinePlaced mode g ls i o t 1
   place-global b =
       let h = is-long mode g ls i k b in
@@ -80,7 +80,7 @@ module _ {mode : Mode} {g : Grid} {ls : Lines} {i : ℕ} {o t s₀ s : List ℕ}
       record {
         W = localOn mode g ls;
         lines = count ls;
-        cells = cells g;
+        cells = gridCells g;
         line = line-at (a .walkable) (a .at) k b;
         room = a .placed .room;
         space = a .placed .space;

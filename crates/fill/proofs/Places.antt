@@ -15,8 +15,8 @@ use Rattle.walk.specs.declared.Mode.{Mode}
 use Rattle.tables.specs.Lists.{long, only, globalLines}
 use Rattle.tables.specs.States.{CanPlace}
 use Rattle.fill.specs.declared.passes.Walked.{Walked}
-use Rattle.fill.specs.OnGrid.{walkOn, ends, cellsOn, globalsOn, oneIf}
-use Rattle.fill.specs.Inside.{Walkable, WalkAsks, Front, WalkedIs, VisitsPlaced, PlacedTo, LineAsks, LinePlaced, listed, PlaceAsks, AllPlaced}
+use Rattle.fill.specs.OnGrid.{walkOn, completes, cellsOn, globalsOn, oneIf}
+use Rattle.fill.specs.Inside.{Walkable, WalkAsks, LineFront, WalkedIs, VisitsPlaced, PlacedTo, LineAsks, LinePlaced, listed, PlaceAsks, AllPlaced}
 use Rattle.fill.proofs.Lines.{can-place, line-placed}
 use Rattle.fill.proofs.Counts.{globals-count, one-if, walkable-again, turns-all}
 
@@ -60,7 +60,7 @@ globals-few W (suc i) = let e = rw add-one at (globals-count W i) in omega (arit
 
 pub record PlacingAll (mode : Mode) (g : Grid) (ls : Lines) (o₀ t₀ gs₀ s₀ o t gs s : List ℕ) (found i : ℕ) : Type 0 where
   pub walkable : Walkable g ls s
-  pub ended : (j : ℕ) → j < count ls → ends (walkOn mode g ls j) ≡ true
+  pub ended : (j : ℕ) → j < count ls → completes (walkOn mode g ls j) ≡ true
   pub at : i ≤ count ls
   pub len : length o ≡ length o₀
   pub len-items : length t ≡ length t₀
@@ -100,7 +100,7 @@ module _ {mode : Mode} {g : Grid} {ls : Lines} {o₀ t₀ gs₀ s₀ o t gs s : 
   next-fits = omega (arith, globals-within mode g ls (i + 1) (omega arith), k .fits)
 
   module _ {s′ : List ℕ} {w : Walked} (v : WalkedIs mode g ls i s′ w) where
-    front : Front mode g ls i s′ (w .cells)
+    front : LineFront mode g ls i s′ (w .cells)
     front = v .cells-are (v .over-is ∙ ap not (k .ended i l))
 
     pub placing-can : w .cells ≤ 2048 → CanPlace i o t s′ (w .cells)

@@ -12,7 +12,7 @@ use lib.ListN.{length, getD, set, length-set}
 use lib.Seq.{getD-set-same, getD-set-other}
 use Rattle.tables.specs.Lists.{sum}
 use Rattle.tables.proofs.Laws.{sum-below}
-use Rattle.fill.specs.Fill.{above}
+use Rattle.fill.specs.Fill.{moreThan}
 use Rattle.fill.specs.Inside.{Summed, ShiftedBack}
 
 -- ---- o₀ with the sums of its first c entries in their place
@@ -106,16 +106,16 @@ module _ {o₀ : List ℕ} {cells : ℕ} {o : List ℕ} {c : ℕ} (h : Shifting 
 -- ---- no cell below c has more than `most`
 
 module _ (most : ℕ) (g : ℕ → ℕ) where
-  pub above-none : above most g 0 ≡ false
-  unfolding above
+  pub above-none : moreThan most g 0 ≡ false
+  unfolding moreThan
   above-none = refl
 
-  pub above-more : (c : ℕ) → above most g c ≡ false → g c ≤ most → above most g (c + 1) ≡ false
-  unfolding above
+  pub above-more : (c : ℕ) → moreThan most g c ≡ false → g c ≤ most → moreThan most g (c + 1) ≡ false
+  unfolding moreThan
   above-more c h l = rw (add-one, h, le-ltb most (g c) l)
 
-  pub above-at : (c n : ℕ) → c < n → most < g c → above most g n ≡ true
-  unfolding above
+  pub above-at : (c n : ℕ) → c < n → most < g c → moreThan most g n ≡ true
+  unfolding moreThan
   above-at c zero l h = absurd (omega arith)
   above-at c (suc n) l h = go (λ q. above-at c n q h) (ℕ-discrete c n)
     where
@@ -123,12 +123,12 @@ module _ (most : ℕ) (g : ℕ → ℕ) where
       or-true true = refl
       or-true false = refl
 
-      go : (c < n → above most g n ≡ true) → Dec (c ≡ n) → (above most g n || ltb most (g n)) ≡ true
-      go ih (yes e) = rw (← e, lt-ltb most (g c) h) (or-true (above most g c))
+      go : (c < n → moreThan most g n ≡ true) → Dec (c ≡ n) → (moreThan most g n || ltb most (g n)) ≡ true
+      go ih (yes e) = rw (← e, lt-ltb most (g c) h) (or-true (moreThan most g c))
       go ih (no d) = rw (ih (omega arith))
 
   -- so it is where none can have more
-  pub above-never : ((c : ℕ) → g c ≤ most) → (n : ℕ) → above most g n ≡ false
-  unfolding above
+  pub above-never : ((c : ℕ) → g c ≤ most) → (n : ℕ) → moreThan most g n ≡ false
+  unfolding moreThan
   above-never h zero = refl
   above-never h (suc n) = rw (above-never h n, le-ltb most (g n) (h n))

@@ -22,14 +22,14 @@ use Rattle.walk.proofs.Checked.{as-is}
 use Rattle.tables.specs.Lists.{Walks, long, local}
 use Rattle.tables.specs.States.{Line}
 use Rattle.tables.proofs.Lists.{local-walks, local-short}
-use Rattle.fill.specs.OnGrid.{cells, walkOn, ends, visited, cellsOn}
-use Rattle.fill.specs.Inside.{Walkable, WalkAsks, Front, WalkedIs, localOn}
+use Rattle.fill.specs.OnGrid.{gridCells, walkOn, completes, visited, cellsOn}
+use Rattle.fill.specs.Inside.{Walkable, WalkAsks, LineFront, WalkedIs, localOn}
 
 -- ---- what the walk answers, as a count
 
 -- the answer names the cells, and they stand at the front; or they are all; or the answer is a refusal
 walked-found : (o : Outcome) (all : Bool) (was : List ℕ) (n : ℕ) (s : List ℕ) → walk.Walked all o was (reached.Found n) s
-    → (ends o ≡ true) × (all ≡ false) × (n ≡ length (visited o)) × (take n s ≡ visited o)
+    → (completes o ≡ true) × (all ≡ false) × (n ≡ length (visited o)) × (take n s ≡ visited o)
 unfolding walk.reachedOf answerBy
 walked-found (refused why) all was n s h = let z : _≡_ {A = ℕ} 0 1 = cc (h .answer) in absurd (omega arith)
 walked-found (gives xs) true was n s h = let z : _≡_ {A = ℕ} 0 1 = cc (h .answer) in absurd (omega arith)
@@ -37,13 +37,13 @@ walked-found (gives xs) false was n s h =
     let k : n ≡ length xs = cc (h .answer) in
     (refl, refl, k, rw k (h .left))
 
-walked-everywhere : (o : Outcome) (all : Bool) (was s : List ℕ) → walk.Walked all o was reached.Everywhere s → (ends o ≡ true) × (all ≡ true)
+walked-everywhere : (o : Outcome) (all : Bool) (was s : List ℕ) → walk.Walked all o was reached.Everywhere s → (completes o ≡ true) × (all ≡ true)
 unfolding walk.reachedOf answerBy
 walked-everywhere (refused why) all was s h = let z : _≡_ {A = ℕ} 0 1 = cc (h .answer) in absurd (omega arith)
 walked-everywhere (gives xs) true was s h = (refl, refl)
 walked-everywhere (gives xs) false was s h = let z : _≡_ {A = ℕ} 0 1 = cc (h .answer) in absurd (omega arith)
 
-walked-refused : (o : Outcome) (all : Bool) (was : List ℕ) (r : Refusal) (s : List ℕ) → walk.Walked all o was (reached.Refused r) s → ends o ≡ false
+walked-refused : (o : Outcome) (all : Bool) (was : List ℕ) (r : Refusal) (s : List ℕ) → walk.Walked all o was (reached.Refused r) s → completes o ≡ false
 unfolding walk.reachedOf answerBy
 walked-refused (refused why) all was r s h = refl
 walked-refused (gives xs) true was r s h = let z : _≡_ {A = ℕ} 0 1 = cc (h .answer) in absurd (omega arith)
@@ -51,20 +51,20 @@ walked-refused (gives xs) false was r s h = let z : _≡_ {A = ℕ} 0 1 = cc (h 
 
 module _ (mode : Mode) (g : Grid) (ls : Lines) (i : ℕ) where
   -- the cells of a line increase and are inside the grid
-  visits : fit g ≡ true → Rising 0 (cellsOn mode g ls i) × Below (cells g) (cellsOn mode g ls i)
+  visits : fit g ≡ true → Rising 0 (cellsOn mode g ls i) × Below (gridCells g) (cellsOn mode g ls i)
   unfolding cellsOn walkOn
   visits h = go (walkOn mode g ls i) refl
     where
-      go : (o : Outcome) → walkOn mode g ls i ≡ o → Rising 0 (visited o) × Below (cells g) (visited o)
+      go : (o : Outcome) → walkOn mode g ls i ≡ o → Rising 0 (visited o) × Below (gridCells g) (visited o)
       go (refused why) e = (tt, tt)
       go (gives xs) e = let v = segment-visits mode g _ h xs e in (v .rising, v .inside)
 
   -- of a walk that ends: they fit the scratch, or they are all
-  line-cells : fit g ≡ true → ends (walkOn mode g ls i) ≡ true → Cells mode g (segmentAt ls i) (cellsOn mode g ls i)
+  line-cells : fit g ≡ true → completes (walkOn mode g ls i) ≡ true → Cells mode g (segmentAt ls i) (cellsOn mode g ls i)
   unfolding cellsOn walkOn
   line-cells h = go (walkOn mode g ls i) refl
     where
-      go : (o : Outcome) → walkOn mode g ls i ≡ o → ends o ≡ true → Cells mode g (segmentAt ls i) (visited o)
+      go : (o : Outcome) → walkOn mode g ls i ≡ o → completes o ≡ true → Cells mode g (segmentAt ls i) (visited o)
       go (refused why) e k = absurd (true≢false (sym k))
       go (gives xs) e k = segment-visits mode g (segmentAt ls i) h xs e
 
@@ -85,7 +85,7 @@ module _ (mode : Mode) (g : Grid) (ls : Lines) (i : ℕ) where
         let few : n ≤ length s′ = omega (arith, line-cells (a .walkable .fits) (k .0) .few (k .1), a .walkable .space, inner .size, k .2) in
         record { over-is = sym (ap not (k .0)); cells-are = λ _. record { size = k .2; front = λ _. (few, k .3) } }
 
-    pub walk-everywhere : (n : ℕ) → r ≡ reached.Everywhere → n ≡ cells g → WalkedIs mode g ls i s′ (record { over = false; cells = n })
+    pub walk-everywhere : (n : ℕ) → r ≡ reached.Everywhere → n ≡ gridCells g → WalkedIs mode g ls i s′ (record { over = false; cells = n })
     walk-everywhere n e d =
         let k = walked-everywhere (walkOn mode g ls i) all s s′ (rw e at inner) in
         let v = line-cells (a .walkable .fits) (k .0) .all (k .1) in
@@ -99,8 +99,8 @@ module _ (mode : Mode) (g : Grid) (ls : Lines) (i : ℕ) where
 
 module _ (mode : Mode) (g : Grid) (ls : Lines) (i : ℕ) where
   -- whether it ends, by what it answers
-  pub walk-ends : (b c : Bool) → b ≡ not (ends (walkOn mode g ls i)) → b ≡ not c → ends (walkOn mode g ls i) ≡ c
-  walk-ends b c h k = go (ends (walkOn mode g ls i)) c (sym h ∙ k)
+  pub walk-ends : (b c : Bool) → b ≡ not (completes (walkOn mode g ls i)) → b ≡ not c → completes (walkOn mode g ls i) ≡ c
+  walk-ends b c h k = go (completes (walkOn mode g ls i)) c (sym h ∙ k)
     where
       go : (x y : Bool) → not x ≡ not y → x ≡ y
       go true true e = refl
@@ -108,7 +108,7 @@ module _ (mode : Mode) (g : Grid) (ls : Lines) (i : ℕ) where
       go false true e = absurd (true≢false e)
       go false false e = refl
 
-  module _ {n : ℕ} {s : List ℕ} (k : Front mode g ls i s n) where
+  module _ {n : ℕ} {s : List ℕ} (k : LineFront mode g ls i s n) where
     pub is-long : 2048 < n → long (cellsOn mode g ls i) ≡ true
     unfolding long
     is-long l = le-leb 2049 (length (cellsOn mode g ls i)) (omega (arith, k .size))
@@ -118,14 +118,14 @@ module _ (mode : Mode) (g : Grid) (ls : Lines) (i : ℕ) where
     is-short l = lt-leb 2049 (length (cellsOn mode g ls i)) (omega (arith, k .size))
 
 -- the walks of all lines, and of those that are counted
-pub cells-walk : (mode : Mode) (g : Grid) (ls : Lines) → fit g ≡ true → Walks (cellsOn mode g ls) (count ls) (cells g)
+pub cells-walk : (mode : Mode) (g : Grid) (ls : Lines) → fit g ≡ true → Walks (cellsOn mode g ls) (count ls) (gridCells g)
 cells-walk mode g ls h = record { rises = λ i _. visits mode g ls i h .0; below = λ i _. visits mode g ls i h .1 }
 
-pub all-walks : (mode : Mode) (g : Grid) (ls : Lines) → fit g ≡ true → Walks (localOn mode g ls) (count ls) (cells g)
-all-walks mode g ls h = local-walks (cellsOn mode g ls) (count ls) (cells g) (cells-walk mode g ls h)
+pub all-walks : (mode : Mode) (g : Grid) (ls : Lines) → fit g ≡ true → Walks (localOn mode g ls) (count ls) (gridCells g)
+all-walks mode g ls h = local-walks (cellsOn mode g ls) (count ls) (gridCells g) (cells-walk mode g ls h)
 
 -- the cells of a line that is not global stand at the front of the scratch
-pub line-at : {mode : Mode} {g : Grid} {ls : Lines} {s₀ s : List ℕ} {i n : ℕ} → Walkable g ls s₀ → i < count ls → Front mode g ls i s n → n ≤ 2048 → Line (localOn mode g ls) (count ls) (cells g) i s n
+pub line-at : {mode : Mode} {g : Grid} {ls : Lines} {s₀ s : List ℕ} {i n : ℕ} → Walkable g ls s₀ → i < count ls → LineFront mode g ls i s n → n ≤ 2048 → Line (localOn mode g ls) (count ls) (gridCells g) i s n
 line-at {mode} {g} {ls} {i = i} w l k b =
     let e : localOn mode g ls i ≡ cellsOn mode g ls i = local-short (cellsOn mode g ls) i (is-short mode g ls i k b) in
     record {

@@ -14,7 +14,7 @@ use Rattle.fill.specs.declared.Count.{Count}
 use Rattle.fill.specs.declared.Count.the-variants as counted
 use Rattle.fill.specs.declared.Filled.{Filled}
 use Rattle.fill.specs.declared.Filled.the-variants as filled
-use Rattle.fill.specs.OnGrid.{cells, listOn, globalsOn, total, countsOn}
+use Rattle.fill.specs.OnGrid.{gridCells, listOn, globalsOn, total, countsOn}
 use Rattle.fill.specs.Checks.{countingCheck, spaceCheck}
 
 -- ---- the count
@@ -32,9 +32,9 @@ pub record CountIs (mode : Mode) (g : Grid) (ls : Lines) (counts scratch : List 
 -- ---- the tables
 
 -- some cell, of the first n, has more than `most`; cell c has g c
-unfoldable pub above : ℕ → (ℕ → ℕ) → ℕ → Bool
-above most g zero = false
-above most g (suc c) = above most g c || ltb most (g c)
+unfoldable pub moreThan : ℕ → (ℕ → ℕ) → ℕ → Bool
+moreThan most g zero = false
+moreThan most g (suc c) = moreThan most g c || ltb most (g c)
 
 -- what filling the tables of a grid comes to where nothing is refused
 pub data Filling : Type 0 where
@@ -45,7 +45,7 @@ pub data Filling : Type 0 where
 unfoldable pub fillingOf : Mode → Grid → Lines → ℕ → ℕ → ℕ → ℕ → ℕ → Answer Filling
 fillingOf mode g ls most offsets items globals scratch =
     countingCheck mode g ls offsets scratch
-    then cond (above most (λ c. length (listOn mode g ls c)) (cells g)) (gives crowded) (spaceCheck mode g ls items globals then gives made)
+    then cond (moreThan most (λ c. length (listOn mode g ls c)) (gridCells g)) (gives crowded) (spaceCheck mode g ls items globals then gives made)
 
 -- the answer: that some cell is crowded, or the numbers of items and of globals
 unfoldable pub filledOf : Mode → Grid → Lines → Filling → Filled
@@ -60,7 +60,7 @@ writtenIn n part made = part
 -- the tables of the lines on the grid, with zeros beyond, and a scratch of zeros
 pub record FillIs (mode : Mode) (g : Grid) (ls : Lines) (offsets items globals scratch : List ℕ) (r : Filled) (offsets′ items′ globals′ scratch′ : List ℕ) (f : Answer Filling) : Type 0 where
   pub answer : r ≡ answerBy filled.Refused (filledOf mode g ls) f
-  pub offsets-are : offsets′ ≡ leftIn 0 offsets f (writtenIn (length offsets) (offsetsOf (listOn mode g ls) (cells g) (length offsets)))
-  pub items-are : items′ ≡ leftIn 0 items f (writtenIn (length items) (itemsOf (listOn mode g ls) (cells g) (length items)))
+  pub offsets-are : offsets′ ≡ leftIn 0 offsets f (writtenIn (length offsets) (offsetsOf (listOn mode g ls) (gridCells g) (length offsets)))
+  pub items-are : items′ ≡ leftIn 0 items f (writtenIn (length items) (itemsOf (listOn mode g ls) (gridCells g) (length items)))
   pub globals-are : globals′ ≡ leftIn 0 globals f (writtenIn (length globals) (zeroBeyond 0 (length globals) (globalsOn mode g ls)))
   pub scratch-is : scratch′ ≡ leftIn 0 scratch f (writtenIn (length scratch) (replicate (length scratch) 0))

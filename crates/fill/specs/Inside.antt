@@ -18,7 +18,7 @@ use Rattle.fill.specs.declared.Count.the-variants as counted
 use Rattle.fill.specs.declared.passes.Walked.{Walked}
 use Rattle.fill.specs.declared.Filled.{Filled}
 use Rattle.fill.specs.declared.Filled.the-variants as filled
-use Rattle.fill.specs.OnGrid.{cells, walkOn, ends, cellsOn, listOn, globalsOn, total, oneIf}
+use Rattle.fill.specs.OnGrid.{gridCells, walkOn, completes, cellsOn, listOn, globalsOn, total, oneIf}
 use Rattle.fill.specs.Checks.{turnsCheck, countingCheck}
 use Rattle.fill.specs.Fill.{Filling, crowded, made}
 
@@ -40,14 +40,14 @@ pub record Walkable (g : Grid) (ls : Lines) (s : List ℕ) : Type 0 where
   pub space : 16384 ≤ length s
 
 -- line i has n cells, and they stand at the front of the scratch, where they are no more than a line has that is not global
-pub record Front (mode : Mode) (g : Grid) (ls : Lines) (i : ℕ) (s : List ℕ) (n : ℕ) : Type 0 where
+pub record LineFront (mode : Mode) (g : Grid) (ls : Lines) (i : ℕ) (s : List ℕ) (n : ℕ) : Type 0 where
   pub size : n ≡ length (cellsOn mode g ls i)
   pub front : n ≤ 2048 → (n ≤ length s) × (take n s ≡ cellsOn mode g ls i)
 
 -- the walk of line i: whether it does not end, and else its cells
 pub record WalkedIs (mode : Mode) (g : Grid) (ls : Lines) (i : ℕ) (s : List ℕ) (r : Walked) : Type 0 where
-  pub over-is : r .over ≡ not (ends (walkOn mode g ls i))
-  pub cells-are : r .over ≡ false → Front mode g ls i s (r .cells)
+  pub over-is : r .over ≡ not (completes (walkOn mode g ls i))
+  pub cells-are : r .over ≡ false → LineFront mode g ls i s (r .cells)
 
 -- a line that a walk can work on
 pub record WalkAsks (g : Grid) (ls : Lines) (i : ℕ) (s : List ℕ) : Type 0 where
@@ -62,7 +62,7 @@ localOn mode g ls = local (cellsOn mode g ls)
 
 -- the lines below i are counted
 pub record CountedTo (mode : Mode) (g : Grid) (ls : Lines) (i : ℕ) (o : List ℕ) : Type 0 where
-  pub room : cells g < length o
+  pub room : gridCells g < length o
   pub counts : Counted (linesAt (localOn mode g ls) i) o
 
 -- the n cells at the front of s counted in o, where they are not too many; k is 1 where they are
@@ -99,9 +99,9 @@ pub record CountLent (mode : Mode) (g : Grid) (ls : Lines) (o s : List ℕ) (r :
 
 -- the lines below i are placed
 pub record PlacedTo (mode : Mode) (g : Grid) (ls : Lines) (i : ℕ) (o t : List ℕ) : Type 0 where
-  pub room : cells g < length o
+  pub room : gridCells g < length o
   pub space : total mode g ls ≤ length t
-  pub placed : Placed (listOn mode g ls) (cells g) (linesAt (localOn mode g ls) i) o t
+  pub placed : Placed (listOn mode g ls) (gridCells g) (linesAt (localOn mode g ls) i) o t
 
 -- the line i written to the lists of the n cells at the front of s, where they are not too many; k is 1 where they are
 pub record VisitsPlaced (i : ℕ) (o t s : List ℕ) (n : ℕ) (o′ t′ : List ℕ) (k : ℕ) : Type 0 where
@@ -111,7 +111,7 @@ pub record VisitsPlaced (i : ℕ) (o t s : List ℕ) (n : ℕ) (o′ t′ : List
 pub record LineAsks (mode : Mode) (g : Grid) (ls : Lines) (i : ℕ) (o t s : List ℕ) : Type 0 where
   pub at : i < count ls
   pub walkable : Walkable g ls s
-  pub ended : ends (walkOn mode g ls i) ≡ true
+  pub ended : completes (walkOn mode g ls i) ≡ true
   pub placed : PlacedTo mode g ls i o t
 
 -- line i placed: k is 1 for a global line
@@ -140,16 +140,16 @@ pub record AllPlaced (mode : Mode) (g : Grid) (ls : Lines) (o t : List ℕ) (roo
 -- ---- the offsets
 
 -- o is o₀ with the running sums of its first entries in their place, and r is the total
-pub record Summed (o₀ o : List ℕ) (cells r : ℕ) : Type 0 where
-  pub total : r ≡ sum (λ k. getD o₀ k 0) cells
-  pub sums : (k : ℕ) → k ≤ cells → getD o k 0 ≡ sum (λ k. getD o₀ k 0) k
-  pub beyond : (k : ℕ) → cells < k → getD o k 0 ≡ getD o₀ k 0
+pub record Summed (o₀ o : List ℕ) (gridCells r : ℕ) : Type 0 where
+  pub total : r ≡ sum (λ k. getD o₀ k 0) gridCells
+  pub sums : (k : ℕ) → k ≤ gridCells → getD o k 0 ≡ sum (λ k. getD o₀ k 0) k
+  pub beyond : (k : ℕ) → gridCells < k → getD o k 0 ≡ getD o₀ k 0
 
 -- o is o₀ with its first entries moved up by one place, and 0 first
-pub record ShiftedBack (o₀ o : List ℕ) (cells : ℕ) : Type 0 where
+pub record ShiftedBack (o₀ o : List ℕ) (gridCells : ℕ) : Type 0 where
   pub first : getD o 0 0 ≡ 0
-  pub moved : (k : ℕ) → k < cells → getD o (k + 1) 0 ≡ getD o₀ k 0
-  pub beyond : (k : ℕ) → cells < k → getD o k 0 ≡ getD o₀ k 0
+  pub moved : (k : ℕ) → k < gridCells → getD o (k + 1) 0 ≡ getD o₀ k 0
+  pub beyond : (k : ℕ) → gridCells < k → getD o k 0 ≡ getD o₀ k 0
 
 -- ---- from the counts to the tables
 
@@ -163,7 +163,7 @@ pub record FillAsks (mode : Mode) (g : Grid) (ls : Lines) (found : ℕ) (o s : L
 pub record LayAsks (mode : Mode) (g : Grid) (ls : Lines) (all found items globals : ℕ) (o s : List ℕ) : Type 0 where
   pub counts : List ℕ
   pub asks : FillAsks mode g ls found counts s
-  pub summed : Summed counts o (cells g) all
+  pub summed : Summed counts o (gridCells g) all
   pub same : length o ≡ length counts
   pub space : all ≤ items
   pub listing : found ≤ globals

@@ -12,17 +12,17 @@ use Rattle.walk.specs.Segment.{segmentOf}
 use Rattle.tables.specs.Lists.{localLines, globalLines, start, tabulate}
 
 -- the number of cells of a grid
-abbrev pub cells : Grid → ℕ
-cells g = g .rows * g .cols
+abbrev pub gridCells : Grid → ℕ
+gridCells g = g .rows * g .cols
 
 -- the walk of line i, in a mode
 unfoldable pub walkOn : Mode → Grid → Lines → ℕ → Outcome
 walkOn mode g ls i = segmentOf mode g (segmentAt ls i)
 
 -- whether a walk ends within its turns, and the distinct cells that it visits
-abbrev pub ends : Outcome → Bool
-ends (refused why) = false
-ends (gives xs) = true
+abbrev pub completes : Outcome → Bool
+completes (refused why) = false
+completes (gives xs) = true
 
 abbrev pub visited : Outcome → List ℕ
 visited (refused why) = []
@@ -41,11 +41,11 @@ globalsOn mode g ls = globalLines (cellsOn mode g ls) (count ls)
 
 -- the number of items
 unfoldable pub total : Mode → Grid → Lines → ℕ
-total mode g ls = start (listOn mode g ls) (cells g)
+total mode g ls = start (listOn mode g ls) (gridCells g)
 
 -- how many lines each cell lists, in a slice of a length, and zero beyond
 unfoldable pub countsOn : Mode → Grid → Lines → ℕ → List ℕ
-countsOn mode g ls len = tabulate (λ c. length (listOn mode g ls c)) (cells g) ++ replicate (len - cells g) 0
+countsOn mode g ls len = tabulate (λ c. length (listOn mode g ls c)) (gridCells g) ++ replicate (len - gridCells g) 0
 
 -- 1 where the test holds
 abbrev pub oneIf : Bool → ℕ

@@ -3,7 +3,7 @@ ghost use mathlib.Core.Path.{_≡_};
 ghost use mathlib.Core.Bool.{true};
 ghost use Rattle.refusals.specs.Refusals.{andThen, leftBy};
 ghost use Rattle.grid.specs.Domain.{lines, fit};
-ghost use Rattle.fill.specs.Checks.{lentCheck, roomCheck};
+ghost use Rattle.fill.specs.Checks.{onGridCheck, roomCheck};
 ghost use Rattle.fill.specs.Inside.{ruleOf};
 use crate::Filled;
 use crate::passes::cell_count;
@@ -37,7 +37,7 @@ pub(crate) fn check(
     room: usize,
 ) -> Check
     ensures { λ r. let ls = lines (now («start_x» .entry)) (now («start_y» .entry)) (now («end_x» .entry)) (now («end_y» .entry)) in
-        ⌜ r ≡ andThen (lentCheck grid ls scratch) (roomCheck grid room) ⌝ }
+        ⌜ r ≡ andThen (onGridCheck grid ls scratch) (roomCheck grid room) ⌝ }
 {
     let space = grid::checks::check_scratch(scratch);
     if let Check::Refused(_) = space {

@@ -3,13 +3,13 @@ ghost use mathlib.Core.Path.{_≡_};
 ghost use Prim.Native.Nat.{_≤_, _<_, _^_};
 ghost use lib.ListN.{length, getD};
 ghost use Rattle.tables.specs.Lists.{sum};
-ghost use Rattle.fill.specs.Fill.{above};
+ghost use Rattle.fill.specs.Fill.{moreThan};
 ghost use Rattle.fill.specs.Inside.{Summed, ShiftedBack};
 
 // Whether some cell has more than `most` lines.
 pub(crate) fn some_above(offsets: &[u32], cells: usize, most: u32) -> bool
     requires { ⌜ cells ≤ length (now offsets) ⌝ }
-    ensures { λ r. ⌜ r ≡ above most (λ c. getD (now (offsets .entry)) c 0) cells ⌝ }
+    ensures { λ r. ⌜ r ≡ moreThan most (λ c. getD (now (offsets .entry)) c 0) cells ⌝ }
 {
     let mut c = 0;
     while c < cells {

@@ -5,7 +5,7 @@ ghost use Prim.Native.Nat.{_≤_, _<_};
 ghost use lib.ListN.{length};
 ghost use Rattle.grid.specs.Domain.{lines, fit};
 ghost use Rattle.tables.specs.States.{CanCount, CanPlace};
-ghost use Rattle.fill.specs.OnGrid.{cells};
+ghost use Rattle.fill.specs.OnGrid.{gridCells};
 ghost use Rattle.fill.specs.Checks.{turnsCheck};
 ghost use Rattle.fill.specs.Inside.{CountAs, WalkAsks, WalkedIs, VisitsCounted, PassAsks, AllCounted, VisitsPlaced, listed, PlaceAsks, AllPlaced};
 use crate::Count;
@@ -18,7 +18,7 @@ use walk::Reached;
 // The number of cells of a grid.
 pub(crate) fn cell_count(grid: Grid) -> usize
     requires { ⌜ fit grid ≡ true ⌝ }
-    ensures { λ r. ⌜ (r ≡ cells grid) × (r ≤ 1002001) ⌝ }
+    ensures { λ r. ⌜ (r ≡ gridCells grid) × (r ≤ 1002001) ⌝ }
 {
     (grid.rows as usize) * (grid.cols as usize)
 }

@@ -1,8 +1,8 @@
 -- An axis of a grid: columns and rows follow one rule, said here once. Each float step rounds once, in the written order. Definitions only.
 use Prim.Native.Nat.{ℕ}
-use mathlib.Core.Bool.{Bool, false, cond}
-use lib.IntN.{pos}
-use lib.Ieee.{Float, binary64, round, ofInt, add, sub, mul, div, le, lt}
+use mathlib.Core.Bool.{Bool, cond}
+use lib.Ieee.{Float, le, lt}
+use Rattle.numbers.specs.Arithmetic.{_+₆₄_, _-₆₄_, _*₆₄_, _/₆₄_, wholeFloat, decimal}
 use Rattle.numbers.specs.Order.{magnitudeOf}
 use Rattle.numbers.specs.Floor.{clampedFloor}
 use Rattle.numbers.specs.Away.{roundAway}
@@ -20,7 +20,7 @@ yAxis g = record { low = g .«min_y»; size = g .«cell_height»; count = g .row
 
 -- (coordinate - min) / cell size, which is that of the axis
 unfoldable pub scaledOn : Axis → Float → Float
-scaledOn a v = div binary64 (sub binary64 v (a .low)) (a .size)
+scaledOn a v = (v -₆₄ a .low) /₆₄ a .size
 
 -- the index of a coordinate: the floor of that, clamped to 0 .. count - 1
 unfoldable pub indexOn : Axis → Float → ℕ
@@ -28,17 +28,17 @@ indexOn a v = clampedFloor (scaledOn a v) (a .count)
 
 -- the boundary i, which is the low edge of index i: min + i x cell size
 unfoldable pub lowOn : Axis → ℕ → Float
-lowOn a i = add binary64 (a .low) (mul binary64 (ofInt binary64 (pos i)) (a .size))
+lowOn a i = a .low +₆₄ wholeFloat i *₆₄ a .size
 
 -- the high edge of index i: its low edge + cell size
 unfoldable pub highOn : Axis → ℕ → Float
-highOn a i = add binary64 (lowOn a i) (a .size)
+highOn a i = lowOn a i +₆₄ a .size
 
 -- ---- boundaries
 
 -- a value is on a boundary if it differs by at most 1e-12 from itself rounded half away from zero
 unfoldable pub nearWhole : Float → Bool
-nearWhole v = le (magnitudeOf (sub binary64 v (roundAway v))) (round binary64 false 1 1000000000000)
+nearWhole v = le (magnitudeOf (v -₆₄ roundAway v)) (decimal 1 1000000000000)
 
 unfoldable pub boundaryOn : Axis → Float → Bool
 boundaryOn a v = nearWhole (scaledOn a v)

@@ -1,11 +1,12 @@
 -- Document 01, "Domain", and the checks of its refusals 1, 2, 3, 8, 9 and 12, in its words. Definitions only.
 use mathlib.Core.Path.{_≡_}
 use Prim.Native.Nat.{ℕ, _*_}
-use mathlib.Core.Bool.{Bool, false, _&&_, _||_}
+use mathlib.Core.Bool.{Bool, _&&_, _||_}
 use mathlib.Core.List.{List}
 use lib.ListN.{length, getD}
 use lib.Dec.{leb, ltb, eqb}
-use lib.Ieee.{Float, nan, binary64, round, le, eq}
+use lib.Ieee.{Float, nan, le, eq}
+use Rattle.numbers.specs.Arithmetic.{decimal}
 use Rattle.numbers.specs.Order.{magnitudeOf}
 use Rattle.refusals.specs.declared.Check.{Check}
 use Rattle.refusals.specs.Refusals.{unless, andThen, eachFrom}
@@ -16,7 +17,7 @@ use Rattle.grid.specs.declared.Segment.{Segment}
 
 -- a coordinate: finite, of magnitude at most 1e9 (no NaN and no infinity is at most that)
 unfoldable pub coordinate : Float → Bool
-coordinate v = le (magnitudeOf v) (round binary64 false 1000000000 1)
+coordinate v = le (magnitudeOf v) (decimal 1000000000 1)
 
 -- both coordinates of a point
 unfoldable pub point : Float → Float → Bool
@@ -72,7 +73,7 @@ shape cols rows = (eqb cols 0 && eqb rows 0) || (counts cols && (counts rows && 
 
 -- the size of a cell on an axis: from a quarter of 1e-6 to 2e9
 unfoldable pub sizeFits : Float → Bool
-sizeFits s = le (round binary64 false 1 4000000) s && le s (round binary64 false 2000000000 1)
+sizeFits s = le (decimal 1 4000000) s && le s (decimal 2000000000 1)
 
 -- on both axes
 unfoldable pub sizesFit : Float → Float → Bool
@@ -118,8 +119,8 @@ gridCheck g = unless (fit g) 8 0
 -- a snap size: 0, or 1e-6 to 1e6
 unfoldable pub snapSize : Float → Bool
 snapSize size =
-    eq size (round binary64 false 0 1)
-    || (le (round binary64 false 1 1000000) size && le size (round binary64 false 1000000 1))
+    eq size (decimal 0 1)
+    || (le (decimal 1 1000000) size && le size (decimal 1000000 1))
 
 -- 12: snap size unfit
 unfoldable pub snapSizeCheck : Float → Check

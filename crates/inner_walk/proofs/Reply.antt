@@ -11,7 +11,7 @@ use Rattle.walk.specs.declared.Mode.{Mode}
 use Rattle.walk.specs.declared.Reached.{Reached}
 use Rattle.walk.specs.declared.Reached.the-variants.{Found, Everywhere, Refused}
 use Rattle.walk.specs.Segment.{everywhereIn, asIsOf, Walked}
-use Rattle.inner_walk.specs.Replies.{reachNumber, reachValue, WalkReplies}
+use Rattle.inner_walk.specs.Replies.{reachNumber, reachValue, InnerReplies}
 
 -- nothing is written where there is no entry
 pub none-set : (xs : List ℕ) (v : ℕ) → length xs ≡ 0 → xs ≡ set xs 0 v
@@ -36,7 +36,7 @@ module _ {R : Reached} (out : List ℕ) {out′ : List ℕ} where
 -- ---- of the walk
 
 pub replies : {mode : Mode} {g : Grid} {line : Segment} {was now out out′ : List ℕ} {R : Reached} {r : ℕ} → Walked (everywhereIn mode g line) (asIsOf mode (length was) g line) was R now
-    → (r ≡ reachNumber R) × (out′ ≡ set out 0 (reachValue R)) → WalkReplies mode g line was out r now out′
+    → (r ≡ reachNumber R) × (out′ ≡ set out 0 (reachValue R)) → InnerReplies mode g line was out r now out′
 replies {mode} {g} {line} {was} {now} {out} w k =
     record {
       number = k .0 ∙ ap reachNumber (w .answer);

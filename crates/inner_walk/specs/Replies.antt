@@ -18,8 +18,8 @@ abbrev none : Float
 none = fin false 0 (pos 0)
 
 -- a grid by its minima and the width and the height of its cells, and its counts; where fewer than four are there, each is 0, which no fit grid has
-unfoldable pub gridOf : List Float → ℕ → ℕ → Grid
-gridOf sizes cols rows = cond (ltb (length sizes) 4)
+unfoldable pub gridBySizes : List Float → ℕ → ℕ → Grid
+gridBySizes sizes cols rows = cond (ltb (length sizes) 4)
     (record { «min_x» = none; «min_y» = none; «cell_width» = none; «cell_height» = none; cols = cols; rows = rows })
     (record {
       «min_x» = getD sizes 0 nan;
@@ -47,7 +47,7 @@ abbrev pub reachedIn : Mode → Grid → Segment → ℕ → Reached
 reachedIn mode g line n = reachedOf (everywhereIn mode g line) (asIsOf mode n g line)
 
 -- its number, its value at the start of `out`, and the scratch as the walk promises it
-pub record WalkReplies (mode : Mode) (g : Grid) (line : Segment) (scratch out : List ℕ) (r : ℕ) (scratch′ out′ : List ℕ) : Type 0 where
+pub record InnerReplies (mode : Mode) (g : Grid) (line : Segment) (scratch out : List ℕ) (r : ℕ) (scratch′ out′ : List ℕ) : Type 0 where
   pub number : r ≡ reachNumber (reachedIn mode g line (length scratch))
   pub value : out′ ≡ set out 0 (reachValue (reachedIn mode g line (length scratch)))
   pub walked : Walked (everywhereIn mode g line) (asIsOf mode (length scratch) g line) scratch (reachedIn mode g line (length scratch)) scratch′

@@ -8,7 +8,7 @@ ghost use lib.ListN.{length, set};
 ghost use Rattle.grid.specs.Domain.{segmentBy};
 ghost use Rattle.slices.specs.Slices.{sorted};
 ghost use Rattle.walk.specs.declared.Mode.the-variants.{Rust, Covering};
-ghost use Rattle.inner_walk.specs.Replies.{gridOf, reachNumber, reachValue, WalkReplies};
+ghost use Rattle.inner_walk.specs.Replies.{gridBySizes, reachNumber, reachValue, InnerReplies};
 
 // Writes the first entry, where there is one.
 fn put(value: u64, out: &mut [u64])
@@ -52,7 +52,7 @@ fn answer(r: Reached, out: &mut [u64]) -> u32
 // The grid of its sizes, which are its minima and the width and the height of its cells, and of its counts. A build has it as a value, so no words are
 // read. The sizes are looked at once, and not one by one: so they are copied in pairs, as the walk reads them.
 fn grid_of(sizes: &[f64], cols: u32, rows: u32) -> Grid
-    ensures { λ r. ⌜ r ≡ gridOf (now (sizes .entry)) cols rows ⌝ }
+    ensures { λ r. ⌜ r ≡ gridBySizes (now (sizes .entry)) cols rows ⌝ }
 {
     if sizes.len() < 4 {
         return Grid {
@@ -87,9 +87,9 @@ pub extern "C" fn mt_inner_walk(
     scratch: &mut [u32],
     out: &mut [u64],
 ) -> u32
-    ensures { λ r. let g = gridOf (now (sizes .entry)) cols rows in
+    ensures { λ r. let g = gridBySizes (now (sizes .entry)) cols rows in
         let line = segmentBy «start_x» «start_y» «end_x» «end_y» in
-        ⌜ WalkReplies Rust g line (now (scratch .entry)) (now (out .entry)) r (now (scratch .exit)) (now (out .exit)) ⌝ }
+        ⌜ InnerReplies Rust g line (now (scratch .entry)) (now (out .entry)) r (now (scratch .exit)) (now (out .exit)) ⌝ }
 {
     let r = walk::cells_between(
         Mode::Rust,
@@ -116,9 +116,9 @@ pub extern "C" fn mt_inner_cover(
     scratch: &mut [u32],
     out: &mut [u64],
 ) -> u32
-    ensures { λ r. let g = gridOf (now (sizes .entry)) cols rows in
+    ensures { λ r. let g = gridBySizes (now (sizes .entry)) cols rows in
         let line = segmentBy «start_x» «start_y» «end_x» «end_y» in
-        ⌜ WalkReplies Covering g line (now (scratch .entry)) (now (out .entry)) r (now (scratch .exit)) (now (out .exit)) ⌝ }
+        ⌜ InnerReplies Covering g line (now (scratch .entry)) (now (out .entry)) r (now (scratch .exit)) (now (out .exit)) ⌝ }
 {
     let r = walk::cells_between(
         Mode::Covering,

@@ -21,7 +21,7 @@ use Rattle.tables.specs.Fit.{standingCheck}
 use Rattle.tables.specs.Lists.{start, offsetsOf, itemsOf}
 use Rattle.by_line.specs.declared.ByLine.{ByLine}
 use Rattle.by_line.specs.declared.ByLine.the-variants as listed
-use Rattle.by_line.specs.ByLine.{cellsOf, roomCheck, byLine, ByLineIs}
+use Rattle.by_line.specs.ByLine.{cellsListing, listsRoomCheck, byLine, ByLineIs}
 use Rattle.by_line.proofs.Room.{room-says, standing-spares}
 use Rattle.lent.specs.Lent.{lentCheck, beginCheck, keptOr, Begun}
 
@@ -34,20 +34,20 @@ module _ (lines items first second starts listing counts : ℕ) where
 
   module _ (e : first ≡ second) where
     pub lent-starts : starts ≤ lines → unless false 3 0 ≡ lentCheck lines items first second starts listing counts
-    unfolding lentCheck andThen unless roomCheck
+    unfolding lentCheck andThen unless listsRoomCheck
     lent-starts l = rw (eq-eqb first second e, le-ltb lines starts l)
 
     module _ (h : lines < starts) where
       pub lent-listing : listing < items → unless false 3 0 ≡ lentCheck lines items first second starts listing counts
-      unfolding lentCheck andThen unless roomCheck
+      unfolding lentCheck andThen unless listsRoomCheck
       lent-listing l = rw (eq-eqb first second e, lt-ltb lines starts h, lt-leb items listing l)
 
       pub lent-counts : items ≤ listing → unless (leb lines counts) 3 0 ≡ lentCheck lines items first second starts listing counts
-      unfolding lentCheck andThen unless roomCheck
+      unfolding lentCheck andThen unless listsRoomCheck
       lent-counts l = rw (eq-eqb first second e, lt-ltb lines starts h, le-leb items listing l)
 
 pub lent-says : (lines items first second starts listing counts : ℕ) → lentCheck lines items first second starts listing counts ≡ Fine
-    → (first ≡ second) × ((roomCheck lines items starts listing ≡ Fine) × (lines ≤ counts))
+    → (first ≡ second) × ((listsRoomCheck lines items starts listing ≡ Fine) × (lines ≤ counts))
 unfolding lentCheck
 lent-says lines items first second starts listing counts h =
     let b = andThen-right _ _ h in
@@ -55,28 +55,28 @@ lent-says lines items first second starts listing counts h =
 
 -- no check of lengths clears
 pub lent-spares : (lines items first second starts listing counts : ℕ) → Clearing false (lentCheck lines items first second starts listing counts)
-unfolding lentCheck roomCheck clears
+unfolding lentCheck listsRoomCheck clears
 lent-spares lines items first second starts listing counts =
     clearing-then (clearing-unless _ 3 0 refl) (clearing-then (clearing-unless _ 3 0 refl) (clearing-unless _ 3 0 refl))
 
 -- ---- the lists by line, by what the call that makes them answers
 
 module _ {g : Grid} {t : Tables} {starts listing starts′ listing′ : List ℕ} {r : ByLine}
-    (f : roomCheck (t .lines) (length (t .items)) (length starts) (length listing) ≡ Fine) (w : ByLineIs g t starts listing r starts′ listing′) where
+    (f : listsRoomCheck (t .lines) (length (t .items)) (length starts) (length listing) ≡ Fine) (w : ByLineIs g t starts listing r starts′ listing′) where
   module _ (e : standingCheck g t ≡ Fine) where
-    given : byLine g t starts listing ≡ gives (start (cellsOf t) (t .lines))
+    given : byLine g t starts listing ≡ gives (start (cellsListing t) (t .lines))
     unfolding byLine
     given = then-fine _ _ f ∙ then-fine _ _ e
 
-    listed-answer : r ≡ listed.Listed (start (cellsOf t) (t .lines))
+    listed-answer : r ≡ listed.Listed (start (cellsListing t) (t .lines))
     unfolding answerBy
     listed-answer = w .answers ∙ rw given
 
-    listed-starts : starts′ ≡ offsetsOf (cellsOf t) (t .lines) (length starts)
+    listed-starts : starts′ ≡ offsetsOf (cellsListing t) (t .lines) (length starts)
     unfolding leftIn
     listed-starts = w .starts-are ∙ rw given
 
-    listed-listing : listing′ ≡ itemsOf (cellsOf t) (t .lines) (length listing)
+    listed-listing : listing′ ≡ itemsOf (cellsListing t) (t .lines) (length listing)
     unfolding leftIn
     listed-listing = w .listing-is ∙ rw given
 
@@ -120,7 +120,7 @@ module _ {g : Grid} {t : Tables} {starts listing starts′ listing′ : List ℕ
       go : (c : Check) → standingCheck g t ≡ c → NotListed s
       go Fine e = apart (sym q ∙ listed-answer e)
         where
-          apart : listed.Refused s ≡ listed.Listed (start (cellsOf t) (t .lines)) → NotListed s
+          apart : listed.Refused s ≡ listed.Listed (start (cellsListing t) (t .lines)) → NotListed s
           apart d = let z : _≡_ {A = ℕ} 0 1 = cc in absurd (omega arith)
       go (check.Refused u) e = record { check-is = e ∙ ap check.Refused (same (sym (refused-answer e) ∙ q)); starts-same = refused-starts e; listing-same = refused-listing e }
         where
@@ -147,7 +147,7 @@ module _ (checked : Check) (g : Grid) (t : Tables) (first second : ℕ) (starts 
     unfolding beginCheck
     begin-lines r e = same r (andThen-fine _ _ f ∙ andThen-refused _ _ r e)
 
-    room-fine : roomCheck (t .lines) (length (t .items)) (length starts) (length listing) ≡ Fine
+    room-fine : listsRoomCheck (t .lines) (length (t .items)) (length starts) (length listing) ≡ Fine
     room-fine = lent-says (t .lines) (length (t .items)) first second (length starts) (length listing) (length counts) f .1 .0
 
     module _ (h : checked ≡ Fine) {r : ByLine} {starts′ listing′ : List ℕ} (w : ByLineIs g t starts listing r starts′ listing′) where
@@ -177,8 +177,8 @@ module _ {checked : Check} {g : Grid} {t : Tables} {first second : ℕ} {starts 
     pub counts-long : t .lines ≤ length counts
     pub lines-fine : checked ≡ Fine
     pub stands : standingCheck g t ≡ Fine
-    pub starts-are : starts′ ≡ offsetsOf (cellsOf t) (t .lines) (length starts)
-    pub listing-is : listing′ ≡ itemsOf (cellsOf t) (t .lines) (length listing)
+    pub starts-are : starts′ ≡ offsetsOf (cellsListing t) (t .lines) (length starts)
+    pub listing-is : listing′ ≡ itemsOf (cellsListing t) (t .lines) (length listing)
     pub counts-are : counts′ ≡ replicate (length counts) 0
 
   pub begun-passed : r ≡ Fine → Passed

@@ -13,7 +13,7 @@ use Rattle.grid.specs.declared.Grid.{Grid}
 use Rattle.tables.specs.Tables.{Tables}
 use Rattle.tables.specs.Fit.{standingCheck}
 use Rattle.tables.specs.Lists.{offsetsOf, itemsOf}
-use Rattle.by_line.specs.ByLine.{cellsOf, roomCheck}
+use Rattle.by_line.specs.ByLine.{cellsListing, listsRoomCheck}
 use Rattle.lent.specs.declared.OnceAnswer.{OnceAnswer}
 use Rattle.lent.specs.declared.OnceAnswer.the-variants as answer
 
@@ -22,7 +22,7 @@ use Rattle.lent.specs.declared.OnceAnswer.the-variants as answer
 -- 3: the outputs differ in length, the lists by line have too little room, or there is no count for each line
 unfoldable pub lentCheck : ℕ → ℕ → ℕ → ℕ → ℕ → ℕ → ℕ → Check
 lentCheck lines items first second starts listing counts =
-    andThen (unless (eqb first second) 3 0) (andThen (roomCheck lines items starts listing) (unless (leb lines counts) 3 0))
+    andThen (unless (eqb first second) 3 0) (andThen (listsRoomCheck lines items starts listing) (unless (leb lines counts) 3 0))
 
 -- 3, of what is lent; then what the check of the lines found; then 2, 8 and 10 of the tables
 unfoldable pub beginCheck : Check → Grid → Tables → ℕ → ℕ → ℕ → ℕ → ℕ → Check
@@ -37,8 +37,8 @@ keptOr (Refused r) s s′ = s
 -- the answer r, and the three slices before and after: the lists by line, and counts that are zero
 pub record Begun (checked : Check) (g : Grid) (t : Tables) (first second : ℕ) (starts listing counts : List ℕ) (r : Check) (starts′ listing′ counts′ : List ℕ) : Type 0 where
   pub answers : r ≡ beginCheck checked g t first second (length starts) (length listing) (length counts)
-  pub starts-are : starts′ ≡ keptOr r starts (offsetsOf (cellsOf t) (t .lines) (length starts))
-  pub listing-is : listing′ ≡ keptOr r listing (itemsOf (cellsOf t) (t .lines) (length listing))
+  pub starts-are : starts′ ≡ keptOr r starts (offsetsOf (cellsListing t) (t .lines) (length starts))
+  pub listing-is : listing′ ≡ keptOr r listing (itemsOf (cellsListing t) (t .lines) (length listing))
   pub counts-are : counts′ ≡ keptOr r counts (replicate (length counts) 0)
 
 -- ---- the end of a visit

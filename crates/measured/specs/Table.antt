@@ -58,12 +58,12 @@ pub data Question : Type 0 where
   strategies : (v : Float) (agreement : Agreement) → Question
 
 -- in the Rust's mode, in which all was measured
-abbrev pub segment : Float → Float → Float → Float → List ℕ → Question
-segment x₀ y₀ x₁ y₁ cells = segmentIn Rust x₀ y₀ x₁ y₁ cells
+abbrev pub segmentAsked : Float → Float → Float → Float → List ℕ → Question
+segmentAsked x₀ y₀ x₁ y₁ cells = segmentIn Rust x₀ y₀ x₁ y₁ cells
 
 -- the point (x, y) as a segment
-abbrev pub point : Float → Float → List ℕ → Question
-point x y cells = segment x y x y cells
+abbrev pub pointAsked : Float → Float → List ℕ → Question
+pointAsked x y cells = segmentAsked x y x y cells
 
 -- and in the sided mode
 abbrev pub pointSided : Float → Float → List ℕ → Question
@@ -80,13 +80,13 @@ row label questions = record { label = label; questions = questions }
 
 abbrev pub table : List Row
 table =
-    row P1 (segment (part 1 2) (part 1 2) (part 5 2) (part 1 2) (0 ∷ 1 ∷ 2 ∷ []) ∷ [])
-    ∷ row P2 (segment (part 1 1) (part 1 2) (part 1 1) (part 5 2) (0 ∷ 1 ∷ 4 ∷ 5 ∷ 8 ∷ 9 ∷ []) ∷ [])
-    ∷ row P3 (point (part 1 1) (part 1 1) (0 ∷ 1 ∷ 4 ∷ 5 ∷ []) ∷ [])
-    ∷ row P4 (point (part (2 ^ 41 + 1) (2 ^ 41)) (part 1 2) (0 ∷ 1 ∷ []) ∷ [])
-    ∷ row P5 (point (part (2 ^ 39 + 1) (2 ^ 39)) (part 1 2) (1 ∷ []) ∷ [])
+    row P1 (segmentAsked (part 1 2) (part 1 2) (part 5 2) (part 1 2) (0 ∷ 1 ∷ 2 ∷ []) ∷ [])
+    ∷ row P2 (segmentAsked (part 1 1) (part 1 2) (part 1 1) (part 5 2) (0 ∷ 1 ∷ 4 ∷ 5 ∷ 8 ∷ 9 ∷ []) ∷ [])
+    ∷ row P3 (pointAsked (part 1 1) (part 1 1) (0 ∷ 1 ∷ 4 ∷ 5 ∷ []) ∷ [])
+    ∷ row P4 (pointAsked (part (2 ^ 41 + 1) (2 ^ 41)) (part 1 2) (0 ∷ 1 ∷ []) ∷ [])
+    ∷ row P5 (pointAsked (part (2 ^ 39 + 1) (2 ^ 39)) (part 1 2) (1 ∷ []) ∷ [])
     ∷ row P6
-    (point (part (2 ^ 41 - 1) (2 ^ 41)) (part 1 2) (0 ∷ []) ∷ pointSided (part (2 ^ 41 - 1) (2 ^ 41)) (part 1 2) (0 ∷ 1 ∷ []) ∷ [])
+    (pointAsked (part (2 ^ 41 - 1) (2 ^ 41)) (part 1 2) (0 ∷ []) ∷ pointSided (part (2 ^ 41 - 1) (2 ^ 41)) (part 1 2) (0 ∷ 1 ∷ []) ∷ [])
     ∷ row P7 (owner 0 1 (part 1 1) (part 1 2) Yes ∷ owner 0 0 (part 1 1) (part 1 2) No ∷ [])
     ∷ row P8 (owner 3 3 (part 4 1) (part 4 1) Yes ∷ [])
     ∷ row P9

@@ -12,7 +12,7 @@ use Rattle.wkb.proofs.Chains.{start-parts, end-parts}
 use Rattle.wkb.specs.Bytes.{Point}
 use Rattle.wkb.specs.Multi.{starts, ends, startsOf, endsOf}
 use Rattle.members.specs.Held.{chainsOf, isLength, allLengths, sumOf}
-use Rattle.members.specs.Steps.{endsAt}
+use Rattle.members.specs.Inside.{endsAt}
 use Rattle.members.proofs.Held.{rest, map-take, map-drop, length-is, all-first, chains-map}
 
 -- ---- the lengths that are left

@@ -11,7 +11,7 @@ use lib.Seq.{take-suc, length-take-le}
 use Rattle.wkb.specs.declared.Order.the-variants.{Little}
 use Rattle.wkb.specs.Bytes.{orderByte, littleBytes, wordBytes, Point, pointBytes, pointsBytes, lineBytes, Members, none, more, multiHead, MultiLineString, multiBytes}
 use Rattle.wkb.proofs.Words.{length-word}
-use Rattle.wkb.specs.Steps.{Put}
+use Rattle.wkb.specs.Inside.{PutIn}
 use Rattle.wkb.proofs.LineStrings.{length-points-bytes, length-line}
 use Rattle.wkb.proofs.Stores.{put-one, put-more, put-then}
 use Rattle.members.specs.Held.{chainsOf}
@@ -26,7 +26,7 @@ cleared-all z s₀ e = let n : length s₀ - 0 ≡ length s₀ = omega arith in 
 
 -- the 4 low bytes, one after another
 pub put-four : (at v : ℕ) (s : List ℕ) → at + 4 ≤ length s
-    → Put at (littleBytes 4 v) s (set (set (set (set s at (v % 256)) (at + 1) (v / 256 % 256)) (at + 2) (v / 256 / 256 % 256)) (at + 3) (v / 256 / 256 / 256 % 256))
+    → PutIn at (littleBytes 4 v) s (set (set (set (set s at (v % 256)) (at + 1) (v / 256 % 256)) (at + 2) (v / 256 / 256 % 256)) (at + 3) (v / 256 / 256 / 256 % 256))
 unfolding littleBytes
 put-four at v s h =
     let p = put-one at (v % 256) s (omega arith) in
@@ -43,9 +43,9 @@ length-little : (k v : ℕ) → length (littleBytes k v) ≡ k
 unfolding wordBytes
 length-little k v = length-word Little k v
 
-pub put-eight : {at : ℕ} (v : ℕ) {s₀ s₁ s₂ : List ℕ} → Put at (littleBytes 4 v) s₀ s₁ → Put (at + 4) (littleBytes 4 (v / 4294967296)) s₁ s₂ → Put at (littleBytes 8 v) s₀ s₂
+pub put-eight : {at : ℕ} (v : ℕ) {s₀ s₁ s₂ : List ℕ} → PutIn at (littleBytes 4 v) s₀ s₁ → PutIn (at + 4) (littleBytes 4 (v / 4294967296)) s₁ s₂ → PutIn at (littleBytes 8 v) s₀ s₂
 put-eight {at} v {s₀} {s₁} {s₂} p q =
-    subst (λ (l : List ℕ). Put at l s₀ s₂) (eight v) (put-then p q (omega (arith, length-little 4 v)))
+    subst (λ (l : List ℕ). PutIn at l s₀ s₂) (eight v) (put-then p q (omega (arith, length-little 4 v)))
 
 -- ---- points
 
@@ -64,19 +64,19 @@ points-more ps p =
 -- ---- one thing after another
 
 -- two numbers make one point more
-pub put-point : {at : ℕ} (i : ℕ) (qs : List Point) {s₀ s₁ s₂ s₃ : List ℕ} {x y : ℕ} → Put at (pointsBytes Little (take i qs)) s₀ s₁ → i < length qs → getD qs i origin ≡ record { x = x; y = y }
-    → Put (at + 16 * i) (littleBytes 8 x) s₁ s₂ → Put (at + 16 * i + 8) (littleBytes 8 y) s₂ s₃ → Put at (pointsBytes Little (take (i + 1) qs)) s₀ s₃
+pub put-point : {at : ℕ} (i : ℕ) (qs : List Point) {s₀ s₁ s₂ s₃ : List ℕ} {x y : ℕ} → PutIn at (pointsBytes Little (take i qs)) s₀ s₁ → i < length qs → getD qs i origin ≡ record { x = x; y = y }
+    → PutIn (at + 16 * i) (littleBytes 8 x) s₁ s₂ → PutIn (at + 16 * i + 8) (littleBytes 8 y) s₂ s₃ → PutIn at (pointsBytes Little (take (i + 1) qs)) s₀ s₃
 put-point {at} i qs {s₀} {s₁} {s₂} {s₃} {x} {y} p h e qx qy =
     let n : length (pointsBytes Little (take i qs)) ≡ 16 * i = length-points-bytes Little (take i qs) ∙ ap (λ (k : ℕ). 16 * k) (length-take-le i qs (omega arith)) in
     let r = put-then p qx (omega arith) in
     let s = put-then r qy (omega (arith, length-append (pointsBytes Little (take i qs)) (littleBytes 8 x), length-little 8 x)) in
     let t : take i qs ++ (record { x = x; y = y } ∷ []) ≡ take (i + 1) qs =
     ap (λ (q : Point). take i qs ++ (q ∷ [])) (sym e) ∙ rw (add-one i) (sym (take-suc qs i origin h)) in
-    subst (λ (l : List ℕ). Put at l s₀ s₃) (points-more (take i qs) (record { x = x; y = y }) ∙ ap (pointsBytes Little) t) s
+    subst (λ (l : List ℕ). PutIn at l s₀ s₃) (points-more (take i qs) (record { x = x; y = y }) ∙ ap (pointsBytes Little) t) s
 
 -- a byte, two numbers and points make a member
-pub put-line : {at n : ℕ} (ps : List Point) {s₀ s₁ s₂ s₃ s₄ : List ℕ} → Put at (1 ∷ []) s₀ s₁ → Put (at + 1) (littleBytes 4 2) s₁ s₂ → Put (at + 5) (littleBytes 4 n) s₂ s₃
-    → Put (at + 9) (pointsBytes Little ps) s₃ s₄ → length ps ≡ n → Put at (lineBytes Little ps) s₀ s₄
+pub put-line : {at n : ℕ} (ps : List Point) {s₀ s₁ s₂ s₃ s₄ : List ℕ} → PutIn at (1 ∷ []) s₀ s₁ → PutIn (at + 1) (littleBytes 4 2) s₁ s₂ → PutIn (at + 5) (littleBytes 4 n) s₂ s₃
+    → PutIn (at + 9) (pointsBytes Little ps) s₃ s₄ → length ps ≡ n → PutIn at (lineBytes Little ps) s₀ s₄
 unfolding lineBytes orderByte wordBytes
 put-line {at} {n} ps {s₀} {s₁} {s₂} {s₃} {s₄} a b c d e =
     let ab = put-then a b (omega arith) in
@@ -84,11 +84,11 @@ put-line {at} {n} ps {s₀} {s₁} {s₂} {s₃} {s₄} a b c d e =
     let all = put-then abc d (omega (arith, length-append (littleBytes 4 2) (littleBytes 4 n), length-little 4 2, length-little 4 n)) in
     let is : (1 ∷ ((littleBytes 4 2 ++ littleBytes 4 n) ++ pointsBytes Little ps)) ≡ 1 ∷ (littleBytes 4 2 ++ (littleBytes 4 (length ps) ++ pointsBytes Little ps)) =
     rw e (ap (λ (l : List ℕ). 1 ∷ l) (append-assoc (littleBytes 4 2) (littleBytes 4 n) (pointsBytes Little ps))) in
-    subst (λ (l : List ℕ). Put at l s₀ s₄) is all
+    subst (λ (l : List ℕ). PutIn at l s₀ s₄) is all
 
 -- a byte, two numbers and members make a MultiLineString
-pub put-multi : {m : ℕ} (pss : List (List Point)) {s₀ s₁ s₂ s₃ s₄ : List ℕ} → Put 0 (1 ∷ []) s₀ s₁ → Put 1 (littleBytes 4 5) s₁ s₂ → Put 5 (littleBytes 4 m) s₂ s₃
-    → Put 9 (flatMap (lineBytes Little) pss) s₃ s₄ → length pss ≡ m → Put 0 (multiBytes pss) s₀ s₄
+pub put-multi : {m : ℕ} (pss : List (List Point)) {s₀ s₁ s₂ s₃ s₄ : List ℕ} → PutIn 0 (1 ∷ []) s₀ s₁ → PutIn 1 (littleBytes 4 5) s₁ s₂ → PutIn 5 (littleBytes 4 m) s₂ s₃
+    → PutIn 9 (flatMap (lineBytes Little) pss) s₃ s₄ → length pss ≡ m → PutIn 0 (multiBytes pss) s₀ s₄
 unfolding multiBytes multiHead orderByte wordBytes
 put-multi {m} pss {s₀} {s₁} {s₂} {s₃} {s₄} a b c d e =
     let ab = put-then a b (omega arith) in

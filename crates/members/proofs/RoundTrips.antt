@@ -14,7 +14,7 @@ use Rattle.refusals.specs.Refusals.{unless, andThen, Answer, refused, gives, _t
 use Rattle.refusals.proofs.Answers.{then-fine, then-passed, into-passed}
 use Rattle.grid.specs.Domain.{countCheck}
 use Rattle.wkb.specs.Bytes.{Point, LineString, Members, none, more, MultiLineString, multiBytes}
-use Rattle.wkb.specs.Multi.{startsOf, foundMulti, pairCheck, roomCheck, multiOutcome, multiReadOf, axisLeft, lengthsLeft, MultiReadAs}
+use Rattle.wkb.specs.Multi.{startsOf, foundMulti, pairCheck, membersRoomCheck, multiOutcome, multiReadOf, axisLeft, lengthsLeft, MultiReadAs}
 use Rattle.wkb.specs.declared.MultiRead.{MultiRead}
 use Rattle.wkb.specs.declared.MultiRead.the-variants as read
 use Rattle.wkb.proofs.LineStrings.{gives-same}
@@ -70,10 +70,10 @@ left-by {bs} {x₀} {y₀} {l₀} pss o r = (
 outcome-says : (m n k : ℕ) (bs : List ℕ) (pss : List (List Point)) → multiOutcome m n k bs ≡ gives pss → (foundMulti bs ≡ gives pss) × (countCheck (length (startsOf pss)) ≡ check.Fine)
 unfolding multiOutcome
 outcome-says m n k bs pss h =
-    into-passed (pairCheck m n then foundMulti bs) (λ (qss : List (List Point)). countCheck (length (startsOf qss)) then roomCheck m k (length (flatten qss)) (length qss) then gives qss) h
+    into-passed (pairCheck m n then foundMulti bs) (λ (qss : List (List Point)). countCheck (length (startsOf qss)) then membersRoomCheck m k (length (flatten qss)) (length qss) then gives qss) h
     (λ a e f.
     let b = then-passed (countCheck (length (startsOf a))) _ f in
-    let c = then-passed (roomCheck m k (length (flatten a)) (length a)) _ (b .1) in
+    let c = then-passed (membersRoomCheck m k (length (flatten a)) (length a)) _ (b .1) in
     let z : a ≡ pss = gives-same (c .1) in
     (then-passed (pairCheck m n) (foundMulti bs) e .1 ∙ ap gives z, subst (λ (q : List (List Point)). countCheck (length (startsOf q)) ≡ check.Fine) z (b .0)))
 
@@ -95,7 +95,7 @@ gave bs m n k p q a = go (multiOutcome m n k bs) refl a
 -- where there is room for members, they are read
 reads : (m n k : ℕ) (bs : List ℕ) (pss : List (List Point)) → foundMulti bs ≡ gives pss → n ≡ m → countCheck (length (startsOf pss)) ≡ check.Fine → length (flatten pss) ≤ m → length pss ≤ k
     → multiOutcome m n k bs ≡ gives pss
-unfolding multiOutcome pairCheck roomCheck unless andThen _then_ _into_
+unfolding multiOutcome pairCheck membersRoomCheck unless andThen _then_ _into_
 reads m n k bs pss f e c p l = rw (eq-eqb m n (sym e), f, c, le-leb (length (flatten pss)) m p, le-leb (length pss) k l)
 
 -- what was written passed refusals 3 and 2

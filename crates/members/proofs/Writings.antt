@@ -23,8 +23,8 @@ use Rattle.wkb.proofs.LineStrings.{gives-same}
 use Rattle.wkb.proofs.Chains.{length-starts}
 use Rattle.members.specs.Held.{pointsOf, chainsOf, allLengths, sumOf, heldCheck}
 use Rattle.members.specs.Writing.{fitCheck, bytesIn, written, writtenOf, bytesLeft, WrittenAs}
-use Rattle.members.specs.Lining.{linesIn, lining, linedOf, endsLeft, linesLeft, LinedAs}
-use Rattle.members.specs.Steps.{endsAt, zeroLines, floatsAt, linesAt}
+use Rattle.members.specs.Lining.{linedWithin, lining, linedOf, endsLeft, linesLeft, LinedAs}
+use Rattle.members.specs.Inside.{endsAt, zeroLines, floatsAt, linesPut}
 use Rattle.members.specs.declared.Written.the-variants.{Bytes, Refused}
 use Rattle.members.specs.declared.Lined.the-variants as lined
 use Rattle.members.proofs.Held.{Held, held-says, length-points-of, map-x, map-y, patterns-of, length-chains-of, flatten-chains, chains-fit, fits-some}
@@ -173,7 +173,7 @@ module _ (x y ns : List ℕ) (ls : Lines) (patterns : Patterns (pointsOf x y)) w
 
     module _ (h : heldCheck (length x) (length y) ns ≡ check.Fine) where
       to-lines : lining x y ns ls ≡ (countCheck (length x - length ns) then fitCheck (count ls) (length x - length ns) then gives (chainsOf ns (pointsOf x y)))
-      unfolding lining linesIn
+      unfolding lining linedWithin
       to-lines = then-fine _ _ a ∙ then-fine _ _ h ∙ rw (counts x y ns patterns h .lines)
 
       pub line-many : (r : Refusal) → countCheck (length x - length ns) ≡ check.Refused r → LinedAs x y ns ls (lined.Refused r) ls
@@ -202,8 +202,8 @@ module _ (x y ns : List ℕ) (ls : Lines) (patterns : Patterns (pointsOf x y)) w
         unfolding endsLeft leftIn
         made-by f ends o pss s cs e c = rw (e, c)
 
-        pub line-all : fitCheck (count ls) (length x - length ns) ≡ check.Fine → ls′ ≡ linesAt ns x y ls → LinedAs x y ns ls (lined.Lines (length x - length ns)) ls′
-        unfolding linedOf answerBy linesAt floatsAt
+        pub line-all : fitCheck (count ls) (length x - length ns) ≡ check.Fine → ls′ ≡ linesPut ns x y ls → LinedAs x y ns ls (lined.Lines (length x - length ns)) ls′
+        unfolding linedOf answerBy linesPut floatsAt
         line-all e z =
             let o = to-lines ∙ then-fine _ _ few ∙ then-fine _ _ e in
             let c = counts x y ns patterns h in
@@ -214,7 +214,7 @@ module _ (x y ns : List ℕ) (ls : Lines) (patterns : Patterns (pointsOf x y)) w
               answer = rw (o, c .lines);
               left =
                   z
-                  ∙ lines-same (lining x y ns ls) ls (linesAt ns x y ls)
+                  ∙ lines-same (lining x y ns ls) ls (linesPut ns x y ls)
                   (made-by (λ p. p .x) startsOf _ _ _ _ o (starts-by (λ p. p .x) (ofBits binary64) ns ps x (map-x x y (d .alike)) (d .sum)))
                   (made-by (λ p. p .y) startsOf _ _ _ _ o (starts-by (λ p. p .y) (ofBits binary64) ns ps y (map-y x y (d .alike)) sy))
                   (made-by (λ p. p .x) endsOf _ _ _ _ o (ends-by (λ p. p .x) (ofBits binary64) ns ps x (map-x x y (d .alike)) (d .sum) (d .each)))

@@ -16,12 +16,12 @@ use Rattle.members.specs.declared.Lined.{Lined}
 use Rattle.members.specs.declared.Lined.the-variants as lined
 
 -- members, where there is room for their lines
-unfoldable pub linesIn : ℕ → List (List Point) → Answer (List (List Point))
-linesIn room pss = countCheck (length (startsOf pss)) then fitCheck room (length (startsOf pss)) then gives pss
+unfoldable pub linedWithin : ℕ → List (List Point) → Answer (List (List Point))
+linedWithin room pss = countCheck (length (startsOf pss)) then fitCheck room (length (startsOf pss)) then gives pss
 
 -- ls are the four slices as they are lent
 unfoldable pub lining : List ℕ → List ℕ → List ℕ → Lines → Answer (List (List Point))
-lining x y lengths ls = lengthsCheck ls then heldCheck (length x) (length y) lengths then linesIn (count ls) (chainsOf lengths (pointsOf x y))
+lining x y lengths ls = lengthsCheck ls then heldCheck (length x) (length y) lengths then linedWithin (count ls) (chainsOf lengths (pointsOf x y))
 
 -- the answer: how many lines, or the refusal
 unfoldable pub linedOf : Answer (List (List Point)) → Lined

@@ -6,13 +6,13 @@ ghost use lib.ListN.{length, take, drop, replicate};
 ghost use Rattle.wkb.specs.declared.Order.the-variants.{Little};
 ghost use Rattle.refusals.specs.declared.Check.the-variants.{Fine};
 ghost use Rattle.wkb.specs.Bytes.{littleBytes, pointsBytes, lineBytes, multiBytes};
-ghost use Rattle.wkb.specs.Steps.{Put};
+ghost use Rattle.wkb.specs.Inside.{PutIn};
 ghost use Rattle.members.specs.Held.{pointsOf, chainsOf, heldCheck};
 
 // The 4 low bytes of a number.
 fn put_4(s: &mut [u8], at: usize, v: u64)
     requires { ⌜ at + 4 ≤ length (now s) ⌝ }
-    ensures { λ _. ⌜ Put at (littleBytes 4 v) (now (s .entry)) (now (s .exit)) ⌝ }
+    ensures { λ _. ⌜ PutIn at (littleBytes 4 v) (now (s .entry)) (now (s .exit)) ⌝ }
 {
     let a = v / 256;
     let b = a / 256;
@@ -26,7 +26,7 @@ fn put_4(s: &mut [u8], at: usize, v: u64)
 // The 8 bytes of a number.
 fn put_8(s: &mut [u8], at: usize, v: u64)
     requires { ⌜ at + 8 ≤ length (now s) ⌝ }
-    ensures { λ _. ⌜ Put at (littleBytes 8 v) (now (s .entry)) (now (s .exit)) ⌝ }
+    ensures { λ _. ⌜ PutIn at (littleBytes 8 v) (now (s .entry)) (now (s .exit)) ⌝ }
 {
     put_4(s, at, v);
     put_4(s, at + 4, v / 4294967296);
@@ -35,7 +35,7 @@ fn put_8(s: &mut [u8], at: usize, v: u64)
 // The n points from the place `from` on.
 fn put_points(x: &[u64], y: &[u64], from: usize, n: usize, s: &mut [u8], at: usize)
     requires { ⌜ (length (now y) ≡ length (now x)) × (from + n ≤ length (now x)) × (at + 16 * n ≤ length (now s)) ⌝ }
-    ensures { λ _. ⌜ Put at (pointsBytes Little (take n (drop from (pointsOf (now (x .entry)) (now (y .entry)))))) (now (s .entry)) (now (s .exit)) ⌝ }
+    ensures { λ _. ⌜ PutIn at (pointsBytes Little (take n (drop from (pointsOf (now (x .entry)) (now (y .entry)))))) (now (s .entry)) (now (s .exit)) ⌝ }
 {
     let mut i = 0;
     while i < n {
@@ -48,7 +48,7 @@ fn put_points(x: &[u64], y: &[u64], from: usize, n: usize, s: &mut [u8], at: usi
 // A member: its order, its type, its number of points, its points.
 fn put_member(x: &[u64], y: &[u64], from: usize, n: usize, s: &mut [u8], at: usize)
     requires { ⌜ (length (now y) ≡ length (now x)) × (from + n ≤ length (now x)) × (at + 9 + 16 * n ≤ length (now s)) ⌝ }
-    ensures { λ _. ⌜ Put at (lineBytes Little (take n (drop from (pointsOf (now (x .entry)) (now (y .entry)))))) (now (s .entry)) (now (s .exit)) ⌝ }
+    ensures { λ _. ⌜ PutIn at (lineBytes Little (take n (drop from (pointsOf (now (x .entry)) (now (y .entry)))))) (now (s .entry)) (now (s .exit)) ⌝ }
 {
     s[at] = 1;
     put_4(s, at + 1, 2);
@@ -61,7 +61,7 @@ fn put_members(x: &[u64], y: &[u64], lengths: &[u32], s: &mut [u8])
     requires { let pss = chainsOf (now lengths) (pointsOf (now x) (now y)) in
         ⌜ (heldCheck (length (now x)) (length (now y)) (now lengths) ≡ Fine) × (9 + length (flatMap (lineBytes Little) pss) ≤ length (now s)) ⌝ }
     ensures { λ _. let pss = chainsOf (now (lengths .entry)) (pointsOf (now (x .entry)) (now (y .entry))) in
-        ⌜ Put 9 (flatMap (lineBytes Little) pss) (now (s .entry)) (now (s .exit)) ⌝ }
+        ⌜ PutIn 9 (flatMap (lineBytes Little) pss) (now (s .entry)) (now (s .exit)) ⌝ }
 {
     let mut at = 9;
     let mut from = 0;
@@ -80,7 +80,7 @@ pub(crate) fn put_multi(x: &[u64], y: &[u64], lengths: &[u32], s: &mut [u8])
     requires { let pss = chainsOf (now lengths) (pointsOf (now x) (now y)) in
         ⌜ (heldCheck (length (now x)) (length (now y)) (now lengths) ≡ Fine) × (length (multiBytes pss) ≤ length (now s)) ⌝ }
     ensures { λ _. let pss = chainsOf (now (lengths .entry)) (pointsOf (now (x .entry)) (now (y .entry))) in
-        ⌜ Put 0 (multiBytes pss) (now (s .entry)) (now (s .exit)) ⌝ }
+        ⌜ PutIn 0 (multiBytes pss) (now (s .entry)) (now (s .exit)) ⌝ }
 {
     s[0] = 1;
     put_4(s, 1, 5);

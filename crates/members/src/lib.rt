@@ -30,10 +30,7 @@ pub enum Lined {
 fn is_length(n: u32) -> bool
     ensures { λ r. ⌜ r ≡ isLength n ⌝ }
 {
-    if n < 1 {
-        return false;
-    }
-    n <= 1024
+    (1 <= n) & (n <= 1024)
 }
 
 fn wide(n: u32) -> usize

@@ -12,16 +12,16 @@ ghost use lib.Ieee.{binary64, ofBits};
 ghost use lib.ListN.{length, take, drop};
 ghost use Rattle.refusals.specs.declared.Check.the-variants.{Fine};
 ghost use Rattle.grid.specs.Domain.{lines, count, lengthsCheck};
-ghost use Rattle.wkb.specs.Steps.{Put};
+ghost use Rattle.wkb.specs.Inside.{PutIn};
 ghost use Rattle.members.specs.Held.{allLengths, sumOf, heldCheck};
 ghost use Rattle.members.specs.Writing.{fitCheck};
-ghost use Rattle.members.specs.Steps.{endsAt, floatsAt, zeroLines, linesAt};
+ghost use Rattle.members.specs.Inside.{endsAt, floatsAt, zeroLines, linesPut};
 ghost use Rattle.members.specs.Lining.{LinedAs};
 
 // The floats of n patterns, from the place `at` on, go to s from `to` on.
 fn put_floats(from: &[u64], at: usize, n: usize, s: &mut [f64], to: usize)
     requires { ⌜ (at + n ≤ length (now from)) × (to + n ≤ length (now s)) ⌝ }
-    ensures { λ _. ⌜ Put to (map (ofBits binary64) (take n (drop at (now (from .entry))))) (now (s .entry)) (now (s .exit)) ⌝ }
+    ensures { λ _. ⌜ PutIn to (map (ofBits binary64) (take n (drop at (now (from .entry))))) (now (s .entry)) (now (s .exit)) ⌝ }
 {
     let mut i = 0;
     while i < n {
@@ -73,7 +73,7 @@ fn put_lines(
     requires { let ls = lines (now «start_x») (now «start_y») (now «end_x») (now «end_y») in
         ⌜ (heldCheck (length (now x)) (length (now y)) (now lengths) ≡ Fine) × (lengthsCheck ls ≡ Fine) × (fitCheck (count ls) (length (now x) - length (now lengths)) ≡ Fine) ⌝ }
     ensures { λ _. let ls = lines (now («start_x» .entry)) (now («start_y» .entry)) (now («end_x» .entry)) (now («end_y» .entry)) in
-        ⌜ lines (now («start_x» .exit)) (now («start_y» .exit)) (now («end_x» .exit)) (now («end_y» .exit)) ≡ linesAt (now (lengths .entry)) (now (x .entry)) (now (y .entry)) ls ⌝ }
+        ⌜ lines (now («start_x» .exit)) (now («start_y» .exit)) (now («end_x» .exit)) (now («end_y» .exit)) ≡ linesPut (now (lengths .entry)) (now (x .entry)) (now (y .entry)) ls ⌝ }
 {
     put_ends(x, lengths, 0, start_x);
     put_ends(y, lengths, 0, start_y);

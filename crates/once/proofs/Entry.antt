@@ -14,11 +14,11 @@ use Rattle.refusals.proofs.Answers.{then-fine, then-andThen}
 use Rattle.grid.specs.declared.Grid.{Grid}
 use Rattle.grid.specs.Domain.{Lines, linesCheck}
 use Rattle.grid.proofs.Fine.{lines-counted, lines-spare}
-use Rattle.tables.specs.Tables.{Tables}
+use Rattle.tables.specs.Tables.{Tables, beside}
 use Rattle.tables.specs.Fit.{standingCheck}
 use Rattle.seek.specs.Tests.{Pair, testsOf}
 use Rattle.visit.specs.Overlap.{overlap}
-use Rattle.seek.specs.Bookmarks.{beside, visitCheck}
+use Rattle.seek.specs.Bookmarks.{visitCheck}
 use Rattle.lent.specs.declared.OnceAnswer.{OnceAnswer}
 use Rattle.lent.specs.declared.OnceAnswer.the-variants as answer
 use Rattle.lent.specs.Lent.{beginCheck, Begun, pairsCheck, EndIs}

@@ -17,7 +17,7 @@ use Rattle.seek.specs.declared.Place.the-variants.{Global}
 use Rattle.seek.specs.Tests.{Pair, pair, withEach, pairs, placeOf, cellTests, others, globalTests}
 use Rattle.visit.specs.Batches.{firsts, seconds}
 use Rattle.seek.specs.Inside.{tri, GlobalsFit}
-use Rattle.by_line.specs.ByLine.{cellsOf}
+use Rattle.by_line.specs.ByLine.{cellsListing}
 use Rattle.by_line.specs.Inside.{TableAsks}
 use Rattle.by_line.specs.First.{metBelow}
 use Rattle.once.specs.Once.{keptBy}
@@ -145,8 +145,8 @@ pub record GlobalsDone (chosen : ℕ → ℕ → Bool) (N : ℕ) (globals : List
 -- tables that pass, their lists by line, and counts that are zero
 pub record RunAsks (g : Grid) (t : Tables) (starts listing counts : List ℕ) : Type 0 where
   pub fine : standingCheck g t ≡ Fine
-  pub starts-are : starts ≡ offsetsOf (cellsOf t) (t .lines) (length starts)
-  pub listing-is : listing ≡ itemsOf (cellsOf t) (t .lines) (length listing)
+  pub starts-are : starts ≡ offsetsOf (cellsListing t) (t .lines) (length starts)
+  pub listing-is : listing ≡ itemsOf (cellsListing t) (t .lines) (length listing)
   pub starts-long : t .lines < length starts
   pub listing-long : length (t .items) ≤ length listing
   pub counts-long : t .lines ≤ length counts

@@ -10,14 +10,14 @@ ghost use Rattle.visit.specs.Overlap.{overlap};
 ghost use Rattle.tables.specs.Tables.{listIn};
 ghost use Rattle.tables.specs.Lists.{linesAt};
 ghost use Rattle.tables.specs.States.{CanCount, Counted};
-ghost use Rattle.by_line.specs.Inside.{ListAsks};
+ghost use Rattle.by_line.specs.Inside.{CellListAsks};
 ghost use Rattle.once.specs.Scan.{RowsAsk, RowsDone, CellsAsk, CellsDone};
 ghost use Rattle.once.specs.Marked.{RowsMarked};
 ghost use Rattle.once.specs.Inside.{Checked};
 
 // The list of a cell: a part of the items.
 fn list_of<'a>(offsets: &[u32], items: &'a [u32], cell: usize) -> &'a [u32]
-    requires { ⌜ ListAsks (now offsets) (now items) cell ⌝ }
+    requires { ⌜ CellListAsks (now offsets) (now items) cell ⌝ }
     ensures { λ r. ⌜ now r ≡ listIn (now (offsets .entry)) (now (items .entry)) cell ⌝ }
 {
     let from = offsets[cell] as usize;

@@ -7,7 +7,7 @@ use refusals::Check;
 ghost use Rattle.grid.specs.Domain.{lines};
 ghost use Rattle.seek.specs.Tests.{testsOf};
 ghost use Rattle.visit.specs.Overlap.{overlap};
-ghost use Rattle.seek.specs.Bookmarks.{beside};
+ghost use Rattle.tables.specs.Tables.{beside};
 ghost use Rattle.once.specs.Once.{keeps, onceBy, PairsAre};
 ghost use Rattle.once.specs.Scan.{Grown, RunAsks};
 ghost use Rattle.once.specs.Inside.{Checked};

@@ -16,7 +16,7 @@ use Rattle.seek.specs.declared.Place.the-variants.{Global}
 use Rattle.seek.specs.Tests.{Pair, withEach, pairs, placeOf, cellTests, others, globalTests, testsOf}
 use Rattle.seek.proofs.Clauses.{with-nil, with-cons, pairs-nil, pairs-cons, cells-zero, cells-suc, globals-zero, globals-suc}
 use Rattle.seek.proofs.Standing.{globals-fit, has-columns}
-use Rattle.visit_laws.specs.Words.{one, sumBelow, countBelow, testOfBoth, times, Different}
+use Rattle.visit_laws.specs.Words.{oneWhere, sumBelow, countBelow, testOfBoth, times, Different}
 use Rattle.visit_laws.proofs.Number.{sum-zero, sum-suc}
 use Rattle.visit_laws.proofs.Often.{one-true, one-false, times-cons, times-append, cell-times, cells-shared, globals-all}
 use Rattle.visit_laws.proofs.Different.{tests-different}
@@ -28,8 +28,8 @@ use Rattle.once_laws.specs.Words.{FirstsAfter}
 
 -- ---- some cell before, and how many
 
-one-most : (b : Bool) → one b ≤ 1
-unfolding one
+one-most : (b : Bool) → oneWhere b ≤ 1
+unfolding oneWhere
 one-most true = omega arith
 one-most false = omega arith
 
@@ -39,10 +39,10 @@ some-count zero f = rw sum-zero
 some-count (suc m) f = go (f m) refl (someBelow m f) (some-count m f)
   where
     go : (x : Bool) → f m ≡ x → (s : Bool) → not s ≡ eqb (countBelow m f) 0 → not (s || f m) ≡ eqb (countBelow (suc m) f) 0
-    go true e true h = rw (sum-suc m (λ c. one (f c)), e, one-true) (sym (ne-eqb (sumBelow m (λ c. one (f c)) + 1) 0 (λ q. omega arith)))
-    go true e false h = rw (sum-suc m (λ c. one (f c)), e, one-true) (sym (ne-eqb (sumBelow m (λ c. one (f c)) + 1) 0 (λ q. omega arith)))
-    go false e true h = rw (sum-suc m (λ c. one (f c)), e, one-false, add-zero) h
-    go false e false h = rw (sum-suc m (λ c. one (f c)), e, one-false, add-zero) h
+    go true e true h = rw (sum-suc m (λ c. oneWhere (f c)), e, one-true) (sym (ne-eqb (sumBelow m (λ c. oneWhere (f c)) + 1) 0 (λ q. omega arith)))
+    go true e false h = rw (sum-suc m (λ c. oneWhere (f c)), e, one-true) (sym (ne-eqb (sumBelow m (λ c. oneWhere (f c)) + 1) 0 (λ q. omega arith)))
+    go false e true h = rw (sum-suc m (λ c. oneWhere (f c)), e, one-false, add-zero) h
+    go false e false h = rw (sum-suc m (λ c. oneWhere (f c)), e, one-false, add-zero) h
 
 -- ---- a block: tests before which c cells are behind
 

@@ -16,7 +16,7 @@ use Rattle.tables.specs.Fit.{TablesFit}
 use Rattle.seek.specs.Tests.{Pair, testsOf}
 use Rattle.visit.specs.Overlap.{overlap}
 use Rattle.visit.specs.Batches.{keepIf, overlapping}
-use Rattle.visit_laws.specs.Words.{one, testOfBoth, times, Different}
+use Rattle.visit_laws.specs.Words.{oneWhere, testOfBoth, times, Different}
 use Rattle.visit_laws.proofs.Often.{one-true, one-false, times-nil, times-cons, times-append, times-swap, overlap-swap, handed-often, handed-never}
 use Rattle.visit_laws.proofs.Different.{tests-different}
 use Rattle.once.specs.Once.{keeps, keptBy, firstTests, onceOf}
@@ -50,11 +50,11 @@ unfolding keptBy
 kept-nil keep = refl
 
 kept-times : (a b : ℕ) (keep : Pair → Bool) (p : Pair) (ps : List Pair)
-    → times a b (keptBy keep (p ∷ ps)) ≡ one (keep p && testOfBoth a b p) + times a b (keptBy keep ps)
+    → times a b (keptBy keep (p ∷ ps)) ≡ oneWhere (keep p && testOfBoth a b p) + times a b (keptBy keep ps)
 unfolding keptBy keepIf
 kept-times a b keep p ps = go (keep p)
   where
-    go : (x : Bool) → times a b (keepIf x p (keptBy keep ps)) ≡ one (x && testOfBoth a b p) + times a b (keptBy keep ps)
+    go : (x : Bool) → times a b (keepIf x p (keptBy keep ps)) ≡ oneWhere (x && testOfBoth a b p) + times a b (keptBy keep ps)
     go true = times-cons a b p (keptBy keep ps)
     go false = rw one-false (sym (zero-add _))
 
@@ -77,12 +77,12 @@ and-all false = refl
 
 module _ (chosen : ℕ → ℕ → Bool) (swap : (a b : ℕ) → chosen a b ≡ chosen b a) (t : Tables) (a b : ℕ) where
   kept-once : (bs ps : List Pair) → FirstsAfter t bs ps
-      → times a b (keptBy (keeps chosen t) ps) ≡ one (chosen a b && (eqb (times a b bs) 0 && ltb 0 (times a b ps)))
+      → times a b (keptBy (keeps chosen t) ps) ≡ oneWhere (chosen a b && (eqb (times a b bs) 0 && ltb 0 (times a b ps)))
   unfolding keeps
   kept-once bs [] f = rw (kept-nil (keeps chosen t), times-nil) (rw (and-none (eqb (times a b bs) 0), and-none (chosen a b)) (sym one-false))
   kept-once bs (p ∷ ps) f = go (testOfBoth a b p) refl (kept-once (bs ++ (p ∷ [])) ps (f .1))
     where
-      more : times a b (bs ++ (p ∷ [])) ≡ times a b bs + one (testOfBoth a b p)
+      more : times a b (bs ++ (p ∷ [])) ≡ times a b bs + oneWhere (testOfBoth a b p)
       more = times-append a b bs (p ∷ []) ∙ omega (arith, times-cons a b p [], times-nil a b)
 
       here : testOfBoth a b p ≡ true → keeps chosen t p ≡ (chosen a b && eqb (times a b bs) 0)
@@ -92,13 +92,13 @@ module _ (chosen : ℕ → ℕ → Bool) (swap : (a b : ℕ) → chosen a b ≡ 
           rw (c, f .0, u)
 
       go : (x : Bool) → testOfBoth a b p ≡ x
-          → times a b (keptBy (keeps chosen t) ps) ≡ one (chosen a b && (eqb (times a b (bs ++ (p ∷ []))) 0 && ltb 0 (times a b ps)))
-          → times a b (keptBy (keeps chosen t) (p ∷ ps)) ≡ one (chosen a b && (eqb (times a b bs) 0 && ltb 0 (times a b (p ∷ ps))))
+          → times a b (keptBy (keeps chosen t) ps) ≡ oneWhere (chosen a b && (eqb (times a b (bs ++ (p ∷ []))) 0 && ltb 0 (times a b ps)))
+          → times a b (keptBy (keeps chosen t) (p ∷ ps)) ≡ oneWhere (chosen a b && (eqb (times a b bs) 0 && ltb 0 (times a b (p ∷ ps))))
       go true e h =
-          let m : eqb (times a b (bs ++ (p ∷ []))) 0 ≡ false = ne-eqb (times a b (bs ++ (p ∷ []))) 0 (λ q. omega (arith, more, ap one e, one-true)) in
+          let m : eqb (times a b (bs ++ (p ∷ []))) 0 ≡ false = ne-eqb (times a b (bs ++ (p ∷ []))) 0 (λ q. omega (arith, more, ap oneWhere e, one-true)) in
           let z : times a b (keptBy (keeps chosen t) ps) ≡ 0 = h ∙ rw (m, and-none (chosen a b), one-false) in
-          let s : ltb 0 (times a b (p ∷ ps)) ≡ true = lt-ltb 0 (times a b (p ∷ ps)) (omega (arith, times-cons a b p ps, ap one e, one-true)) in
-          kept-times a b (keeps chosen t) p ps ∙ rw (z, add-zero, e, here e, s, and-all (eqb (times a b bs) 0)) (ap one (and-all (chosen a b && eqb (times a b bs) 0)))
+          let s : ltb 0 (times a b (p ∷ ps)) ≡ true = lt-ltb 0 (times a b (p ∷ ps)) (omega (arith, times-cons a b p ps, ap oneWhere e, one-true)) in
+          kept-times a b (keeps chosen t) p ps ∙ rw (z, add-zero, e, here e, s, and-all (eqb (times a b bs) 0)) (ap oneWhere (and-all (chosen a b && eqb (times a b bs) 0)))
       go false e h =
           let m : times a b (bs ++ (p ∷ [])) ≡ times a b bs = more ∙ rw (e, one-false, add-zero) in
           let s : times a b (p ∷ ps) ≡ times a b ps = times-cons a b p ps ∙ rw (e, one-false, zero-add) in
@@ -117,10 +117,10 @@ module _ (t : Tables) (f : TablesFit t) where
       }
 
   -- AS THE PLAIN VISIT: two lines are handed out once if it hands them out at all, and else never
-  pub once-as-visit : (ls : Lines) (a b : ℕ) → times a b (onceOf ls t) ≡ one (ltb 0 (times a b (overlapping ls (testsOf t))))
+  pub once-as-visit : (ls : Lines) (a b : ℕ) → times a b (onceOf ls t) ≡ oneWhere (ltb 0 (times a b (overlapping ls (testsOf t))))
   unfolding onceOf
   once-as-visit ls a b = each-once (overlap ls) (overlap-swap ls) .once a b ∙ go (overlap ls a b) refl
     where
-      go : (x : Bool) → overlap ls a b ≡ x → one (x && ltb 0 (times a b (testsOf t))) ≡ one (ltb 0 (times a b (overlapping ls (testsOf t))))
+      go : (x : Bool) → overlap ls a b ≡ x → oneWhere (x && ltb 0 (times a b (testsOf t))) ≡ oneWhere (ltb 0 (times a b (overlapping ls (testsOf t))))
       go true e = rw (handed-often ls a b (testsOf t) e)
       go false e = rw (handed-never ls a b (testsOf t) e)

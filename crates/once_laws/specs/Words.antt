@@ -6,7 +6,7 @@ use mathlib.Core.List.{List, [], _∷_, _++_}
 use lib.Dec.{eqb, ltb}
 use Rattle.tables.specs.Tables.{Tables}
 use Rattle.seek.specs.Tests.{Pair, testsOf}
-use Rattle.visit_laws.specs.Words.{one, times, Different}
+use Rattle.visit_laws.specs.Words.{oneWhere, times, Different}
 use Rattle.once.specs.Once.{isFirst, firstTests}
 
 -- each of some tests, which are made after others, counts as the first exactly if none of those before it is a test of its two lines, either of
@@ -20,6 +20,6 @@ pub record EachOnce (chosen : ℕ → ℕ → Bool) (t : Tables) : Type 0 where
   -- a first test is a pair's first
   pub first : FirstsAfter t [] (testsOf t)
   -- two lines that are tested, and chosen, are handed out once, and else never
-  pub once : (a b : ℕ) → times a b (firstTests chosen t) ≡ one (chosen a b && ltb 0 (times a b (testsOf t)))
+  pub once : (a b : ℕ) → times a b (firstTests chosen t) ≡ oneWhere (chosen a b && ltb 0 (times a b (testsOf t)))
   -- no line with itself, and none that there is not
   pub only : Different (t .lines) (firstTests chosen t)

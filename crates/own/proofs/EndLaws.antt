@@ -7,7 +7,7 @@ use native.Mathlib.Omega.{arith}
 use lib.Ieee.{Float, le}
 use Rattle.grid.specs.declared.Axis.{Axis}
 use Rattle.grid.specs.Axes.{lowOn, highOn}
-use Rattle.own.specs.Owner.{between, spans}
+use Rattle.own.specs.Owner.{betweenEdges, spans}
 
 module _ (a : Axis) (p : Float) where
   pub no-ends : a .count ≡ 0 → false ≡ spans a p
@@ -19,7 +19,7 @@ module _ (a : Axis) (p : Float) where
   unfolding spans
   two-ends h = go (a .count) h
     where
-      go : (n : ℕ) → (n ≡ 0 → ⊥) → between a n p ≡ (le (lowOn a 0) p && le p (highOn a (n - 1)))
+      go : (n : ℕ) → (n ≡ 0 → ⊥) → betweenEdges a n p ≡ (le (lowOn a 0) p && le p (highOn a (n - 1)))
       go zero h = absurd (h (omega arith))
       go (suc n) h = let e : n ≡ suc n - 1 = omega arith in ap (λ (k : ℕ). le (lowOn a 0) p && le p (highOn a k)) e
 

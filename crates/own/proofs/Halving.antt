@@ -12,8 +12,8 @@ use Rattle.grid.specs.declared.Axis.{Axis}
 use Rattle.grid.specs.Axes.{lowOn, highOn}
 use Rattle.own.specs.declared.Found.the-variants.{At, Nowhere}
 use Rattle.own.specs.Own.{ownsOn}
-use Rattle.own.specs.Owner.{firstFrom, firstOn, Searchable}
-use Rattle.own.specs.Inside.{Halved}
+use Rattle.own.specs.Owner.{firstFrom, firstOwning, Searchable}
+use Rattle.own.specs.Inside.{HalvedRange}
 use Rattle.own.proofs.Edges.{over-before, under-after}
 use Rattle.own.proofs.Firsts.{None, first-at, first-none}
 
@@ -29,20 +29,20 @@ not-low false t n h k = refl
 
 -- ---- the search
 
-pub empty-axis : (a : Axis) (p : Float) → a .count ≡ 0 → Nowhere ≡ firstOn a p
-unfolding firstOn firstFrom
+pub empty-axis : (a : Axis) (p : Float) → a .count ≡ 0 → Nowhere ≡ firstOwning a p
+unfolding firstOwning firstFrom
 empty-axis a p h = rw h
 
 module _ (a : Axis) (p : Float) (asks : Searchable a p) where
-  pub whole-axis : 0 < a .count → Halved a p 0 (a .count - 1)
+  pub whole-axis : 0 < a .count → HalvedRange a p 0 (a .count - 1)
   whole-axis h = record { order = omega arith; inside = omega arith; passed = λ j l. absurd (omega arith); ahead = inl (omega arith) }
 
   -- `edge` is the high edge of an index in between
-  module _ (low high mid : ℕ) (h : Halved a p low high) (from : low ≤ mid) (to : mid < high) (edge : Float) (is : edge ≡ highOn a mid) where
-    pub lower-half : lt p edge ≡ true → Halved a p low mid
+  module _ (low high mid : ℕ) (h : HalvedRange a p low high) (from : low ≤ mid) (to : mid < high) (edge : Float) (is : edge ≡ highOn a mid) where
+    pub lower-half : lt p edge ≡ true → HalvedRange a p low mid
     lower-half t = record { order = from; inside = omega (arith, h .inside); passed = h .passed; ahead = inr (rw is at t) }
 
-    pub upper-half : lt p edge ≡ false → Halved a p (mid + 1) high
+    pub upper-half : lt p edge ≡ false → HalvedRange a p (mid + 1) high
     upper-half t = record {
       order = omega arith;
       inside = h .inside;
@@ -71,8 +71,8 @@ module _ (a : Axis) (p : Float) (asks : Searchable a p) where
   only-low i t h = not-low (le (lowOn a i) p) (lt p (highOn a i)) _ t h
 
   -- an index that owns p, where p has reached the high edge before it
-  pub at-guess : (i : ℕ) → 0 < i → i < a .count → (edge : Float) → edge ≡ highOn a (i - 1) → lt p edge ≡ false → true ≡ owns i → At i ≡ firstOn a p
-  unfolding firstOn
+  pub at-guess : (i : ℕ) → 0 < i → i < a .count → (edge : Float) → edge ≡ highOn a (i - 1) → lt p edge ≡ false → true ≡ owns i → At i ≡ firstOwning a p
+  unfolding firstOwning
   at-guess i some within edge is t o = sym (first-at owns (a .count) i (record { from = omega arith; within = within; passes = sym o; before = before }))
     where
       reached : lt p (highOn a (i - 1)) ≡ false
@@ -81,15 +81,15 @@ module _ (a : Axis) (p : Float) (asks : Searchable a p) where
       before : None owns 0 i
       before j u l = behind j (omega arith) (over-before a (asks .low) (asks .size) p j (i - 1) (asks .point) (omega arith) (omega (arith, asks .few)) reached)
 
-  module _ (i high : ℕ) (h : Halved a p i high) (met : high ≤ i) where
+  module _ (i high : ℕ) (h : HalvedRange a p i high) (met : high ≤ i) where
     inside : i < a .count
     inside = omega (arith, h .order, h .inside)
 
     before : None owns 0 i
     before j u l = behind j (omega (arith, inside)) (h .passed j l)
 
-    pub found : true ≡ ownsOn a i p → At i ≡ firstOn a p
-    unfolding firstOn
+    pub found : true ≡ ownsOn a i p → At i ≡ firstOwning a p
+    unfolding firstOwning
     found t = sym (first-at owns (a .count) i (record { from = omega arith; within = inside; passes = sym t; before = before }))
 
     same : high ≡ i
@@ -101,8 +101,8 @@ module _ (a : Axis) (p : Float) (asks : Searchable a p) where
         (λ (t : lt p (highOn a high) ≡ true). under j (under-after a (asks .low) (asks .size) p i j (omega arith) (omega (arith, asks .few)) (only-low i (ap (λ (n : ℕ). lt p (highOn a n)) (sym same) ∙ t) f)))
         (h .ahead)
 
-    pub nowhere : false ≡ ownsOn a i p → Nowhere ≡ firstOn a p
-    unfolding firstOn
+    pub nowhere : false ≡ ownsOn a i p → Nowhere ≡ firstOwning a p
+    unfolding firstOwning
     nowhere f = sym (first-none owns (a .count) (λ j u m. each j m (ltb j i) (eqb j i) refl refl))
       where
         each : (j : ℕ) → j < a .count → (b e : Bool) → ltb j i ≡ b → eqb j i ≡ e → owns j ≡ false

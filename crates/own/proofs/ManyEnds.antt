@@ -22,10 +22,10 @@ use Rattle.grid.proofs.Bools.{and-left, and-right}
 use Rattle.grid.proofs.Fine.{grid-spares}
 use Rattle.grid.proofs.Shapes.{fit-says}
 use Rattle.own.specs.declared.OwnerAnswer.the-variants.{Found}
-use Rattle.own.specs.Own.{placeCheck}
+use Rattle.own.specs.Own.{pointOnGridCheck}
 use Rattle.own.specs.Owner.{ownerOf, ownerAnswer}
-use Rattle.own.specs.Many.{numberOf, ownerBy, ownersOf, alikeCheck, pointFits, pointsCheck, ownersEnd, ownersCheck, OwnersAre}
-use Rattle.own.specs.Inside.{Checked}
+use Rattle.own.specs.Many.{ownerNumber, ownerBy, ownersOf, alikeCheck, pointFits, pointsCheck, ownersEnd, ownersCheck, OwnersAre}
+use Rattle.own.specs.Inside.{PointsChecked}
 use Rattle.own.proofs.ThreeCases.{its-case}
 use Rattle.own.proofs.ManyLaws.{told, owners-at, point-at}
 
@@ -59,7 +59,7 @@ module _ (g : Grid) (xs ys : List Float) (was : List ℕ) where
       unfit r e = spared r (then-fine _ _ a ∙ then-fine _ _ p ∙ then-refused _ _ r e) (grid-spares g .says r e)
 
       module _ (f : gridCheck g ≡ Fine) where
-        pub checked : Checked g xs ys was
+        pub checked : PointsChecked g xs ys was
         unfolding gridCheck
         checked =
             let l = lengths (length xs) (length ys) (length was) a in
@@ -101,14 +101,14 @@ module _ (g : Grid) (xs ys : List Float) (was now : List ℕ) where
           record { alike = p .0; points = q .0; grid = s .0; is = l ∙ same (s .1) }
 
   pub as-one : OwnersAre g xs ys was Fine now → (i : ℕ) → i < length xs → Found (ownerBy (g .cols) (getD now i 0)) ≡ ownerAnswer g (getD xs i nan) (getD ys i nan)
-  unfolding ownerAnswer placeCheck pointCheck gridCheck answerBy _then_ andThen unless
+  unfolding ownerAnswer pointOnGridCheck pointCheck gridCheck answerBy _then_ andThen unless
   as-one h i l =
       let p = passed h in
       let x = getD xs i nan in
       let y = getD ys i nan in
       let fits : fit g ≡ true = unless-fine (fit g) 8 0 (p .grid) in
       let few = fit-says g fits .counts .cells in
-      let entry : getD now i 0 ≡ numberOf (g .cols) (ownerOf g x y) =
+      let entry : getD now i 0 ≡ ownerNumber (g .cols) (ownerOf g x y) =
       ap (λ (s : List ℕ). getD s i 0) (p .is) ∙ owners-at g xs ys i (lengths (length xs) (length ys) (length was) (p .alike) .0) l in
       let says : ownerBy (g .cols) (getD now i 0) ≡ ownerOf g x y =
       ap (ownerBy (g .cols)) entry ∙ told g (omega arith) x y (ownerOf g x y) (its-case g x y) in

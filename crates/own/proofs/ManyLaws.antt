@@ -24,8 +24,8 @@ use Rattle.own.specs.declared.Owner.{Owner}
 use Rattle.own.specs.declared.Owner.the-variants.{Cell, Seam, Outside}
 use Rattle.own.specs.Owner.{ownerOf}
 use Rattle.own.specs.Cases.{Case}
-use Rattle.own.specs.Many.{numberOf, ownerBy, ownersOf, pointFits, pointsCheck, OwnersAre}
-use Rattle.own.specs.Inside.{Askable}
+use Rattle.own.specs.Many.{ownerNumber, ownerBy, ownersOf, pointFits, pointsCheck, OwnersAre}
+use Rattle.own.specs.Inside.{PointAskable}
 use Rattle.own.proofs.ThreeCases.{its-case, row-of, col-of, number-of}
 
 -- ---- the numbers
@@ -33,8 +33,8 @@ use Rattle.own.proofs.ThreeCases.{its-case, row-of, col-of, number-of}
 -- a point's answers on a grid whose cells are numbered below the other two answers
 module _ (g : Grid) (few : g .rows * g .cols ≤ 4294967294) (x y : Float) where
   -- the number says the answer
-  pub told : (o : Owner) → Case g x y o → ownerBy (g .cols) (numberOf (g .cols) o) ≡ o
-  unfolding ownerBy numberOf
+  pub told : (o : Owner) → Case g x y o → ownerBy (g .cols) (ownerNumber (g .cols) o) ≡ o
+  unfolding ownerBy ownerNumber
   told (Cell row col) h =
       let n = number-of (g .rows) (g .cols) row col (h .inRow) (h .inCol) in
       let u = ne-eqb (row * g .cols + col) 4294967294 (λ e. omega arith) in
@@ -45,7 +45,7 @@ module _ (g : Grid) (few : g .rows * g .cols ≤ 4294967294) (x y : Float) where
 
 -- so two answers that have one number are the same answer
 pub apart : (g : Grid) → g .rows * g .cols ≤ 4294967294 → (x y x′ y′ : Float) (o o′ : Owner) → Case g x y o → Case g x′ y′ o′
-    → numberOf (g .cols) o ≡ numberOf (g .cols) o′ → o ≡ o′
+    → ownerNumber (g .cols) o ≡ ownerNumber (g .cols) o′ → o ≡ o′
 apart g few x y x′ y′ o o′ h k e = sym (told g few x y o h) ∙ ap (ownerBy (g .cols)) e ∙ told g few x′ y′ o′ k
 
 -- a cell's number is below that of its grid's cells
@@ -55,17 +55,17 @@ cell-below g x y row col e =
     number-of (g .rows) (g .cols) row col (h .inRow) (h .inCol)
 
 -- and a cell's number fits wherever the number of its owner does
-pub cell-fits : (cols : ℕ) (o : Owner) (row col limit : ℕ) → o ≡ Cell row col → numberOf cols o < limit → row * cols + col < limit
-unfolding numberOf
+pub cell-fits : (cols : ℕ) (o : Owner) (row col limit : ℕ) → o ≡ Cell row col → ownerNumber cols o < limit → row * cols + col < limit
+unfolding ownerNumber
 cell-fits cols o row col limit e h = rw e at h
 
-number-below : (g : Grid) (x y : Float) → g .rows * g .cols ≤ 1002001 → (o : Owner) → Case g x y o → numberOf (g .cols) o < 4294967296
-unfolding numberOf
+number-below : (g : Grid) (x y : Float) → g .rows * g .cols ≤ 1002001 → (o : Owner) → Case g x y o → ownerNumber (g .cols) o < 4294967296
+unfolding ownerNumber
 number-below g x y few (Cell row col) h = let n = number-of (g .rows) (g .cols) row col (h .inRow) (h .inCol) in omega arith
 number-below g x y few Seam h = omega arith
 number-below g x y few Outside h = omega arith
 
-pub number-fits : (g : Grid) (x y : Float) (o : Owner) → g .rows * g .cols ≤ 1002001 → o ≡ ownerOf g x y → numberOf (g .cols) o < 4294967296
+pub number-fits : (g : Grid) (x y : Float) (o : Owner) → g .rows * g .cols ≤ 1002001 → o ≡ ownerOf g x y → ownerNumber (g .cols) o < 4294967296
 number-fits g x y o few e = number-below g x y few o (subst (Case g x y) (sym e) (its-case g x y))
 
 -- ---- the answers, entry by entry
@@ -77,7 +77,7 @@ owners-length g (x ∷ xs) [] h = absurd (omega (arith, h))
 owners-length g (x ∷ xs) (y ∷ ys) h = ap suc (owners-length g xs ys (omega (arith, h)))
 
 pub owners-at : (g : Grid) (xs ys : List Float) (i : ℕ) → length ys ≡ length xs → i < length xs
-    → getD (ownersOf g xs ys) i 0 ≡ numberOf (g .cols) (ownerOf g (getD xs i nan) (getD ys i nan))
+    → getD (ownersOf g xs ys) i 0 ≡ ownerNumber (g .cols) (ownerOf g (getD xs i nan) (getD ys i nan))
 unfolding ownersOf
 owners-at g [] ys i h l = absurd (omega (arith, l))
 owners-at g (x ∷ xs) [] i h l = absurd (omega (arith, h))
@@ -94,7 +94,7 @@ told-more (a ∷ t) (b ∷ was) (suc i) v h l e = ap (λ (z : List ℕ). a ∷ z
 
 -- ---- what the checks say of a point
 
-pub askable : (g : Grid) (x y : Float) → fit g ≡ true → point x y ≡ true → Askable g x y
+pub askable : (g : Grid) (x y : Float) → fit g ≡ true → point x y ≡ true → PointAskable g x y
 unfolding point
 askable g x y f p =
     let fits = fit-says g f in
@@ -145,7 +145,7 @@ module _ {g : Grid} {xs ys : List Float} {was now : List ℕ} {i : ℕ} (h : Tel
   all : length (ownersOf g xs ys) ≡ length xs
   all = owners-length g xs ys (h .alike)
 
-  pub telling-more : (v : ℕ) → i < length xs → v ≡ numberOf (g .cols) (ownerOf g (getD xs i nan) (getD ys i nan)) → Telling g xs ys was (set now i v) (i + 1)
+  pub telling-more : (v : ℕ) → i < length xs → v ≡ ownerNumber (g .cols) (ownerOf g (getD xs i nan) (getD ys i nan)) → Telling g xs ys was (set now i v) (i + 1)
   telling-more v l e =
       let same = h .same in
       record {

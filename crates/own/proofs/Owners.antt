@@ -14,16 +14,16 @@ use Rattle.grid.proofs.Shapes.{fit-says}
 use Rattle.own.specs.declared.Found.{Found}
 use Rattle.own.specs.declared.Found.the-variants.{At, Nowhere}
 use Rattle.own.specs.declared.Owner.the-variants.{Cell, Seam, Outside}
-use Rattle.own.specs.Own.{ownsOn, ownsPoint, placeCheck}
-use Rattle.own.specs.Owner.{firstOn, Searchable, spans, seamOrOutside, cellOf, ownerOf}
+use Rattle.own.specs.Own.{ownsOn, ownsPoint, pointOnGridCheck}
+use Rattle.own.specs.Owner.{firstOwning, Searchable, spans, seamOrOutside, ownerCell, ownerOf}
 use Rattle.own.proofs.Firsts.{first-at, first-none, at-first, none-first, no-column, no-row, column-is, row-is, first-cell}
 
 -- what the search asks, and what it answers, on an axis that was read off the grid
 pub asked : (a a' : Axis) (p : Float) → a ≡ a' → Searchable a' p → Searchable a p
 asked a a' p d h = rw d h
 
-pub answered : (a a' : Axis) (p : Float) (f v : Found) → f ≡ firstOn a p → a ≡ a' → f ≡ v → firstOn a' p ≡ v
-answered a a' p f v e d h = sym (ap (λ (b : Axis). firstOn b p) d) ∙ sym e ∙ h
+pub answered : (a a' : Axis) (p : Float) (f v : Found) → f ≡ firstOwning a p → a ≡ a' → f ≡ v → firstOwning a' p ≡ v
+answered a a' p f v e d h = sym (ap (λ (b : Axis). firstOwning b p) d) ∙ sym e ∙ h
 
 module _ (g : Grid) (x y : Float) where
   column : ℕ → Bool
@@ -35,25 +35,25 @@ module _ (g : Grid) (x y : Float) where
   cell : ℕ → Bool
   cell k = ownsPoint g (k / g .cols) (k % g .cols) x y
 
-  pub no-column-owns : firstOn (xAxis g) x ≡ Nowhere → seamOrOutside g x y ≡ ownerOf g x y
-  unfolding firstOn ownerOf ownsPoint column row cell
-  no-column-owns h = sym (ap (cellOf (g .cols) (seamOrOutside g x y)) (first-none cell (g .rows * g .cols) (no-column column row (g .cols) (g .rows) (none-first column (g .cols) h))))
+  pub no-column-owns : firstOwning (xAxis g) x ≡ Nowhere → seamOrOutside g x y ≡ ownerOf g x y
+  unfolding firstOwning ownerOf ownsPoint column row cell
+  no-column-owns h = sym (ap (ownerCell (g .cols) (seamOrOutside g x y)) (first-none cell (g .rows * g .cols) (no-column column row (g .cols) (g .rows) (none-first column (g .cols) h))))
 
-  pub no-row-owns : firstOn (yAxis g) y ≡ Nowhere → seamOrOutside g x y ≡ ownerOf g x y
-  unfolding firstOn ownerOf ownsPoint column row cell
-  no-row-owns h = sym (ap (cellOf (g .cols) (seamOrOutside g x y)) (first-none cell (g .rows * g .cols) (no-row column row (g .cols) (g .rows) (none-first row (g .rows) h))))
+  pub no-row-owns : firstOwning (yAxis g) y ≡ Nowhere → seamOrOutside g x y ≡ ownerOf g x y
+  unfolding firstOwning ownerOf ownsPoint column row cell
+  no-row-owns h = sym (ap (ownerCell (g .cols) (seamOrOutside g x y)) (first-none cell (g .rows * g .cols) (no-row column row (g .cols) (g .rows) (none-first row (g .rows) h))))
 
-  pub both-own : (c r : ℕ) → firstOn (xAxis g) x ≡ At c → firstOn (yAxis g) y ≡ At r → Cell r c ≡ ownerOf g x y
-  unfolding firstOn ownerOf ownsPoint column row cell
+  pub both-own : (c r : ℕ) → firstOwning (xAxis g) x ≡ At c → firstOwning (yAxis g) y ≡ At r → Cell r c ≡ ownerOf g x y
+  unfolding firstOwning ownerOf ownsPoint column row cell
   both-own c r h k =
       let a = at-first column (g .cols) c h in
       let b = at-first row (g .rows) r k in
       let n = g .cols in
-      sym (ap (cellOf n (seamOrOutside g x y)) (first-at cell (g .rows * n) (r * n + c) (first-cell column row n (g .rows) c r a b))
+      sym (ap (ownerCell n (seamOrOutside g x y)) (first-at cell (g .rows * n) (r * n + c) (first-cell column row n (g .rows) c r a b))
       ∙ ap₂ Cell (row-is column row n (g .rows) c r a b) (column-is column row n (g .rows) c r a b))
 
   -- on axes that were read off the grid
-  pub cell-of : (ax ay : Axis) (c r : ℕ) → ax ≡ xAxis g → ay ≡ yAxis g → At c ≡ firstOn ax x → At r ≡ firstOn ay y → Cell r c ≡ ownerOf g x y
+  pub cell-of : (ax ay : Axis) (c r : ℕ) → ax ≡ xAxis g → ay ≡ yAxis g → At c ≡ firstOwning ax x → At r ≡ firstOwning ay y → Cell r c ≡ ownerOf g x y
   cell-of ax ay c r d k h j = both-own c r (answered ax (xAxis g) x (At c) (At c) h d refl) (answered ay (yAxis g) y (At r) (At r) j k refl)
 
   -- ---- where no cell owns it: u and v are what the two axes answer
@@ -74,8 +74,8 @@ module _ (g : Grid) (x y : Float) where
 
 -- ---- what the checks say of the two axes
 
-pub searchable : (g : Grid) (x y : Float) → placeCheck g x y ≡ Fine → Searchable (xAxis g) x × Searchable (yAxis g) y
-unfolding placeCheck pointCheck gridCheck point
+pub searchable : (g : Grid) (x y : Float) → pointOnGridCheck g x y ≡ Fine → Searchable (xAxis g) x × Searchable (yAxis g) y
+unfolding pointOnGridCheck pointCheck gridCheck point
 searchable g x y h =
     let xy = unless-fine (coordinate x && coordinate y) 1 0 (andThen-left _ _ h) in
     let fits = fit-says g (unless-fine (fit g) 8 0 (andThen-right _ _ h)) in (

@@ -15,9 +15,9 @@ use Rattle.grid.specs.Axes.{xAxis, yAxis, lowOn, highOn}
 use Rattle.numbers.proofs.FloatOrder.{at-most, not-under}
 use Rattle.own.specs.declared.Found.{Found}
 use Rattle.own.specs.declared.Found.the-variants.{At, Nowhere}
-use Rattle.own.specs.Own.{ownsOn, ownsPoint, placeCheck}
-use Rattle.own.specs.Owner.{firstFrom, firstOn, Searchable}
-use Rattle.own.specs.Cases.{Nobody, Within, Parted, InGap}
+use Rattle.own.specs.Own.{ownsOn, ownsPoint, pointOnGridCheck}
+use Rattle.own.specs.Owner.{firstFrom, firstOwning, Searchable}
+use Rattle.own.specs.Cases.{Nobody, WithinGrid, Parted, InGap}
 use Rattle.own.proofs.Edges.{high-number, coordinate-number, over-before, under-after}
 use Rattle.own.proofs.Firsts.{None, none-first, at-first, and-off}
 use Rattle.own.proofs.Halving.{behind, under}
@@ -75,9 +75,9 @@ module _ (a : Axis) (p : Float) (asks : Searchable a p) (i : ℕ) (h : Parted a 
 
 -- ---- the grid
 
-pub between-neighbours : (g : Grid) (x y : Float) → placeCheck g x y ≡ Fine → Nobody g x y → Within g x y → InGap (xAxis g) x ⊎ InGap (yAxis g) y
-unfolding firstOn ownsPoint
-between-neighbours g x y fine nobody ends = by-column (firstOn (xAxis g) x) refl
+pub between-neighbours : (g : Grid) (x y : Float) → pointOnGridCheck g x y ≡ Fine → Nobody g x y → WithinGrid g x y → InGap (xAxis g) x ⊎ InGap (yAxis g) y
+unfolding firstOwning ownsPoint
+between-neighbours g x y fine nobody ends = by-column (firstOwning (xAxis g) x) refl
   where
     columns : Searchable (xAxis g) x
     columns = searchable g x y fine .0
@@ -85,7 +85,7 @@ between-neighbours g x y fine nobody ends = by-column (firstOn (xAxis g) x) refl
     rows : Searchable (yAxis g) y
     rows = searchable g x y fine .1
 
-    by-row : (c : ℕ) → firstOn (xAxis g) x ≡ At c → (f : Found) → firstOn (yAxis g) y ≡ f → InGap (xAxis g) x ⊎ InGap (yAxis g) y
+    by-row : (c : ℕ) → firstOwning (xAxis g) x ≡ At c → (f : Found) → firstOwning (yAxis g) y ≡ f → InGap (xAxis g) x ⊎ InGap (yAxis g) y
     by-row c h Nowhere k =
         inr (gap (yAxis g) y rows (ends .above) (none-first (λ i. ownsOn (yAxis g) i y) (g .rows) k) (g .rows - 1) 0 (omega (arith, ends .rows)) (ends .below))
     by-row c h (At r) k =
@@ -93,12 +93,12 @@ between-neighbours g x y fine nobody ends = by-column (firstOn (xAxis g) x) refl
         let v = at-first (λ i. ownsOn (yAxis g) i y) (g .rows) r k in
         absurd (true≢false (sym (rw (u .passes, v .passes)) ∙ nobody r c (v .within) (u .within)))
 
-    by-column : (f : Found) → firstOn (xAxis g) x ≡ f → InGap (xAxis g) x ⊎ InGap (yAxis g) y
+    by-column : (f : Found) → firstOwning (xAxis g) x ≡ f → InGap (xAxis g) x ⊎ InGap (yAxis g) y
     by-column Nowhere h =
         inl (gap (xAxis g) x columns (ends .right) (none-first (λ i. ownsOn (xAxis g) i x) (g .cols) h) (g .cols - 1) 0 (omega (arith, ends .cols)) (ends .left))
-    by-column (At c) h = by-row c h (firstOn (yAxis g) y) refl
+    by-column (At c) h = by-row c h (firstOwning (yAxis g) y) refl
 
-pub nobody-between : (g : Grid) (x y : Float) → placeCheck g x y ≡ Fine → InGap (xAxis g) x ⊎ InGap (yAxis g) y → Nobody g x y
+pub nobody-between : (g : Grid) (x y : Float) → pointOnGridCheck g x y ≡ Fine → InGap (xAxis g) x ⊎ InGap (yAxis g) y → Nobody g x y
 unfolding ownsPoint
 nobody-between g x y fine gaps row col l m =
     ⊎-elim (λ (h : InGap (xAxis g) x). ap (λ (b : Bool). b && ownsOn (yAxis g) row y) (no-index (xAxis g) x (searchable g x y fine .0) (h .0) (h .1) col m))

@@ -14,7 +14,7 @@ use Rattle.grid.specs.declared.Grid.{Grid}
 use Rattle.grid.specs.declared.Axis.{Axis}
 use Rattle.grid.specs.Domain.{pointCheck, gridCheck}
 use Rattle.grid.specs.Axes.{lowOn, highOn}
-use Rattle.own.specs.Own.{ownsOn, holdsOn, placeCheck}
+use Rattle.own.specs.Own.{ownsOn, holdsOn, pointOnGridCheck}
 
 -- ---- the tests as Bools: l is "low <= p", t is "p < high", n is "the last index" and e is "p = high"
 
@@ -92,14 +92,14 @@ by-neither u p q row e h r = rw (← e, h, ne-eqb row 0 r)
 -- ---- the check of the point, then that of the grid
 
 module _ (g : Grid) (x y : Float) where
-  pub place-refused : (r : Refusal) → pointCheck x y ≡ Refused r → Refused r ≡ placeCheck g x y
-  unfolding placeCheck andThen
+  pub place-refused : (r : Refusal) → pointCheck x y ≡ Refused r → Refused r ≡ pointOnGridCheck g x y
+  unfolding pointOnGridCheck andThen
   place-refused r h = rw h
 
-  pub place-rest : pointCheck x y ≡ Fine → gridCheck g ≡ placeCheck g x y
-  unfolding placeCheck andThen
+  pub place-rest : pointCheck x y ≡ Fine → gridCheck g ≡ pointOnGridCheck g x y
+  unfolding pointOnGridCheck andThen
   place-rest h = rw h
 
-  pub place-point : placeCheck g x y ≡ Fine → pointCheck x y ≡ Fine
-  unfolding placeCheck
+  pub place-point : pointOnGridCheck g x y ≡ Fine → pointCheck x y ≡ Fine
+  unfolding pointOnGridCheck
   place-point h = andThen-left (pointCheck x y) (gridCheck g) h

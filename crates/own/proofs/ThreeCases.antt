@@ -15,8 +15,8 @@ use Rattle.own.specs.declared.Found.the-variants.{At, Nowhere}
 use Rattle.own.specs.declared.Owner.{Owner}
 use Rattle.own.specs.declared.Owner.the-variants.{Cell, Seam, Outside}
 use Rattle.own.specs.Own.{ownsPoint}
-use Rattle.own.specs.Owner.{firstFrom, spans, seamOrOutside, cellOf, ownerOf}
-use Rattle.own.specs.Cases.{FirstOwner, Nobody, Within, Case}
+use Rattle.own.specs.Owner.{firstFrom, spans, seamOrOutside, ownerCell, ownerOf}
+use Rattle.own.specs.Cases.{FirstOwner, Nobody, WithinGrid, Case}
 use Rattle.own.proofs.Firsts.{First, None, first-at, first-none, at-first, none-first}
 use Rattle.own.proofs.EndLaws.{no-ends, two-ends}
 
@@ -99,7 +99,7 @@ module _ (g : Grid) (x y : Float) where
   spans-by : (a : Axis) (p : Float) → 0 < a .count → le (lowOn a 0) p ≡ true → le p (highOn a (a .count - 1)) ≡ true → spans a p ≡ true
   spans-by a p s l r = rw (two-ends a p (λ e. omega arith), l, r)
 
-  within : spanned ≡ true → Within g x y
+  within : spanned ≡ true → WithinGrid g x y
   unfolding spanned
   within h =
       let u = and-left (spans (xAxis g) x) (spans (yAxis g) y) h in
@@ -113,7 +113,7 @@ module _ (g : Grid) (x y : Float) where
         above = ends (yAxis g) y v .1;
       }
 
-  between-ends : Within g x y → spanned ≡ true
+  between-ends : WithinGrid g x y → spanned ≡ true
   unfolding spanned
   between-ends h =
       let u = spans-by (xAxis g) x (h .cols) (h .left) (h .right) in
@@ -131,7 +131,7 @@ module _ (g : Grid) (x y : Float) where
       by-ends true e n = (n, within e)
       by-ends false e n = (n, λ w. true≢false (sym (between-ends w) ∙ e))
 
-      by-found : (f : Found) → firstFrom cell (g .rows * g .cols) 0 ≡ f → Case g x y (cellOf (g .cols) (seamOrOutside g x y) f)
+      by-found : (f : Found) → firstFrom cell (g .rows * g .cols) 0 ≡ f → Case g x y (ownerCell (g .cols) (seamOrOutside g x y) f)
       by-found (At k) e = first-owner k (at-first cell (g .rows * g .cols) k e)
       by-found Nowhere e = by-ends spanned refl (nobody (none-first cell (g .rows * g .cols) e))
 
@@ -140,13 +140,13 @@ module _ (g : Grid) (x y : Float) where
   unfolding ownerOf seamOrOutside spanned cell
   only-case (Cell row col) h =
       let n = g .cols in
-      sym (ap (cellOf n (seamOrOutside g x y)) (first-at cell (g .rows * n) (row * n + col) (owner-first row col h))
+      sym (ap (ownerCell n (seamOrOutside g x y)) (first-at cell (g .rows * n) (row * n + col) (owner-first row col h))
       ∙ ap₂ Cell (row-of n row col (h .inCol)) (col-of n row col (h .inCol)))
   only-case Seam h =
-      sym (ap (cellOf (g .cols) (seamOrOutside g x y)) (first-none cell (g .rows * g .cols) (none (h .0)))
+      sym (ap (ownerCell (g .cols) (seamOrOutside g x y)) (first-none cell (g .rows * g .cols) (none (h .0)))
       ∙ ap (λ (b : Bool). cond b Seam Outside) (between-ends (h .1)))
   only-case Outside h =
-      sym (ap (cellOf (g .cols) (seamOrOutside g x y)) (first-none cell (g .rows * g .cols) (none (h .0)))
+      sym (ap (ownerCell (g .cols) (seamOrOutside g x y)) (first-none cell (g .rows * g .cols) (none (h .0)))
       ∙ ap (λ (b : Bool). cond b Seam Outside) (not-within spanned refl))
     where
       not-within : (b : Bool) → spanned ≡ b → spanned ≡ false

@@ -23,7 +23,7 @@ abbrev pub Nobody : Grid → Float → Float → Type 0
 Nobody g x y = (row col : ℕ) → row < g .rows → col < g .cols → ownsPoint g row col x y ≡ false
 
 -- it lies between the low edge of the first and the high edge of the last column and row, ends included; a 0 by 0 grid has none
-pub record Within (g : Grid) (x y : Float) : Type 0 where
+pub record WithinGrid (g : Grid) (x y : Float) : Type 0 where
   pub cols : 0 < g .cols
   pub rows : 0 < g .rows
   pub left : le (lowOn (xAxis g) 0) x ≡ true
@@ -44,5 +44,5 @@ InGap a p = (i : ℕ) × Parted a p i
 -- what holds of a point that has this answer
 abbrev pub Case : Grid → Float → Float → Owner → Type 0
 Case g x y (Cell row col) = FirstOwner g x y row col
-Case g x y Seam = Nobody g x y × Within g x y
-Case g x y Outside = Nobody g x y × (Within g x y → ⊥)
+Case g x y Seam = Nobody g x y × WithinGrid g x y
+Case g x y Outside = Nobody g x y × (WithinGrid g x y → ⊥)

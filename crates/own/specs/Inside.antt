@@ -15,20 +15,20 @@ use Rattle.own.specs.Owner.{Searchable}
 use Rattle.own.specs.Many.{pointsCheck}
 
 -- the indexes left: p has reached the high edge of all before them, and is below that of the last of them, unless the axis ends there
-pub record Halved (a : Axis) (p : Float) (low high : ℕ) : Type 0 where
+pub record HalvedRange (a : Axis) (p : Float) (low high : ℕ) : Type 0 where
   pub order : low ≤ high
   pub inside : high < a .count
   pub passed : (j : ℕ) → j < low → lt p (highOn a j) ≡ false
   pub ahead : (suc high ≡ a .count) ⊎ (lt p (highOn a high) ≡ true)
 
 -- what a search on a grid asks of it and of the point, so that a cell's number is no large one
-pub record Askable (g : Grid) (x y : Float) : Type 0 where
+pub record PointAskable (g : Grid) (x y : Float) : Type 0 where
   pub across : Searchable (xAxis g) x
   pub up : Searchable (yAxis g) y
   pub few : g .rows * g .cols ≤ 1002001
 
 -- all that the checks of many points find: the grid and every point are fit, and the slices have one length
-pub record Checked (g : Grid) (xs ys : List Float) (answers : List ℕ) : Type 0 where
+pub record PointsChecked (g : Grid) (xs ys : List Float) (answers : List ℕ) : Type 0 where
   pub fits : fit g ≡ true
   pub points : pointsCheck xs ys ≡ Fine
   pub alike : length ys ≡ length xs

@@ -18,10 +18,10 @@ use Rattle.own.specs.Owner.{ownerOf}
 -- ---- which number stands for which answer
 
 -- the number of a cell; above all of them 2^32 - 2 for a seam, and 2^32 - 1 for outside
-unfoldable pub numberOf : ℕ → Owner → ℕ
-numberOf cols (Cell row col) = row * cols + col
-numberOf cols Seam = 4294967294
-numberOf cols Outside = 4294967295
+unfoldable pub ownerNumber : ℕ → Owner → ℕ
+ownerNumber cols (Cell row col) = row * cols + col
+ownerNumber cols Seam = 4294967294
+ownerNumber cols Outside = 4294967295
 
 -- and which answer a number stands for
 unfoldable pub ownerBy : ℕ → ℕ → Owner
@@ -33,7 +33,7 @@ ownerBy cols n = cond (eqb n 4294967294) Seam (cond (eqb n 4294967295) Outside (
 unfoldable pub ownersOf : Grid → List Float → List Float → List ℕ
 ownersOf g [] ys = []
 ownersOf g (x ∷ xs) [] = []
-ownersOf g (x ∷ xs) (y ∷ ys) = numberOf (g .cols) (ownerOf g x y) ∷ ownersOf g xs ys
+ownersOf g (x ∷ xs) (y ∷ ys) = ownerNumber (g .cols) (ownerOf g x y) ∷ ownersOf g xs ys
 
 -- 3: the slices differ in length
 unfoldable pub alikeCheck : ℕ → ℕ → ℕ → Check

@@ -41,19 +41,19 @@ owned true = Yes
 owned false = No
 
 -- 1, then 8: what every call here checks first
-unfoldable pub placeCheck : Grid → Float → Float → Check
-placeCheck g x y = andThen (pointCheck x y) (gridCheck g)
+unfoldable pub pointOnGridCheck : Grid → Float → Float → Check
+pointOnGridCheck g x y = andThen (pointCheck x y) (gridCheck g)
 
 -- after refusals 1, 8 and 9
 unfoldable pub pointAnswer : Grid → ℕ → ℕ → Float → Float → Owned
 pointAnswer g row col x y =
-    answerBy Refused owned (placeCheck g x y then cellCheck g row col then gives (ownsPoint g row col x y))
+    answerBy Refused owned (pointOnGridCheck g x y then cellCheck g row col then gives (ownsPoint g row col x y))
 
 -- after refusals 1, 8, 12 and 9
 unfoldable pub overlapAnswer : Grid → ℕ → ℕ → Float → Float → Float → ℕ → Owned
 overlapAnswer g row col x y size strategy =
     answerBy Refused owned
-    (placeCheck g x y
+    (pointOnGridCheck g x y
     then snapCheck size strategy
     then cellCheck g row col
     then gives (ownsOverlap g row col (snapOf size x) (snapOf size y)))

@@ -15,7 +15,7 @@ use Rattle.own.specs.declared.Owner.{Owner}
 use Rattle.own.specs.declared.Owner.the-variants.{Cell, Seam, Outside}
 use Rattle.own.specs.declared.OwnerAnswer.{OwnerAnswer}
 use Rattle.own.specs.declared.OwnerAnswer.the-variants as answer
-use Rattle.own.specs.Own.{ownsOn, ownsPoint, placeCheck}
+use Rattle.own.specs.Own.{ownsOn, ownsPoint, pointOnGridCheck}
 
 -- the first of the `left` numbers from k on that passes a test
 abbrev pub orElse : Bool → ℕ → Found → Found
@@ -27,9 +27,9 @@ firstFrom test zero k = Nowhere
 firstFrom test (suc left) k = orElse (test k) k (firstFrom test left (suc k))
 
 -- the first index of an axis that owns p
-unfoldable pub firstOn : Axis → Float → Found
+unfoldable pub firstOwning : Axis → Float → Found
 unfolding firstFrom
-firstOn a p = firstFrom (λ i. ownsOn a i p) (a .count) 0
+firstOwning a p = firstFrom (λ i. ownsOn a i p) (a .count) 0
 
 -- what the search along an axis asks: that of a fit grid, and a coordinate
 pub record Searchable (a : Axis) (p : Float) : Type 0 where
@@ -41,12 +41,12 @@ pub record Searchable (a : Axis) (p : Float) : Type 0 where
 -- ---- where no cell owns the point
 
 -- p lies between the low edge of the first and the high edge of the last of so many indexes, ends included; of none it lies nowhere
-abbrev pub between : Axis → ℕ → Float → Bool
-between a zero p = false
-between a (suc last) p = le (lowOn a 0) p && le p (highOn a last)
+abbrev pub betweenEdges : Axis → ℕ → Float → Bool
+betweenEdges a zero p = false
+betweenEdges a (suc last) p = le (lowOn a 0) p && le p (highOn a last)
 
 unfoldable pub spans : Axis → Float → Bool
-spans a p = between a (a .count) p
+spans a p = betweenEdges a (a .count) p
 
 -- a seam, if that holds of the columns and of the rows; outside otherwise, and always on a 0 by 0 grid
 unfoldable pub seamOrOutside : Grid → Float → Float → Owner
@@ -55,15 +55,15 @@ seamOrOutside g x y = cond (spans (xAxis g) x && spans (yAxis g) y) Seam Outside
 -- ---- the owner
 
 -- in row order cell k is the column k % cols of the row k / cols
-abbrev pub cellOf : ℕ → Owner → Found → Owner
-cellOf cols none (At k) = Cell (k / cols) (k % cols)
-cellOf cols none Nowhere = none
+abbrev pub ownerCell : ℕ → Owner → Found → Owner
+ownerCell cols none (At k) = Cell (k / cols) (k % cols)
+ownerCell cols none Nowhere = none
 
 -- the first cell that owns the point
 unfoldable pub ownerOf : Grid → Float → Float → Owner
 unfolding firstFrom
-ownerOf g x y = cellOf (g .cols) (seamOrOutside g x y) (firstFrom (λ k. ownsPoint g (k / g .cols) (k % g .cols) x y) (g .rows * g .cols) 0)
+ownerOf g x y = ownerCell (g .cols) (seamOrOutside g x y) (firstFrom (λ k. ownsPoint g (k / g .cols) (k % g .cols) x y) (g .rows * g .cols) 0)
 
 -- after refusals 1 and 8
 unfoldable pub ownerAnswer : Grid → Float → Float → OwnerAnswer
-ownerAnswer g x y = answerBy answer.Refused answer.Found (placeCheck g x y then gives (ownerOf g x y))
+ownerAnswer g x y = answerBy answer.Refused answer.Found (pointOnGridCheck g x y then gives (ownerOf g x y))

@@ -5,8 +5,8 @@ ghost use mathlib.Core.Path.{_≡_};
 ghost use mathlib.Core.Bool.{true};
 ghost use Rattle.own.specs.Own.{ownsOn, holdsOn};
 ghost use Prim.Native.Nat.{_<_, _≤_};
-ghost use Rattle.own.specs.Owner.{Searchable, firstOn};
-ghost use Rattle.own.specs.Inside.{Halved};
+ghost use Rattle.own.specs.Owner.{Searchable, firstOwning};
+ghost use Rattle.own.specs.Inside.{HalvedRange};
 ghost use Rattle.own.specs.declared.Found.the-variants.{At};
 
 // The indexes from `low` to `high`.
@@ -63,7 +63,7 @@ pub(crate) fn guessed(cells: f64, count: u32) -> u32
 // nothing else is asked.
 pub(crate) fn settled(axis: Axis, p: f64, guess: u32) -> bool
     requires { ⌜ Searchable axis p ⌝ }
-    ensures { λ r. ⌜ (r ≡ true → At guess ≡ firstOn axis p) ⌝ }
+    ensures { λ r. ⌜ (r ≡ true → At guess ≡ firstOwning axis p) ⌝ }
 {
     if guess == 0 {
         return false;
@@ -79,8 +79,8 @@ pub(crate) fn settled(axis: Axis, p: f64, guess: u32) -> bool
 
 // What the high edge of an index leaves of the indexes among which the search goes on.
 fn narrowed(axis: Axis, p: f64, left: Stretch, at: u32) -> Stretch
-    requires { ⌜ Searchable axis p ⌝ ∗ ⌜ Halved axis p (left .low) (left .high) ⌝ }
-    ensures { λ r. ⌜ Halved axis p (r .low) (r .high) ⌝ }
+    requires { ⌜ Searchable axis p ⌝ ∗ ⌜ HalvedRange axis p (left .low) (left .high) ⌝ }
+    ensures { λ r. ⌜ HalvedRange axis p (r .low) (r .high) ⌝ }
 {
     if left.low <= at {
         if at < left.high {
@@ -111,7 +111,7 @@ fn two_before(i: u32) -> u32
 // The indexes among which the search goes on: one alone, where the guess is right or one beside it is.
 fn about(axis: Axis, p: f64, guess: u32) -> Stretch
     requires { ⌜ Searchable axis p ⌝ ∗ ⌜ 0 < axis .count ⌝ ∗ ⌜ guess ≤ axis .count ⌝ }
-    ensures { λ r. ⌜ Halved axis p (r .low) (r .high) ⌝ }
+    ensures { λ r. ⌜ HalvedRange axis p (r .low) (r .high) ⌝ }
 {
     let whole = Stretch {
         low: 0,
@@ -128,7 +128,7 @@ fn about(axis: Axis, p: f64, guess: u32) -> Stretch
 // edge, or else the last, is found by halving; if that index does not own p, none does.
 fn searched(axis: Axis, p: f64, guess: u32) -> Found
     requires { ⌜ Searchable axis p ⌝ ∗ ⌜ 0 < axis .count ⌝ ∗ ⌜ guess ≤ axis .count ⌝ }
-    ensures { λ r. ⌜ r ≡ firstOn axis p ⌝ }
+    ensures { λ r. ⌜ r ≡ firstOwning axis p ⌝ }
 {
     let stretch = about(axis, p, guess);
     let mut low = stretch.low;
@@ -150,7 +150,7 @@ fn searched(axis: Axis, p: f64, guess: u32) -> Found
 // The first index that owns p, by a guess that a division gives, or else by the search about it.
 pub(crate) fn first(axis: Axis, p: f64) -> Found
     requires { ⌜ Searchable axis p ⌝ }
-    ensures { λ r. ⌜ r ≡ firstOn axis p ⌝ }
+    ensures { λ r. ⌜ r ≡ firstOwning axis p ⌝ }
 {
     if axis.count == 0 {
         return Found::Nowhere;

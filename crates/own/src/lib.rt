@@ -11,7 +11,7 @@ use snap::Snapped;
 ghost use mathlib.Core.Path.{_≡_};
 ghost use mathlib.Core.Bool.{_&&_};
 ghost use Rattle.grid.specs.Axes.{xAxis, yAxis};
-ghost use Rattle.own.specs.Own.{ownsPoint, holdsOn, ownsOverlap, placeCheck, owned, pointAnswer, overlapAnswer};
+ghost use Rattle.own.specs.Own.{ownsPoint, holdsOn, ownsOverlap, pointOnGridCheck, owned, pointAnswer, overlapAnswer};
 ghost use Rattle.own.specs.Owner.{Searchable, seamOrOutside, ownerOf, ownerAnswer};
 
 // Whether a cell owns what it was asked about, or the refusal that is due.
@@ -42,7 +42,7 @@ pub enum Found {
 
 // 1, then 8.
 fn check_place(grid: Grid, x: f64, y: f64) -> Check
-    ensures { λ r. ⌜ r ≡ placeCheck grid x y ⌝ }
+    ensures { λ r. ⌜ r ≡ pointOnGridCheck grid x y ⌝ }
 {
     let point = grid::checks::check_point(x, y);
     if let Check::Refused(r) = point {

@@ -11,8 +11,8 @@ ghost use mathlib.Core.Path.{_≡_};
 ghost use Prim.Native.Nat.{_<_};
 ghost use lib.ListN.{length};
 ghost use Rattle.own.specs.Owner.{ownerOf};
-ghost use Rattle.own.specs.Many.{numberOf, ownersOf, alikeCheck, pointsCheck, OwnersAre};
-ghost use Rattle.own.specs.Inside.{Askable, Checked};
+ghost use Rattle.own.specs.Many.{ownerNumber, ownersOf, alikeCheck, pointsCheck, OwnersAre};
+ghost use Rattle.own.specs.Inside.{PointAskable, PointsChecked};
 
 // The numbers of the two answers that are no cell.
 pub const SEAM: u32 = 4294967294;
@@ -21,8 +21,8 @@ pub const OUTSIDE: u32 = 4294967295;
 
 // The number of an owner on so many columns.
 fn numbered(cols: u32, owner: Owner) -> u32
-    requires { ⌜ numberOf cols owner < 4294967296 ⌝ }
-    ensures { λ r. ⌜ r ≡ numberOf cols owner ⌝ }
+    requires { ⌜ ownerNumber cols owner < 4294967296 ⌝ }
+    ensures { λ r. ⌜ r ≡ ownerNumber cols owner ⌝ }
 {
     match owner {
         Owner::Cell { row, col } => row * cols + col,
@@ -34,8 +34,8 @@ fn numbered(cols: u32, owner: Owner) -> u32
 // The number of a point's owner, by a guess on each axis, or else by the search of a single call. So many columns and rows go into a unit
 // of length: to multiply is quicker than to divide, and a guess need not be exact.
 fn number_at(grid: Grid, columns: f64, rows: f64, x: f64, y: f64) -> u32
-    requires { ⌜ Askable grid x y ⌝ }
-    ensures { λ r. ⌜ r ≡ numberOf (grid .cols) (ownerOf grid x y) ⌝ }
+    requires { ⌜ PointAskable grid x y ⌝ }
+    ensures { λ r. ⌜ r ≡ ownerNumber (grid .cols) (ownerOf grid x y) ⌝ }
 {
     let col = guessed((x - grid.min_x) * columns, grid.cols);
     let row = guessed((y - grid.min_y) * rows, grid.rows);
@@ -74,7 +74,7 @@ fn check_points(x: &[f64], y: &[f64]) -> Check
 
 // Writes the answer of each point. All checks are passed.
 fn write_owners(grid: Grid, x: &[f64], y: &[f64], answers: &mut [u32])
-    requires { ⌜ Checked grid (now x) (now y) (now answers) ⌝ }
+    requires { ⌜ PointsChecked grid (now x) (now y) (now answers) ⌝ }
     ensures { λ _. ⌜ now (answers .exit) ≡ ownersOf grid (now (x .entry)) (now (y .entry)) ⌝ }
 {
     let columns = 1.0 / grid.cell_width;

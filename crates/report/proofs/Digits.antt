@@ -8,7 +8,7 @@ use native.Mathlib.Numerals.{sub-one}
 use borrow.Author.Tests.{ne-eqb}
 use lib.ListN.{length, set, take, drop, length-set, length-drop, drop-of-length-le}
 use lib.Seq.{drop-cons, drop-set-lt, getD-set-same, take-all}
-use Rattle.report.specs.Numbers.{glyph, noneIf, leading, decimal, hex}
+use Rattle.report.specs.Numbers.{glyph, blankIf, leading, inDecimal, hex}
 
 -- a byte put in front of those from a position on
 put-before : (xs : List ℕ) (k b : ℕ) → k < length xs → drop k (set xs k b) ≡ b ∷ drop (suc k) xs
@@ -21,12 +21,12 @@ one-before xs d ys = append-assoc xs (d ∷ []) ys
 
 -- 0 has no leading digits
 pub leading-none : (k : ℕ) → leading k 0 ≡ []
-unfolding leading noneIf
+unfolding leading blankIf
 leading-none zero = refl
 leading-none (suc k) = refl
 
 pub leading-more : (k n : ℕ) → 0 < n → leading (suc k) n ≡ leading k (n / 10) ++ (glyph (n % 10) ∷ [])
-unfolding leading noneIf
+unfolding leading blankIf
 leading-more k n h = rw (ne-eqb n 0 (λ e. omega arith))
 
 -- the digits from i on are found, and those of `rest` are left
@@ -34,10 +34,10 @@ pub record Found10 (n : ℕ) (text : List ℕ) (i rest : ℕ) : Type 0 where
   pub long : length text ≡ 20
   pub room : i ≤ 19
   pub small : rest < 10 ^ i
-  pub digits : decimal n ≡ leading i rest ++ drop i text
+  pub digits : inDecimal n ≡ leading i rest ++ drop i text
 
 pub found10-one : (n : ℕ) (text : List ℕ) (d : ℕ) → n < 2 ^ 64 → length text ≡ 20 → d ≡ glyph (n % 10) → Found10 n (set text 19 d) 19 (n / 10)
-unfolding decimal
+unfolding inDecimal
 found10-one n text d h l e = record {
   long = simp length-set l;
   room = omega arith;
@@ -69,7 +69,7 @@ found10-more n text (suc k) rest d f h e =
     let q : suc k - 1 ≡ k = omega arith in
     rw q (found10-step n text k rest d f h e)
 
-pub found10-all : (n : ℕ) (text : List ℕ) (i rest : ℕ) → Found10 n text i rest → rest ≡ 0 → take (20 - i) (drop i text) ≡ decimal n
+pub found10-all : (n : ℕ) (text : List ℕ) (i rest : ℕ) → Found10 n text i rest → rest ≡ 0 → take (20 - i) (drop i text) ≡ inDecimal n
 found10-all n text i rest f e =
     let m = f .long in
     take-all (20 - i) (drop i text) (simp length-drop (omega arith)) ∙ sym (f .digits ∙ rw (e, leading-none i))

@@ -8,7 +8,7 @@ use borrow.Author.Tests.{lt-ltb, le-ltb}
 use lib.ListN.{length, getD, set, take}
 use lib.Seq.{take-suc, take-all}
 use Rattle.report.specs.Pages.{Page, page, putIf, put, putAll, Puts}
-use Rattle.report.specs.Numbers.{decimal}
+use Rattle.report.specs.Numbers.{inDecimal}
 use Rattle.report.specs.Lines.{spaced, line, cellLine, globalLine}
 
 -- with room, the byte goes to its position
@@ -61,22 +61,22 @@ puts-text e f = rw e at f
 spaced-append : (ns ms : List ℕ) → spaced (ns ++ ms) ≡ spaced ns ++ spaced ms
 unfolding spaced
 spaced-append [] ms = refl
-spaced-append (n ∷ ns) ms = ap (λ (t : List ℕ). 32 ∷ (decimal n ++ t)) (spaced-append ns ms) ∙ ap (λ (t : List ℕ). 32 ∷ t) (sym (append-assoc (decimal n) (spaced ns) (spaced ms)))
+spaced-append (n ∷ ns) ms = ap (λ (t : List ℕ). 32 ∷ (inDecimal n ++ t)) (spaced-append ns ms) ∙ ap (λ (t : List ℕ). 32 ∷ t) (sym (append-assoc (inDecimal n) (spaced ns) (spaced ms)))
 
-pub spaced-one : (n : ℕ) → spaced (n ∷ []) ≡ 32 ∷ decimal n
+pub spaced-one : (n : ℕ) → spaced (n ∷ []) ≡ 32 ∷ inDecimal n
 unfolding spaced
-spaced-one n = ap (λ (t : List ℕ). 32 ∷ t) (append-nil (decimal n))
+spaced-one n = ap (λ (t : List ℕ). 32 ∷ t) (append-nil (inDecimal n))
 
-pub spaced-two : (m n : ℕ) → spaced (m ∷ n ∷ []) ≡ (32 ∷ decimal m) ++ (32 ∷ decimal n)
+pub spaced-two : (m n : ℕ) → spaced (m ∷ n ∷ []) ≡ (32 ∷ inDecimal m) ++ (32 ∷ inDecimal n)
 unfolding spaced
-spaced-two m n = ap (λ (t : List ℕ). 32 ∷ (decimal m ++ t)) (spaced-one n)
+spaced-two m n = ap (λ (t : List ℕ). 32 ∷ (inDecimal m ++ t)) (spaced-one n)
 
 -- two numbers, and then a list
 pub spaced-front : (m n : ℕ) (ls : List ℕ) → spaced (m ∷ n ∷ ls) ≡ spaced (m ∷ n ∷ []) ++ spaced ls
 spaced-front m n ls = spaced-append (m ∷ n ∷ []) ls
 
 -- one more number of a list
-pub spaced-more : (ns : List ℕ) (i : ℕ) {p q r : Page} → i < length ns → Puts (spaced (take i ns)) p q → {v : ℕ} → v ≡ getD ns i 0 → Puts (32 ∷ decimal v) q r → Puts (spaced (take (i + 1) ns)) p r
+pub spaced-more : (ns : List ℕ) (i : ℕ) {p q r : Page} → i < length ns → Puts (spaced (take i ns)) p q → {v : ℕ} → v ≡ getD ns i 0 → Puts (32 ∷ inDecimal v) q r → Puts (spaced (take (i + 1) ns)) p r
 spaced-more ns i h f e g =
     rw (add-one, take-suc ns i 0 h, spaced-append (take i ns) (getD ns i 0 ∷ []), spaced-one, ← e) (puts-then f g)
 

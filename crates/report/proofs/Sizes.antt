@@ -6,11 +6,11 @@ use Prim.Native.Nat.{ℕ, zero, suc, _+_, _*_, _/_, _%_, _≤_}
 use native.Mathlib.Omega.{arith}
 use lib.Dec.{eqb}
 use lib.ListN.{length, length-append}
-use Rattle.report.specs.Numbers.{glyph, noneIf, leading, decimal, hex}
+use Rattle.report.specs.Numbers.{glyph, blankIf, leading, inDecimal, hex}
 use Rattle.report.specs.Lines.{spaced, line, gridLine, cellLine, globalLine, visitLine, crossingsLine, pairLine, refusedLine, reasonWord, droppedLine}
 
-none-size : (b : Bool) (xs : List ℕ) (k : ℕ) → length xs ≤ k → length (noneIf b xs) ≤ k
-unfolding noneIf
+none-size : (b : Bool) (xs : List ℕ) (k : ℕ) → length xs ≤ k → length (blankIf b xs) ≤ k
+unfolding blankIf
 none-size true xs k h = omega arith
 none-size false xs k h = h
 
@@ -21,8 +21,8 @@ leading-size (suc k) n =
     let h = leading-size k (n / 10) in
     none-size (eqb n 0) (leading k (n / 10) ++ (glyph (n % 10) ∷ [])) (suc k) (simp length-append (omega arith))
 
-pub decimal-size : (n : ℕ) → length (decimal n) ≤ 20
-unfolding decimal
+pub decimal-size : (n : ℕ) → length (inDecimal n) ≤ 20
+unfolding inDecimal
 decimal-size n = let h = leading-size 19 (n / 10) in simp length-append (omega arith)
 
 pub hex-size : (k n : ℕ) → length (hex k n) ≡ k

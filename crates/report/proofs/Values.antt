@@ -10,7 +10,7 @@ use native.Mathlib.Decide.{decLe}
 use borrow.Author.Tests.{lt-ltb, le-ltb}
 use lib.Dec.{ltb}
 use lib.ListN.{length, getD, List·getD-append, length-append}
-use Rattle.report.specs.Numbers.{glyph, leading, decimal, hex}
+use Rattle.report.specs.Numbers.{glyph, leading, inDecimal, hex}
 use Rattle.report.proofs.Digits.{leading-none, leading-more}
 
 -- the digit that a byte stands for
@@ -79,15 +79,15 @@ leading-headed (suc k) n l h =
     (lo-or-hi n))
 
 -- a decimal number, read back
-pub decimal-value : (n : ℕ) → n < 10 ^ 20 → read 10 (decimal n) ≡ n
-unfolding read decimal
+pub decimal-value : (n : ℕ) → n < 10 ^ 20 → read 10 (inDecimal n) ≡ n
+unfolding read inDecimal
 decimal-value n h =
     let v : readFrom 10 0 (leading 19 (n / 10)) ≡ n / 10 = leading-value 19 (n / 10) (omega arith) in
     read-last 10 0 (leading 19 (n / 10)) (glyph (n % 10)) ∙ rw (v, digit-glyph (n % 10) (omega arith)) (omega arith)
 
 -- a decimal number of two digits or more does not begin with `0`
-pub decimal-short : (n : ℕ) → n < 10 ^ 20 → 10 ≤ n → getD (decimal n) 0 0 ≡ 48 → ⊥
-unfolding decimal
+pub decimal-short : (n : ℕ) → n < 10 ^ 20 → 10 ≤ n → getD (inDecimal n) 0 0 ≡ 48 → ⊥
+unfolding inDecimal
 decimal-short n h l e =
     let f = leading-headed 19 (n / 10) (omega arith) (omega arith) in
     f .head (sym (List·getD-append (leading 19 (n / 10)) (glyph (n % 10) ∷ []) 0 0 (f .some)) ∙ e)

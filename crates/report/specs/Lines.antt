@@ -3,12 +3,12 @@ use Prim.Native.Nat.{ℕ}
 use mathlib.Core.Bool.{cond}
 use mathlib.Core.List.{List, [], _∷_, _++_}
 use lib.Dec.{eqb}
-use Rattle.report.specs.Numbers.{decimal, hex}
+use Rattle.report.specs.Numbers.{inDecimal, hex}
 
 -- each number after a space
 unfoldable pub spaced : List ℕ → List ℕ
 spaced [] = []
-spaced (n ∷ ns) = (32 ∷ decimal n) ++ spaced ns
+spaced (n ∷ ns) = (32 ∷ inDecimal n) ++ spaced ns
 
 -- a line: a word, what follows it, and the line's end
 unfoldable pub line : List ℕ → List ℕ → List ℕ
@@ -52,4 +52,4 @@ reasonWord reason = cond (eqb reason 1) (114 ∷ 97 ∷ 110 ∷ 103 ∷ 101 ∷ 
 
 -- a dropped point: its member, its number in the member, and why
 unfoldable pub droppedLine : ℕ → ℕ → ℕ → List ℕ
-droppedLine member point reason = line (decimal member) ((32 ∷ decimal point) ++ (32 ∷ reasonWord reason))
+droppedLine member point reason = line (inDecimal member) ((32 ∷ inDecimal point) ++ (32 ∷ reasonWord reason))

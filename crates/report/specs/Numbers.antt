@@ -8,18 +8,18 @@ use lib.Dec.{eqb, ltb}
 unfoldable pub glyph : ℕ → ℕ
 glyph d = cond (ltb d 10) (48 + d) (87 + d)
 
-unfoldable pub noneIf : Bool → List ℕ → List ℕ
-noneIf true xs = []
-noneIf false xs = xs
+unfoldable pub blankIf : Bool → List ℕ → List ℕ
+blankIf true xs = []
+blankIf false xs = xs
 
 -- the decimal digits of a number below 10 ^ k, with no zero in front: 0 has none
 unfoldable pub leading : ℕ → ℕ → List ℕ
 leading zero n = []
-leading (suc k) n = noneIf (eqb n 0) (leading k (n / 10) ++ (glyph (n % 10) ∷ []))
+leading (suc k) n = blankIf (eqb n 0) (leading k (n / 10) ++ (glyph (n % 10) ∷ []))
 
 -- a number below 10 ^ 20 in decimal: its last digit, and in front of it the others, with no zero in front (`decimal-value`, `decimal-short`)
-unfoldable pub decimal : ℕ → List ℕ
-decimal n = leading 19 (n / 10) ++ (glyph (n % 10) ∷ [])
+unfoldable pub inDecimal : ℕ → List ℕ
+inDecimal n = leading 19 (n / 10) ++ (glyph (n % 10) ∷ [])
 
 -- the last k hexadecimal digits of a number (`hex-value`)
 unfoldable pub hex : ℕ → ℕ → List ℕ

@@ -5,7 +5,7 @@ ghost use Prim.Native.Nat.{_<_};
 ghost use mathlib.Core.List.{[], _∷_};
 ghost use Rattle.report.specs.Pages.{page, Puts};
 ghost use Rattle.report.specs.Numbers.{glyph as Numbers·glyph};
-ghost use Rattle.report.specs.Numbers.{decimal, hex};
+ghost use Rattle.report.specs.Numbers.{inDecimal, hex};
 ghost use Rattle.report.specs.Lines.{spaced, gridLine, cellLine, globalLine, visitLine, crossingsLine, pairLine, refusedLine, reasonWord, droppedLine};
 
 // One byte, where there is room.
@@ -44,7 +44,7 @@ fn glyph(d: u64) -> u8
 
 // A number in decimal: its digits are found from the last to the first.
 fn put_decimal(n: u64, out: &mut [u8], at: usize) -> usize
-    ensures { λ r. ⌜ Puts (decimal n) (page (now (out .entry)) at) (page (now (out .exit)) r) ⌝ }
+    ensures { λ r. ⌜ Puts (inDecimal n) (page (now (out .entry)) at) (page (now (out .exit)) r) ⌝ }
 {
     let mut text = [0u8; 20];
     let mut i = 19;
@@ -75,7 +75,7 @@ fn put_hex(n: u64, out: &mut [u8], at: usize) -> usize
 
 // A space and a number in decimal.
 fn put_number(n: u64, out: &mut [u8], at: usize) -> usize
-    ensures { λ r. ⌜ Puts (32 ∷ decimal n) (page (now (out .entry)) at) (page (now (out .exit)) r) ⌝ }
+    ensures { λ r. ⌜ Puts (32 ∷ inDecimal n) (page (now (out .entry)) at) (page (now (out .exit)) r) ⌝ }
 {
     let at = put(b' ', out, at);
     put_decimal(n, out, at)

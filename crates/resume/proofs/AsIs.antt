@@ -11,7 +11,7 @@ use Rattle.grid.proofs.Bools.{and-right}
 use Rattle.tables.specs.Fit.{increases, Increasing}
 use Rattle.tables.proofs.Facts.{increases-says}
 use Rattle.through.proofs.AsIs.{if-true, if-false, if-says, none-increasing}
-use Rattle.resume.specs.AsTheyAre.{reachOf, globalsBy}
+use Rattle.resume.specs.AsTheyAre.{cellsLookedAt, globalsBy}
 
 -- ---- the globals
 
@@ -35,8 +35,8 @@ module _ (n : ℕ) (globals : List ℕ) (m : ℕ) where
     unfolding globalsBy
     globals-fit h = if-true _ (take m globals) (rw (le-leb m (length globals) within, ← e, h))
 
-pub reach-is : (cells told a b d : ℕ) → a ≡ told - 1 → b ≡ min cells a → d ≡ min b 1002001 → d ≡ reachOf cells told
-unfolding reachOf
+pub reach-is : (cells told a b d : ℕ) → a ≡ told - 1 → b ≡ min cells a → d ≡ min b 1002001 → d ≡ cellsLookedAt cells told
+unfolding cellsLookedAt
 reach-is cells told a b d p q s = s ∙ rw (q, p)
 
 -- ---- the line of a cursor

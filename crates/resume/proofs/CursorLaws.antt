@@ -32,8 +32,8 @@ use Rattle.through.specs.Runs.{FirstAt, LeftAt}
 use Rattle.through.proofs.AsIs.{list-increases}
 use Rattle.through.proofs.ListLaws.{from-later}
 use Rattle.through.proofs.CellTurns.{from-at}
-use Rattle.resume.specs.AsTheyAre.{reachOf, reach, listAs, globalsAs}
-use Rattle.resume.specs.Cursors.{countOn, indexOf, cursor, globalsFrom, spotOf, cursorOf}
+use Rattle.resume.specs.AsTheyAre.{cellsLookedAt, cellsToLook, listAs, globalsAs}
+use Rattle.resume.specs.Cursors.{zeroOrNext, indexOf, cursor, globalsFrom, spotOf, cursorOf}
 use Rattle.resume.specs.Inside.{SpotAsks}
 
 index-nil : (v : ℕ) → indexOf v [] ≡ 0
@@ -41,11 +41,11 @@ unfolding indexOf
 index-nil v = refl
 
 index-here : (v x : ℕ) (xs : List ℕ) → v ≡ x → indexOf v (x ∷ xs) ≡ 0
-unfolding indexOf countOn
+unfolding indexOf zeroOrNext
 index-here v x xs e = rw (eq-eqb v x e)
 
 index-later : (v x : ℕ) (xs : List ℕ) → (v ≡ x → ⊥) → indexOf v (x ∷ xs) ≡ suc (indexOf v xs)
-unfolding indexOf countOn
+unfolding indexOf zeroOrNext
 index-later v x xs e = rw (ne-eqb v x e)
 
 -- ---- the search, entry by entry
@@ -81,17 +81,17 @@ index-at low (x ∷ xs) (suc a) r h =
 
 -- ---- the cells that are looked at
 
-pub reach-in : (cells told : ℕ) → reachOf cells told ≤ cells
-unfolding reachOf
+pub reach-in : (cells told : ℕ) → cellsLookedAt cells told ≤ cells
+unfolding cellsLookedAt
 reach-in cells told = omega arith
 
-pub reach-most : (cells told : ℕ) → reachOf cells told ≤ 1002001
-unfolding reachOf
+pub reach-most : (cells told : ℕ) → cellsLookedAt cells told ≤ 1002001
+unfolding cellsLookedAt
 reach-most cells told = omega arith
 
 -- ---- the cursor of what is left
 
-pub cursor-end : (t : Tables) → cursorOf t [] ≡ cursor (reach t + length (globalsAs t)) 0 0
+pub cursor-end : (t : Tables) → cursorOf t [] ≡ cursor (cellsToLook t + length (globalsAs t)) 0 0
 unfolding cursorOf
 cursor-end t = refl
 
@@ -99,7 +99,7 @@ cursor-at : (t : Tables) (pl : Place) (a b : ℕ) (rest : List Pair) → cursorO
 unfolding cursorOf
 cursor-at t pl a b rest = refl
 
-pub cursor-global : (t : Tables) (a x y : ℕ) (rest : List Pair) → cursorOf t (pair (Global a) x y ∷ rest) ≡ cursor (reach t + a) 0 y
+pub cursor-global : (t : Tables) (a x y : ℕ) (rest : List Pair) → cursorOf t (pair (Global a) x y ∷ rest) ≡ cursor (cellsToLook t + a) 0 y
 unfolding cursorOf spotOf
 cursor-global t a x y rest = refl
 
@@ -116,7 +116,7 @@ global-begins n globals p q k g a b d stop f =
     f .same ∙ grest-run n (length globals) globals (g .table) a b d (f .fits) (f .inside) stop d (f .stops) (omega arith) (omega (arith, f .one))
     ∙ rw (numbers-some stop d (f .one), with-cons)
 
-module _ (t : Tables) (m : ℕ) (em : m ≡ reach t) where
+module _ (t : Tables) (m : ℕ) (em : m ≡ cellsToLook t) where
   -- what was found in the cells, taken apart
   pub cell-is : (rest : List Pair) (r : CellAt) → LeftAt (t .cols) (t .lines) m (t .offsets) (t .items) rest r → (c a b : ℕ) → r ≡ cellat.At c a b
       → FirstAt (t .cols) (t .lines) m (t .offsets) (t .items) rest c a b
@@ -160,7 +160,7 @@ module _ (t : Tables) (m : ℕ) (em : m ≡ reach t) where
 
 -- ---- as the code finds them
 
-pub reach-here : (rows cols told x y m : ℕ) → x ≡ rows → y ≡ cols → m ≡ reachOf (x * y) told → m ≡ reachOf (rows * cols) told
+pub reach-here : (rows cols told x y m : ℕ) → x ≡ rows → y ≡ cols → m ≡ cellsLookedAt (x * y) told → m ≡ cellsLookedAt (rows * cols) told
 reach-here rows cols told x y m p q e = e ∙ rw (p, q)
 
 pub spot-fits : (a b d : ℕ) → a < 4294967296 → b < 4294967296 → d < 4294967296 → a * b + d < 2 ^ 64
@@ -176,6 +176,6 @@ spotted-cell t pl row col a b e x y z p q s xs l i j u v =
     let k : xs ≡ listBy (t .lines) (t .offsets) (t .items) (row * t .cols + col) = l ∙ rw (p, q, s) in
     rw (e, u, v, k, p, q, s)
 
-pub spotted-global : (t : Tables) (pl : Place) (p a b : ℕ) → pl ≡ Global p → (m w : ℕ) → m ≡ reach t → w ≡ b → cursor (m + p) 0 w ≡ spotOf t pl a b
+pub spotted-global : (t : Tables) (pl : Place) (p a b : ℕ) → pl ≡ Global p → (m w : ℕ) → m ≡ cellsToLook t → w ≡ b → cursor (m + p) 0 w ≡ spotOf t pl a b
 unfolding spotOf
 spotted-global t pl p a b e m w q s = rw (e, q, s)

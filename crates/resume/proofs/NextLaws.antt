@@ -21,7 +21,7 @@ use Rattle.seek.specs.Tests.{Pair}
 use Rattle.visit.specs.Batches.{made, handed, firsts, seconds}
 use Rattle.visit.specs.Entries.{outputsCheck}
 use Rattle.seek.specs.Cursors.{globalsRest}
-use Rattle.visit.specs.Inside.{Moved}
+use Rattle.visit.specs.Inside.{TestsMoved}
 use Rattle.visit.proofs.Clauses.{made-full, handed-full, handed-none}
 use Rattle.visit.proofs.Moves.{none-made, none-handed}
 use Rattle.slices.specs.Slices.{clearedFrom}
@@ -29,12 +29,11 @@ use Rattle.refusals.specs.Refusals.{clears, zeroBeyond, _then_, answerBy, leftI
 use Rattle.refusals.specs.Refusals as refusals-words
 use Rattle.refusals.proofs.Leaving.{numbers-below, clearing-unless, clearing-then}
 use Rattle.grid.specs.declared.Grid.{Grid}
-use Rattle.tables.specs.Tables.{Tables}
-use Rattle.seek.specs.Bookmarks.{beside}
+use Rattle.tables.specs.Tables.{Tables, beside}
 use Rattle.visit.specs.Entries.{pairsLeft}
 use Rattle.through.specs.declared.CellsMade.{CellsMade}
 use Rattle.through.specs.Lists.{listBy, cellsFrom}
-use Rattle.through.specs.Runs.{lentCheck, within, alsoIf, runs, runTests, RanIs, CellsMadeIs}
+use Rattle.through.specs.Runs.{lentCheck, withinFit, alsoIf, runs, runTests, RanIs, CellsMadeIs}
 use Rattle.through.specs.Inside.{Goes}
 use Rattle.through.proofs.CellTurns.{from-done}
 use Rattle.through.proofs.Bounds.{cells-few}
@@ -45,7 +44,7 @@ use Rattle.resume.specs.declared.Went.{Went}
 use Rattle.resume.specs.declared.nexts.Ran.{Ran}
 use Rattle.resume.specs.declared.globals.GlobalsRan.{GlobalsRan}
 use Rattle.resume.specs.declared.NextAnswer.the-variants as next
-use Rattle.resume.specs.AsTheyAre.{reach, listAs, globalsAs}
+use Rattle.resume.specs.AsTheyAre.{cellsToLook, listAs, globalsAs}
 use Rattle.resume.specs.Cursors.{globalsFrom, leftFrom, cursorOf}
 use Rattle.resume.specs.Answers.{nextTests, nextAnswer, NextIs}
 use Rattle.resume.specs.Inside.{Passed, GlobalsAsk, GlobalsRanIs, GoAsks, RunAsks, leftBy, RunIs, SettleAsks, Gone}
@@ -131,7 +130,7 @@ module _ (ls : Lines) (cols m : ℕ) (offsets items globals : List ℕ) (c : Cur
   C : List Pair
   C = cellsFrom cols (listBy (count ls) offsets items) (m - c .place) (c .place) (c .i) (c .j)
 
-  all-within : within m ≡ m
+  all-within : withinFit m ≡ m
   all-within = omega (arith, a .most)
 
   runs-here : runs ls m (c .place) fs ss ≡ ltb (c .place) m
@@ -260,7 +259,7 @@ unfolding clearedFrom zeroBeyond
 cleared xs ys out n hits e p l h = e ∙ rw (p, l, h)
 
 module _ (ls : Lines) (g : Grid) (offsets items globals : List ℕ) (count-of : ℕ) (c : Cursor) (fs ss : List ℕ) where
-  module _ (m : ℕ) (em : m ≡ reach (beside ls g offsets items globals count-of)) (listed : List ℕ) (el : listed ≡ globalsAs (beside ls g offsets items globals count-of)) where
+  module _ (m : ℕ) (em : m ≡ cellsToLook (beside ls g offsets items globals count-of)) (listed : List ℕ) (el : listed ≡ globalsAs (beside ls g offsets items globals count-of)) where
     pub go-runs : GoAsks ls fs ss → RunAsks ls m listed fs ss
     go-runs a = record { asks = a; most = rw em (reach-most (g .rows * g .cols) (length offsets)); increase = rw el (globals-increase (count ls) globals count-of) }
 

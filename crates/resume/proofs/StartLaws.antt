@@ -32,7 +32,7 @@ use Rattle.seek.proofs.Standing.{Stands, stands}
 use Rattle.resume.specs.declared.Cursor.{Cursor}
 use Rattle.resume.specs.declared.StartAnswer.{StartAnswer}
 use Rattle.resume.specs.declared.StartAnswer.the-variants as start
-use Rattle.resume.specs.AsTheyAre.{reach, listAs, globalsAs}
+use Rattle.resume.specs.AsTheyAre.{cellsToLook, listAs, globalsAs}
 use Rattle.resume.specs.Cursors.{cursor, spotOf, cursorOf, leftFrom}
 use Rattle.resume.specs.Answers.{startAnswer}
 use Rattle.resume.specs.Inside.{SpotAsks}
@@ -43,7 +43,7 @@ cursor-first : (t : Tables) (p : Pair) (ps : List Pair) → cursorOf t (p ∷ ps
 unfolding cursorOf
 cursor-first t p ps = refl
 
-cursor-none : (t : Tables) → cursorOf t [] ≡ cursor (reach t + length (globalsAs t)) 0 0
+cursor-none : (t : Tables) → cursorOf t [] ≡ cursor (cellsToLook t + length (globalsAs t)) 0 0
 unfolding cursorOf
 cursor-none t = refl
 
@@ -62,7 +62,7 @@ made-by ls t x (gives []) h = let z : _≡_ {A = ℕ} 0 1 = cc in absurd (omega 
 made-by ls t x (gives (p ∷ ps)) h = let q : x ≡ testOf ls p = cc in rw q (ap start.At (sym (cursor-first t p ps)))
 
 end-by : (ls : Lines) (t : Tables) (a : Answer (List Pair)) → answer.End ≡ answerBy answer.Refused (nextTest ls) a
-    → start.At (cursor (reach t + length (globalsAs t)) 0 0) ≡ answerBy start.Refused (λ rest. start.At (cursorOf t rest)) a
+    → start.At (cursor (cellsToLook t + length (globalsAs t)) 0 0) ≡ answerBy start.Refused (λ rest. start.At (cursorOf t rest)) a
 unfolding answerBy nextTest
 end-by ls t (refused s) h = let z : _≡_ {A = ℕ} 0 1 = cc in absurd (omega arith)
 end-by ls t (gives []) h = ap start.At (sym (cursor-none t))
@@ -168,6 +168,6 @@ module _ (ls : Lines) (g : Grid) (t : Tables) (b : ℕ) where
   unfolding testAt
   start-asks a x e k = asks-by ls g t b x (testsFrom ls g t b) refl (sym k ∙ e)
 
-  pub start-end : (a : TestAnswer) → a ≡ testAt ls g t b → a ≡ answer.End → (m n : ℕ) → m ≡ reach t → n ≡ length (globalsAs t) → start.At (cursor (m + n) 0 0) ≡ startAnswer ls g t b
+  pub start-end : (a : TestAnswer) → a ≡ testAt ls g t b → a ≡ answer.End → (m n : ℕ) → m ≡ cellsToLook t → n ≡ length (globalsAs t) → start.At (cursor (m + n) 0 0) ≡ startAnswer ls g t b
   unfolding testAt startAnswer
   start-end a e k m n p q = rw (p, q) (end-by ls t (testsFrom ls g t b) (sym k ∙ e))

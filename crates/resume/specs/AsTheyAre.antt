@@ -10,11 +10,11 @@ use Rattle.tables.specs.Fit.{increases}
 use Rattle.through.specs.Lists.{listIf, listBy}
 
 -- how many cells are looked at: those of the grid that the offsets tell of, and no more than a fit grid can have
-unfoldable pub reachOf : ℕ → ℕ → ℕ
-reachOf cells told = min (min cells (told - 1)) 1002001
+unfoldable pub cellsLookedAt : ℕ → ℕ → ℕ
+cellsLookedAt cells told = min (min cells (told - 1)) 1002001
 
-abbrev pub reach : Tables → ℕ
-reach t = reachOf (cells t) (length (t .offsets))
+abbrev pub cellsToLook : Tables → ℕ
+cellsToLook t = cellsLookedAt (cells t) (length (t .offsets))
 
 -- the lists
 abbrev pub listAs : Tables → ℕ → List ℕ

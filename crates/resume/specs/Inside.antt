@@ -15,7 +15,7 @@ use Rattle.seek.specs.declared.Place.the-variants as place
 use Rattle.seek.specs.Tests.{Pair, withEach}
 use Rattle.seek.specs.Inside.{numbers}
 use Rattle.seek.specs.Cursors.{LineFits}
-use Rattle.visit.specs.Inside.{Moved, GlobalAsks, GlobalIs}
+use Rattle.visit.specs.Inside.{TestsMoved, GlobalAsks, GlobalIs}
 use Rattle.visit.specs.Batches.{made, handed, firsts, seconds}
 use Rattle.through.specs.Lists.{listBy, cellsFrom}
 use Rattle.through.specs.Runs.{lentCheck, LeftAt}
@@ -26,7 +26,7 @@ use Rattle.resume.specs.declared.globals.GlobalsRan.{GlobalsRan}
 use Rattle.resume.specs.declared.nexts.Ran.{Ran}
 use Rattle.resume.specs.declared.Cursor.{Cursor}
 use Rattle.resume.specs.declared.Went.{Went}
-use Rattle.resume.specs.AsTheyAre.{reach, globalsAs}
+use Rattle.resume.specs.AsTheyAre.{cellsToLook, globalsAs}
 use Rattle.resume.specs.Cursors.{globalsFrom, leftFrom}
 use Rattle.resume.specs.Answers.{wentOf}
 
@@ -47,7 +47,7 @@ pub record LinesAsk (ls : Lines) (line from many : ℕ) (fs ss : List ℕ) (hits
 -- the first m are done
 pub record LinesScanned (ls : Lines) (line from many m : ℕ) (fs ss : List ℕ) (hits : ℕ) (fs′ ss′ : List ℕ) (hits′ : ℕ) : Type 0 where
   pub moved : (pl : Place) (later : List Pair)
-      → Moved ls (withEach pl line (numbers many from) ++ later) (withEach pl line (numbers (many - m) (from + m)) ++ later) m (length fs) fs ss hits fs′ ss′ hits′
+      → TestsMoved ls (withEach pl line (numbers many from) ++ later) (withEach pl line (numbers (many - m) (from + m)) ++ later) m (length fs) fs ss hits fs′ ss′ hits′
   pub most : hits′ ≤ hits + m
   pub first-long : length fs′ ≡ length fs
   pub second-long : length ss′ ≡ length ss
@@ -82,7 +82,7 @@ pub record GlobalsRanIs (ls : Lines) (globals : List ℕ) (p k : ℕ) (fs ss : L
 -- ---- a place in the cells and one among the globals
 
 pub record SettleAsks (t : Tables) (m : ℕ) (globals : List ℕ) (p q k : ℕ) : Type 0 where
-  pub reach-is : m ≡ reach t
+  pub reach-is : m ≡ cellsToLook t
   pub globals-are : globals ≡ globalsAs t
   pub place : GlobalAsks (t .lines) (length globals) globals p q k
 

@@ -2,7 +2,7 @@
 use slices::least;
 ghost use mathlib.Core.Path.{_≡_};
 ghost use Prim.Native.Nat.{_-_};
-ghost use Rattle.resume.specs.AsTheyAre.{reachOf, globalsBy};
+ghost use Rattle.resume.specs.AsTheyAre.{cellsLookedAt, globalsBy};
 
 pub(crate) fn wide(x: u32) -> usize
     ensures { λ r. ⌜ r ≡ x ⌝ }
@@ -21,7 +21,7 @@ fn less_one(n: usize) -> usize
 
 // How many cells of a grid are looked at, where there are so many offsets.
 pub(crate) fn reach(cells: usize, told: usize) -> usize
-    ensures { λ r. ⌜ r ≡ reachOf cells told ⌝ }
+    ensures { λ r. ⌜ r ≡ cellsLookedAt cells told ⌝ }
 {
     least(least(cells, less_one(told)), 1002001)
 }

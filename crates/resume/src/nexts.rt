@@ -17,7 +17,7 @@ ghost use Prim.Native.Nat.{_-_, min};
 ghost use lib.Dec.{ltb};
 ghost use Rattle.slices.specs.Slices.{clearedFrom};
 ghost use Rattle.grid.specs.Domain.{lines};
-ghost use Rattle.seek.specs.Bookmarks.{beside};
+ghost use Rattle.tables.specs.Tables.{beside};
 ghost use Rattle.resume.specs.Answers.{NextIs};
 ghost use Rattle.resume.specs.Inside.{ZeroAfter, RunAsks, RunIs, GoAsks, Gone};
 

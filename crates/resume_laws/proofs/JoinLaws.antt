@@ -36,7 +36,7 @@ use Rattle.through.specs.Runs.{lentCheck}
 use Rattle.resume.specs.Answers.{nextTests, NextIs}
 use Rattle.resume.specs.declared.NextAnswer.{NextAnswer}
 use Rattle.resume.specs.declared.Cursor.{Cursor}
-use Rattle.resume.specs.AsTheyAre.{reachOf, reach, listAs, globalsBy, globalsAs}
+use Rattle.resume.specs.AsTheyAre.{cellsLookedAt, cellsToLook, listAs, globalsBy, globalsAs}
 use Rattle.resume.specs.Cursors.{cursor, globalsFrom, leftFrom, spotOf, cursorOf}
 use Rattle.resume_laws.specs.Words.{cursorAt}
 use Rattle.through.proofs.ListLaws.{from-later}
@@ -64,8 +64,8 @@ module _ (t : Tables) (f : TablesFit t) where
   unfolding globalsBy
   globals-same = if-taken _ (take (t .«global_count») (t .globals)) (rw (le-leb (t .«global_count») (length (t .globals)) (f .counted), says-increases (t .lines) (take (t .«global_count») (t .globals)) (f .globals)))
 
-  pub reach-same : cells t ≤ 1002001 → reach t ≡ cells t
-  unfolding reachOf
+  pub reach-same : cells t ≤ 1002001 → cellsToLook t ≡ cells t
+  unfolding cellsLookedAt
   reach-same h = omega (arith, f .long)
 
   cells-same : (left c : ℕ) → c + left ≤ cells t → cellTests (t .cols) (t .offsets) (t .items) left c ≡ cellsOf (t .cols) (listAs t) left c
@@ -246,28 +246,28 @@ tests-take n m globals (suc left) p h =
     ∙ sym (globals-suc n (take m globals) left p)
 
 module _ (t : Tables) where
-  left-inside : (c i j : ℕ) → c < reach t
-      → leftFrom t (cursor c i j) ≡ cellsFrom (t .cols) (listAs t) (reach t - c) c i j ++ globalTests (t .lines) (globalsAs t) (length (globalsAs t)) 0
+  left-inside : (c i j : ℕ) → c < cellsToLook t
+      → leftFrom t (cursor c i j) ≡ cellsFrom (t .cols) (listAs t) (cellsToLook t - c) c i j ++ globalTests (t .lines) (globalsAs t) (length (globalsAs t)) 0
   unfolding leftFrom
   left-inside c i j h =
-      let z : c - reach t ≡ 0 = omega arith in
+      let z : c - cellsToLook t ≡ 0 = omega arith in
       let e : globalsRest (t .lines) (globalsAs t) (length (globalsAs t) - 0) 0 0 ≡ globalTests (t .lines) (globalsAs t) (length (globalsAs t)) 0 =
       ap (λ (x : ℕ). globalsRest (t .lines) (globalsAs t) x 0 0) (sub-zero (length (globalsAs t))) ∙ sym (globals-begin (t .lines) (globalsAs t) (length (globalsAs t)) 0) in
-      rw (z, lt-ltb c (reach t) h) (ap (λ (l : List Pair). cellsFrom (t .cols) (listAs t) (reach t - c) c i j ++ l) e)
+      rw (z, lt-ltb c (cellsToLook t) h) (ap (λ (l : List Pair). cellsFrom (t .cols) (listAs t) (cellsToLook t - c) c i j ++ l) e)
 
-  left-beyond : (p k : ℕ) → leftFrom t (cursor (reach t + p) 0 k) ≡ globalsFrom (t .lines) (globalsAs t) p k
+  left-beyond : (p k : ℕ) → leftFrom t (cursor (cellsToLook t + p) 0 k) ≡ globalsFrom (t .lines) (globalsAs t) p k
   unfolding leftFrom
   left-beyond p k =
-      let y : reach t ≤ reach t + p = omega arith in
-      let z : reach t + p - reach t ≡ p = omega arith in
-      rw (from-done (t .cols) (listAs t) (reach t) (reach t + p) 0 k y, z, le-ltb (reach t + p) (reach t) y)
+      let y : cellsToLook t ≤ cellsToLook t + p = omega arith in
+      let z : cellsToLook t + p - cellsToLook t ≡ p = omega arith in
+      rw (from-done (t .cols) (listAs t) (cellsToLook t) (cellsToLook t + p) 0 k y, z, le-ltb (cellsToLook t + p) (cellsToLook t) y)
 
-  end-none : leftFrom t (cursor (reach t + length (globalsAs t)) 0 0) ≡ []
+  end-none : leftFrom t (cursor (cellsToLook t + length (globalsAs t)) 0 0) ≡ []
   end-none = left-beyond (length (globalsAs t)) 0 ∙ globals-done (t .lines) (globalsAs t) (length (globalsAs t)) (length (globalsAs t)) 0 (omega arith)
 
 module _ (t : Tables) (f : TablesFit t) (few : cells t ≤ 1002001) where
   C : List Pair
-  C = cellsOf (t .cols) (listAs t) (reach t) 0
+  C = cellsOf (t .cols) (listAs t) (cellsToLook t) 0
 
   G : List Pair
   G = globalTests (t .lines) (globalsAs t) (length (globalsAs t)) 0
@@ -278,25 +278,25 @@ module _ (t : Tables) (f : TablesFit t) (few : cells t ≤ 1002001) where
   tests-same : testsOf t ≡ C ++ G
   unfolding testsOf C G
   tests-same =
-      let a : cellTests (t .cols) (t .offsets) (t .items) (cells t) 0 ≡ cellsOf (t .cols) (listAs t) (reach t) 0 =
+      let a : cellTests (t .cols) (t .offsets) (t .items) (cells t) 0 ≡ cellsOf (t .cols) (listAs t) (cellsToLook t) 0 =
       cells-same t f (cells t) 0 (omega arith) ∙ ap (λ (x : ℕ). cellsOf (t .cols) (listAs t) x 0) (sym (reach-same t f few)) in
       let b : globalTests (t .lines) (t .globals) (t .«global_count») 0 ≡ globalTests (t .lines) (globalsAs t) (length (globalsAs t)) 0 =
       tests-take (t .lines) (t .«global_count») (t .globals) (t .«global_count») 0 (omega arith)
       ∙ ap (λ (l : List ℕ). globalTests (t .lines) l (t .«global_count») 0) (sym (globals-same t f))
       ∙ ap (λ (x : ℕ). globalTests (t .lines) (globalsAs t) x 0) (sym count-same) in
-      ap (λ (l : List Pair). l ++ globalTests (t .lines) (t .globals) (t .«global_count») 0) a ∙ ap (λ (l : List Pair). cellsOf (t .cols) (listAs t) (reach t) 0 ++ l) b
+      ap (λ (l : List Pair). l ++ globalTests (t .lines) (t .globals) (t .«global_count») 0) a ∙ ap (λ (l : List Pair). cellsOf (t .cols) (listAs t) (cellsToLook t) 0 ++ l) b
 
   in-cells : (b : ℕ) → b < length C → leftFrom t (cursorOf t (drop b (C ++ G))) ≡ drop b (C ++ G)
   unfolding C G
-  in-cells b h = go (spot-in-cells (t .cols) (reach t) (listAs t) (reach t) 0 b (omega arith) h)
+  in-cells b h = go (spot-in-cells (t .cols) (cellsToLook t) (listAs t) (cellsToLook t) 0 b (omega arith) h)
     where
-      go : CellSpot (t .cols) (reach t) (listAs t) (drop b (cellsOf (t .cols) (listAs t) (reach t) 0)) → leftFrom t (cursorOf t (drop b (C ++ G))) ≡ drop b (C ++ G)
+      go : CellSpot (t .cols) (cellsToLook t) (listAs t) (drop b (cellsOf (t .cols) (listAs t) (cellsToLook t) 0)) → leftFrom t (cursorOf t (drop b (C ++ G))) ≡ drop b (C ++ G)
       go s =
-          let e : drop b (cellsOf (t .cols) (listAs t) (reach t) 0 ++ globalTests (t .lines) (globalsAs t) (length (globalsAs t)) 0)
-          ≡ cellsFrom (t .cols) (listAs t) (reach t - s .c) (s .c) (s .i) (s .j) ++ globalTests (t .lines) (globalsAs t) (length (globalsAs t)) 0 =
-          drop-append-le b (cellsOf (t .cols) (listAs t) (reach t) 0) (globalTests (t .lines) (globalsAs t) (length (globalsAs t)) 0) (omega arith) ∙ ap (λ (l : List Pair). l ++ globalTests (t .lines) (globalsAs t) (length (globalsAs t)) 0) (s .is) in
-          let k : cursor (s .c) (s .i) (s .j) ≡ cursorOf t (cellsFrom (t .cols) (listAs t) (reach t - s .c) (s .c) (s .i) (s .j) ++ globalTests (t .lines) (globalsAs t) (length (globalsAs t)) 0) =
-          settled-cell t (reach t) refl (cellsFrom (t .cols) (listAs t) (reach t - s .c) (s .c) (s .i) (s .j)) (s .c) (s .i) (s .j) (record { inside = s .cell; later = s .later; among = s .inside; is = refl }) (globalTests (t .lines) (globalsAs t) (length (globalsAs t)) 0) in
+          let e : drop b (cellsOf (t .cols) (listAs t) (cellsToLook t) 0 ++ globalTests (t .lines) (globalsAs t) (length (globalsAs t)) 0)
+          ≡ cellsFrom (t .cols) (listAs t) (cellsToLook t - s .c) (s .c) (s .i) (s .j) ++ globalTests (t .lines) (globalsAs t) (length (globalsAs t)) 0 =
+          drop-append-le b (cellsOf (t .cols) (listAs t) (cellsToLook t) 0) (globalTests (t .lines) (globalsAs t) (length (globalsAs t)) 0) (omega arith) ∙ ap (λ (l : List Pair). l ++ globalTests (t .lines) (globalsAs t) (length (globalsAs t)) 0) (s .is) in
+          let k : cursor (s .c) (s .i) (s .j) ≡ cursorOf t (cellsFrom (t .cols) (listAs t) (cellsToLook t - s .c) (s .c) (s .i) (s .j) ++ globalTests (t .lines) (globalsAs t) (length (globalsAs t)) 0) =
+          settled-cell t (cellsToLook t) refl (cellsFrom (t .cols) (listAs t) (cellsToLook t - s .c) (s .c) (s .i) (s .j)) (s .c) (s .i) (s .j) (record { inside = s .cell; later = s .later; among = s .inside; is = refl }) (globalTests (t .lines) (globalsAs t) (length (globalsAs t)) 0) in
           ap (leftFrom t) (ap (cursorOf t) e ∙ sym k) ∙ left-inside t (s .c) (s .i) (s .j) (s .cell) ∙ sym e
 
   in-globals : (b : ℕ) → b < length G → leftFrom t (cursorOf t (drop b G)) ≡ drop b G

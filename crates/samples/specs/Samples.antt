@@ -41,21 +41,21 @@ abbrev pub samples : List ℤ → List ℤ → List ℤ → List ℤ → Samples
 samples x₀ y₀ x₁ y₁ = record { «start_x» = x₀; «start_y» = y₀; «end_x» = x₁; «end_y» = y₁ }
 
 -- the number of lines
-abbrev pub count : Samples → ℕ
-count ss = length (ss .«start_x»)
+abbrev pub sampleCount : Samples → ℕ
+sampleCount ss = length (ss .«start_x»)
 
 -- an entry; 0 beyond the end
-abbrev pub entryOf : List ℤ → ℕ → ℤ
-entryOf xs i = getD xs i (pos 0)
+abbrev pub entryAt : List ℤ → ℕ → ℤ
+entryAt xs i = getD xs i (pos 0)
 
 -- line i, as document 02's definition of a common point takes it
 abbrev pub wholeAt : Samples → ℕ → WholeSegment
 wholeAt ss i =
     record {
-      «start_x» = entryOf (ss .«start_x») i;
-      «start_y» = entryOf (ss .«start_y») i;
-      «end_x» = entryOf (ss .«end_x») i;
-      «end_y» = entryOf (ss .«end_y») i;
+      «start_x» = entryAt (ss .«start_x») i;
+      «start_y» = entryAt (ss .«start_y») i;
+      «end_x» = entryAt (ss .«end_x») i;
+      «end_y» = entryAt (ss .«end_y») i;
     }
 
 -- a line, raised
@@ -69,7 +69,7 @@ raisedOf s =
     }
 
 abbrev pub raisedIn : List ℤ → ℕ → ℕ
-raisedIn xs i = raised (entryOf xs i)
+raisedIn xs i = raised (entryAt xs i)
 
 abbrev pub raisedAt : Samples → ℕ → Raised
 raisedAt ss i = raisedOf (wholeAt ss i)
@@ -86,14 +86,14 @@ sampled a =
 -- ---- the checks
 
 -- 3: the slices differ in length
-unfoldable pub lengthsCheck : Samples → Check
-lengthsCheck ss =
-    unless (eqb (length (ss .«start_y»)) (count ss) && (eqb (length (ss .«end_x»)) (count ss) && eqb (length (ss .«end_y»)) (count ss))) 3 0
+unfoldable pub sampleLengthsCheck : Samples → Check
+sampleLengthsCheck ss =
+    unless (eqb (length (ss .«start_y»)) (sampleCount ss) && (eqb (length (ss .«end_x»)) (sampleCount ss) && eqb (length (ss .«end_y»)) (sampleCount ss))) 3 0
 
 -- 15: a number is no sample; the first such line
 unfoldable pub samplesCheck : Samples → Check
-samplesCheck ss = eachFrom (λ i. allSamples (wholeAt ss i)) 15 (count ss) 0
+samplesCheck ss = eachFrom (λ i. allSamples (wholeAt ss i)) 15 (sampleCount ss) 0
 
 -- 3, 2, 15, in that order
 unfoldable pub sampleLinesCheck : Samples → Check
-sampleLinesCheck ss = andThen (lengthsCheck ss) (andThen (countCheck (count ss)) (samplesCheck ss))
+sampleLinesCheck ss = andThen (sampleLengthsCheck ss) (andThen (countCheck (sampleCount ss)) (samplesCheck ss))

@@ -5,7 +5,7 @@ use refusals::Check;
 use refusals::Refusal;
 use refusals::refuse_unless;
 ghost use mathlib.Core.Path.{_≡_};
-ghost use Rattle.samples.specs.Samples.{samples, sampled, lengthsCheck, samplesCheck, sampleLinesCheck};
+ghost use Rattle.samples.specs.Samples.{samples, sampled, sampleLengthsCheck, samplesCheck, sampleLinesCheck};
 
 // Whether the four numbers of a line are raised samples.
 pub(crate) fn is_sampled(a: Raised) -> bool
@@ -17,7 +17,7 @@ pub(crate) fn is_sampled(a: Raised) -> bool
 
 // The slices have one length.
 fn check_lengths(start_x: &[i32], start_y: &[i32], end_x: &[i32], end_y: &[i32]) -> Check
-    ensures { λ r. ⌜ r ≡ lengthsCheck (samples (now («start_x» .entry)) (now («start_y» .entry)) (now («end_x» .entry)) (now («end_y» .entry))) ⌝ }
+    ensures { λ r. ⌜ r ≡ sampleLengthsCheck (samples (now («start_x» .entry)) (now («start_y» .entry)) (now («end_x» .entry)) (now («end_y» .entry))) ⌝ }
 {
     let n = start_x.len();
     let same = (start_y.len() == n) & ((end_x.len() == n) & (end_y.len() == n));

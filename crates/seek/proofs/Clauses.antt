@@ -7,7 +7,7 @@ use native.Mathlib.Omega.{arith}
 use lib.ListN.{length, getD, take, drop}
 use lib.Seq.{drop-append-add}
 use Rattle.slices.specs.Lists.{elem}
-use Rattle.slices.specs.Slices.{unless}
+use Rattle.slices.specs.Slices.{consUnless}
 use Rattle.tables.specs.Tables.{listIn}
 use Rattle.seek.specs.declared.Place.{Place}
 use Rattle.seek.specs.declared.Place.the-variants.{Global}
@@ -80,16 +80,16 @@ pub others-zero : (xs : List ℕ) (k : ℕ) → others xs 0 k ≡ []
 unfolding others
 others-zero xs k = refl
 
-pub others-suc : (xs : List ℕ) (left k : ℕ) → others xs (suc left) k ≡ unless (elem k xs) k (others xs left (suc k))
+pub others-suc : (xs : List ℕ) (left k : ℕ) → others xs (suc left) k ≡ consUnless (elem k xs) k (others xs left (suc k))
 unfolding others
 others-suc xs left k = refl
 
 pub others-in : (xs : List ℕ) (left k : ℕ) → elem k xs ≡ true → others xs (suc left) k ≡ others xs left (suc k)
-unfolding others unless
+unfolding others consUnless
 others-in xs left k h = rw h
 
 pub others-out : (xs : List ℕ) (left k : ℕ) → elem k xs ≡ false → others xs (suc left) k ≡ k ∷ others xs left (suc k)
-unfolding others unless
+unfolding others consUnless
 others-out xs left k h = rw h
 
 pub numbers-zero : (k : ℕ) → numbers 0 k ≡ []

@@ -16,7 +16,7 @@ use Rattle.seek.specs.declared.PairAnswer.the-variants as answer
 use Rattle.seek.specs.Tests.{Pair, pair, withEach, placeOf, others, globalTests}
 use Rattle.seek.specs.Bookmarks.{firstOf}
 use Rattle.seek.specs.Cursors.{globalsRest, LineFits, rankOf, atTest, atFirst}
-use Rattle.seek.specs.Inside.{CellsFit, GlobalsFit, stopOf, PairAsks, pairOf}
+use Rattle.seek.specs.Inside.{CellsFit, GlobalsFit, stopOf, PairAtAsks, pairOf}
 use Rattle.seek.proofs.Clauses.{left-suc, with-cons, others-out}
 use Rattle.seek.proofs.CellRests.{length-list}
 use Rattle.seek.proofs.GlobalRests.{grest-at, stop-most, free}
@@ -123,7 +123,7 @@ module _ (t : Tables) where
 
 module _ (m : ℕ) (offsets items globals : List ℕ) (count : ℕ) (c : Cursor) where
   -- the two entries are among the items
-  pub pair-in : PairAsks m offsets items globals count c → c .cell < m → getD offsets (c .cell) 0 + c .j < length items
+  pub pair-in : PairAtAsks m offsets items globals count c → c .cell < m → getD offsets (c .cell) 0 + c .j < length items
   pair-in a h = omega (arith, a .inside h, a .table .within (suc (c .cell)) h)
 
   module _ (cols : ℕ) where

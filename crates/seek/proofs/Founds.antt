@@ -11,13 +11,13 @@ use Rattle.slices.specs.Lists.{Rising}
 use Rattle.refusals.specs.declared.Check.the-variants.{Fine}
 use Rattle.grid.specs.declared.Grid.{Grid}
 use Rattle.grid.specs.Domain.{Lines, count}
-use Rattle.tables.specs.Tables.{Tables, cells, listIn}
+use Rattle.tables.specs.Tables.{Tables, cells, listIn, beside}
 use Rattle.seek.specs.declared.Place.{Place}
 use Rattle.seek.specs.declared.Place.the-variants.{Global}
 use Rattle.seek.specs.declared.Cursor.{Cursor}
 use Rattle.seek.specs.Tests.{Pair, withEach, pairs, placeOf, cellTests, others, globalTests, testsOf}
-use Rattle.seek.specs.Bookmarks.{beside, visitCheck}
-use Rattle.seek.specs.Inside.{tri, CellsFit, GlobalsFit, CellSought, RowSought, GlobalSought, LineSought, SoughtAsks, PairAsks, SoughtAt}
+use Rattle.seek.specs.Bookmarks.{visitCheck}
+use Rattle.seek.specs.Inside.{tri, CellsFit, GlobalsFit, CellSought, RowSought, GlobalSought, LineSought, SoughtAsks, PairAtAsks, SoughtAt}
 use Rattle.seek.specs.Cursors.{cellsRest, globalsRest, restIn, restOf, PlaceFits, LineFits, atFirst, CursorIs}
 use Rattle.seek.proofs.Clauses.{left-suc, length-with, drop-with, with-cons, pairs-cons, cells-zero, cells-suc, globals-zero, globals-suc}
 use Rattle.seek.proofs.CellRests.{length-list, rest-at, cells-done}
@@ -50,7 +50,7 @@ module _ (ls : Lines) (g : Grid) (offsets items globals : List ℕ) (k : ℕ) (f
   pub table-globals : GlobalsFit (count ls) k globals
   table-globals = globals-fit (beside ls g offsets items globals k) ((here ls g offsets items globals k fine) .tables)
 
-  stood : (c : Cursor) → c .i < c .j → (c .cell < m → c .j < getD offsets (suc (c .cell)) 0 - getD offsets (c .cell) 0) → PairAsks m offsets items globals k c
+  stood : (c : Cursor) → c .i < c .j → (c .cell < m → c .j < getD offsets (suc (c .cell)) 0 - getD offsets (c .cell) 0) → PairAtAsks m offsets items globals k c
   stood c l f = record { table = table; few = m-few ls g offsets items globals k fine m e; long = table-globals .long; later = l; inside = f }
 
   tail : List Pair

@@ -10,11 +10,10 @@ use lib.Seq.{length-take-le}
 use Rattle.slices.specs.Lists.{Below, Rising}
 use Rattle.grid.specs.declared.Grid.{Grid}
 use Rattle.grid.specs.Domain.{Lines, count}
-use Rattle.tables.specs.Tables.{Tables, cells, listIn, globalsOf}
+use Rattle.tables.specs.Tables.{Tables, cells, listIn, globalsOf, beside}
 use Rattle.tables.specs.Fit.{TablesFit, Increasing}
 use Rattle.seek.specs.declared.Place.{Place}
 use Rattle.seek.specs.Tests.{Pair, withEach, pairs, placeOf, cellTests, others, globalTests, testsOf}
-use Rattle.seek.specs.Bookmarks.{beside}
 use Rattle.seek.specs.Inside.{tri, GlobalsFit}
 use Rattle.seek.proofs.Clauses.{length-with, pairs-nil, pairs-cons, cells-zero, cells-suc, globals-zero, globals-suc}
 use Rattle.seek.proofs.OtherLines.{others-count, rising-take, below-take}

@@ -11,7 +11,7 @@ use lib.Seq.{drop-at}
 use lib.Dec.{eqb}
 use borrow.Author.Tests.{eq-eqb, ne-eqb}
 use Rattle.slices.specs.Lists.{elem, Below, Rising}
-use Rattle.slices.specs.Slices.{unless}
+use Rattle.slices.specs.Slices.{consUnless}
 use Rattle.slices.proofs.Members.{elem-head}
 use Rattle.slices.proofs.Distinct.{rising-low}
 use Rattle.seek.specs.Tests.{others}

@@ -9,8 +9,8 @@ use Rattle.slices.specs.Lists.{Below}
 use Rattle.refusals.specs.declared.Check.the-variants.{Fine}
 use Rattle.grid.specs.declared.Grid.{Grid}
 use Rattle.grid.specs.Domain.{Lines, count}
-use Rattle.tables.specs.Tables.{listIn}
-use Rattle.seek.specs.Bookmarks.{beside, visitCheck}
+use Rattle.tables.specs.Tables.{listIn, beside}
+use Rattle.seek.specs.Bookmarks.{visitCheck}
 use Rattle.seek.specs.Inside.{CellsFit}
 use Rattle.seek.proofs.Standing.{Stands, stands, cells-fit, lists-below, has-columns}
 use Rattle.seek.proofs.Lengths.{length-increasing}

@@ -16,10 +16,10 @@ use Rattle.grid.specs.declared.Grid.{Grid}
 use Rattle.grid.specs.Domain.{Lines, count, linesCheck, gridCheck, fit}
 use Rattle.grid.proofs.Fine.{LinesFit, lines-fine}
 use Rattle.grid.proofs.Shapes.{Fit, fit-says}
-use Rattle.tables.specs.Tables.{Tables, cells, listIn, globalsOf}
+use Rattle.tables.specs.Tables.{Tables, cells, listIn, globalsOf, beside}
 use Rattle.tables.specs.Fit.{TablesFit, ListsFit, Increasing, tablesCheck}
 use Rattle.tables.proofs.Facts.{check-facts, all-within}
-use Rattle.seek.specs.Bookmarks.{visitCheck, beside}
+use Rattle.seek.specs.Bookmarks.{visitCheck}
 use Rattle.seek.specs.Inside.{CellsFit, GlobalsFit}
 
 -- tables that fit, as the private functions ask for them

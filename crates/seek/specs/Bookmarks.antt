@@ -15,10 +15,6 @@ use Rattle.seek.specs.Tests.{Pair, testsOf}
 
 -- ---- the refusals
 
--- the tables that are lent beside lines
-abbrev pub beside : Lines → Grid → List ℕ → List ℕ → List ℕ → ℕ → Tables
-beside ls g offsets items globals n = tables g (count ls) offsets items globals n
-
 -- 3, 2, 1 of the lines, 8 of the grid, 10 of the tables
 unfoldable pub visitCheck : Lines → Grid → Tables → Check
 visitCheck ls g t = andThen (linesCheck ls) (andThen (gridCheck g) (tablesCheck t))

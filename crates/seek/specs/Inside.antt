@@ -89,7 +89,7 @@ pub record SoughtAsks (n m : ℕ) (globals : List ℕ) (p left : ℕ) : Type 0 w
 -- ---- the test at a cursor
 
 -- a cursor that stands at a test of tables that fit, or at their end
-pub record PairAsks (m : ℕ) (offsets items globals : List ℕ) (count : ℕ) (c : Cursor) : Type 0 where
+pub record PairAtAsks (m : ℕ) (offsets items globals : List ℕ) (count : ℕ) (c : Cursor) : Type 0 where
   pub table : CellsFit m offsets items
   pub few : m < 2 ^ 32
   pub long : count ≤ length globals
@@ -106,7 +106,7 @@ pairOf m cols offsets items globals count c =
 -- the cursor of a bookmark, and the test that stands there
 pub record SoughtAt (ls : Lines) (g : Grid) (t : Tables) (bookmark : ℕ) (c : Cursor) : Type 0 where
   pub is : CursorIs ls g t bookmark c
-  pub asks : PairAsks (cells t) (t .offsets) (t .items) (t .globals) (t .«global_count») c
+  pub asks : PairAtAsks (cells t) (t .offsets) (t .items) (t .globals) (t .«global_count») c
   pub reads : pairOf (cells t) (t .cols) (t .offsets) (t .items) (t .globals) (t .«global_count») c ≡ firstOf (drop bookmark (testsOf t))
 
 abbrev pub SeekIs : Lines → Grid → Tables → ℕ → Sought → Type 0

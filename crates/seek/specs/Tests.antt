@@ -5,7 +5,7 @@ use Prim.Native.Nat.{ℕ, zero, suc, _/_, _%_}
 use mathlib.Core.List.{List, [], _∷_, _++_}
 use lib.ListN.{getD, take}
 use Rattle.slices.specs.Lists.{elem}
-use Rattle.slices.specs.Slices.{unless}
+use Rattle.slices.specs.Slices.{consUnless}
 use Rattle.tables.specs.Tables.{Tables, cells, listIn}
 use Rattle.seek.specs.declared.Place.{Place}
 use Rattle.seek.specs.declared.Place.the-variants.{Cell, Global}
@@ -41,7 +41,7 @@ cellTests cols offsets items (suc left) c = pairs (placeOf cols c) (listIn offse
 -- of the `left` lines from k on, those that are not in a list
 unfoldable pub others : List ℕ → ℕ → ℕ → List ℕ
 others xs zero k = []
-others xs (suc left) k = unless (elem k xs) k (others xs left (suc k))
+others xs (suc left) k = consUnless (elem k xs) k (others xs left (suc k))
 
 -- `left` globals from position p on, each with every line but itself and the lower globals
 unfoldable pub globalTests : ℕ → List ℕ → ℕ → ℕ → List Pair

@@ -9,11 +9,12 @@ use refusals::Check;
 use refusals::Refusal;
 ghost use mathlib.Core.Path.{_≡_};
 ghost use Prim.Native.Nat.{_*_, _<_};
+ghost use Rattle.tables.specs.Tables.{beside};
 ghost use Rattle.refusals.specs.declared.Check.the-variants.{Fine};
 ghost use Rattle.grid.specs.Domain.{lines};
-ghost use Rattle.seek.specs.Bookmarks.{beside, visitCheck, pairAt};
+ghost use Rattle.seek.specs.Bookmarks.{visitCheck, pairAt};
 ghost use Rattle.seek.specs.Cursors.{FindIs};
-ghost use Rattle.seek.specs.Inside.{tri, CellsFit, CellSought, RowSought, GlobalsFit, GlobalSought, SoughtAsks, LineSought, SeekIs, PairAsks, pairOf};
+ghost use Rattle.seek.specs.Inside.{tri, CellsFit, CellSought, RowSought, GlobalsFit, GlobalSought, SoughtAsks, LineSought, SeekIs, PairAtAsks, pairOf};
 
 pub(crate) enum Sought {
     At(Cursor),
@@ -267,7 +268,7 @@ fn pair_of(
     globals: &[u32],
     global_count: usize,
 ) -> PairAnswer
-    requires { ⌜ PairAsks (grid .rows * grid .cols) (now offsets) (now items) (now globals) «global_count» cursor ⌝ }
+    requires { ⌜ PairAtAsks (grid .rows * grid .cols) (now offsets) (now items) (now globals) «global_count» cursor ⌝ }
     ensures { λ r. ⌜ r ≡ pairOf (grid .rows * grid .cols) (grid .cols) (now (offsets .entry)) (now (items .entry)) (now (globals .entry)) «global_count» cursor ⌝ }
 {
     let cells = wide(grid.rows) * wide(grid.cols);

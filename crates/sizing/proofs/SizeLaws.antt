@@ -25,7 +25,7 @@ use Rattle.sizing.specs.declared.Sizing.{Sizing}
 use Rattle.sizing.specs.declared.Sizing.the-variants.{Square, Axes}
 use Rattle.sizing.specs.declared.Extent.{Extent}
 use Rattle.sizing.specs.declared.Size.{Size}
-use Rattle.sizing.specs.Size.{largest, areaOf, squareSide, sideOn, firstSize}
+use Rattle.sizing.specs.Size.{largest, areaOf, squareSide, lengthOn, firstSize}
 use Rattle.sizing.proofs.Constants.{nought, 1e-9, 1e-9-is, 1e-6, 1e-6-is, thousand, thousand-is, 2e9, 2e9-is}
 use Rattle.numbers.proofs.Extremes.{greatest-one, greatest-over}
 use Rattle.sizing.proofs.Reach.{Spans}
@@ -319,8 +319,8 @@ pub record SizedOn (e : Extent) (j : ℕ) (s : Size) : Type 0 where
   pub wide : Across (e .width) j (s .«cell_width»)
   pub high : Across (e .height) j (s .«cell_height»)
 
-side-across : (w s : Float) → Spans w → T (positive s) → T (le one s) → Across w 1 (sideOn w s)
-unfolding sideOn
+side-across : (w s : Float) → Spans w → T (positive s) → T (le one s) → Across w 1 (lengthOn w s)
+unfolding lengthOn
 side-across w s p s+ l = largest-across (div binary64 w s) w (quotient-target w s p s+ l) p w p (le-self w (span-number w p))
 
 pub first-sized : (z : Sizing) (e : Extent) (n : ℕ) → Spans (e .width) → Spans (e .height) → 1 ≤ n → n ≤ 2 ^ 64 → SizedOn e 1 (firstSize z e n)

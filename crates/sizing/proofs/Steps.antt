@@ -18,7 +18,7 @@ use Rattle.sizing.specs.declared.Sizing.{Sizing}
 use Rattle.sizing.specs.declared.Sizing.the-variants.{Square, Axes}
 use Rattle.sizing.specs.declared.Size.{Size}
 use Rattle.sizing.specs.Bounds.{picked, lowest, highest, reach, whole, extentOf}
-use Rattle.sizing.specs.Size.{largest, areaOf, squareSide, sideOn, firstSize}
+use Rattle.sizing.specs.Size.{largest, areaOf, squareSide, lengthOn, firstSize}
 use Rattle.sizing.specs.Counts.{countOn, gridOf}
 
 -- ---- the literals
@@ -93,7 +93,7 @@ module _ (e : Extent) (n : ℕ) where
     unfolding firstSize
     size-square is p = rw is (cc)
 
-    pub size-axes : {k s w h : Float} → z ≡ Axes → k ≡ ofInt binary64 (pos n) → s ≡ root k → w ≡ sideOn (e .width) s → h ≡ sideOn (e .height) s
+    pub size-axes : {k s w h : Float} → z ≡ Axes → k ≡ ofInt binary64 (pos n) → s ≡ root k → w ≡ lengthOn (e .width) s → h ≡ lengthOn (e .height) s
         → _≡_ {A = Size} (record { «cell_width» = w; «cell_height» = h }) (firstSize z e n)
     unfolding firstSize
     size-axes is p q u v = rw is (cc)

@@ -13,7 +13,7 @@ use Rattle.grid.specs.Domain.{Lines, lines, count}
 use Rattle.sizing.specs.declared.Sizing.{Sizing}
 use Rattle.sizing.specs.declared.Sizing.the-variants.{Square, Axes}
 use Rattle.sizing.specs.Bounds.{lowest, highest, reach, extentOf}
-use Rattle.sizing.specs.Size.{largest, areaOf, squareSide, sideOn, firstSize}
+use Rattle.sizing.specs.Size.{largest, areaOf, squareSide, lengthOn, firstSize}
 use Rattle.sizing.specs.Counts.{countOn, gridOf}
 use Rattle.sizing.proofs.Constants.{1e-6}
 
@@ -72,24 +72,24 @@ sample = refl
 -- ---- by axis
 
 one-line-by-axis : first Axes diagonal ≡ sized 2f 2f 2 2
-unfolding lowest highest reach extentOf largest sideOn firstSize countOn gridOf leastOf greatestOf ceilingOf root lt isNan sub round ofInt add div
+unfolding lowest highest reach extentOf largest lengthOn firstSize countOn gridOf leastOf greatestOf ceilingOf root lt isNan sub round ofInt add div
 one-line-by-axis = refl
 
 -- a side of 0 has one cell of 1e-6
 one-point-by-axis : first Axes spot ≡ sized 1e-6 1e-6 1 1
-unfolding lowest highest reach extentOf largest sideOn firstSize countOn gridOf leastOf greatestOf ceilingOf root lt isNan sub round ofInt add div
+unfolding lowest highest reach extentOf largest lengthOn firstSize countOn gridOf leastOf greatestOf ceilingOf root lt isNan sub round ofInt add div
 one-point-by-axis = refl
 
 sample-by-axis : first Axes round-trip ≡ sized 1f 1f 3 3
-unfolding lowest highest reach extentOf largest sideOn firstSize countOn gridOf leastOf greatestOf ceilingOf root lt isNan sub round ofInt add div
+unfolding lowest highest reach extentOf largest lengthOn firstSize countOn gridOf leastOf greatestOf ceilingOf root lt isNan sub round ofInt add div
 sample-by-axis = refl
 
 -- (0, 0) to (2, 0): the height is sized from the height alone
 level-by-axis : first Axes (lines (0f ∷ []) (0f ∷ []) (2f ∷ []) (0f ∷ [])) ≡ sized 2f 1e-6 2 1
-unfolding lowest highest reach extentOf largest sideOn firstSize countOn gridOf leastOf greatestOf ceilingOf root lt isNan sub round ofInt add div
+unfolding lowest highest reach extentOf largest lengthOn firstSize countOn gridOf leastOf greatestOf ceilingOf root lt isNan sub round ofInt add div
 level-by-axis = refl
 
 -- four lines along the diagonal from (0, 0) to (2, 32): half of 2 wide, half of 32 high
 tall-by-axis : first Axes (lines (0f ∷ 0f ∷ 0f ∷ 0f ∷ []) (0f ∷ 0f ∷ 0f ∷ 0f ∷ []) (2f ∷ 2f ∷ 2f ∷ 2f ∷ []) (32f ∷ 32f ∷ 32f ∷ 32f ∷ [])) ≡ sized 1f 16f 3 3
-unfolding lowest highest reach extentOf largest sideOn firstSize countOn gridOf leastOf greatestOf ceilingOf root lt isNan sub round ofInt add div
+unfolding lowest highest reach extentOf largest lengthOn firstSize countOn gridOf leastOf greatestOf ceilingOf root lt isNan sub round ofInt add div
 tall-by-axis = refl

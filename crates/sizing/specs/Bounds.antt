@@ -3,7 +3,8 @@ use Prim.Native.Nat.{ℕ, zero, suc, _-_, _*_, _^_, min}
 use mathlib.Core.Bool.{true, false}
 use mathlib.Core.List.{List}
 use lib.ListN.{length, getD}
-use lib.Ieee.{Float, nan, binary64, round, sub}
+use lib.Ieee.{Float, nan, binary64, round}
+use Rattle.numbers.specs.Arithmetic.{_-₆₄_}
 use Rattle.numbers.specs.Order.{leastOf, greatestOf}
 use Rattle.grid.specs.Domain.{Lines}
 use Rattle.sizing.specs.declared.Extent.{Extent}
@@ -25,7 +26,7 @@ highest starts ends n = picked greatestOf (round binary64 true ((2 ^ 53 - 1) * 2
 
 -- how far they are apart: the greatest less the least
 unfoldable pub reach : List Float → List Float → ℕ → Float
-reach starts ends n = sub binary64 (highest starts ends n) (lowest starts ends n)
+reach starts ends n = highest starts ends n -₆₄ lowest starts ends n
 
 -- the lines that every slice has
 abbrev pub whole : Lines → ℕ

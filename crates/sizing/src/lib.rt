@@ -5,7 +5,7 @@ ghost use Prim.Native.Nat.{_≤_, min};
 ghost use lib.ListN.{length};
 ghost use Rattle.grid.specs.Domain.{lines};
 ghost use Rattle.sizing.specs.Bounds.{lowest, highest, extentOf};
-ghost use Rattle.sizing.specs.Size.{largest, areaOf, squareSide, sideOn, firstSize, halfOf};
+ghost use Rattle.sizing.specs.Size.{largest, areaOf, squareSide, lengthOn, firstSize, halfOf};
 ghost use Rattle.sizing.specs.Counts.{countOn, gridOf, emptyGrid};
 use grid::Grid;
 use numbers::ceiling::ceiling;
@@ -113,7 +113,7 @@ fn square_side(extent: Extent, lines: usize) -> f64
 
 // About s cells across an axis.
 fn side_on(width: f64, s: f64) -> f64
-    ensures { λ r. ⌜ r ≡ sideOn width s ⌝ }
+    ensures { λ r. ⌜ r ≡ lengthOn width s ⌝ }
 {
     largest_of(width / s, width)
 }

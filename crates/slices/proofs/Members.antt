@@ -8,7 +8,7 @@ use mathlib.Core.List.{List, [], _∷_, _++_}
 use lib.ListN.{length, getD}
 use lib.Dec.{eqb, leb}
 use borrow.Author.Tests.{eq-eqb, eqb-true}
-use Rattle.slices.specs.Slices.{sorted, insert, insertIf, after, unless, distinctOf}
+use Rattle.slices.specs.Slices.{sorted, insert, insertIf, after, consUnless, distinctOf}
 use Rattle.slices.specs.Lists.{any, elem, Below}
 
 -- ---- some entry passes a test
@@ -46,11 +46,11 @@ any-sorted f [] = refl
 any-sorted f (x ∷ l) = any-insert f x (sorted l) ∙ ap (λ (b : Bool). f x || b) (any-sorted f l)
 
 any-after : (f : ℕ → Bool) (p : ℕ) (l : List ℕ) → f p || any f (after p l) ≡ f p || any f l
-unfolding after unless
+unfolding after consUnless
 any-after f p [] = refl
 any-after f p (x ∷ l) = go (eqb x p) refl (any-after f x l)
   where
-    go : (b : Bool) → eqb x p ≡ b → f x || any f (after x l) ≡ f x || any f l → f p || any f (unless b x (after x l)) ≡ f p || (f x || any f l)
+    go : (b : Bool) → eqb x p ≡ b → f x || any f (after x l) ≡ f x || any f l → f p || any f (consUnless b x (after x l)) ≡ f p || (f x || any f l)
     go true e ih = rw (← eqb-true x p e) (ih ∙ sym (or-twice (f x) (any f l)))
     go false e ih = ap (λ (b : Bool). f p || b) ih
 

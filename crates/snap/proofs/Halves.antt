@@ -28,7 +28,7 @@ use Rattle.numbers.proofs.FloatSum.{zero-le}
 use Rattle.numbers.proofs.FloatQuotient.{div-is, num-pos}
 use Rattle.grid.specs.Domain.{coordinate, snapSize}
 use Rattle.snap.specs.Snap.{gridSnap, snapOf}
-use Rattle.snap.specs.Strategies.{signOf, geosSnap, geosOf, sameBits}
+use Rattle.snap.specs.Strategies.{signOne, geosSnap, geosOf, sameBits}
 use Rattle.snap.proofs.HalfSums.{Under, floor-rounded, under-whole, under-fraction}
 
 -- the largest float below one half: 0.49999999999999994
@@ -174,7 +174,7 @@ below-quotient v size h k z = go v (magnitude-finite v 1e9 tt within) within
 
 -- GeosCompat's whole number, with its sign
 abbrev geosScaled : Float → Float
-geosScaled q = mul binary64 (floorOf (add binary64 (magnitudeOf q) (round binary64 false 1 2))) (signOf q)
+geosScaled q = mul binary64 (floorOf (add binary64 (magnitudeOf q) (round binary64 false 1 2))) (signOne q)
 
 half-value : HasValue (round binary64 false 1 2) false 1 2
 unfolding round
@@ -189,8 +189,8 @@ signed-at f s (fin true m e) a c C h = absurd (true≢false (h .0))
 signed-at f true (fin false m e) a c C h = round-same f true (m * up e * (1 * 1)) (down e * 1) a c (rw mul-one (down-pos e)) C (ap (λ (z : ℕ). z * c) (mul-one (m * up e)) ∙ h .1 ∙ ap (λ (z : ℕ). a * z) (sym (mul-one (down e))))
 signed-at f false (fin false m e) a c C h = round-same f false (m * up e * (1 * 1)) (down e * 1) a c (rw mul-one (down-pos e)) C (ap (λ (z : ℕ). z * c) (mul-one (m * up e)) ∙ h .1 ∙ ap (λ (z : ℕ). a * z) (sym (mul-one (down e))))
 
-sign-is : (s : Bool) (m : ℕ) (e : ℤ) → signOf (fin s m e) ≡ fin s 1 (pos 0)
-unfolding signOf round
+sign-is : (s : Bool) (m : ℕ) (e : ℤ) → signOne (fin s m e) ≡ fin s 1 (pos 0)
+unfolding signOne round
 sign-is s m e = refl
 
 few-digits : (s : Bool) (m : ℕ) (e : ℤ) → T (fits binary64 (fin s m e)) → m < 2 ^ 53
@@ -259,7 +259,7 @@ unfolding roundAway round
 away-there s = refl
 
 scaled-there : (s : Bool) → geosScaled (fin s 9007199254740991 (negsuc 53)) ≡ fin s 1 (pos 0)
-unfolding floorOf add mul magnitudeOf signOf round
+unfolding floorOf add mul magnitudeOf signOne round
 scaled-there true = refl
 scaled-there false = refl
 

@@ -1,8 +1,9 @@
 -- Document 01, "Ownership and snapping", its second paragraph, with document 02's change 13: Grid is the only strategy. Each float step rounds once,
 -- in the written order. Definitions only.
 use Prim.Native.Nat.{ℕ}
-use mathlib.Core.Bool.{false, cond}
-use lib.Ieee.{Float, binary64, round, mul, div, eq}
+use mathlib.Core.Bool.{cond}
+use lib.Ieee.{Float, eq}
+use Rattle.numbers.specs.Arithmetic.{_*₆₄_, _/₆₄_, decimal}
 use Rattle.numbers.specs.Away.{roundAway}
 use Rattle.refusals.specs.Refusals.{gives, _then_, answerBy}
 use Rattle.grid.specs.Domain.{pointCheck, snapCheck}
@@ -11,11 +12,11 @@ use Rattle.snap.specs.declared.Snapped.the-variants.{Point, Refused}
 
 -- Grid: round half away of v / size, a zero signed as v / size, times size. (`roundAway` keeps the sign of what it rounds.)
 unfoldable pub gridSnap : Float → Float → Float
-gridSnap size v = mul binary64 (roundAway (div binary64 v size)) size
+gridSnap size v = roundAway (v /₆₄ size) *₆₄ size
 
 -- one coordinate: size 0 returns it, any other snaps by Grid
 unfoldable pub snapOf : Float → Float → Float
-snapOf size v = cond (eq size (round binary64 false 0 1)) v (gridSnap size v)
+snapOf size v = cond (eq size (decimal 0 1)) v (gridSnap size v)
 
 -- a point, after refusals 1 and 12
 unfoldable pub snapAnswer : Float → Float → Float → ℕ → Snapped

@@ -2,7 +2,8 @@
 -- more, and is defined here for this question alone. Definitions only.
 use mathlib.Core.Bool.{Bool, true, false, cond}
 use lib.Dec.{eqb}
-use lib.Ieee.{Float, nan, inf, fin, binary64, round, add, mul, div, eq, toBits}
+use lib.Ieee.{Float, nan, inf, fin, binary64, round, eq, toBits}
+use Rattle.numbers.specs.Arithmetic.{_+₆₄_, _*₆₄_, _/₆₄_, decimal}
 use Rattle.numbers.specs.Floor.{floorOf}
 use Rattle.numbers.specs.Order.{magnitudeOf}
 use Rattle.refusals.specs.Refusals.{gives, _then_, answerBy}
@@ -12,20 +13,20 @@ use Rattle.snap.specs.declared.Agreement.the-variants.{Same, Differ, Ref
 use Rattle.snap.specs.Snap.{snapOf}
 
 -- 1 or -1 by the sign bit, negative zero giving -1; a NaN has no sign
-unfoldable pub signOf : Float → Float
-signOf nan = nan
-signOf (inf s) = round binary64 s 1 1
-signOf (fin s m e) = round binary64 s 1 1
+unfoldable pub signOne : Float → Float
+signOne nan = nan
+signOne (inf s) = round binary64 s 1 1
+signOne (fin s m e) = round binary64 s 1 1
 
 -- GeosCompat: floor of (|v / size| + 0.5), times the sign of v / size, times size
 unfoldable pub geosSnap : Float → Float → Float
 geosSnap size v =
-    let scaled = div binary64 v size in
-    mul binary64 (mul binary64 (floorOf (add binary64 (magnitudeOf scaled) (round binary64 false 1 2))) (signOf scaled)) size
+    let scaled = v /₆₄ size in
+    floorOf (magnitudeOf scaled +₆₄ decimal 1 2) *₆₄ signOne scaled *₆₄ size
 
 -- one coordinate: size 0 returns it, any other snaps by GeosCompat
 unfoldable pub geosOf : Float → Float → Float
-geosOf size v = cond (eq size (round binary64 false 0 1)) v (geosSnap size v)
+geosOf size v = cond (eq size (decimal 0 1)) v (geosSnap size v)
 
 -- the two strategies give the same bits
 unfoldable pub sameBits : Float → Float → Bool

@@ -28,9 +28,9 @@ use Rattle.sizing.proofs.FitLaws.{whole-count, lie-x, lie-y, AllFit, all-fit}
 use Rattle.walk.specs.declared.Mode.{Mode}
 use Rattle.walk.specs.Pushes.{Outcome}
 use Rattle.walk.specs.Segment.{segmentOf}
-use Rattle.fill.specs.OnGrid.{cells, walkOn, ends, listOn, globalsOn, total}
+use Rattle.fill.specs.OnGrid.{gridCells, walkOn, completes, listOn, globalsOn, total}
 use Rattle.fill.specs.Checks.{roomCheck, turnsCheck, triedCheck, spaceCheck}
-use Rattle.fill.specs.Fill.{above}
+use Rattle.fill.specs.Fill.{moreThan}
 use Rattle.build.specs.declared.Built.{Built}
 use Rattle.build.specs.declared.Built.the-variants as built
 use Rattle.build.specs.declared.Plan.{Plan}
@@ -94,7 +94,7 @@ spared-if false x y s t = t
 
 -- ---- on a fit grid every walk ends
 
-ends-of : (o : Outcome) → ((why : Refusal) → o ≡ refused why → ⊥) → ends o ≡ true
+ends-of : (o : Outcome) → ((why : Refusal) → o ≡ refused why → ⊥) → completes o ≡ true
 ends-of (refused why) h = absurd (h why refl)
 ends-of (gives xs) h = refl
 
@@ -113,7 +113,7 @@ module _ (plan : Plan) (ls : Lines) (lines-fit : LinesFit ls) (ending : 1 ≤ co
   tried-spares : (g : Grid) (room : ℕ) → turnsCheck (plan .mode) g ls ≡ Fine → Spares (triedCheck (plan .mode) g ls room)
   unfolding triedCheck roomCheck
   tried-spares g room h =
-      spares-then (roomCheck g room) (turnsCheck (plan .mode) g ls) (spares-unless (leb (cells g + 1) room) 4 (cells g + 1) refl) (spares-fine (turnsCheck (plan .mode) g ls) h)
+      spares-then (roomCheck g room) (turnsCheck (plan .mode) g ls) (spares-unless (leb (gridCells g + 1) room) 4 (gridCells g + 1) refl) (spares-fine (turnsCheck (plan .mode) g ls) h)
 
   chosen-spared : 1 ≤ count ls → (left : ℕ) (size : Size) (room : ℕ) → AllFit left (extentOf ls) size → Spared (chosen (plan .mode) left (extentOf ls) size ls room)
   unfolding chosen
@@ -128,14 +128,14 @@ module _ (plan : Plan) (ls : Lines) (lines-fit : LinesFit ls) (ending : 1 ≤ co
       (spared-gives g))
     where
       few : (g : Grid) → crowded (plan .mode) g ls ≡ true → g .rows * g .cols * 4 < 1000000
-      few g c = unfold crowded in ltb-true (cells g * 4) 1000000 (and-right (above 500 (λ c. length (listOn (plan .mode) g ls c)) (cells g)) (ltb (cells g * 4) 1000000) c)
+      few g c = unfold crowded in ltb-true (gridCells g * 4) 1000000 (and-right (moreThan 500 (λ c. length (listOn (plan .mode) g ls c)) (gridCells g)) (ltb (gridCells g * 4) 1000000) c)
 
   choice-spared : (room : ℕ) → Spared (choice plan ls room)
   unfolding choice chosenFirst chosenNone
   choice-spared room = go (leb 1 (count ls)) refl
     where
       none : leb 1 (count ls) ≡ false → turnsCheck (plan .mode) emptyGrid ls ≡ Fine
-      none h = unfold turnsCheck in each-fine (λ i. ends (walkOn (plan .mode) emptyGrid ls i)) 7 (count ls) 0 (λ k l m. absurd (omega (arith, leb-false 1 (count ls) h)))
+      none h = unfold turnsCheck in each-fine (λ i. completes (walkOn (plan .mode) emptyGrid ls i)) 7 (count ls) 0 (λ k l m. absurd (omega (arith, leb-false 1 (count ls) h)))
 
       go : (b : Bool) → leb 1 (count ls) ≡ b → Spared (cond b (chosenFirst plan ls room) (chosenNone (plan .mode) ls room))
       go true h =
@@ -183,16 +183,16 @@ module _ (plan : Plan) (ls : Lines) (lines-fit : LinesFit ls) (straight : AllStr
   pub turns-fine : (g : Grid) → fit g ≡ true → GridInFormat g → turnsCheck (plan .mode) g ls ≡ Fine
   unfolding turnsCheck walkOn
   turns-fine g ok m =
-      each-fine (λ i. ends (walkOn (plan .mode) g ls i)) 7 (count ls) 0
+      each-fine (λ i. completes (walkOn (plan .mode) g ls i)) 7 (count ls) 0
       (λ k l h. ends-of (segmentOf (plan .mode) g (segmentAt ls k)) (not-refused (plan .mode) g (segmentAt ls k) ok (unfold lineFits in lines-fit .each k (omega arith))
       (in-format k (omega arith)) m (straight k (omega arith))))
 
   -- ---- the grids of a build hold values of the format: a minimum is some line's coordinate
 
-  among-in-format : (starts ends : List Float) (n : ℕ) (v : Float)
-      → ((i : ℕ) → i < n → T (fits binary64 (getD starts i nan)) × T (fits binary64 (getD ends i nan))) → Among starts ends n v → T (fits binary64 v)
-  among-in-format starts ends n v h (i, l, inl e) = subst (λ (x : Float). T (fits binary64 x)) (sym e) (h i l .0)
-  among-in-format starts ends n v h (i, l, inr e) = subst (λ (x : Float). T (fits binary64 x)) (sym e) (h i l .1)
+  among-in-format : (starts completes : List Float) (n : ℕ) (v : Float)
+      → ((i : ℕ) → i < n → T (fits binary64 (getD starts i nan)) × T (fits binary64 (getD completes i nan))) → Among starts completes n v → T (fits binary64 v)
+  among-in-format starts completes n v h (i, l, inl e) = subst (λ (x : Float). T (fits binary64 x)) (sym e) (h i l .0)
+  among-in-format starts completes n v h (i, l, inr e) = subst (λ (x : Float). T (fits binary64 x)) (sym e) (h i l .1)
 
   holds-at : (n : ℕ) → whole ls ≡ suc n → count ls ≡ suc n → (size : Size) → GridInFormat (gridOf (extentOf ls) size)
   unfolding gridOf extentOf

@@ -13,7 +13,7 @@ use Rattle.slices.specs.Lists.{any, elem, Below, Rising}
 use Rattle.slices.proofs.Members.{any-append, elem-head, below-append}
 use Rattle.slices.proofs.Laws.{le-or}
 use Rattle.grid.proofs.Bools.{and-left, and-right, and-both, or-false}
-use Rattle.walk.specs.Pushes.{kept}
+use Rattle.walk.specs.Pushes.{keptIf}
 use lib.Ieee.{Float}
 use Rattle.grid.specs.declared.Axis.{Axis}
 use Rattle.grid.specs.declared.Grid.{Grid}
@@ -428,15 +428,15 @@ pushed-said p p₁ w w₁ qs s₁ qe e₁ f g h =
 those-below : (f : ℕ → Bool) (n : ℕ) → Below n (those f n)
 unfolding those
 those-below f zero = tt
-those-below f (suc n) = below-append (suc n) (those f n) (kept (f n) n) (wider n (those f n) (those-below f n)) (last (f n))
+those-below f (suc n) = below-append (suc n) (those f n) (keptIf (f n) n) (wider n (those f n) (those-below f n)) (last (f n))
   where
     wider : (n : ℕ) (xs : List ℕ) → Below n xs → Below (suc n) xs
     wider n [] h = tt
     wider n (x ∷ xs) h = (omega (arith, h .0), wider n xs (h .1))
 
-    last : (b : Bool) → Below (suc n) (kept b n)
-    last true = unfold kept in (omega arith, tt)
-    last false = unfold kept in tt
+    last : (b : Bool) → Below (suc n) (keptIf b n)
+    last true = unfold keptIf in (omega arith, tt)
+    last false = unfold keptIf in tt
 
 rising-last : (a n : ℕ) (xs : List ℕ) → a ≤ n → Rising a xs → Below n xs → Rising a (xs ++ (n ∷ []))
 rising-last a n [] h r b = (h, tt)
@@ -450,29 +450,29 @@ those-rising f (suc n) = go (f n) (those-rising f n)
     none : (xs : List ℕ) → Rising 0 xs → Rising 0 (xs ++ [])
     none xs h = rw append-nil h
 
-    go : (b : Bool) → Rising 0 (those f n) → Rising 0 (those f n ++ kept b n)
-    go true ih = unfold kept in rising-last 0 n (those f n) (omega arith) ih (those-below f n)
-    go false ih = unfold kept in none (those f n) ih
+    go : (b : Bool) → Rising 0 (those f n) → Rising 0 (those f n ++ keptIf b n)
+    go true ih = unfold keptIf in rising-last 0 n (those f n) (omega arith) ih (those-below f n)
+    go false ih = unfold keptIf in none (those f n) ih
 
 pub those-are : (f : ℕ → Bool) (n u : ℕ) → elem u (those f n) ≡ (ltb u n && f u)
 unfolding those
 those-are f zero u = rw (le-ltb u 0 (omega arith))
-those-are f (suc n) u = any-append (eqb u) (those f n) (kept (f n) n) ∙ rw (those-are f n u) (elim (ℕ-discrete u n) [
+those-are f (suc n) u = any-append (eqb u) (those f n) (keptIf (f n) n) ∙ rw (those-are f n u) (elim (ℕ-discrete u n) [
   | yes e ↦ rw (le-ltb u n (omega arith), lt-ltb u (suc n) (omega arith)) (at e (f n) refl)
   | no e ↦ other (f n) e (ltb u n) refl
 ])
   where
-    at : u ≡ n → (b : Bool) → f n ≡ b → elem u (kept b n) ≡ f u
-    at e true h = unfold kept in rw (eq-eqb u n e) (sym (ap f e ∙ h))
-    at e false h = unfold kept in sym (ap f e ∙ h)
+    at : u ≡ n → (b : Bool) → f n ≡ b → elem u (keptIf b n) ≡ f u
+    at e true h = unfold keptIf in rw (eq-eqb u n e) (sym (ap f e ∙ h))
+    at e false h = unfold keptIf in sym (ap f e ∙ h)
 
     after : (c : Bool) → ltb u n ≡ c → (u ≡ n → ⊥) → ((c && f u) || false) ≡ (ltb u (suc n) && f u)
     after true h e = rw (lt-ltb u (suc n) (omega (arith, ltb-true u n h))) (or-false (f u))
     after false h e = rw (le-ltb u (suc n) (omega (arith, ltb-false u n h, e)))
 
-    other : (b : Bool) → (u ≡ n → ⊥) → (c : Bool) → ltb u n ≡ c → ((c && f u) || elem u (kept b n)) ≡ (ltb u (suc n) && f u)
-    other true e c h = unfold kept in rw (ne-eqb u n e) (after c h e)
-    other false e c h = unfold kept in after c h e
+    other : (b : Bool) → (u ≡ n → ⊥) → (c : Bool) → ltb u n ≡ c → ((c && f u) || elem u (keptIf b n)) ≡ (ltb u (suc n) && f u)
+    other true e c h = unfold keptIf in rw (ne-eqb u n e) (after c h e)
+    other false e c h = unfold keptIf in after c h e
 
 -- ---- the Rust's mode is document 01's boundary rule
 

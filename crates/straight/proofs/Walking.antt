@@ -13,7 +13,7 @@ use borrow.Author.Tests.{lt-ltb, eq-eqb, ne-eqb}
 use Rattle.numbers.specs.Order.{leastOf, greatestOf, magnitudeOf}
 use Rattle.refusals.specs.Refusals.{gives, _into_}
 use Rattle.walk.specs.Turns.{one, infinite, Stride, Progress, Ray, State, toleranceOf, stop, single, furtherOf, same, arrivedOf, turnOf, advanced, movedOf, goesOf}
-use Rattle.walk.specs.Pushes.{kept, pushOf, sidesOf, pushedOf, before, after, nextOf, goingOf, turns, walkedOf}
+use Rattle.walk.specs.Pushes.{keptIf, pushOf, sidesOf, pushedOf, before, after, nextOf, goingOf, turns, walkedOf}
 use Rattle.walk.proofs.Tolerance.{top-first, top-last, constant}
 use Rattle.walk.proofs.Loop.{near-far}
 
@@ -74,7 +74,7 @@ pushBy true cols rows i j = pushOf cols rows i j
 pushBy false cols rows i j = pushOf cols rows j i
 
 push-is : (v : Bool) (cols rows i j : ℕ) → Inside v cols rows i j → pushBy v cols rows (pos i) (pos j) ≡ (cellBy v cols i j ∷ [])
-unfolding pushOf kept
+unfolding pushOf keptIf
 push-is true cols rows i j h = rw (lt-ltb i cols (h .0), lt-ltb j rows (h .1))
 push-is false cols rows i j h = rw (lt-ltb j cols (h .0), lt-ltb i rows (h .1))
 

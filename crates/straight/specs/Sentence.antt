@@ -14,7 +14,7 @@ use Rattle.grid.specs.Axes.{xAxis, yAxis, indexOn, boundaryOn}
 use Rattle.walk.specs.declared.Mode.{Mode}
 use Rattle.walk.specs.declared.Neighbour.{Neighbour}
 use Rattle.walk.specs.declared.Neighbour.the-variants.{None, Lower, Upper}
-use Rattle.walk.specs.Pushes.{kept}
+use Rattle.walk.specs.Pushes.{keptIf}
 use Rattle.walk.specs.Neighbours.{neighbourOn}
 
 -- ---- one axis
@@ -70,7 +70,7 @@ sentence beside held v run start end i j =
 -- of the numbers below n those that pass a test: increasing, none twice
 unfoldable pub those : (ℕ → Bool) → ℕ → List ℕ
 those test zero = []
-those test (suc n) = those test n ++ kept (test n) n
+those test (suc n) = those test n ++ keptIf (test n) n
 
 -- those that exist: of the cells of the grid, in the order of their numbers, those whose column and row pass a test
 abbrev pub cellsWhere : Grid → (ℕ → ℕ → Bool) → List ℕ

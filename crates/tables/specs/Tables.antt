@@ -3,6 +3,7 @@ use Prim.Native.Nat.{ℕ, suc, _*_}
 use mathlib.Core.List.{List}
 use lib.ListN.{getD, take}
 use lib.Seq.{slice}
+use Rattle.grid.specs.Domain.{Lines, count}
 use Rattle.grid.specs.declared.Grid.{Grid}
 
 -- the counts of the grid, the number of lines, and the tables themselves
@@ -26,6 +27,10 @@ tables g n offsets items globals count =
       globals = globals;
       «global_count» = count;
     }
+
+-- tables beside lines: as many lines as there are
+abbrev pub beside : Lines → Grid → List ℕ → List ℕ → List ℕ → ℕ → Tables
+beside ls g offsets items globals n = tables g (count ls) offsets items globals n
 
 -- the number of cells
 abbrev pub cells : Tables → ℕ

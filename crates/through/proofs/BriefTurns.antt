@@ -17,7 +17,7 @@ use Rattle.seek.specs.declared.Place.the-variants.{Global}
 use Rattle.seek.specs.Tests.{Pair, pairs, withEach}
 use Rattle.seek.proofs.Clauses.{with-nil, pairs-nil, pairs-cons}
 use Rattle.visit.specs.Overlap.{overlap}
-use Rattle.visit.specs.Inside.{Moved}
+use Rattle.visit.specs.Inside.{TestsMoved}
 use Rattle.through.specs.declared.rows.ListRan.{ListRan}
 use Rattle.through.specs.Lists.{listFrom}
 use Rattle.through.specs.Inside.{flatIn, FlatAsks, FlatFilled, markOf, PutAsks, Answers, Put, FewAsks, answersIn, Goes, Brief, BriefAsks, ListAsks, ListRanIs, SameScratch}
@@ -190,7 +190,7 @@ module _ (ls : Lines) (xs : List ℕ) (flat : List Float) (fs ss : List ℕ) (hi
       step : (pl : Place) (later : List Pair) → Goes ls (pairs pl (drop i xs) ++ later) (pairs pl (drop (i + 1) xs) ++ later) (length (drop (i + 1) xs)) (length fs) fs′ ss′ hits fs″ ss″ hits″
       step pl later =
           let rest = pairs pl (drop (i + 1) xs) ++ later in
-          let m : Moved ls (withEach pl (getD xs i 0) (drop (i + 1) xs) ++ rest) rest (length (drop (i + 1) xs)) (length fs′) fs′ ss′ hits fs″ ss″ hits″ =
+          let m : TestsMoved ls (withEach pl (getD xs i 0) (drop (i + 1) xs) ++ rest) rest (length (drop (i + 1) xs)) (length fs′) fs′ ss′ hits fs″ ss″ hits″ =
           rw (drop-of-length-le (drop (i + 1) xs) {i = length (drop (i + 1) xs)} (omega arith), with-nil) at (p .moved ls pl rest answers) in
           let d : drop i xs ≡ getD xs i 0 ∷ drop (i + 1) xs = rw (add-one i) (drop-cons xs i 0 l) in
           let q : pairs pl (drop i xs) ++ later ≡ withEach pl (getD xs i 0) (drop (i + 1) xs) ++ rest =

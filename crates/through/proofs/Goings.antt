@@ -8,7 +8,7 @@ use lib.Seq.{drop-drop, drop-append-seam}
 use Rattle.grid.specs.Domain.{Lines}
 use Rattle.seek.specs.declared.Place.{Place}
 use Rattle.seek.specs.Tests.{Pair, withEach}
-use Rattle.visit.specs.Inside.{Moved}
+use Rattle.visit.specs.Inside.{TestsMoved}
 use Rattle.seek.proofs.Clauses.{length-with}
 use Rattle.visit.proofs.Moves.{moved-none, moved-then}
 use Rattle.through.specs.Inside.{Goes}
@@ -27,7 +27,7 @@ module _ (ls : Lines) (room : ℕ) where
 
   -- one line with each of a list
   pub goes-row : (pl : Place) (line : ℕ) (xs : List ℕ) (later : List Pair) (fs ss : List ℕ) (hits : ℕ) (fs′ ss′ : List ℕ) (hits′ : ℕ)
-      → Moved ls (withEach pl line xs ++ later) later (length xs) room fs ss hits fs′ ss′ hits′
+      → TestsMoved ls (withEach pl line xs ++ later) later (length xs) room fs ss hits fs′ ss′ hits′
       → Goes ls (withEach pl line xs ++ later) later (length xs) room fs ss hits fs′ ss′ hits′
   goes-row pl line xs later fs ss hits fs′ ss′ hits′ m =
       record { moved = m; left = sym (ap (λ (n : ℕ). drop n (withEach pl line xs ++ later)) (sym (length-with pl line xs)) ∙ drop-append-seam (withEach pl line xs) later) }

@@ -11,7 +11,7 @@ use Rattle.grid.specs.Domain.{Lines}
 use Rattle.seek.specs.Tests.{Pair}
 use Rattle.visit.specs.Overlap.{overlap}
 use Rattle.visit.specs.Batches.{made, overlapping, handed, firsts, seconds}
-use Rattle.visit.specs.Inside.{Moved}
+use Rattle.visit.specs.Inside.{TestsMoved}
 use Rattle.visit.proofs.Clauses.{made-none, made-full, made-hit, made-miss, over-nil, over-hit, over-miss, handed-none, handed-full, handed-hit, handed-miss}
 use Rattle.through.specs.Inside.{Goes}
 

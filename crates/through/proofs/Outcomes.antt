@@ -19,7 +19,7 @@ use Rattle.through.specs.declared.CellAt.{CellAt}
 use Rattle.through.specs.declared.CellAt.the-variants as cellat
 use Rattle.through.specs.declared.CellsMade.{CellsMade}
 use Rattle.through.specs.Lists.{listBy, cellsOf, cellsFrom}
-use Rattle.through.specs.Runs.{within, FirstAt, LeftAt, RanIs}
+use Rattle.through.specs.Runs.{withinFit, FirstAt, LeftAt, RanIs}
 use Rattle.through.proofs.AsIs.{list-increases}
 use Rattle.through.proofs.ListLaws.{from-later}
 use Rattle.through.proofs.CellTurns.{from-at}
@@ -98,6 +98,6 @@ module _ (ls : Lines) (cols m : ℕ) (offsets items : List ℕ) (rest : List Pai
       → (r₁ ≡ r₂) × ((first₁ ≡ first₂) × (second₁ ≡ second₂))
   one-outcome first₁ second₁ first₂ second₂ r₁ r₂ a b =
       let t : r₁ .tests ≡ r₂ .tests = a .tests ∙ sym (b .tests) in (
-        answer-is r₁ r₂ t (a .overlaps ∙ sym (b .overlaps)) (one-at cols (count ls) (within m) offsets items (drop (r₂ .tests) rest) (r₁ .at) (r₂ .at) (rw t at (a .at)) (b .at)),
+        answer-is r₁ r₂ t (a .overlaps ∙ sym (b .overlaps)) (one-at cols (count ls) (withinFit m) offsets items (drop (r₂ .tests) rest) (r₁ .at) (r₂ .at) (rw t at (a .at)) (b .at)),
         (a .first-is ∙ sym (b .first-is), a .second-is ∙ sym (b .second-is)),
       )

@@ -13,7 +13,7 @@ use Rattle.grid.specs.Boxes.{boxOf}
 use Rattle.seek.specs.declared.Place.{Place}
 use Rattle.seek.specs.declared.Place.the-variants.{Global}
 use Rattle.seek.specs.Tests.{Pair, withEach}
-use Rattle.visit.specs.Inside.{Moved}
+use Rattle.visit.specs.Inside.{TestsMoved}
 use Rattle.through.specs.declared.boxes.Window.{Window}
 use Rattle.through.specs.declared.settle.RowAt.{RowAt}
 use Rattle.through.specs.declared.settle.RowAt.the-variants as rowat
@@ -163,7 +163,7 @@ module _ (ls : Lines) (xs : List ℕ) (i₀ j₀ : ℕ) (bs : List Float) (marks
       step : (pl : Place) (later : List Pair) → Goes ls (listFrom pl xs i j ++ later) (listFrom pl xs a (b + r .many) ++ later) (r .many) (length fs) fs′ ss′ hits fs″ ss″ (r .hits)
       step pl later =
           let l = part-long xs b (r .many) (v .inside) in
-          let m : Moved ls (withEach pl (getD xs a 0) (take (r .many) (drop b xs)) ++ (listFrom pl xs a (b + r .many) ++ later)) (listFrom pl xs a (b + r .many) ++ later) (length (take (r .many) (drop b xs))) (length fs′) fs′ ss′ hits fs″ ss″ (r .hits) =
+          let m : TestsMoved ls (withEach pl (getD xs a 0) (take (r .many) (drop b xs)) ++ (listFrom pl xs a (b + r .many) ++ later)) (listFrom pl xs a (b + r .many) ++ later) (length (take (r .many) (drop b xs))) (length fs′) fs′ ss′ hits fs″ ss″ (r .hits) =
           rw l (v .moved pl (listFrom pl xs a (b + r .many) ++ later)) in
           rw (f .same pl xs refl, row-part pl xs a b (r .many) later (f .later))
           (rw (list-first-long, l) at (goes-row ls (length fs′) pl (getD xs a 0) (take (r .many) (drop b xs)) (listFrom pl xs a (b + r .many) ++ later) fs′ ss′ hits fs″ ss″ (r .hits) m))

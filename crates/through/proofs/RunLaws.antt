@@ -27,7 +27,7 @@ use Rattle.through.specs.declared.CellAt.the-variants as cellat
 use Rattle.through.specs.declared.CellsMade.{CellsMade}
 use Rattle.through.specs.declared.rows.CellsRan.{CellsRan}
 use Rattle.through.specs.Lists.{listBy, cellsFrom}
-use Rattle.through.specs.Runs.{lentCheck, within, alsoIf, runs, runTests, LeftAt, RanIs, CellsMadeIs}
+use Rattle.through.specs.Runs.{lentCheck, withinFit, alsoIf, runs, runTests, LeftAt, RanIs, CellsMadeIs}
 use Rattle.through.specs.Inside.{Goes, CellFound, CellsRanIs, FromAsks, GoAsks, GoneIs}
 use Rattle.through.proofs.Bounds.{cells-few}
 
@@ -142,17 +142,17 @@ also-none Fine = refl
 also-none (Refused r) = refl
 
 module _ (ls : Lines) (cols m : ℕ) (offsets items : List ℕ) (cell i j : ℕ) (fs ss : List ℕ) where
-  pub runs-beyond : within m ≤ cell → runs ls m cell fs ss ≡ false
+  pub runs-beyond : withinFit m ≤ cell → runs ls m cell fs ss ≡ false
   unfolding runs
-  runs-beyond h = rw (le-ltb cell (within m) h) (also-none (lentCheck ls fs ss))
+  runs-beyond h = rw (le-ltb cell (withinFit m) h) (also-none (lentCheck ls fs ss))
 
   pub runs-refused : (r : Refusal) → lentCheck ls fs ss ≡ Refused r → runs ls m cell fs ss ≡ false
   unfolding runs alsoIf
   runs-refused r e = rw e
 
-  pub runs-fine : lentCheck ls fs ss ≡ Fine → cell < within m → runs ls m cell fs ss ≡ true
+  pub runs-fine : lentCheck ls fs ss ≡ Fine → cell < withinFit m → runs ls m cell fs ss ≡ true
   unfolding runs alsoIf
-  runs-fine e h = rw (e, lt-ltb cell (within m) h)
+  runs-fine e h = rw (e, lt-ltb cell (withinFit m) h)
 
   none-is : runs ls m cell fs ss ≡ false → CellsMadeIs ls cols m offsets items cell i j fs ss fs ss (record { tests = 0; overlaps = 0; at = cellat.Past })
   unfolding runTests
@@ -176,7 +176,7 @@ module _ (ls : Lines) (cols m : ℕ) (offsets items : List ℕ) (cell i j : ℕ)
   unfolding runTests
   run-gone k most e h fs′ ss′ r g =
       let b : runs ls m cell fs ss ≡ true = runs-fine k (omega arith) in
-      let w : GoneIs ls cols (within m) offsets items cell i j fs ss fs′ ss′ r = rw e at g in
+      let w : GoneIs ls cols (withinFit m) offsets items cell i j fs ss fs′ ss′ r = rw e at g in
       record {
         tests = rw b (w .tests);
         overlaps = rw b (w .overlaps);

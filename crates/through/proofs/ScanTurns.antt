@@ -18,7 +18,7 @@ use Rattle.grid.specs.Boxes.{boxOf, overlaps}
 use Rattle.seek.specs.declared.Place.{Place}
 use Rattle.seek.specs.Tests.{Pair, pair, withEach}
 use Rattle.visit.specs.Overlap.{overlap}
-use Rattle.visit.specs.Inside.{Moved}
+use Rattle.visit.specs.Inside.{TestsMoved}
 use Rattle.seek.proofs.Clauses.{with-nil, with-cons}
 use Rattle.visit.proofs.Moves.{moved-none, moved-then, moved-hit, moved-miss}
 use Rattle.through.specs.Inside.{LineAsks, boxIn, Room, markOf, MarkAsks, Marked, Whole, RoomFor, PutAsks, Answers, Put, PutWhole, ScanAsks, Scanned}
@@ -124,10 +124,10 @@ module _ (many : ℕ) (marks : List ℕ) (all : Bool) (u : ℕ) (s : Asking many
 
 module _ (ls : Lines) (room : ℕ) (pl : Place) (line b : ℕ) (rest later : List Pair) (fs ss : List ℕ) (hits : ℕ) (h : hits < room) (fl : length fs ≡ room) (sl : length ss ≡ room)
     (m : ℕ) (o : Bool) (eo : overlap ls line b ≡ o) (em : m ≡ markOf o) (begins : rest ≡ pair pl line b ∷ later) where
-  pub one-test : Moved ls rest later 1 room fs ss hits (set fs hits line) (set ss hits b) (hits + m)
+  pub one-test : TestsMoved ls rest later 1 room fs ss hits (set fs hits line) (set ss hits b) (hits + m)
   one-test = go o eo em
     where
-      go : (o : Bool) → overlap ls line b ≡ o → m ≡ markOf o → Moved ls rest later 1 room fs ss hits (set fs hits line) (set ss hits b) (hits + m)
+      go : (o : Bool) → overlap ls line b ≡ o → m ≡ markOf o → TestsMoved ls rest later 1 room fs ss hits (set fs hits line) (set ss hits b) (hits + m)
       go true e k =
           let q : m ≡ 1 = k ∙ mark-true in
           rw (q, begins) (moved-hit ls room (pair pl line b) later fs ss hits h fl sl e)

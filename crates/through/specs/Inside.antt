@@ -12,7 +12,7 @@ use Rattle.grid.specs.Boxes.{boxOf, overlaps}
 use Rattle.seek.specs.declared.Place.{Place}
 use Rattle.seek.specs.Tests.{Pair, withEach}
 use Rattle.visit.specs.Overlap.{overlap}
-use Rattle.visit.specs.Inside.{Moved}
+use Rattle.visit.specs.Inside.{TestsMoved}
 use Rattle.through.specs.declared.settle.RowAt.{RowAt}
 use Rattle.through.specs.declared.settle.RowAt.the-variants as rowat
 use Rattle.through.specs.declared.CellAt.{CellAt}
@@ -145,7 +145,7 @@ pub record Answers (ls : Lines) (line : ℕ) (xs marks : List ℕ) : Type 0 wher
 -- the first m entries are done, by the bytes
 pub record Put (line : ℕ) (xs marks : List ℕ) (m : ℕ) (fs ss : List ℕ) (hits : ℕ) (fs′ ss′ : List ℕ) (hits′ : ℕ) : Type 0 where
   pub moved : (ls : Lines) (pl : Place) (later : List Pair) → Answers ls line xs marks
-      → Moved ls (withEach pl line xs ++ later) (withEach pl line (drop m xs) ++ later) m (length fs) fs ss hits fs′ ss′ hits′
+      → TestsMoved ls (withEach pl line xs ++ later) (withEach pl line (drop m xs) ++ later) m (length fs) fs ss hits fs′ ss′ hits′
   pub most : hits′ ≤ hits + m
   pub first-long : length fs′ ≡ length fs
   pub second-long : length ss′ ≡ length ss
@@ -168,7 +168,7 @@ pub record ScanAsks (ls : Lines) (line : ℕ) (xs : List ℕ) (bs : List Float) 
   pub room : RoomFor xs fs ss hits
 
 pub record Scanned (ls : Lines) (line : ℕ) (xs marks fs ss : List ℕ) (hits : ℕ) (marks′ fs′ ss′ : List ℕ) (hits′ : ℕ) : Type 0 where
-  pub moved : (pl : Place) (later : List Pair) → Moved ls (withEach pl line xs ++ later) later (length xs) (length fs) fs ss hits fs′ ss′ hits′
+  pub moved : (pl : Place) (later : List Pair) → TestsMoved ls (withEach pl line xs ++ later) later (length xs) (length fs) fs ss hits fs′ ss′ hits′
   pub marks-long : length marks′ ≡ length marks
   pub first-long : length fs′ ≡ length fs
   pub second-long : length ss′ ≡ length ss
@@ -187,7 +187,7 @@ pub record FewAsks (xs : List ℕ) (flat : List Float) (at : ℕ) (fs ss : List 
 -- ---- from where some tests were left to where others are, `steps` were made: those others are what is left of the first
 
 pub record Goes (ls : Lines) (rest rest′ : List Pair) (steps room : ℕ) (fs ss : List ℕ) (hits : ℕ) (fs′ ss′ : List ℕ) (hits′ : ℕ) : Type 0 where
-  pub moved : Moved ls rest rest′ steps room fs ss hits fs′ ss′ hits′
+  pub moved : TestsMoved ls rest rest′ steps room fs ss hits fs′ ss′ hits′
   pub left : rest′ ≡ drop steps rest
 
 -- what is lent to a run: lines, and outputs with `hits` pairs in them
@@ -229,7 +229,7 @@ pub record PartIs (ls : Lines) (xs : List ℕ) (i j : ℕ) (fs ss : List ℕ) (h
   pub some : 0 < r .many
   pub inside : j + r .many ≤ length xs
   pub moved : (pl : Place) (later : List Pair)
-      → Moved ls (withEach pl (getD xs i 0) (take (r .many) (drop j xs)) ++ later) later (r .many) (length fs) fs ss hits fs′ ss′ (r .hits)
+      → TestsMoved ls (withEach pl (getD xs i 0) (take (r .many) (drop j xs)) ++ later) later (r .many) (length fs) fs ss hits fs′ ss′ (r .hits)
   pub holds : Holds ls xs (r .from) (r .held) bs
 
 pub record ListAsks (ls : Lines) (xs : List ℕ) (i j : ℕ) (bs : List Float) (marks fs ss : List ℕ) (hits : ℕ) : Type 0 where

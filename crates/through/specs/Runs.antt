@@ -24,8 +24,8 @@ lentCheck ls first second = andThen (outputsCheck first second) (andThen (length
 -- ---- whether a run is made, and its tests
 
 -- no more cells are looked at than a fit grid can have
-abbrev pub within : ℕ → ℕ
-within m = min m 1002001
+abbrev pub withinFit : ℕ → ℕ
+withinFit m = min m 1002001
 
 -- where a check is fine: what a test says
 unfoldable pub alsoIf : Check → Bool → Bool
@@ -34,12 +34,12 @@ alsoIf (Refused r) b = false
 
 -- a run is made where what is lent passes the check, and the cell is among those that are looked at
 unfoldable pub runs : Lines → ℕ → ℕ → List ℕ → List ℕ → Bool
-runs ls m cell first second = alsoIf (lentCheck ls first second) (ltb cell (within m))
+runs ls m cell first second = alsoIf (lentCheck ls first second) (ltb cell (withinFit m))
 
 -- the tests that are left of the first m cells; where no run is made, none
 unfoldable pub runTests : Lines → ℕ → ℕ → List ℕ → List ℕ → ℕ → ℕ → ℕ → List ℕ → List ℕ → List Pair
 runTests ls cols m offsets items cell i j first second =
-    cond (runs ls m cell first second) (cellsFrom cols (listBy (count ls) offsets items) (within m - cell) cell i j) []
+    cond (runs ls m cell first second) (cellsFrom cols (listBy (count ls) offsets items) (withinFit m - cell) cell i j) []
 
 -- ---- where it stops
 
@@ -60,7 +60,7 @@ LeftAt cols n m offsets items rest cellat.Past = rest ≡ []
 pub record RanIs (ls : Lines) (cols m : ℕ) (offsets items : List ℕ) (rest : List Pair) (run : Bool) (first second first′ second′ : List ℕ) (r : CellsMade) : Type 0 where
   pub tests : r .tests ≡ length (made ls rest (length first))
   pub overlaps : r .overlaps ≡ length (handed ls rest (length first))
-  pub at : LeftAt cols (count ls) (within m) offsets items (drop (r .tests) rest) (r .at)
+  pub at : LeftAt cols (count ls) (withinFit m) offsets items (drop (r .tests) rest) (r .at)
   pub first-is : first′ ≡ cond run (zeroBeyond 0 (length first) (firsts (handed ls rest (length first)))) first
   pub second-is : second′ ≡ cond run (zeroBeyond 0 (length second) (seconds (handed ls rest (length first)))) second
 

@@ -15,7 +15,7 @@ use Rattle.refusals.proofs.Answers.{then-refused, then-fine, then-passed}
 use Rattle.refusals.proofs.Leaving.{left-same, clearing-unless}
 use Rattle.grid.specs.declared.Grid.{Grid}
 use Rattle.grid.specs.Domain.{Lines, count}
-use Rattle.tables.specs.Tables.{Tables}
+use Rattle.tables.specs.Tables.{Tables, beside}
 use Rattle.visit.specs.declared.Test.{Test}
 use Rattle.visit.specs.declared.TestAnswer.{TestAnswer}
 use Rattle.visit.specs.declared.TestAnswer.the-variants as answer
@@ -31,7 +31,7 @@ use Rattle.visit.specs.declared.scan.Ran.{Ran}
 use Rattle.seek.specs.Tests.{Pair, pair, testsOf}
 use Rattle.visit.specs.Batches.{made, handed, firsts, seconds, placeNumbers}
 use Rattle.visit.specs.Places.{numberOf}
-use Rattle.seek.specs.Bookmarks.{beside, visitCheck, bookmarkCheck, fromCheck, testsFrom, firstOf, pairAt}
+use Rattle.seek.specs.Bookmarks.{visitCheck, bookmarkCheck, fromCheck, testsFrom, firstOf, pairAt}
 use Rattle.visit.specs.Entries.{outputsCheck, testOf, nextTest, testAt, tallyOf, batchTests, batchOf, batchAnswer, pairsLeft, BatchIs, placesCheck, placedTests, PlacedBatchIs}
 use Rattle.seek.specs.Cursors.{restOf, CursorIs}
 use Rattle.visit.specs.Inside.{LineAsks, rowOf, TestAsks, RunAsks, RanAll, BatchMade}

@@ -13,7 +13,7 @@ use Rattle.grid.specs.Domain.{Lines}
 use Rattle.seek.specs.Tests.{Pair}
 use Rattle.visit.specs.Overlap.{overlap}
 use Rattle.visit.specs.Batches.{made, handed, firsts, seconds}
-use Rattle.visit.specs.Inside.{Moved}
+use Rattle.visit.specs.Inside.{TestsMoved}
 use Rattle.seek.proofs.Clauses.{left-suc}
 use Rattle.visit.proofs.Clauses.{made-none, made-full, made-hit, made-miss, handed-none, handed-full, handed-hit, handed-miss}
 
@@ -26,7 +26,7 @@ beyond : (xs : List ℕ) (i v : ℕ) (ys : List ℕ) → take i xs ++ ys ≡ tak
 beyond xs i v ys = rw (take-set-le i xs i v (omega arith))
 
 module _ (ls : Lines) (room : ℕ) where
-  pub moved-none : (rest : List Pair) (fs ss : List ℕ) (hits : ℕ) → hits ≤ room → Moved ls rest rest 0 room fs ss hits fs ss hits
+  pub moved-none : (rest : List Pair) (fs ss : List ℕ) (hits : ℕ) → hits ≤ room → TestsMoved ls rest rest 0 room fs ss hits fs ss hits
   moved-none rest fs ss hits h =
       record {
         made-is = sym (zero-add _);
@@ -39,7 +39,7 @@ module _ (ls : Lines) (room : ℕ) where
       }
 
   module _ (a b d : List Pair) (s₁ s₂ : ℕ) (fs ss : List ℕ) (h : ℕ) (fs₁ ss₁ : List ℕ) (h₁ : ℕ) (fs₂ ss₂ : List ℕ) (h₂ : ℕ) where
-    pub moved-then : Moved ls a b s₁ room fs ss h fs₁ ss₁ h₁ → Moved ls b d s₂ room fs₁ ss₁ h₁ fs₂ ss₂ h₂ → Moved ls a d (s₁ + s₂) room fs ss h fs₂ ss₂ h₂
+    pub moved-then : TestsMoved ls a b s₁ room fs ss h fs₁ ss₁ h₁ → TestsMoved ls b d s₂ room fs₁ ss₁ h₁ fs₂ ss₂ h₂ → TestsMoved ls a d (s₁ + s₂) room fs ss h fs₂ ss₂ h₂
     moved-then m k =
         record {
           made-is = omega (arith, m .made-is, k .made-is);
@@ -56,7 +56,7 @@ module _ (ls : Lines) (room : ℕ) where
     left : room - hits ≡ suc (room - (hits + 1))
     left = omega arith
 
-    pub moved-hit : overlap ls (p .first) (p .second) ≡ true → Moved ls (p ∷ ps) ps 1 room fs ss hits (set fs hits (p .first)) (set ss hits (p .second)) (hits + 1)
+    pub moved-hit : overlap ls (p .first) (p .second) ≡ true → TestsMoved ls (p ∷ ps) ps 1 room fs ss hits (set fs hits (p .first)) (set ss hits (p .second)) (hits + 1)
     moved-hit o =
         record {
           made-is = rw (left, made-hit ls p ps (room - (hits + 1)) o) (omega arith);
@@ -68,7 +68,7 @@ module _ (ls : Lines) (room : ℕ) where
           second-long = length-set ss hits (p .second);
         }
 
-    pub moved-miss : overlap ls (p .first) (p .second) ≡ false → Moved ls (p ∷ ps) ps 1 room fs ss hits (set fs hits (p .first)) (set ss hits (p .second)) hits
+    pub moved-miss : overlap ls (p .first) (p .second) ≡ false → TestsMoved ls (p ∷ ps) ps 1 room fs ss hits (set fs hits (p .first)) (set ss hits (p .second)) hits
     moved-miss o =
         record {
           made-is = rw (left, made-miss ls p ps (room - (hits + 1)) o) (omega arith);

@@ -15,7 +15,7 @@ use Rattle.seek.specs.Tests.{Pair, placeOf}
 use Rattle.visit.specs.Overlap.{overlap}
 use Rattle.visit.specs.Batches.{handed, placeNumbers}
 use Rattle.visit.specs.Places.{numberIn}
-use Rattle.visit.specs.Inside.{HandedAt, Placed, PutIs}
+use Rattle.visit.specs.Inside.{HandedAt, PlacesWritten, PutIs}
 use Rattle.visit.proofs.Clauses.{handed-hit, handed-miss}
 
 -- the number of cell c is c
@@ -60,15 +60,15 @@ filled : (t t₁ ns ms : List ℕ) (k u v : ℕ) → ns ≡ replicate k u ++ ms 
 filled t t₁ ns ms k u v p e q = rw (p, q, e, append-assoc)
 
 module _ (ls : Lines) (room : ℕ) (number : Place → ℕ) where
-  pub placed-none : (rest : List Pair) (ps : List ℕ) (hits : ℕ) → Placed ls number rest rest room ps hits ps hits
+  pub placed-none : (rest : List Pair) (ps : List ℕ) (hits : ℕ) → PlacesWritten ls number rest rest room ps hits ps hits
   placed-none rest ps hits = record { places-are = λ e. refl; place-long = refl }
 
   module _ (a b : List Pair) (ps : List ℕ) (h : ℕ) (ps₁ : List ℕ) (h₁ : ℕ) where
-    pub placed-then : (d : List Pair) (ps₂ : List ℕ) (h₂ : ℕ) → Placed ls number a b room ps h ps₁ h₁ → Placed ls number b d room ps₁ h₁ ps₂ h₂ → Placed ls number a d room ps h ps₂ h₂
+    pub placed-then : (d : List Pair) (ps₂ : List ℕ) (h₂ : ℕ) → PlacesWritten ls number a b room ps h ps₁ h₁ → PlacesWritten ls number b d room ps₁ h₁ ps₂ h₂ → PlacesWritten ls number a d room ps h ps₂ h₂
     placed-then d ps₂ h₂ m k = record { places-are = λ e. m .places-are e ∙ k .places-are (m .place-long ∙ e); place-long = k .place-long ∙ m .place-long }
 
     -- a row's number is put beside what it handed out
-    pub placed-row : (pl : Place) (v : ℕ) → HandedAt ls pl a b room h h₁ → h₁ ≤ room → number pl ≡ v → PutIs ps h h₁ v ps₁ → Placed ls number a b room ps h ps₁ h₁
+    pub placed-row : (pl : Place) (v : ℕ) → HandedAt ls pl a b room h h₁ → h₁ ≤ room → number pl ≡ v → PutIs ps h h₁ v ps₁ → PlacesWritten ls number a b room ps h ps₁ h₁
     placed-row pl v m l e q =
         record {
           places-are = λ s. filled (take h ps) (take h₁ ps₁) (placeNumbers number (handed ls a (room - h))) (placeNumbers number (handed ls b (room - h₁))) (h₁ - h) (number pl) v (m .handed-are number) e (q .put (m .rises) (omega (arith, s)));

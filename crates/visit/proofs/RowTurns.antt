@@ -22,7 +22,7 @@ use Rattle.seek.specs.Tests.{Pair, pair, withEach}
 use Rattle.visit.specs.Overlap.{overlap}
 use Rattle.visit.specs.Entries.{testOf}
 use Rattle.seek.specs.Inside.{numbers}
-use Rattle.visit.specs.Inside.{nextStep, RowAsks, Moved, HandedAt, ListAsks, InList, LinesAsk, InLines}
+use Rattle.visit.specs.Inside.{nextStep, RowAsks, TestsMoved, HandedAt, ListAsks, InList, LinesAsk, InLines}
 use Rattle.seek.proofs.Clauses.{left-suc, with-nil, with-cons, numbers-zero, numbers-suc}
 use Rattle.seek.proofs.OtherLines.{length-numbers}
 use Rattle.visit.proofs.Moves.{moved-none, moved-then, moved-hit, moved-miss}
@@ -70,7 +70,7 @@ module _ (ls : Lines) (pl : Place) (a : ℕ) where
 
 pub record Scanning (ls : Lines) (row : Row) (ys₀ ys : List ℕ) (steps : ℕ) (fs ss : List ℕ) (hits : ℕ) (fs′ ss′ : List ℕ) (hits′ : ℕ) : Type 0 where
   pub moved : (later : List Pair)
-      → Moved ls (withEach (row .place) (row .first) ys₀ ++ later) (withEach (row .place) (row .first) ys ++ later) steps (length fs) fs ss hits fs′ ss′ hits′
+      → TestsMoved ls (withEach (row .place) (row .first) ys₀ ++ later) (withEach (row .place) (row .first) ys ++ later) steps (length fs) fs ss hits fs′ ss′ hits′
   pub handed-at : (later : List Pair)
       → HandedAt ls (row .place) (withEach (row .place) (row .first) ys₀ ++ later) (withEach (row .place) (row .first) ys ++ later) (length fs) hits hits′
   pub still : steps ≡ 0 → hits′ ≡ hits
@@ -104,7 +104,7 @@ module _ (ls : Lines) (row : Row) (ys₀ ys : List ℕ) (steps : ℕ) (fs ss : L
   unfolding one
   scanning-hit o =
       let o₁ : overlap ls (row .first) b ≡ true = sym (ap (λ (x : Test). x .overlap) test-is) ∙ o in
-      let k : (later : List Pair) → Moved ls (withEach (row .place) (row .first) ys ++ later) (withEach (row .place) (row .first) bs ++ later) 1 (length fs) fs′ ss′ hits′ (set fs′ hits′ (t .first)) (set ss′ hits′ (t .second)) (hits′ + 1) =
+      let k : (later : List Pair) → TestsMoved ls (withEach (row .place) (row .first) ys ++ later) (withEach (row .place) (row .first) bs ++ later) 1 (length fs) fs′ ss′ hits′ (set fs′ hits′ (t .first)) (set ss′ hits′ (t .second)) (hits′ + 1) =
       λ later. rw (begins later, test-is) (moved-hit ls (length fs) one (withEach (row .place) (row .first) bs ++ later) fs′ ss′ hits′ h (s .first-long) (s .second-long) o₁) in
       let x : (later : List Pair) → HandedAt ls (row .place) (withEach (row .place) (row .first) ys ++ later) (withEach (row .place) (row .first) bs ++ later) (length fs) hits′ (hits′ + 1) =
       λ later. rw (begins later) (at-hit ls (length fs) (row .place) one (withEach (row .place) (row .first) bs ++ later) hits′ h refl o₁) in
@@ -120,7 +120,7 @@ module _ (ls : Lines) (row : Row) (ys₀ ys : List ℕ) (steps : ℕ) (fs ss : L
   unfolding one
   scanning-miss o =
       let o₁ : overlap ls (row .first) b ≡ false = sym (ap (λ (x : Test). x .overlap) test-is) ∙ o in
-      let k : (later : List Pair) → Moved ls (withEach (row .place) (row .first) ys ++ later) (withEach (row .place) (row .first) bs ++ later) 1 (length fs) fs′ ss′ hits′ (set fs′ hits′ (t .first)) (set ss′ hits′ (t .second)) hits′ =
+      let k : (later : List Pair) → TestsMoved ls (withEach (row .place) (row .first) ys ++ later) (withEach (row .place) (row .first) bs ++ later) 1 (length fs) fs′ ss′ hits′ (set fs′ hits′ (t .first)) (set ss′ hits′ (t .second)) hits′ =
       λ later. rw (begins later, test-is) (moved-miss ls (length fs) one (withEach (row .place) (row .first) bs ++ later) fs′ ss′ hits′ h (s .first-long) (s .second-long) o₁) in
       let x : (later : List Pair) → HandedAt ls (row .place) (withEach (row .place) (row .first) ys ++ later) (withEach (row .place) (row .first) bs ++ later) (length fs) hits′ hits′ =
       λ later. rw (begins later) (at-miss ls (length fs) (row .place) one (withEach (row .place) (row .first) bs ++ later) hits′ h refl o₁) in

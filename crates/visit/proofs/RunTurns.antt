@@ -24,7 +24,7 @@ use Rattle.visit.specs.declared.scan.LinesEnd.{LinesEnd}
 use Rattle.seek.specs.Tests.{Pair, withEach, pairs, placeOf, cellTests, others, globalTests}
 use Rattle.seek.specs.Cursors.{restIn, cellsRest, globalsRest, PlaceFits, LineFits}
 use Rattle.seek.specs.Inside.{numbers, stopOf, CellsFit, GlobalsFit}
-use Rattle.visit.specs.Inside.{rowOf, CellAsks, CellIs, CellFound, GlobalAsks, GlobalIs, GlobalFound, RowAsks, LineAsks, Moved, HandedAt, Placed, PutIs, OutputsAsk, ListAsks, InList, LinesAsk, InLines, CellsAsk, CellsRan, GlobalsAsk, GlobalsRan}
+use Rattle.visit.specs.Inside.{rowOf, CellAsks, CellIs, CellFound, GlobalAsks, GlobalIs, GlobalFound, RowAsks, LineAsks, TestsMoved, HandedAt, PlacesWritten, PutIs, OutputsAsk, ListAsks, InList, LinesAsk, InLines, CellsAsk, CellsRan, GlobalsAsk, GlobalsRan}
 use Rattle.seek.proofs.Clauses.{regroup}
 use Rattle.seek.proofs.CellRests.{length-list, rest-at}
 use Rattle.seek.proofs.GlobalRests.{grest-at, grest-run, stop-most, line-further}
@@ -89,9 +89,9 @@ row-is ls pl pl′ xs ys b row e p q = e ∙ rw (p, q)
 pub record CellsRun (ls : Lines) (cols m : ℕ) (offsets items : List ℕ) (cell₀ i₀ j₀ : ℕ) (fs ss ps : List ℕ) (fs′ ss′ ps′ : List ℕ) (cell i j tests hits : ℕ) : Type 0 where
   pub place : PlaceFits m items cell i j
   pub moved : (later : List Pair)
-      → Moved ls (cellsRest cols offsets items (m - cell₀) cell₀ i₀ j₀ ++ later) (cellsRest cols offsets items (m - cell) cell i j ++ later) tests (length fs) fs ss 0 fs′ ss′ hits
+      → TestsMoved ls (cellsRest cols offsets items (m - cell₀) cell₀ i₀ j₀ ++ later) (cellsRest cols offsets items (m - cell) cell i j ++ later) tests (length fs) fs ss 0 fs′ ss′ hits
   pub placed : (later : List Pair)
-      → Placed ls (numberIn cols m) (cellsRest cols offsets items (m - cell₀) cell₀ i₀ j₀ ++ later) (cellsRest cols offsets items (m - cell) cell i j ++ later) (length fs) ps 0 ps′ hits
+      → PlacesWritten ls (numberIn cols m) (cellsRest cols offsets items (m - cell₀) cell₀ i₀ j₀ ++ later) (cellsRest cols offsets items (m - cell) cell i j ++ later) (length fs) ps 0 ps′ hits
 
 pub cells-run : (ls : Lines) (cols m : ℕ) (offsets items : List ℕ) (cell i j : ℕ) (fs ss ps : List ℕ) → CellsAsk ls cols m offsets items cell i j fs ss → CellsRun ls cols m offsets items cell i j fs ss ps fs ss ps cell i j 0 0
 cells-run ls cols m offsets items cell i j fs ss ps a =
@@ -160,15 +160,15 @@ module _ (ls : Lines) (cols m : ℕ) (offsets items : List ℕ) (cell₀ i₀ j�
           }
 
       module _ (fs″ ss″ : List ℕ) (r : ListEnd) (w : InList ls row xs d fs′ ss′ hits fs″ ss″ r) where
-        step : (later : List Pair) → Moved ls (cellsRest cols offsets items (m - cell) cell i j ++ later) (cellsRest cols offsets items (m - a) a b (r .j) ++ later) (r .j - d) (length fs) fs′ ss′ hits fs″ ss″ (r .hits)
+        step : (later : List Pair) → TestsMoved ls (cellsRest cols offsets items (m - cell) cell i j ++ later) (cellsRest cols offsets items (m - a) a b (r .j) ++ later) (r .j - d) (length fs) fs′ ss′ hits fs″ ss″ (r .hits)
         step later =
             let z : List Pair = pairs (placeOf cols a) (drop (suc b) (listIn offsets items a)) ++ (cellTests cols offsets items (m - suc a) (suc a) ++ later) in
-            let w₁ : Moved ls (withEach (row .place) (row .first) (drop d xs) ++ z) (withEach (row .place) (row .first) (drop (r .j) xs) ++ z) (r .j - d) (length fs′) fs′ ss′ hits fs″ ss″ (r .hits) = w .moved z in
+            let w₁ : TestsMoved ls (withEach (row .place) (row .first) (drop d xs) ++ z) (withEach (row .place) (row .first) (drop (r .j) xs) ++ z) (r .j - d) (length fs′) fs′ ss′ hits fs″ ss″ (r .hits) = w .moved z in
             rw (f .same cols, left-at d later, left-at (r .j) later) (rw (er, ex, first-long) at w₁)
 
         -- the number of the cell is put beside what the row handed out
         placed-step : (ps″ : List ℕ) → PutIs ps′ hits (r .hits) a ps″ → (later : List Pair)
-            → Placed ls (numberIn cols m) (cellsRest cols offsets items (m - cell) cell i j ++ later) (cellsRest cols offsets items (m - a) a b (r .j) ++ later) (length fs) ps′ hits ps″ (r .hits)
+            → PlacesWritten ls (numberIn cols m) (cellsRest cols offsets items (m - cell) cell i j ++ later) (cellsRest cols offsets items (m - a) a b (r .j) ++ later) (length fs) ps′ hits ps″ (r .hits)
         placed-step ps″ o later =
             let z : List Pair = pairs (placeOf cols a) (drop (suc b) (listIn offsets items a)) ++ (cellTests cols offsets items (m - suc a) (suc a) ++ later) in
             let w₁ : HandedAt ls (row .place) (withEach (row .place) (row .first) (drop d xs) ++ z) (withEach (row .place) (row .first) (drop (r .j) xs) ++ z) (length fs′) hits (r .hits) = w .handed-at z in
@@ -203,8 +203,8 @@ module _ (ls : Lines) (cols m : ℕ) (offsets items : List ℕ) (cell₀ i₀ j�
 
 pub record GlobalsRun (ls : Lines) (cells m : ℕ) (globals : List ℕ) (p₀ k₀ : ℕ) (fs ss ps : List ℕ) (hits₀ : ℕ) (fs′ ss′ ps′ : List ℕ) (p q k tests hits : ℕ) : Type 0 where
   pub place : LineFits (count ls) m globals p q k
-  pub moved : Moved ls (globalsRest (count ls) globals (m - p₀) p₀ k₀) (globalsRest (count ls) globals (m - p) p k) tests (length fs) fs ss hits₀ fs′ ss′ hits
-  pub placed : (cols : ℕ) → Placed ls (numberIn cols cells) (globalsRest (count ls) globals (m - p₀) p₀ k₀) (globalsRest (count ls) globals (m - p) p k) (length fs) ps hits₀ ps′ hits
+  pub moved : TestsMoved ls (globalsRest (count ls) globals (m - p₀) p₀ k₀) (globalsRest (count ls) globals (m - p) p k) tests (length fs) fs ss hits₀ fs′ ss′ hits
+  pub placed : (cols : ℕ) → PlacesWritten ls (numberIn cols cells) (globalsRest (count ls) globals (m - p₀) p₀ k₀) (globalsRest (count ls) globals (m - p) p k) (length fs) ps hits₀ ps′ hits
 
 pub globals-run : (ls : Lines) (cells m : ℕ) (globals : List ℕ) (p q k : ℕ) (fs ss ps : List ℕ) (hits : ℕ) → GlobalsAsk ls cells m globals p q k fs ss hits → GlobalsRun ls cells m globals p k fs ss ps hits fs ss ps p q k 0 hits
 globals-run ls cells m globals p q k fs ss ps hits a =
@@ -263,15 +263,15 @@ module _ (ls : Lines) (cells m : ℕ) (globals : List ℕ) (p₀ q₀ k₀ : ℕ
           }
 
       module _ (fs″ ss″ : List ℕ) (r : LinesEnd) (v : InLines ls row d stop fs′ ss′ hits fs″ ss″ r) where
-        run-step : Moved ls (globalsRest (count ls) globals (m - p) p k) (globalsRest (count ls) globals (m - a) a (r .k)) (r .k - d) (length fs) fs′ ss′ hits fs″ ss″ (r .hits)
+        run-step : TestsMoved ls (globalsRest (count ls) globals (m - p) p k) (globalsRest (count ls) globals (m - a) a (r .k)) (r .k - d) (length fs) fs′ ss′ hits fs″ ss″ (r .hits)
         run-step =
             let z : List Pair = withEach (Global a) (getD globals a 0) (others (take (suc a) globals) (count ls - stop) stop) ++ globalTests (count ls) globals (m - suc a) (suc a) in
-            let v₁ : Moved ls (withEach (row .place) (row .first) (numbers (stop - d) d) ++ z) (withEach (row .place) (row .first) (numbers (stop - r .k) (r .k)) ++ z) (r .k - d) (length fs′) fs′ ss′ hits fs″ ss″ (r .hits) = v .moved z in
+            let v₁ : TestsMoved ls (withEach (row .place) (row .first) (numbers (stop - d) d) ++ z) (withEach (row .place) (row .first) (numbers (stop - r .k) (r .k)) ++ z) (r .k - d) (length fs′) fs′ ss′ hits fs″ ss″ (r .hits) = v .moved z in
             let h : d ≤ stop = omega (arith, f .one) in
             rw (f .same, run-at d (omega arith) h, run-at (r .k) (v .from) (v .to)) (rw (er, globals-long) at v₁)
 
         placed-run : (ps″ : List ℕ) → PutIs ps′ hits (r .hits) (cells + a) ps″ → (cols : ℕ)
-            → Placed ls (numberIn cols cells) (globalsRest (count ls) globals (m - p) p k) (globalsRest (count ls) globals (m - a) a (r .k)) (length fs) ps′ hits ps″ (r .hits)
+            → PlacesWritten ls (numberIn cols cells) (globalsRest (count ls) globals (m - p) p k) (globalsRest (count ls) globals (m - a) a (r .k)) (length fs) ps′ hits ps″ (r .hits)
         unfolding numberIn
         placed-run ps″ o cols =
             let z : List Pair = withEach (Global a) (getD globals a 0) (others (take (suc a) globals) (count ls - stop) stop) ++ globalTests (count ls) globals (m - suc a) (suc a) in

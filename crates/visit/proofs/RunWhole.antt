@@ -10,15 +10,15 @@ use lib.Seq.{length-take-le}
 use Rattle.refusals.specs.declared.Check.the-variants.{Fine}
 use Rattle.grid.specs.declared.Grid.{Grid}
 use Rattle.grid.specs.Domain.{Lines, count}
-use Rattle.tables.specs.Tables.{Tables, cells, listIn}
+use Rattle.tables.specs.Tables.{Tables, cells, listIn, beside}
 use Rattle.seek.specs.declared.Cursor.{Cursor}
 use Rattle.visit.specs.declared.scan.Ran.{Ran}
 use Rattle.seek.specs.Tests.{Pair}
 use Rattle.visit.specs.Batches.{made, handed, firsts, seconds, placeNumbers}
 use Rattle.visit.specs.Places.{numberIn}
-use Rattle.seek.specs.Bookmarks.{beside, visitCheck}
+use Rattle.seek.specs.Bookmarks.{visitCheck}
 use Rattle.seek.specs.Cursors.{cellsRest, globalsRest, restOf}
-use Rattle.visit.specs.Inside.{Moved, Placed, RunAsks, CellsAsk, CellsRan, GlobalsAsk, GlobalsRan, RanAll}
+use Rattle.visit.specs.Inside.{TestsMoved, PlacesWritten, RunAsks, CellsAsk, CellsRan, GlobalsAsk, GlobalsRan, RanAll}
 use Rattle.visit.proofs.Clauses.{made-full, handed-full}
 use Rattle.visit.proofs.Moves.{none-made, none-handed}
 use Rattle.seek.proofs.Standing.{globals-fit}
@@ -56,7 +56,7 @@ module _ (ls : Lines) (g : Grid) (offsets items globals : List ℕ) (count-of : 
       }
 
   module _ (fs₁ ss₁ ps₁ : List ℕ) (r₁ : Ran) (w₁ : CellsRan ls (g .cols) m offsets items (c .cell) (c .i) (c .j) fs ss ps fs₁ ss₁ ps₁ r₁) where
-    first-moved : Moved ls (tests-cells ++ tests-globals) (w₁ .rest ++ tests-globals) (r₁ .tests) (length fs) fs ss 0 fs₁ ss₁ (r₁ .hits)
+    first-moved : TestsMoved ls (tests-cells ++ tests-globals) (w₁ .rest ++ tests-globals) (r₁ .tests) (length fs) fs ss 0 fs₁ ss₁ (r₁ .hits)
     unfolding tests-cells tests-globals
     first-moved = w₁ .moved tests-globals
 
@@ -78,7 +78,7 @@ module _ (ls : Lines) (g : Grid) (offsets items globals : List ℕ) (count-of : 
       room : length fs₁ ≡ length fs
       room = first-moved .first-long
 
-      second-moved : Moved ls tests-globals (w₂ .rest) (r₂ .tests) (length fs) fs₁ ss₁ (r₁ .hits) fs₂ ss₂ (r₂ .hits)
+      second-moved : TestsMoved ls tests-globals (w₂ .rest) (r₂ .tests) (length fs) fs₁ ss₁ (r₁ .hits) fs₂ ss₂ (r₂ .hits)
       unfolding tests-globals
       second-moved = rw room at (w₂ .moved)
 
@@ -124,11 +124,11 @@ module _ (ls : Lines) (g : Grid) (offsets items globals : List ℕ) (count-of : 
           (rw sub-zero at (first-moved .seconds-are)
           ∙ rw handed-on (second-moved .seconds-are ∙ rw no-more (append-nil (take (r₂ .hits) ss₂))))
 
-      first-placed : Placed ls (numberIn (g .cols) m) (tests-cells ++ tests-globals) (w₁ .rest ++ tests-globals) (length fs) ps 0 ps₁ (r₁ .hits)
+      first-placed : PlacesWritten ls (numberIn (g .cols) m) (tests-cells ++ tests-globals) (w₁ .rest ++ tests-globals) (length fs) ps 0 ps₁ (r₁ .hits)
       unfolding tests-cells tests-globals
       first-placed = w₁ .placed tests-globals
 
-      second-placed : Placed ls (numberIn (g .cols) m) tests-globals (w₂ .rest) (length fs) ps₁ (r₁ .hits) ps₂ (r₂ .hits)
+      second-placed : PlacesWritten ls (numberIn (g .cols) m) tests-globals (w₂ .rest) (length fs) ps₁ (r₁ .hits) ps₂ (r₂ .hits)
       unfolding tests-globals
       second-placed = rw room at (w₂ .placed (g .cols))
 

@@ -105,7 +105,7 @@ pub record TestBeforeAsks (ls : Lines) (row : Row) (stop : ℕ) : Type 0 where
 
 -- From where `rest` was left and `hits` pairs stood in the outputs, to where rest′ is left and hits′ stand there, `steps` tests were made:
 -- a batch of the one is that of the other, with what is written and made in front.
-pub record Moved (ls : Lines) (rest rest′ : List Pair) (steps room : ℕ) (fs ss : List ℕ) (hits : ℕ) (fs′ ss′ : List ℕ) (hits′ : ℕ) : Type 0 where
+pub record TestsMoved (ls : Lines) (rest rest′ : List Pair) (steps room : ℕ) (fs ss : List ℕ) (hits : ℕ) (fs′ ss′ : List ℕ) (hits′ : ℕ) : Type 0 where
   pub made-is : length (made ls rest (room - hits)) ≡ steps + length (made ls rest′ (room - hits′))
   pub firsts-are : take hits fs ++ firsts (handed ls rest (room - hits)) ≡ take hits′ fs′ ++ firsts (handed ls rest′ (room - hits′))
   pub seconds-are : take hits ss ++ seconds (handed ls rest (room - hits)) ≡ take hits′ ss′ ++ seconds (handed ls rest′ (room - hits′))
@@ -121,7 +121,7 @@ pub record HandedAt (ls : Lines) (pl : Place) (rest rest′ : List Pair) (room h
       → placeNumbers number (handed ls rest (room - hits)) ≡ replicate (hits′ - hits) (number pl) ++ placeNumbers number (handed ls rest′ (room - hits′))
 
 -- beside `Moved`: a slice that is as long as the outputs holds the numbers of the places; one of another length has no meaning
-pub record Placed (ls : Lines) (number : Place → ℕ) (rest rest′ : List Pair) (room : ℕ) (ps : List ℕ) (hits : ℕ) (ps′ : List ℕ) (hits′ : ℕ) : Type 0 where
+pub record PlacesWritten (ls : Lines) (number : Place → ℕ) (rest rest′ : List Pair) (room : ℕ) (ps : List ℕ) (hits : ℕ) (ps′ : List ℕ) (hits′ : ℕ) : Type 0 where
   pub places-are : length ps ≡ room
       → take hits ps ++ placeNumbers number (handed ls rest (room - hits)) ≡ take hits′ ps′ ++ placeNumbers number (handed ls rest′ (room - hits′))
   pub place-long : length ps′ ≡ length ps
@@ -147,7 +147,7 @@ pub record InList (ls : Lines) (row : Row) (xs : List ℕ) (j : ℕ) (fs ss : Li
   pub from : j ≤ r .j
   pub to : r .j ≤ length xs
   pub moved : (later : List Pair)
-      → Moved ls (withEach (row .place) (row .first) (drop j xs) ++ later) (withEach (row .place) (row .first) (drop (r .j) xs) ++ later) (r .j - j) (length fs) fs ss hits fs′ ss′ (r .hits)
+      → TestsMoved ls (withEach (row .place) (row .first) (drop j xs) ++ later) (withEach (row .place) (row .first) (drop (r .j) xs) ++ later) (r .j - j) (length fs) fs ss hits fs′ ss′ (r .hits)
   pub handed-at : (later : List Pair)
       → HandedAt ls (row .place) (withEach (row .place) (row .first) (drop j xs) ++ later) (withEach (row .place) (row .first) (drop (r .j) xs) ++ later) (length fs) hits (r .hits)
   pub some : hits < length fs → j < length xs → j < r .j
@@ -163,7 +163,7 @@ pub record InLines (ls : Lines) (row : Row) (k stop : ℕ) (fs ss : List ℕ) (h
   pub from : k ≤ r .k
   pub to : r .k ≤ stop
   pub moved : (later : List Pair)
-      → Moved ls (withEach (row .place) (row .first) (numbers (stop - k) k) ++ later) (withEach (row .place) (row .first) (numbers (stop - r .k) (r .k)) ++ later) (r .k - k) (length fs) fs ss hits fs′ ss′ (r .hits)
+      → TestsMoved ls (withEach (row .place) (row .first) (numbers (stop - k) k) ++ later) (withEach (row .place) (row .first) (numbers (stop - r .k) (r .k)) ++ later) (r .k - k) (length fs) fs ss hits fs′ ss′ (r .hits)
   pub handed-at : (later : List Pair)
       → HandedAt ls (row .place) (withEach (row .place) (row .first) (numbers (stop - k) k) ++ later) (withEach (row .place) (row .first) (numbers (stop - r .k) (r .k)) ++ later) (length fs) hits (r .hits)
   pub some : hits < length fs → k < stop → k < r .k
@@ -189,8 +189,8 @@ pub record CellsAsk (ls : Lines) (cols m : ℕ) (offsets items : List ℕ) (cell
 -- a run through the cells: where room is left, none of their tests is
 pub record CellsRan (ls : Lines) (cols m : ℕ) (offsets items : List ℕ) (cell i j : ℕ) (fs ss ps fs′ ss′ ps′ : List ℕ) (r : Ran) : Type 0 where
   pub rest : List Pair
-  pub moved : (later : List Pair) → Moved ls (cellsRest cols offsets items (m - cell) cell i j ++ later) (rest ++ later) (r .tests) (length fs) fs ss 0 fs′ ss′ (r .hits)
-  pub placed : (later : List Pair) → Placed ls (numberIn cols m) (cellsRest cols offsets items (m - cell) cell i j ++ later) (rest ++ later) (length fs) ps 0 ps′ (r .hits)
+  pub moved : (later : List Pair) → TestsMoved ls (cellsRest cols offsets items (m - cell) cell i j ++ later) (rest ++ later) (r .tests) (length fs) fs ss 0 fs′ ss′ (r .hits)
+  pub placed : (later : List Pair) → PlacesWritten ls (numberIn cols m) (cellsRest cols offsets items (m - cell) cell i j ++ later) (rest ++ later) (length fs) ps 0 ps′ (r .hits)
   pub ends : r .hits < length fs → rest ≡ []
 
 -- m globals after `cells` cells, and a place among them
@@ -204,8 +204,8 @@ pub record GlobalsAsk (ls : Lines) (cells m : ℕ) (globals : List ℕ) (p q k :
 -- a run through the globals
 pub record GlobalsRan (ls : Lines) (cells m : ℕ) (globals : List ℕ) (p k : ℕ) (fs ss ps : List ℕ) (hits : ℕ) (fs′ ss′ ps′ : List ℕ) (r : Ran) : Type 0 where
   pub rest : List Pair
-  pub moved : Moved ls (globalsRest (count ls) globals (m - p) p k) rest (r .tests) (length fs) fs ss hits fs′ ss′ (r .hits)
-  pub placed : (cols : ℕ) → Placed ls (numberIn cols cells) (globalsRest (count ls) globals (m - p) p k) rest (length fs) ps hits ps′ (r .hits)
+  pub moved : TestsMoved ls (globalsRest (count ls) globals (m - p) p k) rest (r .tests) (length fs) fs ss hits fs′ ss′ (r .hits)
+  pub placed : (cols : ℕ) → PlacesWritten ls (numberIn cols cells) (globalsRest (count ls) globals (m - p) p k) rest (length fs) ps hits ps′ (r .hits)
   pub ends : r .hits < length fs → rest ≡ []
 
 -- a run from a cursor: it has made what a batch makes of the rest

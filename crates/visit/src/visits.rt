@@ -9,8 +9,9 @@ use refusals::Refusal;
 use seek::PairAnswer;
 use seek::SeekAnswer;
 ghost use mathlib.Core.Path.{_≡_};
+ghost use Rattle.tables.specs.Tables.{beside};
 ghost use Rattle.grid.specs.Domain.{lines};
-ghost use Rattle.seek.specs.Bookmarks.{beside, visitCheck};
+ghost use Rattle.seek.specs.Bookmarks.{visitCheck};
 ghost use Rattle.visit.specs.Entries.{testAt, BatchIs, PlacedBatchIs};
 ghost use Rattle.visit.specs.Inside.{BatchMade};
 

@@ -31,24 +31,24 @@ use Rattle.seek.proofs.Clauses.{with-nil, with-cons, pairs-nil, pairs-cons, cel
 use Rattle.visit.proofs.Clauses.{over-nil, over-hit, over-miss}
 use Rattle.seek.proofs.OtherLines.{elem-none}
 use Rattle.seek.proofs.Standing.{globals-fit}
-use Rattle.visit_laws.specs.Words.{sumBelow, one, countBelow, testOfBoth, times, Apart}
+use Rattle.visit_laws.specs.Words.{sumBelow, oneWhere, countBelow, testOfBoth, times, Apart}
 use Rattle.visit_laws.proofs.Number.{sum-zero, sum-suc, sum-front, sum-same}
 
 -- ---- the definitions' clauses
 
-pub one-true : one true ≡ 1
-unfolding one
+pub one-true : oneWhere true ≡ 1
+unfolding oneWhere
 one-true = refl
 
-pub one-false : one false ≡ 0
-unfolding one
+pub one-false : oneWhere false ≡ 0
+unfolding oneWhere
 one-false = refl
 
 pub times-nil : (a b : ℕ) → times a b [] ≡ 0
 unfolding times
 times-nil a b = refl
 
-pub times-cons : (a b : ℕ) (p : Pair) (ps : List Pair) → times a b (p ∷ ps) ≡ one (testOfBoth a b p) + times a b ps
+pub times-cons : (a b : ℕ) (p : Pair) (ps : List Pair) → times a b (p ∷ ps) ≡ oneWhere (testOfBoth a b p) + times a b ps
 unfolding times
 times-cons a b p ps = refl
 
@@ -100,11 +100,11 @@ module _ (a b : ℕ) (d : a ≡ b → ⊥) (pl : Place) where
       let e : eqb v y ≡ false = ne-eqb v y (λ e. omega (arith, r .0)) in
       rw e (elem-above v ys (rising-low (suc v) (suc y) ys (omega (arith, r .0)) (r .1)))
 
-  row-first : (low : ℕ) (ys : List ℕ) → Rising low ys → times a b (withEach pl a ys) ≡ one (elem b ys)
+  row-first : (low : ℕ) (ys : List ℕ) → Rising low ys → times a b (withEach pl a ys) ≡ oneWhere (elem b ys)
   row-first low [] r = rw (with-nil, times-nil, one-false)
   row-first low (y ∷ ys) r = go (ℕ-discrete y b) (row-first (suc y) ys (r .1))
     where
-      go : Dec (y ≡ b) → times a b (withEach pl a ys) ≡ one (elem b ys) → times a b (withEach pl a (y ∷ ys)) ≡ one (elem b (y ∷ ys))
+      go : Dec (y ≡ b) → times a b (withEach pl a ys) ≡ oneWhere (elem b ys) → times a b (withEach pl a (y ∷ ys)) ≡ oneWhere (elem b (y ∷ ys))
       go (yes e) h =
           let r₁ : Rising (suc b) ys = rw e at (r .1) in
           let i : eqb b y ≡ true = eq-eqb b y (sym e) in
@@ -119,25 +119,25 @@ module _ (a b : ℕ) (d : a ≡ b → ⊥) (pl : Place) where
   swap-d : b ≡ a → ⊥
   swap-d e = d (sym e)
 
-  pub cell-times : (low : ℕ) (xs : List ℕ) → Rising low xs → times a b (pairs pl xs) ≡ one (elem a xs && elem b xs)
+  pub cell-times : (low : ℕ) (xs : List ℕ) → Rising low xs → times a b (pairs pl xs) ≡ oneWhere (elem a xs && elem b xs)
   cell-times low [] r = rw (pairs-nil, times-nil, one-false)
   cell-times low (x ∷ xs) r = go (ℕ-discrete x a) (ℕ-discrete x b) (cell-times (suc x) xs (r .1))
     where
-      go : Dec (x ≡ a) → Dec (x ≡ b) → times a b (pairs pl xs) ≡ one (elem a xs && elem b xs) → times a b (pairs pl (x ∷ xs)) ≡ one (elem a (x ∷ xs) && elem b (x ∷ xs))
+      go : Dec (x ≡ a) → Dec (x ≡ b) → times a b (pairs pl xs) ≡ oneWhere (elem a xs && elem b xs) → times a b (pairs pl (x ∷ xs)) ≡ oneWhere (elem a (x ∷ xs) && elem b (x ∷ xs))
       go (yes p) q h =
           let r₁ : Rising (suc a) xs = rw p at (r .1) in
           let n : elem a xs ≡ false = elem-above a b d pl a xs r₁ in
           let i : eqb a x ≡ true = eq-eqb a x (sym p) in
           let j : eqb b x ≡ false = ne-eqb b x (λ e. d (sym (e ∙ p))) in
-          let w : times a b (withEach pl x xs) ≡ one (elem b xs) = ap (λ (v : ℕ). times a b (withEach pl v xs)) p ∙ row-first a b d pl (suc a) xs r₁ in
+          let w : times a b (withEach pl x xs) ≡ oneWhere (elem b xs) = ap (λ (v : ℕ). times a b (withEach pl v xs)) p ∙ row-first a b d pl (suc a) xs r₁ in
           rw (pairs-cons, times-append, w, h, n, one-false, add-zero, i, j)
       go (no p) (yes q) h =
           let r₁ : Rising (suc b) xs = rw q at (r .1) in
           let n : elem b xs ≡ false = elem-above a b d pl b xs r₁ in
           let i : eqb a x ≡ false = ne-eqb a x (λ e. p (sym e)) in
           let j : eqb b x ≡ true = eq-eqb b x (sym q) in
-          let w : times a b (withEach pl x xs) ≡ one (elem a xs) = ap (λ (v : ℕ). times a b (withEach pl v xs)) q ∙ times-swap a b (withEach pl b xs) ∙ row-first b a swap-d pl (suc b) xs r₁ in
-          rw (pairs-cons, times-append, w, h, n, i, j) (rw (and-false (elem a xs), one-false, add-zero) (ap one (sym (and-true (elem a xs)))))
+          let w : times a b (withEach pl x xs) ≡ oneWhere (elem a xs) = ap (λ (v : ℕ). times a b (withEach pl v xs)) q ∙ times-swap a b (withEach pl b xs) ∙ row-first b a swap-d pl (suc b) xs r₁ in
+          rw (pairs-cons, times-append, w, h, n, i, j) (rw (and-false (elem a xs), one-false, add-zero) (ap oneWhere (sym (and-true (elem a xs)))))
       go (no p) (no q) h =
           let i : eqb a x ≡ false = ne-eqb a x (λ e. p (sym e)) in
           let j : eqb b x ≡ false = ne-eqb b x (λ e. q (sym e)) in
@@ -147,7 +147,7 @@ module _ (a b : ℕ) (d : a ≡ b → ⊥) (pl : Place) where
 
 module _ (a b : ℕ) (d : a ≡ b → ⊥) (cols : ℕ) (offsets items : List ℕ) where
   together : ℕ → ℕ
-  together c = one (elem a (listIn offsets items c) && elem b (listIn offsets items c))
+  together c = oneWhere (elem a (listIn offsets items c) && elem b (listIn offsets items c))
 
   shift : (c x : ℕ) → suc c + x ≡ c + suc x
   shift c x = omega arith
@@ -176,7 +176,7 @@ module _ (a b : ℕ) (d : a ≡ b → ⊥) (cols : ℕ) (offsets items : List �
   unfolding together countBelow
   cells-shared m r =
       cells-times m 0 (λ x p q. r x (omega arith))
-      ∙ sum-same m (λ x. together (0 + x)) (λ c. one (elem a (listIn offsets items c) && elem b (listIn offsets items c))) (λ x. ap together (zero-add x))
+      ∙ sum-same m (λ x. together (0 + x)) (λ c. oneWhere (elem a (listIn offsets items c) && elem b (listIn offsets items c))) (λ x. ap together (zero-add x))
 
 -- ---- the lines but those of a list
 
@@ -254,42 +254,42 @@ module _ (n m : ℕ) (globals : List ℕ) (t : GlobalsFit n m globals) where
     unfolding before
     others-of v p h = elem-others (take (suc p) globals) v n 0 (omega arith) (omega arith)
 
-    row-of-a : (p : ℕ) → p < m → getD globals p 0 ≡ a → row p ≡ one (not (before b p))
+    row-of-a : (p : ℕ) → p < m → getD globals p 0 ≡ a → row p ≡ oneWhere (not (before b p))
     unfolding row
     row-of-a p h e =
         let x : before b (suc p) ≡ before b p = before-suc b p h ∙ rw (e, ne-eqb b a (λ q. d (sym q))) (or-false (before b p)) in
         ap (λ (v : ℕ). times a b (withEach (Global p) v (others (take (suc p) globals) n 0))) e
         ∙ row-first a b d (Global p) 0 (others (take (suc p) globals) n 0) (others-rising (take (suc p) globals) n 0)
-        ∙ ap one (others-of b p lb ∙ ap not x)
+        ∙ ap oneWhere (others-of b p lb ∙ ap not x)
 
-    row-of-b : (p : ℕ) → p < m → getD globals p 0 ≡ b → row p ≡ one (not (before a p))
+    row-of-b : (p : ℕ) → p < m → getD globals p 0 ≡ b → row p ≡ oneWhere (not (before a p))
     unfolding row
     row-of-b p h e =
         let x : before a (suc p) ≡ before a p = before-suc a p h ∙ rw (e, ne-eqb a b d) (or-false (before a p)) in
         ap (λ (v : ℕ). times a b (withEach (Global p) v (others (take (suc p) globals) n 0))) e
         ∙ times-swap a b (withEach (Global p) b (others (take (suc p) globals) n 0))
         ∙ row-first b a (λ q. d (sym q)) (Global p) 0 (others (take (suc p) globals) n 0) (others-rising (take (suc p) globals) n 0)
-        ∙ ap one (others-of a p la ∙ ap not x)
+        ∙ ap oneWhere (others-of a p la ∙ ap not x)
 
     -- one global
-    step : (p : ℕ) → p < m → row p + one (met (suc p)) ≡ one (met p)
+    step : (p : ℕ) → p < m → row p + oneWhere (met (suc p)) ≡ oneWhere (met p)
     unfolding met row
     step p h = go (ℕ-discrete (getD globals p 0) a) (ℕ-discrete (getD globals p 0) b)
       where
-        go : Dec (getD globals p 0 ≡ a) → Dec (getD globals p 0 ≡ b) → row p + one (met (suc p)) ≡ one (met p)
+        go : Dec (getD globals p 0 ≡ a) → Dec (getD globals p 0 ≡ b) → row p + oneWhere (met (suc p)) ≡ oneWhere (met p)
         go (yes e) q =
             let ia : eqb a (getD globals p 0) ≡ true = eq-eqb a (getD globals p 0) (sym e) in
             let na : before a p ≡ false = subst (λ (v : ℕ). before v p ≡ false) e (not-before p h) in
             let ba : before a (suc p) ≡ true = before-suc a p h ∙ rw (na, ia) in
             let aa : after a p ≡ true = after-suc a p h ∙ rw ia in
-            rw (row-of-a p h e, ba, na, aa) (rw one-false (add-zero (one (not (before b p))) ∙ ap one (sym (and-true (not (before b p))))))
+            rw (row-of-a p h e, ba, na, aa) (rw one-false (add-zero (oneWhere (not (before b p))) ∙ ap oneWhere (sym (and-true (not (before b p))))))
         go (no o) (yes e) =
             let ib : eqb b (getD globals p 0) ≡ true = eq-eqb b (getD globals p 0) (sym e) in
             let nb : before b p ≡ false = subst (λ (v : ℕ). before v p ≡ false) e (not-before p h) in
             let bb : before b (suc p) ≡ true = before-suc b p h ∙ rw (nb, ib) in
             let ab : after b p ≡ true = after-suc b p h ∙ rw ib in
             rw (row-of-b p h e, bb, nb, ab, or-true (before a (suc p)), or-false (before a p), or-true (after a p))
-            (rw one-false (add-zero (one (not (before a p))) ∙ ap one (sym (and-true (not (before a p))))))
+            (rw one-false (add-zero (oneWhere (not (before a p))) ∙ ap oneWhere (sym (and-true (not (before a p))))))
         go (no o) (no u) =
             let ia : eqb a (getD globals p 0) ≡ false = ne-eqb a (getD globals p 0) (λ q. o (sym q)) in
             let ib : eqb b (getD globals p 0) ≡ false = ne-eqb b (getD globals p 0) (λ q. u (sym q)) in
@@ -304,7 +304,7 @@ module _ (n m : ℕ) (globals : List ℕ) (t : GlobalsFit n m globals) where
     unfolding after
     none-after v = ap (elem v) (slice-empty m globals)
 
-    globals-times : (left p : ℕ) → p + left ≡ m → times a b (globalTests n globals left p) ≡ one (met p)
+    globals-times : (left p : ℕ) → p + left ≡ m → times a b (globalTests n globals left p) ≡ oneWhere (met p)
     unfolding met row
     globals-times zero p e =
         let z : p ≡ m = omega arith in
@@ -316,14 +316,14 @@ module _ (n m : ℕ) (globals : List ℕ) (t : GlobalsFit n m globals) where
         ∙ step p (omega arith)
 
     -- all of them: once, if one of the two is global
-    pub globals-all : times a b (globalTests n globals m 0) ≡ one (elem a (take m globals) || elem b (take m globals))
+    pub globals-all : times a b (globalTests n globals m 0) ≡ oneWhere (elem a (take m globals) || elem b (take m globals))
     unfolding met before after
     globals-all = globals-times m 0 (zero-add m)
 
 -- ---- counts
 
-one-less : (x y : Bool) → one (x && y) ≤ one x
-unfolding one
+one-less : (x y : Bool) → oneWhere (x && y) ≤ oneWhere x
+unfolding oneWhere
 one-less true true = omega arith
 one-less true false = omega arith
 one-less false y = omega arith
@@ -332,13 +332,13 @@ count-less : (m : ℕ) (f g : ℕ → Bool) → countBelow m (λ c. f c && g c) 
 unfolding countBelow
 count-less zero f g = rw (sum-zero, sum-zero) (omega arith)
 count-less (suc m) f g =
-    omega (arith, sum-suc m (λ c. one (f c && g c)), sum-suc m (λ c. one (f c)), one-less (f m) (g m), count-less m f g)
+    omega (arith, sum-suc m (λ c. oneWhere (f c && g c)), sum-suc m (λ c. oneWhere (f c)), one-less (f m) (g m), count-less m f g)
 
 count-none : (m : ℕ) (f : ℕ → Bool) → ((c : ℕ) → c < m → f c ≡ false) → countBelow m f ≡ 0
 unfolding countBelow
-count-none zero f h = sum-zero (λ c. one (f c))
+count-none zero f h = sum-zero (λ c. oneWhere (f c))
 count-none (suc m) f h =
-    omega (arith, sum-suc m (λ c. one (f c)), ap one (h m (omega arith)), one-false, count-none m f (λ c l. h c (omega arith)))
+    omega (arith, sum-suc m (λ c. oneWhere (f c)), ap oneWhere (h m (omega arith)), one-false, count-none m f (λ c l. h c (omega arith)))
 
 -- ---- THE LAWS
 
@@ -348,7 +348,7 @@ module _ (t : Tables) (f : TablesFit t) (a b : ℕ) (d : a ≡ b → ⊥) (la : 
   shared = countBelow (cells t) (λ c. elem a (listOf t c) && elem b (listOf t c))
 
   -- ONCE PER SHARED CELL, and once more where one of the two is global
-  pub tests-often : times a b (testsOf t) ≡ shared + one (elem a (globalsOf t) || elem b (globalsOf t))
+  pub tests-often : times a b (testsOf t) ≡ shared + oneWhere (elem a (globalsOf t) || elem b (globalsOf t))
   unfolding testsOf
   tests-often =
       let c : times a b (cellTests (t .cols) (t .offsets) (t .items) (cells t) 0) ≡ shared =

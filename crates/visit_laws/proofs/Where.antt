@@ -19,7 +19,7 @@ use Rattle.visit.specs.Batches.{made, overlapping, handed}
 use Rattle.seek.proofs.Clauses.{with-nil, with-cons, pairs-nil, pairs-cons, cells-zero, cells-suc, globals-zero, globals-suc}
 use Rattle.visit.proofs.Clauses.{made-none, made-full, made-hit, made-miss, over-nil, over-hit, over-miss}
 use Rattle.visit.proofs.Placing.{number-of-cell}
-use Rattle.visit_laws.specs.Words.{Listed, AllListed}
+use Rattle.visit_laws.specs.Words.{PlaceTells, AllListed}
 
 module _ (t : Tables) where
   append : (ps qs : List Pair) → AllListed t ps → AllListed t qs → AllListed t (ps ++ qs)
@@ -29,7 +29,7 @@ module _ (t : Tables) where
   -- ---- a cell c at `pl`
 
   module _ (pl : Place) (c : ℕ) (l : c < cells t) (e : numberOf t pl ≡ c) where
-    one : (a b : ℕ) → elem a (listOf t c) ≡ true → elem b (listOf t c) ≡ true → Listed t (pair pl a b)
+    one : (a b : ℕ) → elem a (listOf t c) ≡ true → elem b (listOf t c) ≡ true → PlaceTells t (pair pl a b)
     one a b h k = record { in-cell = λ _. (rw e h, rw e k); of-global = λ m. absurd (omega (arith, e)) }
 
     row : (a : ℕ) → elem a (listOf t c) ≡ true → (ys : List ℕ) → ((y : ℕ) → elem y ys ≡ true → elem y (listOf t c) ≡ true) → AllListed t (withEach pl a ys)
@@ -52,7 +52,7 @@ module _ (t : Tables) where
 
   -- ---- the globals
 
-  of-one : (p b : ℕ) → Listed t (pair (Global p) (getD (t .globals) p 0) b)
+  of-one : (p b : ℕ) → PlaceTells t (pair (Global p) (getD (t .globals) p 0) b)
   unfolding numberIn
   of-one p b =
       let z : (cells t + p) - cells t ≡ p = omega arith in

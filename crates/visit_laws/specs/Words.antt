@@ -17,21 +17,21 @@ use Rattle.visit.specs.Entries.{tallyOf}
 -- ---- how many
 
 -- k (k - 1) / 2
-abbrev pub half : ℕ → ℕ
-half k = k * (k - 1) / 2
+abbrev pub halfDown : ℕ → ℕ
+halfDown k = k * (k - 1) / 2
 
 -- the sum of f over the numbers below m
 unfoldable pub sumBelow : ℕ → (ℕ → ℕ) → ℕ
 sumBelow zero f = 0
 sumBelow (suc m) f = sumBelow m f + f m
 
-unfoldable pub one : Bool → ℕ
-one true = 1
-one false = 0
+unfoldable pub oneWhere : Bool → ℕ
+oneWhere true = 1
+oneWhere false = 0
 
 -- how many numbers below m pass a test
 unfoldable pub countBelow : ℕ → (ℕ → Bool) → ℕ
-countBelow m f = sumBelow m (λ c. one (f c))
+countBelow m f = sumBelow m (λ c. oneWhere (f c))
 
 -- ---- how often
 
@@ -42,7 +42,7 @@ testOfBoth a b p = (eqb (p .first) a && eqb (p .second) b) || (eqb (p .first) b 
 -- how often a and b are tested
 unfoldable pub times : ℕ → ℕ → List Pair → ℕ
 times a b [] = 0
-times a b (p ∷ ps) = one (testOfBoth a b p) + times a b ps
+times a b (p ∷ ps) = oneWhere (testOfBoth a b p) + times a b ps
 
 -- each is a test of two different lines, both below n
 abbrev pub Different : ℕ → List Pair → Type 0
@@ -51,14 +51,14 @@ Different n (p ∷ ps) = ((p .first < n) × (p .second < n) × (p .first ≡ p .
 
 -- the number of a test's place says where its lines are listed: below the number of cells, both stand in that cell's list; from there on, the
 -- first is the global at the position that is left
-pub record Listed (t : Tables) (p : Pair) : Type 0 where
+pub record PlaceTells (t : Tables) (p : Pair) : Type 0 where
   pub in-cell : numberOf t (p .place) < cells t
       → (elem (p .first) (listOf t (numberOf t (p .place))) ≡ true) × (elem (p .second) (listOf t (numberOf t (p .place))) ≡ true)
   pub of-global : cells t ≤ numberOf t (p .place) → p .first ≡ getD (t .globals) (numberOf t (p .place) - cells t) 0
 
 abbrev pub AllListed : Tables → List Pair → Type 0
 AllListed t [] = Unit {0}
-AllListed t (p ∷ ps) = Listed t p × AllListed t ps
+AllListed t (p ∷ ps) = PlaceTells t p × AllListed t ps
 
 -- tables whose global lines stand in no cell's list, as a build leaves them
 pub record Apart (t : Tables) : Type 0 where

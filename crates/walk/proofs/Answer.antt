@@ -34,7 +34,7 @@ use Rattle.walk.specs.Turns.{rayOf, startOf}
 use Rattle.walk.specs.Pushes.{Outcome, walkedOf}
 use Rattle.walk.specs.Modular.{wayBy, startBy, walkedBy}
 use Rattle.walk.specs.Neighbours.{alongOn, besideOf, lineOf, endOf}
-use Rattle.cover.specs.Covering.{roomCheck}
+use Rattle.cover.specs.Covering.{scratchShapeCheck}
 use Rattle.walk.specs.Segment.{pushesOf, answered, byTurns, unlessNone, turnsOf, turning, segmentOf, everywhereIn, entryCheck, reachOf, asIsOf, reachedOf, Walked}
 use Rattle.walk.specs.Inside.{Grown, Covers, Complete, WalkedTo, Walks}
 use Rattle.walk.proofs.Whole.{walked-is}
@@ -128,12 +128,12 @@ module _ (mode : Mode) (g : Grid) (line : Segment) (shape : Shape (g .cols) (g .
 -- behind 3, and 8 by the counts
 module _ (mode : Mode) (g : Grid) (line : Segment) (was : List ℕ) where
   abbrev o : Outcome
-  o = roomCheck (length was) g then turnsOf mode g line
+  o = scratchShapeCheck (length was) g then turnsOf mode g line
 
-  pub check-answer : (r : Refusal) → roomCheck (length was) g ≡ check.Refused r → Walked false o was (Refused r) was
+  pub check-answer : (r : Refusal) → scratchShapeCheck (length was) g ≡ check.Refused r → Walked false o was (Refused r) was
   check-answer r e = refused-walked _ r was was (then-refused _ _ r e) refl (sym (left-same 0 r was (room-spares (length was) g .says r e)))
 
-  module _ (fine : roomCheck (length was) g ≡ Fine) where
+  module _ (fine : scratchShapeCheck (length was) g ≡ Fine) where
     walks-on : o ≡ turnsOf mode g line
     walks-on = then-fine _ _ fine
 

@@ -13,7 +13,7 @@ use Rattle.grid.specs.declared.Segment.{Segment}
 use Rattle.grid.specs.Domain.{shape, fit, scratchCheck, segmentCheck, gridCheck}
 use Rattle.grid.proofs.Fine.{scratch-spares, grid-spares}
 use Rattle.grid.proofs.Shapes.{fit-shape}
-use Rattle.cover.specs.Covering.{roomCheck}
+use Rattle.cover.specs.Covering.{scratchShapeCheck}
 use Rattle.walk.specs.declared.Mode.{Mode}
 use Rattle.walk.specs.Segment.{segmentOf, entryCheck, reachOf, asIsOf}
 
@@ -21,12 +21,12 @@ use Rattle.walk.specs.Segment.{segmentOf, entryCheck, reachOf, asIsOf}
 
 module _ (n : ℕ) (g : Grid) where
   -- neither is one of 4 to 7
-  pub room-spares : Clearing false (roomCheck n g)
-  unfolding roomCheck clears
+  pub room-spares : Clearing false (scratchShapeCheck n g)
+  unfolding scratchShapeCheck clears
   room-spares = clearing-then (scratch-spares n) (clearing-unless _ 8 0 refl)
 
-  room-fine : 16384 ≤ n → shape (g .cols) (g .rows) ≡ true → roomCheck n g ≡ Fine
-  unfolding roomCheck scratchCheck andThen unless
+  room-fine : 16384 ≤ n → shape (g .cols) (g .rows) ≡ true → scratchShapeCheck n g ≡ Fine
+  unfolding scratchShapeCheck scratchCheck andThen unless
   room-fine h k = rw (le-leb 16384 n h, k)
 
   -- of a scratch and a grid that pass 3 and 8 a walk as they are is the walk

@@ -12,7 +12,7 @@ use lib.Dec.{ltb, eqb}
 use borrow.Author.Tests.{lt-ltb, le-ltb, eqb-true}
 use Rattle.slices.specs.Lists.{any, elem}
 use Rattle.slices.proofs.Members.{any-append, elem-at}
-use Rattle.walk.specs.Pushes.{kept}
+use Rattle.walk.specs.Pushes.{keptIf}
 use Rattle.walk.specs.Modular.{pushBy}
 use Rattle.walk.specs.Inside.{Grown, Covers, lastIs}
 
@@ -47,19 +47,19 @@ number x y cols rows h k =
 
 module _ (cols rows col row : ℕ) where
   pub inside : col < cols → row < rows → pushBy cols rows col row ≡ (row * cols + col) ∷ []
-  unfolding pushBy kept
+  unfolding pushBy keptIf
   inside h k = rw (lt-ltb col cols h, lt-ltb row rows k)
 
   pub beyond-row : col < cols → rows ≤ row → pushBy cols rows col row ≡ []
-  unfolding pushBy kept
+  unfolding pushBy keptIf
   beyond-row h k = rw (lt-ltb col cols h, le-ltb row rows k)
 
   pub beyond-col : cols ≤ col → pushBy cols rows col row ≡ []
-  unfolding pushBy kept
+  unfolding pushBy keptIf
   beyond-col h = rw (le-ltb col cols h)
 
-  kept-le : (b : Bool) (c : ℕ) → length (kept b c) ≤ 1
-  unfolding kept
+  kept-le : (b : Bool) (c : ℕ) → length (keptIf b c) ≤ 1
+  unfolding keptIf
   kept-le true c = omega arith
   kept-le false c = omega arith
 

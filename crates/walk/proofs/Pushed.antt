@@ -16,7 +16,7 @@ use Rattle.walk.specs.declared.Walk.{Walk}
 use Rattle.walk.specs.declared.Way.{Way}
 use Rattle.walk.specs.declared.Ran.{Ran}
 use Rattle.walk.specs.declared.Ran.the-variants.{Done}
-use Rattle.walk.specs.Pushes.{kept, Outcome, before, after}
+use Rattle.walk.specs.Pushes.{keptIf, Outcome, before, after}
 use Rattle.walk.specs.Modular.{turnBy, steppedBy, movedBy, pushBy, sidesBy, pushedBy, nextBy, goingBy, turnsBy, walkedBy}
 use Rattle.walk.specs.Inside.{Straight, Still, WalkedTo, Walks}
 use Rattle.walk.proofs.Grows.{number, at-most-one}
@@ -52,8 +52,8 @@ after-found (gives ys) ps xs e = record { ys = ys; rest = refl; whole = sym (sam
 
 -- ---- what is pushed is inside the grid
 
-kept-below : (n : ℕ) (b : Bool) (c : ℕ) → (b ≡ true → c < n) → Below n (kept b c)
-unfolding kept
+kept-below : (n : ℕ) (b : Bool) (c : ℕ) → (b ≡ true → c < n) → Below n (keptIf b c)
+unfolding keptIf
 kept-below n true c h = (h refl, tt)
 kept-below n false c h = tt
 

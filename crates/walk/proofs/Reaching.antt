@@ -14,7 +14,7 @@ use Rattle.grid.specs.declared.Grid.{Grid}
 use Rattle.grid.specs.declared.Segment.{Segment}
 use Rattle.cover.specs.declared.Covered.{Covered}
 use Rattle.cover.specs.declared.Covered.the-variants as cover
-use Rattle.cover.specs.Covering.{coveringOf, offGrid, everywhere, roomCheck, foundOf, coveredOf, CoverIs}
+use Rattle.cover.specs.Covering.{coveringOf, offGrid, everywhere, scratchShapeCheck, foundOf, coveredOf, CoverIs}
 use Rattle.cover.proofs.Laws.{everywhere-off}
 use Rattle.walk.specs.declared.Mode.{Mode}
 use Rattle.walk.specs.declared.Mode.the-variants.{Rust, Sided, Covering}
@@ -71,12 +71,12 @@ module _ (mode : Mode) (g : Grid) (line : Segment) where
   unfolding entryOf reachOf offCheck unless _then_
   entry-turns n h = rw (turning-on h)
 
-  pub reached-turns : (n : ℕ) {was now : List ℕ} {r : Reached} → turning mode ≡ true → Walked false (roomCheck n g then turnsOf mode g line) was r now
+  pub reached-turns : (n : ℕ) {was now : List ℕ} {r : Reached} → turning mode ≡ true → Walked false (scratchShapeCheck n g then turnsOf mode g line) was r now
       → Walked (everywhereIn mode g line) (asIsOf mode n g line) was r now
   unfolding asIsOf
   reached-turns n h w = rw (turning-nowhere h, segment-turns h) w
 
-  pub reached-covers : (n : ℕ) {was now : List ℕ} {r : Reached} → turning mode ≡ false → Walked (everywhere g line) (roomCheck n g then gives (coveringOf g line)) was r now
+  pub reached-covers : (n : ℕ) {was now : List ℕ} {r : Reached} → turning mode ≡ false → Walked (everywhere g line) (scratchShapeCheck n g then gives (coveringOf g line)) was r now
       → Walked (everywhereIn mode g line) (asIsOf mode n g line) was r now
   unfolding asIsOf
   reached-covers n h w = rw (covering-everywhere h, segment-covers h) w
@@ -128,7 +128,7 @@ module _ (xs was now : List ℕ) (size : length now ≡ length was) where
 
 module _ {g : Grid} {line : Segment} {was now : List ℕ} {R : Covered} (w : CoverIs g line was R now) where
   abbrev c : Check
-  c = roomCheck (length was) g
+  c = scratchShapeCheck (length was) g
 
   says : (r : Covered) → R ≡ r → r ≡ answerFrom c (everywhere g line) (coveringOf g line)
   unfolding coveredOf foundOf

@@ -20,7 +20,7 @@ use Rattle.walk.specs.declared.Turn.{Turn}
 use Rattle.walk.specs.declared.Walk.{Walk}
 use Rattle.walk.specs.declared.Way.{Way}
 use Rattle.walk.specs.Turns.{nought, signOf, Stride, strideOn, Progress, progressOn, Ray, State, rayOf, startOf, same, arrivedOf, turnOf, steppedOf, advanced, movedOf, goesOf}
-use Rattle.walk.specs.Pushes.{kept, pushOf, sidesOf, pushedOf, Outcome, before, after, nextOf, goingOf, turns, walkedOf}
+use Rattle.walk.specs.Pushes.{keptIf, pushOf, sidesOf, pushedOf, Outcome, before, after, nextOf, goingOf, turns, walkedOf}
 use Rattle.walk.specs.Modular.{stepBy, courseBy, positionBy, wayBy, startBy, arrivedBy, turnBy, steppedBy, advancedBy, movedBy, pushBy, sidesBy, pushedBy, nextBy, goingBy, turnsBy, walkedBy}
 use Rattle.walk.proofs.Floats.{index-le}
 
@@ -63,13 +63,13 @@ steps d left z u h = go (lt nought d) (lt d nought)
 beyond : (left n u count : ℕ) → Kept left (negsuc n) u → count ≤ 4004 → ltb u count ≡ false
 beyond left n u count h l = le-ltb u count (omega (arith, h .0, h .1))
 
-no-cell : (b : Bool) (c : ℕ) → [] ≡ kept (b && false) c
-unfolding kept
+no-cell : (b : Bool) (c : ℕ) → [] ≡ keptIf (b && false) c
+unfolding keptIf
 no-cell true c = refl
 no-cell false c = refl
 
 push-is : (cols rows a b : ℕ) (z y : ℤ) (u v : ℕ) → cols ≤ 4004 → rows ≤ 4004 → Kept a z u → Kept b y v → pushOf cols rows z y ≡ pushBy cols rows u v
-unfolding pushOf pushBy kept
+unfolding pushOf pushBy keptIf
 push-is cols rows a b (pos c) (pos r) u v k l h i = rw (h .0, i .0)
 push-is cols rows a b (pos c) (negsuc r) u v k l h i = rw (beyond b r v rows i l) (no-cell (ltb u cols) (v * cols + u))
 push-is cols rows a b (negsuc c) y u v k l h i = rw (beyond a c u cols h k)

@@ -7,7 +7,8 @@ use Prim.Native.Nat.{ℕ, zero, suc, _+_, _-_, _*_, _%_, _≤_, _<_}
 use lib.ListN.{length, take, getD}
 use lib.Dec.{eqb}
 use lib.IntN.{negsuc}
-use lib.Ieee.{Float, fin, binary64, add, mul, lt, le, eq}
+use lib.Ieee.{Float, fin, lt, le, eq}
+use Rattle.numbers.specs.Arithmetic.{_+₆₄_, _*₆₄_}
 use Rattle.numbers.specs.Order.{greatestOf}
 use Rattle.slices.specs.Lists.{any, Below}
 use Rattle.refusals.specs.Refusals.{refusal, refused, gives}
@@ -56,10 +57,10 @@ pub record Complete (s : List ℕ) (r : ℕ) (cells : List ℕ) : Type 0 where
 -- The tolerance by the greater t_max, and whether a turn is plain: the lesser t_max is above 0 and at most 1 + tolerance, and `gap`, by which the two
 -- differ, is more than the tolerance; or the greater is infinite.
 abbrev pub wide : Float → Float
-wide far = mul binary64 (fin false 1 (negsuc 48)) (greatestOf one far)
+wide far = fin false 1 (negsuc 48) *₆₄ greatestOf one far
 
 unfoldable pub plainly : Float → Float → Float → Bool
-plainly near far gap = lt nought near && cond (lt (wide far) gap) (le near (add binary64 one (wide far))) (eq far infinite)
+plainly near far gap = lt nought near && cond (lt (wide far) gap) (le near (one +₆₄ wide far)) (eq far infinite)
 
 -- what a run leaves: the cells at the front of s, or refusal 7
 abbrev pub RanTo : Outcome → Ran → List ℕ → Type 0

@@ -4,7 +4,8 @@ use Prim.Native.Nat.{ℕ, zero, suc, _+_, _*_, _%_}
 use mathlib.Core.Bool.{Bool, true, false, cond, _&&_}
 use mathlib.Core.List.{List, [], _++_}
 use lib.Dec.{ltb, eqb}
-use lib.Ieee.{Float, binary64, add, sub, lt}
+use lib.Ieee.{Float, lt}
+use Rattle.numbers.specs.Arithmetic.{_+₆₄_, _-₆₄_}
 use Rattle.refusals.specs.Refusals.{refusal, refused, gives, _into_}
 use Rattle.grid.specs.declared.Axis.{Axis}
 use Rattle.grid.specs.declared.Grid.{Grid}
@@ -16,17 +17,17 @@ use Rattle.walk.specs.declared.Turn.{Turn}
 use Rattle.walk.specs.declared.Walk.{Walk}
 use Rattle.walk.specs.declared.Way.{Way}
 use Rattle.walk.specs.Turns.{nought, deltaOf, firstOn, stop, furtherOf, goesOf}
-use Rattle.walk.specs.Pushes.{kept, Outcome, before, after}
+use Rattle.walk.specs.Pushes.{keptIf, Outcome, before, after}
 
 -- one in the sign of d
 unfoldable pub stepBy : Float → ℕ
 stepBy d = cond (lt nought d) 1 (cond (lt d nought) 4294967295 0)
 
 unfoldable pub courseBy : Axis → Float → Float → Course
-courseBy a start end = record { step = stepBy (sub binary64 end start); «t_delta» = deltaOf (a .size) (sub binary64 end start); end = indexOn a end }
+courseBy a start end = record { step = stepBy (end -₆₄ start); «t_delta» = deltaOf (a .size) (end -₆₄ start); end = indexOn a end }
 
 unfoldable pub positionBy : Axis → Float → Float → Position
-positionBy a start end = record { index = indexOn a start; «t_max» = firstOn a start (sub binary64 end start) }
+positionBy a start end = record { index = indexOn a start; «t_max» = firstOn a start (end -₆₄ start) }
 
 unfoldable pub wayBy : Grid → Segment → Way
 wayBy g line = record { x = courseBy (xAxis g) (line .«start_x») (line .«end_x»); y = courseBy (yAxis g) (line .«start_y») (line .«end_y») }
@@ -45,13 +46,13 @@ steppedBy c p = (p .index + c .step) % 4294967296
 
 unfoldable pub advancedBy : Bool → Course → Position → Position
 advancedBy false c p = p
-advancedBy true c p = record { index = steppedBy c p; «t_max» = add binary64 (p .«t_max») (c .«t_delta») }
+advancedBy true c p = record { index = steppedBy c p; «t_max» = p .«t_max» +₆₄ c .«t_delta» }
 
 unfoldable pub movedBy : Turn → Way → Walk → Walk
 movedBy k way w = record { x = advancedBy (k .x) (way .x) (w .x); y = advancedBy (k .y) (way .y) (w .y) }
 
 unfoldable pub pushBy : ℕ → ℕ → ℕ → ℕ → List ℕ
-pushBy cols rows col row = kept (ltb col cols && ltb row rows) (row * cols + col)
+pushBy cols rows col row = keptIf (ltb col cols && ltb row rows) (row * cols + col)
 
 unfoldable pub sidesBy : Bool → ℕ → ℕ → Way → Walk → List ℕ
 sidesBy false cols rows way w = []

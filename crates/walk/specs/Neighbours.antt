@@ -3,7 +3,8 @@ use Prim.Native.Nat.{ℕ, _+_, _-_, _*_, _%_}
 use mathlib.Core.Bool.{cond}
 use mathlib.Core.List.{List, [], _∷_, _++_, flatMap}
 use lib.Dec.{ltb, eqb}
-use lib.Ieee.{Float, binary64, sub, eq}
+use lib.Ieee.{Float, eq}
+use Rattle.numbers.specs.Arithmetic.{_-₆₄_}
 use Rattle.grid.specs.declared.Axis.{Axis}
 use Rattle.grid.specs.declared.Grid.{Grid}
 use Rattle.grid.specs.declared.Segment.{Segment}
@@ -36,7 +37,7 @@ neighbourOn mode a v = neighbourFor mode (sideOn a v)
 
 -- of a whole line: where d = 0 on the axis that of the coordinate to which it keeps, else none
 unfoldable pub alongOn : Mode → Axis → Float → Float → Neighbour
-alongOn mode a start end = cond (eq (sub binary64 end start) nought) (neighbourOn mode a start) None
+alongOn mode a start end = cond (eq (end -₆₄ start) nought) (neighbourOn mode a start) None
 
 -- ---- where it is: beside the cell c, on a grid of so many columns and cells
 

@@ -10,13 +10,13 @@ use Rattle.walk.specs.declared.Turn.{Turn}
 use Rattle.walk.specs.Turns.{Ray, State, turnOf, goesOf, steppedOf, movedOf}
 
 -- c where the test holds
-unfoldable pub kept : Bool → ℕ → List ℕ
-kept true c = c ∷ []
-kept false c = []
+unfoldable pub keptIf : Bool → ℕ → List ℕ
+keptIf true c = c ∷ []
+keptIf false c = []
 
 -- a push keeps only cells inside the grid; a cell's number counts along the rows
 unfoldable pub pushOf : ℕ → ℕ → ℤ → ℤ → List ℕ
-pushOf cols rows (pos col) (pos row) = kept (ltb col cols && ltb row rows) (row * cols + col)
+pushOf cols rows (pos col) (pos row) = keptIf (ltb col cols && ltb row rows) (row * cols + col)
 pushOf cols rows (pos col) (negsuc n) = []
 pushOf cols rows (negsuc n) row = []
 

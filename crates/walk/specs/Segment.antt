@@ -10,7 +10,7 @@ use Rattle.refusals.specs.Refusals.{unless, andThen, refused, gives, _then_, _i
 use Rattle.grid.specs.declared.Grid.{Grid}
 use Rattle.grid.specs.declared.Segment.{Segment}
 use Rattle.grid.specs.Domain.{scratchCheck, segmentCheck, gridCheck}
-use Rattle.cover.specs.Covering.{coveringOf, offGrid, everywhere, roomCheck}
+use Rattle.cover.specs.Covering.{coveringOf, offGrid, everywhere, scratchShapeCheck}
 use Rattle.walk.specs.declared.Mode.{Mode}
 use Rattle.walk.specs.declared.Mode.the-variants.{Rust, Sided, Covering}
 use Rattle.walk.specs.declared.Cells.{Cells}
@@ -83,7 +83,7 @@ reachOf mode n g line = entryCheck n g line then segmentOf mode g line
 
 -- the walk of a grid and a segment as they are, which a larger call has checked: 3, and 8 by the counts alone; with 7
 unfoldable pub asIsOf : Mode → ℕ → Grid → Segment → Outcome
-asIsOf mode n g line = roomCheck n g then segmentOf mode g line
+asIsOf mode n g line = scratchShapeCheck n g then segmentOf mode g line
 
 -- ---- what is handed back
 

@@ -5,7 +5,8 @@ use Prim.Native.Nat.{_+_, _^_}
 use mathlib.Core.Bool.{Bool, true, false, not, cond, _&&_}
 use lib.IntN.{ℤ, pos, negsuc, _+ℤ_}
 use lib.Dec.{eqb}
-use lib.Ieee.{Float, nan, inf, fin, binary64, round, add, sub, mul, div, lt, le, eq}
+use lib.Ieee.{Float, nan, inf, fin, round, lt, le, eq}
+use Rattle.numbers.specs.Arithmetic.{_+₆₄_, _-₆₄_, _*₆₄_, _/₆₄_, decimal}
 use Rattle.numbers.specs.Order.{leastOf, greatestOf, magnitudeOf}
 use Rattle.grid.specs.declared.Axis.{Axis}
 use Rattle.grid.specs.declared.Grid.{Grid}
@@ -35,7 +36,7 @@ signOf d = cond (lt nought d) (pos 1) (cond (lt d nought) (negsuc 0) (pos 0))
 
 -- t_delta = cell size / |d|; infinite where d = 0
 unfoldable pub deltaOf : Float → Float → Float
-deltaOf size d = cond (eq d nought) infinite (div binary64 size (magnitudeOf d))
+deltaOf size d = cond (eq d nought) infinite (size /₆₄ magnitudeOf d)
 
 -- the next boundary: min + i x cell size, where i is the start index, one more if d > 0
 unfoldable pub nextOn : Axis → Float → Float → Float
@@ -43,7 +44,7 @@ nextOn a start d = lowOn a (cond (lt nought d) (indexOn a start + 1) (indexOn a 
 
 -- t_max = (next boundary - start) / d, not below 0; infinite where d = 0
 unfoldable pub firstOn : Axis → Float → Float → Float
-firstOn a start d = cond (eq d nought) infinite (greatestOf (div binary64 (sub binary64 (nextOn a start d) start) d) nought)
+firstOn a start d = cond (eq d nought) infinite (greatestOf ((nextOn a start d -₆₄ start) /₆₄ d) nought)
 
 -- what stays through a walk: what a move adds to the index and to t_max, and the index of the end
 pub record Stride : Type 0 where
@@ -52,7 +53,7 @@ pub record Stride : Type 0 where
   pub end : ℤ
 
 unfoldable pub strideOn : Axis → Float → Float → Stride
-strideOn a start end = record { step = signOf (sub binary64 end start); «t_delta» = deltaOf (a .size) (sub binary64 end start); end = pos (indexOn a end) }
+strideOn a start end = record { step = signOf (end -₆₄ start); «t_delta» = deltaOf (a .size) (end -₆₄ start); end = pos (indexOn a end) }
 
 -- how far a walk has come: the index and t_max
 pub record Progress : Type 0 where
@@ -60,7 +61,7 @@ pub record Progress : Type 0 where
   pub «t_max» : Float
 
 unfoldable pub progressOn : Axis → Float → Float → Progress
-progressOn a start end = record { index = pos (indexOn a start); «t_max» = firstOn a start (sub binary64 end start) }
+progressOn a start end = record { index = pos (indexOn a start); «t_max» = firstOn a start (end -₆₄ start) }
 
 -- both axes of the line, and of the state at its start
 pub record Ray : Type 0 where
@@ -83,12 +84,11 @@ startOf g line = record { x = progressOn (xAxis g) (line .«start_x») (line .«
 unfoldable pub toleranceOf : Float → Float → Float
 unfolding round
 toleranceOf tx ty =
-    mul binary64 (mul binary64 (round binary64 false 8 1) (round binary64 false 1 (2 ^ 52)))
-    (greatestOf (greatestOf (magnitudeOf tx) (magnitudeOf ty)) one)
+    decimal 8 1 *₆₄ decimal 1 (2 ^ 52) *₆₄ greatestOf (greatestOf (magnitudeOf tx) (magnitudeOf ty)) one
 
 -- both are finite and differ by at most tolerance
 unfoldable pub nearOf : Float → Float → Float → Bool
-nearOf tx ty tolerance = (finiteOf tx && finiteOf ty) && le (magnitudeOf (sub binary64 tx ty)) tolerance
+nearOf tx ty tolerance = (finiteOf tx && finiteOf ty) && le (magnitudeOf (tx -₆₄ ty)) tolerance
 
 -- A turn says on which axes it moves: on none, the walk stops; on both; or on one.
 abbrev pub stop : Turn
@@ -104,7 +104,7 @@ single b = record { x = b; y = not b }
 -- stop if the lesser t_max exceeds 1 + tolerance; both ways if they are near; else in x if t_max_x < t_max_y, else in y
 unfoldable pub furtherOf : Float → Float → Turn
 furtherOf tx ty =
-    cond (lt (add binary64 one (toleranceOf tx ty)) (leastOf tx ty)) stop
+    cond (lt (one +₆₄ toleranceOf tx ty) (leastOf tx ty)) stop
     (cond (nearOf tx ty (toleranceOf tx ty)) both
     (single (lt tx ty)))
 
@@ -132,7 +132,7 @@ steppedOf c p = p .index +ℤ c .step
 -- a move on an axis changes its index by one in the sign of d and adds t_delta to its t_max
 unfoldable pub advanced : Bool → Stride → Progress → Progress
 advanced false c p = p
-advanced true c p = record { index = steppedOf c p; «t_max» = add binary64 (p .«t_max») (c .«t_delta») }
+advanced true c p = record { index = steppedOf c p; «t_max» = p .«t_max» +₆₄ c .«t_delta» }
 
 unfoldable pub movedOf : Turn → Ray → State → State
 movedOf k r s = record { x = advanced (k .x) (r .x) (s .x); y = advanced (k .y) (r .y) (s .y) }

@@ -19,7 +19,7 @@ ghost use lib.ListN.{length};
 ghost use Rattle.refusals.specs.Refusals.{gives, _then_};
 ghost use Rattle.grid.specs.Domain.{segmentBy};
 ghost use Rattle.grid.proofs.Shapes.{Shape};
-ghost use Rattle.cover.specs.Covering.{coveringOf, everywhere, roomCheck};
+ghost use Rattle.cover.specs.Covering.{coveringOf, everywhere, scratchShapeCheck};
 ghost use Rattle.walk.specs.Segment.{byTurns, turnsOf, turning, everywhereIn, entryCheck, offIn, entryOf, reachOf, asIsOf, Walked, Entered};
 
 // Which cells a line visits. By turns, and beside a boundary those that the Rust adds, or by the side of the boundary that a value lies on; or those of the
@@ -132,7 +132,7 @@ fn by_turns(mode: Mode, grid: Grid, line: Segment, scratch: &mut [u32]) -> Reach
 
 // The same on a grid as it is, behind refusals 3, and 8 by the counts of the grid alone. A grid of 0 columns visits nothing.
 fn cells_by_turns(mode: Mode, grid: Grid, line: Segment, scratch: &mut [u32]) -> Reached
-    ensures { λ r. let o = roomCheck (length (now (scratch .entry))) grid then turnsOf mode grid line in
+    ensures { λ r. let o = scratchShapeCheck (length (now (scratch .entry))) grid then turnsOf mode grid line in
         ⌜ Walked false o (now (scratch .entry)) r (now (scratch .exit)) ⌝ }
 {
     let check = cover::check_room(grid, scratch.len());
@@ -147,7 +147,7 @@ fn cells_by_turns(mode: Mode, grid: Grid, line: Segment, scratch: &mut [u32]) ->
 
 // The covering walk on a grid as it is, which makes the same checks itself.
 fn cells_covered(grid: Grid, line: Segment, scratch: &mut [u32]) -> Reached
-    ensures { λ r. let o = roomCheck (length (now (scratch .entry))) grid then gives (coveringOf grid line) in
+    ensures { λ r. let o = scratchShapeCheck (length (now (scratch .entry))) grid then gives (coveringOf grid line) in
         ⌜ Walked (everywhere grid line) o (now (scratch .entry)) r (now (scratch .exit)) ⌝ }
 {
     let cells = cover::cover_segment(grid, line, scratch);

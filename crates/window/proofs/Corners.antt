@@ -22,7 +22,7 @@ use Rattle.tables.specs.Tables.{Tables, tables, cells, listIn, listOf}
 use Rattle.tables.specs.Fit.{ListsFit, TablesFit}
 use Rattle.tables.proofs.Facts.{not-true, all-within, part-slice}
 use Rattle.window.specs.Window.{within, inBlock, some, listed}
-use Rattle.window.specs.Inside.{rowPart, markedRows, Block, Marked}
+use Rattle.window.specs.Inside.{rowPart, markedRows, Block, LinesMarked}
 use Rattle.window.proofs.Marking.{rows-length, rows-at}
 use Rattle.window.proofs.Blocks.{some-says, within-says, rise, row-fits, row-lists, across, block-lists}
 
@@ -79,19 +79,19 @@ pub index-below : (a : Axis) (v : _) → 0 < a .count → indexOn a v < a .count
 unfolding indexOn
 index-below a v h = clamped-below (scaledOn a v) (a .count) h
 
-marked-same : (test : ℕ → Bool) (was : List ℕ) → ((i : ℕ) → test i ≡ false) → Marked test was was
+marked-same : (test : ℕ → Bool) (was : List ℕ) → ((i : ℕ) → test i ≡ false) → LinesMarked test was was
 marked-same test was h = record { len = refl; at = λ i l. sym (ap (λ (b : Bool). cond b 1 (getD was i 0)) (h i)) }
 
 module _ (g : Grid) (n : ℕ) (offsets items globals : List ℕ) (count : ℕ) (w : Box) where
   abbrev t : Tables
   t = tables g n offsets items globals count
 
-  pub no-columns : g .cols ≡ 0 → (was : List ℕ) → Marked (listed g t w) was was
+  pub no-columns : g .cols ≡ 0 → (was : List ℕ) → LinesMarked (listed g t w) was was
   unfolding listed some
   no-columns e was = marked-same (listed g t w) was (λ i. ap (some (λ c. inBlock g w c && elem i (listOf t c))) (ap (λ (k : ℕ). g .rows * k) e ∙ mul-zero (g .rows)))
 
   pub crossed : (first last : ℕ) → first ≡ indexOn (xAxis g) (w .«min_x») → last ≡ indexOn (xAxis g) (w .«max_x») → last < first → (was : List ℕ)
-      → Marked (listed g t w) was was
+      → LinesMarked (listed g t w) was was
   unfolding listed inBlock
   crossed first last e f l was = marked-same (listed g t w) was (λ i. not-true (listed g t w i) (none i))
     where
@@ -128,7 +128,7 @@ module _ (g : Grid) (n : ℕ) (offsets items globals : List ℕ) (count : ℕ) (
         })
 
     pub marked : (cols below : ℕ) (was now : List ℕ) → cols ≡ g .cols → below ≡ to + 1 → now ≡ markedRows cols offsets items first last (below - from) from was
-        → Marked (listed g t w) was now
+        → LinesMarked (listed g t w) was now
     unfolding listed inBlock
     marked cols below was now ec eb e = record { len = ap (λ (xs : List ℕ). length xs) same ∙ rows-length (g .cols) offsets items first last (to + 1 - from) from was; at = each }
       where

@@ -30,8 +30,8 @@ use Rattle.tables.specs.Fit.{TablesFit, tablesCheck, standingCheck}
 use Rattle.tables.proofs.Facts.{check-facts}
 use Rattle.window.specs.declared.Listing.{Listing}
 use Rattle.window.specs.declared.Listing.the-variants.{Listed, Refused}
-use Rattle.window.specs.Window.{inOrder, listed, mayEnter, those, linesIn, windowCheck, roomCheck, windowEnd, windowAnswer, WindowIs}
-use Rattle.window.specs.Inside.{markedWith, Marked, met, written, Wrote, Checked}
+use Rattle.window.specs.Window.{inOrder, listed, mayEnter, those, linesIn, windowCheck, outputRoomCheck, windowEnd, windowAnswer, WindowIs}
+use Rattle.window.specs.Inside.{markedWith, LinesMarked, met, listWritten, Wrote, WindowChecked}
 use Rattle.window.proofs.Marking.{marked-length, marked-at}
 use Rattle.window.proofs.Those.{those-same, those-none, written-length, cleared-beyond}
 
@@ -57,7 +57,7 @@ module _ (ls : Lines) (g : Grid) (t : Tables) (w : Box) where
   unfolding standingCheck
   tables-checked f h e = andThen-fine _ _ (rw e (lines-counted ls f)) ∙ sym (andThen-fine _ _ f ∙ andThen-fine _ _ h)
 
-  pub checked : checks ls g t w ≡ Fine → Checked ls g t
+  pub checked : checks ls g t w ≡ Fine → WindowChecked ls g t
   unfolding gridCheck
   checked e =
       let l = lines-fine ls (andThen-left _ _ e) in
@@ -79,7 +79,7 @@ module _ (ls : Lines) (g : Grid) (t : Tables) (w : Box) where
   abbrev found : List ℕ
   found = linesIn ls g t w
 
-  end-is : (room : ℕ) → windowEnd ls g t w room ≡ (checks ls g t w then roomCheck found room then gives found)
+  end-is : (room : ℕ) → windowEnd ls g t w room ≡ (checks ls g t w then outputRoomCheck found room then gives found)
   unfolding windowEnd
   end-is room =
       sym (then-andThen _ _ _
@@ -94,15 +94,15 @@ module _ (ls : Lines) (g : Grid) (t : Tables) (w : Box) where
         record { answer = rw d; left = rw d (sym (left-same 0 r was (checks-spare .says r e))) }
 
     module _ (f : checks ls g t w ≡ Fine) where
-      past-checks : windowEnd ls g t w (length was) ≡ (roomCheck found (length was) then gives found)
+      past-checks : windowEnd ls g t w (length was) ≡ (outputRoomCheck found (length was) then gives found)
       past-checks = end-is (length was) ∙ then-fine _ _ f
 
       with-room : length found ≤ length was → windowEnd ls g t w (length was) ≡ gives found
-      unfolding roomCheck unless
+      unfolding outputRoomCheck unless
       with-room l = past-checks ∙ then-fine _ _ (rw (le-leb (length found) (length was) l))
 
       without-room : length was < length found → windowEnd ls g t w (length was) ≡ refused (refusal 5 (length found))
-      unfolding roomCheck unless
+      unfolding outputRoomCheck unless
       without-room l = past-checks ∙ then-refused _ _ _ (rw (lt-leb (length found) (length was) l))
 
       pub none-in : found ≡ [] → (now : List ℕ) → now ≡ replicate {A = ℕ} (length was) 0 → WindowIs ls g t w was (Listed 0) now
@@ -171,7 +171,7 @@ module _ (ls : Lines) (g : Grid) (t : Tables) (w : Box) (few : count ls ≤ 6553
   pub mid-enough : count ls ≤ length mid
   mid-enough = omega (arith, mid-long, few)
 
-  module _ (marks : List ℕ) (m : Marked (listed g t w) mid marks) where
+  module _ (marks : List ℕ) (m : LinesMarked (listed g t w) mid marks) where
     pub marks-enough : count ls ≤ length marks
     marks-enough = omega (arith, mid-long, m .len, few)
 

@@ -14,7 +14,7 @@ use Rattle.grid.specs.Boxes.{boxOf, overlaps}
 use Rattle.grid.specs.Domain.{Lines, segmentAt}
 use Rattle.tables.specs.Lists.{only}
 use Rattle.window.specs.Window.{those}
-use Rattle.window.specs.Inside.{met, written, Wrote, WroteOne, countIf, setIf}
+use Rattle.window.specs.Inside.{met, listWritten, Wrote, WroteOne, countIf, setIf}
 
 -- ---- Bools
 
@@ -49,27 +49,27 @@ those-none f (suc n) h = rw (h n) (append-nil (those f n) ∙ those-none f n h)
 
 -- ---- written over the start
 
-pub written-length : (xs was : List ℕ) → length (written xs was) ≡ length was
-unfolding written
+pub written-length : (xs was : List ℕ) → length (listWritten xs was) ≡ length was
+unfolding listWritten
 written-length [] was = refl
 written-length (x ∷ xs) [] = refl
 written-length (x ∷ xs) (y ∷ was) = ap suc (written-length xs was)
 
-written-more : (xs was : List ℕ) (v : ℕ) → set (written xs was) (length xs) v ≡ written (xs ++ (v ∷ [])) was
-unfolding written
+written-more : (xs was : List ℕ) (v : ℕ) → set (listWritten xs was) (length xs) v ≡ listWritten (xs ++ (v ∷ [])) was
+unfolding listWritten
 written-more [] [] v = refl
 written-more [] (y ∷ was) v = refl
 written-more (x ∷ xs) [] v = refl
 written-more (x ∷ xs) (y ∷ was) v = ap (λ (zs : List ℕ). x ∷ zs) (written-more xs was v)
 
-written-take : (xs was : List ℕ) → length xs ≤ length was → take (length xs) (written xs was) ≡ xs
-unfolding written
+written-take : (xs was : List ℕ) → length xs ≤ length was → take (length xs) (listWritten xs was) ≡ xs
+unfolding listWritten
 written-take [] was h = refl
 written-take (x ∷ xs) [] h = absurd (omega (arith, h))
 written-take (x ∷ xs) (y ∷ was) h = ap (λ (zs : List ℕ). x ∷ zs) (written-take xs was (omega (arith, h)))
 
 -- where there was room, what is cleared beyond the lines is the result
-pub cleared-beyond : (found was now out : List ℕ) (n : ℕ) → n ≡ length found → now ≡ written found was → n ≤ length now → out ≡ clearedFrom n now
+pub cleared-beyond : (found was now out : List ℕ) (n : ℕ) → n ≡ length found → now ≡ listWritten found was → n ≤ length now → out ≡ clearedFrom n now
     → out ≡ zeroBeyond 0 (length was) found
 unfolding clearedFrom zeroBeyond
 cleared-beyond found was now out n e w l c = c ∙ ap₂ (λ (xs : List ℕ) (m : ℕ). xs ++ replicate {A = ℕ} m 0) start rest
@@ -86,7 +86,7 @@ cleared-beyond found was now out n e w l c = c ∙ ap₂ (λ (xs : List ℕ) (m 
 -- ---- the loop over the lines
 
 pub wrote-none : (f : ℕ → Bool) (was : List ℕ) → Wrote (those f 0) was 0 was
-unfolding those written
+unfolding those listWritten
 wrote-none f was = record { counted = refl; left = refl }
 
 pub wrote-more : (f : ℕ → Bool) (was out out′ : List ℕ) (i n r : ℕ) → Wrote (those f i) was n out → WroteOne (f i) i n out r out′ → Wrote (those f (i + 1)) was r out′
@@ -102,7 +102,7 @@ wrote-more f was out out′ i n r h o = rw next (go (f i) refl (o .counted) (o .
           counted = let a = length-append (those f i) (i ∷ []) in omega (arith, a, c, h .counted);
           left = l ∙ ap₂ (λ (xs : List ℕ) (k : ℕ). set xs k i) (h .left) (h .counted) ∙ written-more (those f i) was i;
         }
-    go false e c l = record { counted = c ∙ h .counted ∙ sym (ap (λ (xs : List ℕ). length xs) (append-nil (those f i))); left = l ∙ h .left ∙ sym (ap (λ (xs : List ℕ). written xs was) (append-nil (those f i))) }
+    go false e c l = record { counted = c ∙ h .counted ∙ sym (ap (λ (xs : List ℕ). length xs) (append-nil (those f i))); left = l ∙ h .left ∙ sym (ap (λ (xs : List ℕ). listWritten xs was) (append-nil (those f i))) }
 
 pub record Writing (f : ℕ → Bool) (n : ℕ) (was out : List ℕ) (i r : ℕ) : Type 0 where
   pub at : i ≤ n

@@ -46,7 +46,7 @@ pub record Block (cols : ℕ) (offsets items : List ℕ) (first last below : ℕ
   pub room : all-lines ≤ length marks
 
 -- the marks of a query: those lines are marked that were, and those that pass the test
-pub record Marked (test : ℕ → Bool) (was now : List ℕ) : Type 0 where
+pub record LinesMarked (test : ℕ → Bool) (was now : List ℕ) : Type 0 where
   pub len : length now ≡ length was
   pub at : (i : ℕ) → i < length was → getD now i 0 ≡ cond (test i) 1 (getD was i 0)
 
@@ -57,15 +57,15 @@ unfoldable pub met : Lines → Box → List ℕ → ℕ → Bool
 met ls w marks i = overlaps (boxOf (segmentAt ls i)) w && eqb (getD marks i 0) 1
 
 -- a list written over the start of another, as far as there is room
-unfoldable pub written : List ℕ → List ℕ → List ℕ
-written [] was = was
-written (x ∷ xs) [] = []
-written (x ∷ xs) (y ∷ was) = x ∷ written xs was
+unfoldable pub listWritten : List ℕ → List ℕ → List ℕ
+listWritten [] was = was
+listWritten (x ∷ xs) [] = []
+listWritten (x ∷ xs) (y ∷ was) = x ∷ listWritten xs was
 
 -- the lines that were found are counted, and written as far as there is room
 pub record Wrote (found was : List ℕ) (r : ℕ) (now : List ℕ) : Type 0 where
   pub counted : r ≡ length found
-  pub left : now ≡ written found was
+  pub left : now ≡ listWritten found was
 
 abbrev pub countIf : Bool → ℕ → ℕ
 countIf true n = suc n
@@ -87,7 +87,7 @@ pub record Askable (ls : Lines) (marks : List ℕ) : Type 0 where
   pub room : count ls ≤ length marks
 
 -- all that the checks find
-pub record Checked (ls : Lines) (g : Grid) (t : Tables) : Type 0 where
+pub record WindowChecked (ls : Lines) (g : Grid) (t : Tables) : Type 0 where
   pub alike : Alike ls
   pub few : count ls ≤ 65536
   pub grid-fit : fit g ≡ true

@@ -60,17 +60,13 @@ linesIn ls g t w = those (mayEnter ls g t w) (count ls)
 
 -- ---- the answer
 
--- the tables that are lent beside lines
-abbrev pub beside : Lines → Grid → List ℕ → List ℕ → List ℕ → ℕ → Tables
-beside ls g offsets items globals n = tables g (count ls) offsets items globals n
-
 -- 1, of the window: the value is 0
 unfoldable pub windowCheck : Box → Check
 windowCheck w = unless (point (w .«min_x») (w .«min_y») && point (w .«max_x») (w .«max_y»)) 1 0
 
 -- 5: more lines than the output has room for; the value is their number
-unfoldable pub roomCheck : List ℕ → ℕ → Check
-roomCheck found room = unless (leb (length found) room) 5 (length found)
+unfoldable pub outputRoomCheck : List ℕ → ℕ → Check
+outputRoomCheck found room = unless (leb (length found) room) 5 (length found)
 
 -- after refusals 3, 2, 1 of the lines, 1 of the window, 8, 10 and 5
 unfoldable pub windowEnd : Lines → Grid → Tables → Box → ℕ → Answer (List ℕ)
@@ -79,7 +75,7 @@ windowEnd ls g t w room =
     then windowCheck w
     then gridCheck g
     then tablesCheck t
-    then roomCheck (linesIn ls g t w) room
+    then outputRoomCheck (linesIn ls g t w) room
     then gives (linesIn ls g t w)
 
 -- how many there are, or the refusal that is due

@@ -9,11 +9,12 @@ use refusals::Check;
 use refusals::Refusal;
 ghost use mathlib.Core.Path.{_≡_};
 ghost use mathlib.Core.Bool.{true, _&&_};
+ghost use Rattle.tables.specs.Tables.{beside};
 ghost use Rattle.refusals.specs.Refusals.{andThen};
 ghost use Rattle.grid.specs.Domain.{lines, point, linesCheck, gridCheck};
 ghost use Rattle.tables.specs.Fit.{tablesCheck};
-ghost use Rattle.window.specs.Window.{inOrder, beside, windowCheck, linesIn, WindowIs};
-ghost use Rattle.window.specs.Inside.{Checked, Wrote};
+ghost use Rattle.window.specs.Window.{inOrder, windowCheck, linesIn, WindowIs};
+ghost use Rattle.window.specs.Inside.{WindowChecked, Wrote};
 
 // How many lines are in the window, or the refusal that is due.
 pub enum Listing {
@@ -91,7 +92,7 @@ fn write_found(
 ) -> usize
     requires { let ls = lines (now «start_x») (now «start_y») (now «end_x») (now «end_y») in
         let t = beside ls grid (now offsets) (now items) (now globals) «global_count» in
-        ⌜ Checked ls grid t ⌝ ∗ ⌜ inOrder window ≡ true ⌝ }
+        ⌜ WindowChecked ls grid t ⌝ ∗ ⌜ inOrder window ≡ true ⌝ }
     ensures { λ r. let ls = lines (now («start_x» .entry)) (now («start_y» .entry)) (now («end_x» .entry)) (now («end_y» .entry)) in
         let t = beside ls grid (now (offsets .entry)) (now (items .entry)) (now (globals .entry)) «global_count» in
         ⌜ Wrote (linesIn ls grid t window) (now (out .entry)) r (now (out .exit)) ⌝ }

@@ -10,7 +10,7 @@ ghost use Rattle.grid.specs.Domain.{fit};
 ghost use Rattle.tables.specs.Tables.{tables};
 ghost use Rattle.tables.specs.Fit.{TablesFit};
 ghost use Rattle.window.specs.Window.{listed};
-ghost use Rattle.window.specs.Inside.{markedWith, markedRows, Block, Marked};
+ghost use Rattle.window.specs.Inside.{markedWith, markedRows, Block, LinesMarked};
 
 fn wide(n: u32) -> usize
     ensures { λ r. ⌜ r ≡ n ⌝ }
@@ -68,7 +68,7 @@ pub(crate) fn mark_block(
 )
     requires { ⌜ fit grid ≡ true ⌝ ∗ ⌜ TablesFit (tables grid lines (now offsets) (now items) (now globals) «global_count») ⌝ ∗ ⌜ lines ≤ length (now marks) ⌝ }
     ensures { λ _. let t = tables grid lines (now (offsets .entry)) (now (items .entry)) (now (globals .entry)) «global_count» in
-        ⌜ Marked (listed grid t window) (now (marks .entry)) (now (marks .exit)) ⌝ }
+        ⌜ LinesMarked (listed grid t window) (now (marks .entry)) (now (marks .exit)) ⌝ }
 {
     if grid.cols == 0 {
         return;

@@ -15,7 +15,7 @@ use Rattle.grid.specs.declared.Segment.{Segment}
 use Rattle.grid.specs.Axes.{xAxis, yAxis, indexOn}
 use Rattle.walk.specs.declared.Mode.{Mode}
 use Rattle.walk.specs.Turns.{rayOf, startOf, strideOn, progressOn}
-use Rattle.walk.specs.Pushes.{Outcome, kept, pushOf, before, after, from, walkedOf}
+use Rattle.walk.specs.Pushes.{Outcome, keptIf, pushOf, before, after, from, walkedOf}
 use Rattle.walk.specs.Segment.{pushesOf, answered, turning, segmentOf}
 use Rattle.walk.proofs.Pushed.{no-cells, same-cells}
 use Rattle.walk.proofs.Answer.{segment-is}
@@ -48,8 +48,8 @@ module _ (mode : Mode) (g : Grid) (line : Segment) (turns : turning mode ≡ tru
   columns : g .cols ≡ 0 → ⊥
   columns e = absurd (omega arith)
 
-  pushed : (x y : Float) → elem (cellAt x y) (kept (ltb (indexOn (xAxis g) x) (g .cols) && ltb (indexOn (yAxis g) y) (g .rows)) (cellAt x y)) ≡ true
-  unfolding kept
+  pushed : (x y : Float) → elem (cellAt x y) (keptIf (ltb (indexOn (xAxis g) x) (g .cols) && ltb (indexOn (yAxis g) y) (g .rows)) (cellAt x y)) ≡ true
+  unfolding keptIf
   pushed x y = rw (lt-ltb (indexOn (xAxis g) x) (g .cols) (index-below (xAxis g) x C), lt-ltb (indexOn (yAxis g) y) (g .rows) (index-below (yAxis g) y R)) (elem-head (cellAt x y) [])
 
   walked-ends : (walked : List ℕ) → walkedOf (g .cols) (g .rows) (rayOf g line) (startOf g line) ≡ gives walked

@@ -27,7 +27,7 @@ use Rattle.tables.specs.Stands.{Stands}
 use Rattle.tables.proofs.Standing as standing
 use Rattle.window.specs.declared.Listing.{Listing}
 use Rattle.window.specs.declared.Listing.the-variants.{Listed}
-use Rattle.window.specs.Window.{inOrder, within, inBlock, listed, mayEnter, those, linesIn, windowCheck, roomCheck, windowEnd, windowAnswer, WindowIs}
+use Rattle.window.specs.Window.{inOrder, within, inBlock, listed, mayEnter, those, linesIn, windowCheck, outputRoomCheck, windowEnd, windowAnswer, WindowIs}
 use Rattle.window.proofs.Blocks.{or-right, some-has, within-has, col-of, row-of, row-fits}
 use Rattle.window_laws.proofs.Ends.{in-first, in-second}
 
@@ -109,7 +109,7 @@ end-says ls g t w room xs h =
     let b = then-passed (windowCheck w) _ (a .1) in
     let c = then-passed (gridCheck g) _ (b .1) in
     let d = then-passed (tablesCheck t) _ (c .1) in
-    let e = then-passed (roomCheck (linesIn ls g t w) room) _ (d .1) in
+    let e = then-passed (outputRoomCheck (linesIn ls g t w) room) _ (d .1) in
     let f : gives (linesIn ls g t w) ≡ gives xs = e .1 in
     (b .0, cc)
 

@@ -21,7 +21,7 @@ use Rattle.numbers.proofs.Rounding.{over-by}
 use Rattle.numbers.proofs.FloorLaws.{clamped-part, clamped-last}
 use Rattle.numbers.proofs.FloatQuotient.{num-pos}
 use Rattle.numbers.proofs.FloatFractions.{nonneg-of-value, nonneg-of-positive, own-value, div-at, round-value, finite-under}
-use Rattle.cover.specs.Rule.{cellOf}
+use Rattle.cover.specs.Rule.{fineCell}
 use Rattle.cover.proofs.Offsets.{fineAt}
 use Rattle.cover.proofs.Fineness.{Sized, q-value, fine-is}
 use Rattle.cover.proofs.Passing.{Scaled}
@@ -168,7 +168,7 @@ module _ (f : Format) (s d : Float) (z : Sized f d) (e : Scaled s d) (deep : 2 ^
     | inr h ↦ let u = none-fine h in let v = none-cell h in omega arith
   ]
 
-  pub index-of-fine : (n : ℕ) → cellOf n (fineAt f d p q) ≡ clampedFloor (div f (round f false p q) s) n
+  pub index-of-fine : (n : ℕ) → fineCell n (fineAt f d p q) ≡ clampedFloor (div f (round f false p q) s) n
   index-of-fine n =
       ap (λ (x : ℕ). min (x / 1048576) (n - 1)) (fine-is f d z p q Q fine bound ∙ ap (λ (x : ℕ). x / l) unit-grid)
       ∙ ap (λ (x : ℕ). min x (n - 1)) same-cell

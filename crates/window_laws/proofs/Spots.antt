@@ -27,7 +27,7 @@ use Rattle.grid.proofs.Shapes.{fit-says}
 use Rattle.straight.proofs.Coordinates.{Fits, size-positive, size-apart, distance-bounded, index-mono}
 use Rattle.cover.specs.declared.Ends.{Ends}
 use Rattle.cover.specs.Fine.{unitOn}
-use Rattle.cover.specs.Covering.{passes, endsOf, coveringOf}
+use Rattle.cover.specs.Covering.{passes, fineEnds, coveringOf}
 use Rattle.cover.proofs.Covers.{Listed}
 use Rattle.cover.proofs.Cells.{listed}
 use Rattle.cover.proofs.Offsets.{Apart, Off, gap, none, sub-is, apart-of, off-le, mean-off, meanP, meanN, meanD}
@@ -191,7 +191,7 @@ module _ (g : Grid) (ok : fit g ≡ true) (C : 0 < g .cols) (l : Segment) (p : p
   spot-lists : elem (row * g .cols + col) (coveringOf g l) ≡ true
   spot-lists =
       rw (covering-by-rule g l C p)
-      (listed (g .cols) (g .rows) (endsOf g l) row col
+      (listed (g .cols) (g .rows) (fineEnds g l) row col
       (subst (λ (e : Ends). Listed (g .cols) (g .rows) e row col) (ends-same g ok l) (line-covered binary64 (onX g ok) (onY g ok) (g .cols) (g .rows) l (ready g ok l p) v w Q)))
 
   pub spot : T (fits binary64 (g .«cell_width»)) → T (fits binary64 (g .«cell_height»)) → Spot g l v w

@@ -12,6 +12,7 @@ use lib.ListN.{length, take}
 use lib.Ieee.{Float, le}
 use lib.Ieee.Bits.{is-true}
 use lib.Ieee.Scale.{finite}
+use Rattle.tables.specs.Tables.{beside}
 use Rattle.numbers.specs.Order.{leastOf, greatestOf}
 use Rattle.numbers.proofs.Extremes.{least-one, greatest-one, least-under, greatest-over}
 use Rattle.numbers.proofs.Tests.{holds}
@@ -47,7 +48,7 @@ use Rattle.build.proofs.Theorems.{build-stands, walks-end, grid-fits, lines-pas
 use Rattle.straight.proofs.Coordinates.{index-mono}
 use Rattle.window.specs.declared.Listing.{Listing}
 use Rattle.window.specs.declared.Listing.the-variants.{Listed}
-use Rattle.window.specs.Window.{inOrder, windowCheck, beside, WindowIs}
+use Rattle.window.specs.Window.{inOrder, windowCheck, WindowIs}
 use Rattle.window.proofs.Blocks.{or-says, row-fits}
 use Rattle.window.proofs.Corners.{index-below}
 use Rattle.window_laws.specs.Entering as entering
@@ -233,7 +234,7 @@ record In (w : Box) (x y : Float) : Type 0 where
   from-y : T (le (w .«min_y») y)
   to-y : T (le y (w .«max_y»))
 
-holds-says : (w : Box) (x y : Float) → entering.holds w x y ≡ true → In w x y
+holds-says : (w : Box) (x y : Float) → entering.boxHolds w x y ≡ true → In w x y
 holds-says w x y h =
     let a = and-left (le (w .«min_x») x && le x (w .«max_x»)) (le (w .«min_y») y && le y (w .«max_y»)) h in
     let b = and-right (le (w .«min_x») x && le x (w .«max_x»)) (le (w .«min_y») y && le y (w .«max_y»)) h in
@@ -370,7 +371,7 @@ module _ (plan : Plan) {ls : Lines} {o t gs s : List ℕ} {r : Built} {o′ t′
 
     one-end : hasEnd line w ≡ true → elem i (take n now) ≡ true
     unfolding hasEnd
-    one-end e = elim (or-says (entering.holds w (line .«start_x») (line .«start_y»)) (entering.holds w (line .«end_x») (line .«end_y»)) e) [
+    one-end e = elim (or-says (entering.boxHolds w (line .«start_x») (line .«start_y»)) (entering.boxHolds w (line .«end_x») (line .«end_y»)) e) [
       | inl a ↦ by-start (holds-says w (line .«start_x») (line .«start_y») a)
       | inr a ↦ by-end (holds-says w (line .«end_x») (line .«end_y») a)
     ]

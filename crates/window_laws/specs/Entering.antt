@@ -16,8 +16,8 @@ use Rattle.grid.specs.Points.{WholeSegment, qTimes, InParts}
 -- ---- by an exact point
 
 -- the corners of a window, the lower one first
-abbrev pub corners : Box → Segment
-corners w = record { «start_x» = w .«min_x»; «start_y» = w .«min_y»; «end_x» = w .«max_x»; «end_y» = w .«max_y» }
+abbrev pub diagonal : Box → Segment
+diagonal w = record { «start_x» = w .«min_x»; «start_y» = w .«min_y»; «end_x» = w .«max_x»; «end_y» = w .«max_y» }
 
 -- z lies between q times the one and q times the other, both included
 pub record Between (q : ℕ) (low : ℤ) (z : ℤ) (high : ℤ) : Type 0 where
@@ -32,7 +32,7 @@ pub record Enters (line : Segment) (w : Box) : Type 0 where
   pub s : WholeSegment
   pub t : WholeSegment
   pub s-is : InParts n line s
-  pub t-is : InParts n (corners w) t
+  pub t-is : InParts n (diagonal w) t
   pub q : ℕ
   pub a : ℕ
   pub some : 0 < q
@@ -43,11 +43,11 @@ pub record Enters (line : Segment) (w : Box) : Type 0 where
 -- ---- by an end
 
 -- a point lies in a window, its edges included
-abbrev pub holds : Box → Float → Float → Bool
-holds w x y = (le (w .«min_x») x && le x (w .«max_x»)) && (le (w .«min_y») y && le y (w .«max_y»))
+abbrev pub boxHolds : Box → Float → Float → Bool
+boxHolds w x y = (le (w .«min_x») x && le x (w .«max_x»)) && (le (w .«min_y») y && le y (w .«max_y»))
 
 unfoldable pub hasEnd : Segment → Box → Bool
-hasEnd line w = holds w (line .«start_x») (line .«start_y») || holds w (line .«end_x») (line .«end_y»)
+hasEnd line w = boxHolds w (line .«start_x») (line .«start_y») || boxHolds w (line .«end_x») (line .«end_y»)
 
 -- ---- nothing is missed
 

@@ -7,7 +7,7 @@ use native.Mathlib.Omega.{arith}
 use native.Mathlib.Numerals.{add-one}
 use lib.ListN.{length}
 use Rattle.wkb.specs.Bytes.{Point, numberAt, pointsAt}
-use Rattle.wkb.specs.Steps.{numbersAt}
+use Rattle.wkb.specs.Inside.{numbersAt}
 use Rattle.wkb.specs.declared.Order.{Order}
 
 module _ (o : Order) (bs : List ℕ) where

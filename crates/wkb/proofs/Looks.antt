@@ -6,7 +6,7 @@ use Rattle.refusals.specs.declared.Check.the-variants.{Refused}
 use Rattle.refusals.specs.Refusals.{refusal}
 use Rattle.wkb.specs.Reading.{headCheck, lineCheck}
 use Rattle.wkb.specs.Multi.{membersCheck, multiCheck}
-use Rattle.wkb.specs.Steps.{HeadAt, HeadAs, LineAt, CheckedAs, MembersIn, MembersAs, MultiAt, LookedAs}
+use Rattle.wkb.specs.Inside.{HeadAt, HeadAs, LineAt, CheckedAs, MembersIn, MembersAs, MultiAt, LookedAs}
 use Rattle.wkb.specs.declared.Order.{Order}
 use Rattle.wkb.specs.declared.Head.{Head}
 use Rattle.wkb.specs.declared.Head.the-variants as head

@@ -14,7 +14,7 @@ use Rattle.refusals.proofs.Answers.{then-passed, then-fine}
 use Rattle.wkb.specs.Bytes.{orderByte, wordBytes, Point, LineString, Members, none, more, multiHead, MultiLineString}
 use Rattle.wkb.specs.Reading.{fieldCheck, orderAt, countAt, lineAt, endAt, headCheck, lineCheck, endCheck}
 use Rattle.wkb.specs.Multi.{membersCheck, multiCheck, chainsAt, foundMulti}
-use Rattle.wkb.specs.Steps.{MembersAs, LookedAs}
+use Rattle.wkb.specs.Inside.{MembersAs, LookedAs}
 use Rattle.wkb.specs.declared.Order.{Order}
 use Rattle.wkb.specs.declared.Looked.{Looked}
 use Rattle.wkb.specs.declared.Looked.the-variants.{Whole, Fault}

@@ -16,8 +16,8 @@ use Rattle.refusals.proofs.Leaving.{left-same, left-zero, clearing-unless, clea
 use Rattle.grid.specs.Domain.{countCheck}
 use Rattle.wkb.specs.Bytes.{Point}
 use Rattle.wkb.specs.Reading.{countAt}
-use Rattle.wkb.specs.Multi.{startsOf, membersCheck, multiCheck, chainsAt, foundMulti, pairCheck, roomCheck, multiOutcome, multiReadOf, axisLeft, lengthsLeft, MultiReadAs}
-use Rattle.wkb.specs.Steps.{MembersIn, MultiAt, axesAt, countsAt}
+use Rattle.wkb.specs.Multi.{startsOf, membersCheck, multiCheck, chainsAt, foundMulti, pairCheck, membersRoomCheck, multiOutcome, multiReadOf, axisLeft, lengthsLeft, MultiReadAs}
+use Rattle.wkb.specs.Inside.{MembersIn, MultiAt, axesAt, countsAt}
 use Rattle.wkb.specs.declared.MultiRead.the-variants.{Members, Refused}
 use Rattle.wkb.proofs.Words.{Small}
 use Rattle.wkb.proofs.Chains.{length-starts, chains-some}
@@ -41,13 +41,13 @@ pub pair-fine : (m n : ℕ) → pairCheck m n ≡ check.Fine → m ≡ n
 unfolding pairCheck
 pair-fine m n h = eqb-true m n (unless-fine _ _ _ h)
 
-pub room-fine : (points members p m : ℕ) → roomCheck points members p m ≡ check.Fine → (p ≤ points) × (m ≤ members)
-unfolding roomCheck
+pub room-fine : (points members p m : ℕ) → membersRoomCheck points members p m ≡ check.Fine → (p ≤ points) × (m ≤ members)
+unfolding membersRoomCheck
 room-fine points members p m h =
     (leb-true p points (unless-fine _ _ _ (andThen-left _ _ h)), leb-true m members (unless-fine _ _ _ (andThen-right (unless (leb p points) 5 p) _ h)))
 
-room-clears : (points members p m : ℕ) (r : Refusal) → roomCheck points members p m ≡ check.Refused r → clears (r .number) ≡ true
-unfolding roomCheck clears
+room-clears : (points members p m : ℕ) (r : Refusal) → membersRoomCheck points members p m ≡ check.Refused r → clears (r .number) ≡ true
+unfolding membersRoomCheck clears
 room-clears points members p m r e = clearing-then (clearing-unless (leb p points) 5 p refl) (clearing-unless (leb m members) 5 m refl) .says r e
 
 pair-same : (m n : ℕ) (r : Refusal) → pairCheck m n ≡ check.Refused r → clears (r .number) ≡ false
@@ -104,7 +104,7 @@ module _ (bs x₀ y₀ l₀ : List ℕ) (small : Small bs) where
     multi-none f e = none (refusal 11 f) (into-refused _ _ _ (then-fine _ _ h ∙ then-refused _ _ _ e)) refl
 
     module _ {m p : ℕ} (l : Lines bs m p) where
-      to-count : multiOutcome (length x₀) (length y₀) (length l₀) bs ≡ (countCheck (p - m) then roomCheck (length x₀) (length l₀) p m then gives (chainsAt m 9 bs))
+      to-count : multiOutcome (length x₀) (length y₀) (length l₀) bs ≡ (countCheck (p - m) then membersRoomCheck (length x₀) (length l₀) p m then gives (chainsAt m 9 bs))
       unfolding multiOutcome
       to-count = into-gives _ _ (chainsAt m 9 bs) (then-fine _ _ h ∙ l .found) ∙ rw (l .lines, l .points, l .members)
 
@@ -113,7 +113,7 @@ module _ (bs x₀ y₀ l₀ : List ℕ) (small : Small bs) where
 
       module _ (few : countCheck (p - m) ≡ check.Fine) where
         -- refusal 5: zero throughout
-        pub multi-short : {x₁ y₁ l₁ : List ℕ} (r : Refusal) → roomCheck (length x₀) (length l₀) p m ≡ check.Refused r
+        pub multi-short : {x₁ y₁ l₁ : List ℕ} (r : Refusal) → membersRoomCheck (length x₀) (length l₀) p m ≡ check.Refused r
             → x₁ ≡ replicate (length x₀) 0 → y₁ ≡ replicate (length y₀) 0 → l₁ ≡ replicate (length l₀) 0 → MultiReadAs bs x₀ y₀ l₀ (Refused r) x₁ y₁ l₁
         unfolding multiReadOf axisLeft lengthsLeft answerBy leftIn
         multi-short r e ex ey el =
@@ -128,7 +128,7 @@ module _ (bs x₀ y₀ l₀ : List ℕ) (small : Small bs) where
               every = multi-complete bs;
             }
 
-        pub multi-all : {x₁ y₁ l₁ : List ℕ} → roomCheck (length x₀) (length l₀) p m ≡ check.Fine → x₁ ≡ zeroBeyond 0 (length x₀) (axesAt 0 m 9 bs)
+        pub multi-all : {x₁ y₁ l₁ : List ℕ} → membersRoomCheck (length x₀) (length l₀) p m ≡ check.Fine → x₁ ≡ zeroBeyond 0 (length x₀) (axesAt 0 m 9 bs)
             → y₁ ≡ zeroBeyond 0 (length y₀) (axesAt 8 m 9 bs) → l₁ ≡ zeroBeyond 0 (length l₀) (countsAt m 9 bs) → MultiReadAs bs x₀ y₀ l₀ (Members p m) x₁ y₁ l₁
         unfolding multiReadOf axisLeft lengthsLeft answerBy leftIn
         multi-all e ex ey el =

@@ -15,7 +15,7 @@ use Rattle.refusals.proofs.Answers.{then-refused, then-fine}
 use Rattle.refusals.proofs.Leaving.{left-same, clearing-unless}
 use Rattle.wkb.specs.Bytes.{Point, pointsAt}
 use Rattle.wkb.specs.Reading.{orderAt, countAt, lineAt, endAt, lineCheck, found, slicesCheck, outcome, readOf, pointsLeft, nought, ReadAs}
-use Rattle.wkb.specs.Steps.{numbersAt, LineAt}
+use Rattle.wkb.specs.Inside.{numbersAt, LineAt}
 use Rattle.wkb.specs.declared.Order.{Order}
 use Rattle.wkb.specs.declared.Read.the-variants.{Points, Refused}
 use Rattle.wkb.proofs.Words.{Small}

@@ -9,39 +9,39 @@ use native.Mathlib.Decide.{decLe}
 use lib.ListN.{length, take, drop, getD, set, replicate, length-append, length-drop, length-replicate, replicate-append-replicate, take-append-drop, drop-of-length-le}
 use lib.Seq.{set-split, length-take-le, take-all, take-at, drop-at, drop-drop}
 use Rattle.refusals.specs.Refusals.{zeroBeyond}
-use Rattle.wkb.specs.Steps.{Put}
+use Rattle.wkb.specs.Inside.{PutIn}
 
 module _ {A : Type 0} where
-  pub put-none : (at : ℕ) (s : List A) → at ≤ length s → Put at [] s s
+  pub put-none : (at : ℕ) (s : List A) → at ≤ length s → PutIn at [] s s
   put-none at s h =
       let e : at ≡ at + 0 = omega arith in
       record { is = sym (take-append-drop at s) ∙ ap (λ (k : ℕ). take at s ++ drop k s) e; within = omega arith }
 
-  pub put-one : (at : ℕ) (a : A) (s : List A) → at < length s → Put at (a ∷ []) s (set s at a)
+  pub put-one : (at : ℕ) (a : A) (s : List A) → at < length s → PutIn at (a ∷ []) s (set s at a)
   put-one at a s h =
       let e : suc at ≡ at + 1 = omega arith in
       record { is = set-split s at a h ∙ ap (λ (k : ℕ). take at s ++ (a ∷ drop k s)) e; within = omega arith }
 
   -- what stands before the end of xs, and what stands after it
-  front : {at : ℕ} {xs s₀ s₁ : List A} → Put at xs s₀ s₁ → take (at + length xs) s₁ ≡ take at s₀ ++ xs
+  front : {at : ℕ} {xs s₀ s₁ : List A} → PutIn at xs s₀ s₁ → take (at + length xs) s₁ ≡ take at s₀ ++ xs
   front {at} {xs} {s₀} {s₁} p =
       let n : length (take at s₀ ++ xs) ≡ at + length xs = length-append (take at s₀) xs ∙ rw (length-take-le at s₀ (omega (arith, p .within))) in
       ap (take (at + length xs)) (p .is ∙ sym (append-assoc (take at s₀) xs (drop (at + length xs) s₀)))
       ∙ take-at (take at s₀ ++ xs) (drop (at + length xs) s₀) (at + length xs) n
 
-  back : {at : ℕ} {xs s₀ s₁ : List A} → Put at xs s₀ s₁ → drop (at + length xs) s₁ ≡ drop (at + length xs) s₀
+  back : {at : ℕ} {xs s₀ s₁ : List A} → PutIn at xs s₀ s₁ → drop (at + length xs) s₁ ≡ drop (at + length xs) s₀
   back {at} {xs} {s₀} {s₁} p =
       let n : length (take at s₀ ++ xs) ≡ at + length xs = length-append (take at s₀) xs ∙ rw (length-take-le at s₀ (omega (arith, p .within))) in
       ap (drop (at + length xs)) (p .is ∙ sym (append-assoc (take at s₀) xs (drop (at + length xs) s₀)))
       ∙ drop-at (take at s₀ ++ xs) (drop (at + length xs) s₀) (at + length xs) n
 
-  pub put-length : {at : ℕ} {xs s₀ s₁ : List A} → Put at xs s₀ s₁ → length s₁ ≡ length s₀
+  pub put-length : {at : ℕ} {xs s₀ s₁ : List A} → PutIn at xs s₀ s₁ → length s₁ ≡ length s₀
   put-length {at} {xs} {s₀} {s₁} p =
       ap length (p .is)
       ∙ simp (length-append, length-drop, length-take-le at s₀ (omega (arith, p .within))) (omega (arith, p .within))
 
   -- one thing after another
-  pub put-then : {at : ℕ} {xs ys s₀ s₁ s₂ : List A} {to : ℕ} → Put at xs s₀ s₁ → Put to ys s₁ s₂ → to ≡ at + length xs → Put at (xs ++ ys) s₀ s₂
+  pub put-then : {at : ℕ} {xs ys s₀ s₁ s₂ : List A} {to : ℕ} → PutIn at xs s₀ s₁ → PutIn to ys s₁ s₂ → to ≡ at + length xs → PutIn at (xs ++ ys) s₀ s₂
   put-then {at} {xs} {ys} {s₀} {s₁} {s₂} {to} p q e =
       let n = length xs in
       let k = length ys in
@@ -54,7 +54,7 @@ module _ {A : Type 0} where
         within = rw l (omega (arith, q .within, put-length p));
       }
 
-  pub put-more : {at i : ℕ} {xs s₀ s₁ : List A} (a : A) → Put at xs s₀ s₁ → i ≡ at + length xs → i < length s₀ → Put at (xs ++ (a ∷ [])) s₀ (set s₁ i a)
+  pub put-more : {at i : ℕ} {xs s₀ s₁ : List A} (a : A) → PutIn at xs s₀ s₁ → i ≡ at + length xs → i < length s₀ → PutIn at (xs ++ (a ∷ [])) s₀ (set s₁ i a)
   put-more {at} {i} {xs} {s₀} {s₁} a p e h = put-then p (put-one i a s₁ (rw (put-length p) h)) e
 
   -- ---- zeros, from a position to the end
@@ -62,7 +62,7 @@ module _ {A : Type 0} where
   -- zeros stand from `from` up to i; where `from` is beyond the end, nothing changed
   pub record Zeroed (z : A) (from i : ℕ) (s₀ s : List A) : Type 0 where
     pub len : length s ≡ length s₀
-    pub put : from ≤ length s₀ → Put from (replicate (i - from) z) s₀ s
+    pub put : from ≤ length s₀ → PutIn from (replicate (i - from) z) s₀ s
     pub up : from ≤ length s₀ → i ≤ length s₀
     pub same : length s₀ < from → s ≡ s₀
 
@@ -76,8 +76,8 @@ module _ {A : Type 0} where
       let e : i - from + 1 ≡ i + 1 - from = omega arith in
       let n : replicate (i - from) z ++ (z ∷ []) ≡ replicate (i + 1 - from) z =
       replicate-append-replicate (i - from) 1 z ∙ ap (λ (k : ℕ). replicate k z) e in
-      let p : Put from (replicate (i - from) z) s₀ s = w .put (omega arith) in
-      let q : Put from (replicate (i + 1 - from) z) s₀ (set s i z) =
+      let p : PutIn from (replicate (i - from) z) s₀ s = w .put (omega arith) in
+      let q : PutIn from (replicate (i + 1 - from) z) s₀ (set s i z) =
       rw (← n) (put-more z p (rw (length-replicate (i - from) z) (omega arith)) l) in
       record { len = put-length q; put = λ k. q; up = λ k. omega arith; same = λ k. absurd (omega arith) }
 
@@ -87,7 +87,7 @@ module _ {A : Type 0} where
       within : from ≤ length s₀ → s ≡ take from s₀ ++ replicate (length s₀ - from) z
       within h =
           let e : i ≡ length s₀ = let u = w .up h in omega arith in
-          let q : Put from (replicate (length s₀ - from) z) s₀ s = rw (← e) (w .put h) in
+          let q : PutIn from (replicate (length s₀ - from) z) s₀ s = rw (← e) (w .put h) in
           let k : length s₀ ≤ from + length (replicate (length s₀ - from) z) = rw (length-replicate (length s₀ - from) z) (omega arith) in
           q .is ∙ rw (drop-of-length-le s₀ k, append-nil)
 
@@ -102,7 +102,7 @@ module _ {A : Type 0} where
   -- `goal` is to stand from `start` on; what is put up to `to` leaves `rest`
   pub record Filling (start : ℕ) (goal rest : List A) (to : ℕ) (s₀ s : List A) : Type 0 where
     pub done : List A
-    pub put : Put start done s₀ s
+    pub put : PutIn start done s₀ s
     pub count : start + length done ≡ to
     pub is : goal ≡ done ++ rest
 
@@ -123,7 +123,7 @@ module _ {A : Type 0} where
         ap length (f .is ∙ ap (λ (l : List A). f .done ++ l) e) ∙ simp length-append in
         omega (arith, fill-length, f .count)
 
-    pub fill-more : {part more s′ : List A} {n : ℕ} → rest ≡ part ++ more → Put to part s s′ → n ≡ length part → Filling start goal more (to + n) s₀ s′
+    pub fill-more : {part more s′ : List A} {n : ℕ} → rest ≡ part ++ more → PutIn to part s s′ → n ≡ length part → Filling start goal more (to + n) s₀ s′
     fill-more {part} {more} {s′} {n} e q k = record {
       done = f .done ++ part;
       put = put-then (f .put) q (omega (arith, f .count));
@@ -134,11 +134,11 @@ module _ {A : Type 0} where
     all : rest ≡ [] → f .done ≡ goal
     all e = sym (f .is ∙ ap (λ (l : List A). f .done ++ l) e ∙ append-nil (f .done))
 
-    pub fill-all : rest ≡ [] → Put start goal s₀ s
-    fill-all e = subst (λ (l : List A). Put start l s₀ s) (all e) (f .put)
+    pub fill-all : rest ≡ [] → PutIn start goal s₀ s
+    fill-all e = subst (λ (l : List A). PutIn start l s₀ s) (all e) (f .put)
 
   -- zeros beyond what stands at the start
-  pub put-cleared : (z : A) {n : ℕ} {xs s₀ s₁ s₂ : List A} → Put 0 xs s₀ s₁ → n ≡ length xs → s₂ ≡ take n s₁ ++ replicate (length s₁ - n) z → s₂ ≡ zeroBeyond z (length s₀) xs
+  pub put-cleared : (z : A) {n : ℕ} {xs s₀ s₁ s₂ : List A} → PutIn 0 xs s₀ s₁ → n ≡ length xs → s₂ ≡ take n s₁ ++ replicate (length s₁ - n) z → s₂ ≡ zeroBeyond z (length s₀) xs
   unfolding zeroBeyond
   put-cleared z {n} {xs} {s₀} {s₁} p e f =
       let k : n ≡ 0 + length xs = omega arith in

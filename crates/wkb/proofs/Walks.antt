@@ -12,7 +12,7 @@ use Rattle.wkb.specs.declared.Order.{Order}
 use Rattle.wkb.specs.Bytes.{Point}
 use Rattle.wkb.specs.Reading.{orderAt, countAt, lineAt, endAt, lineCheck, endCheck}
 use Rattle.wkb.specs.Multi.{membersCheck, chainsAt}
-use Rattle.wkb.specs.Steps.{LineAt, MembersIn, numbersAt, axesAt, countsAt}
+use Rattle.wkb.specs.Inside.{LineAt, MembersIn, numbersAt, axesAt, countsAt}
 use Rattle.wkb.proofs.Axes.{length-points, length-numbers, axis-x, axis-y}
 use Rattle.wkb.proofs.Fields.{LineFits, line-passed, end-right, end-more, end-passed}
 

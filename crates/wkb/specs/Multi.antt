@@ -57,13 +57,13 @@ unfoldable pub pairCheck : ℕ → ℕ → Check
 pairCheck m n = unless (eqb m n) 3 0
 
 -- 5: room for fewer points than the p there are, or for fewer members than the m; the points come first
-unfoldable pub roomCheck : ℕ → ℕ → ℕ → ℕ → Check
-roomCheck points members p m = andThen (unless (leb p points) 5 p) (unless (leb m members) 5 m)
+unfoldable pub membersRoomCheck : ℕ → ℕ → ℕ → ℕ → Check
+membersRoomCheck points members p m = andThen (unless (leb p points) 5 p) (unless (leb m members) 5 m)
 
 -- m and n are the lengths of x and y, k that of the lengths
 unfoldable pub multiOutcome : ℕ → ℕ → ℕ → List ℕ → Answer (List (List Point))
 multiOutcome m n k bs =
-    pairCheck m n then foundMulti bs into (λ pss. countCheck (length (startsOf pss)) then roomCheck m k (length (flatten pss)) (length pss) then gives pss)
+    pairCheck m n then foundMulti bs into (λ pss. countCheck (length (startsOf pss)) then membersRoomCheck m k (length (flatten pss)) (length pss) then gives pss)
 
 -- the answer: how many points and members, or the refusal
 unfoldable pub multiReadOf : Answer (List (List Point)) → MultiRead

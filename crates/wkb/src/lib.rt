@@ -12,7 +12,7 @@ ghost use lib.Ieee.{binary64, ofBits};
 ghost use Rattle.refusals.specs.Refusals.{refusal, zeroBeyond};
 ghost use Rattle.wkb.specs.Bytes.{littleNumber, numberAt};
 ghost use Rattle.wkb.specs.Reading.{orderOf, slicesCheck, nought, ReadAs};
-ghost use Rattle.wkb.specs.Steps.{numbersAt, HeadAs, CheckedAs};
+ghost use Rattle.wkb.specs.Inside.{numbersAt, HeadAs, CheckedAs};
 
 // Which byte of a number comes first: the most significant one, or the least significant one.
 pub enum Order {

@@ -20,8 +20,8 @@ ghost use lib.ListN.{length, take, replicate};
 ghost use Rattle.refusals.specs.declared.Check.the-variants.{Fine};
 ghost use Rattle.refusals.specs.Refusals.{zeroBeyond};
 ghost use Rattle.wkb.specs.Reading.{orderAt, countAt};
-ghost use Rattle.wkb.specs.Multi.{membersCheck, pairCheck, roomCheck, MultiReadAs};
-ghost use Rattle.wkb.specs.Steps.{numbersAt, axesAt, countsAt, MembersAs, LookedAs, Put};
+ghost use Rattle.wkb.specs.Multi.{membersCheck, pairCheck, membersRoomCheck, MultiReadAs};
+ghost use Rattle.wkb.specs.Inside.{numbersAt, axesAt, countsAt, MembersAs, LookedAs, PutIn};
 
 // Looks at m members, the first at byte 9, and at what follows them.
 fn check_members(bytes: &[u8], m: usize) -> Looked
@@ -79,7 +79,7 @@ fn clear_words(s: &mut [u64], from: usize)
 // One coordinate of each of n points, whose first one stands at `at`, goes to s from `to` on.
 fn read_numbers(bytes: &[u8], at: usize, order: Order, n: usize, s: &mut [u64], to: usize)
     requires { ⌜ (at + 16 * n ≤ length (now bytes) + 8) × (to + n ≤ length (now s)) ⌝ }
-    ensures { λ _. ⌜ Put to (numbersAt order n at (now (bytes .entry))) (now (s .entry)) (now (s .exit)) ⌝ }
+    ensures { λ _. ⌜ PutIn to (numbersAt order n at (now (bytes .entry))) (now (s .entry)) (now (s .exit)) ⌝ }
 {
     let mut i = 0;
     while i < n {
@@ -142,7 +142,7 @@ fn check_pair(m: usize, n: usize) -> Check
 
 // There is room for the points, and for the members.
 fn check_room(points: usize, members: usize, p: usize, m: usize) -> Check
-    ensures { λ r. ⌜ r ≡ roomCheck points members p m ⌝ }
+    ensures { λ r. ⌜ r ≡ membersRoomCheck points members p m ⌝ }
 {
     if points < p {
         return Check::Refused(Refusal {

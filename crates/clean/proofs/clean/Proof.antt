@@ -7,7 +7,7 @@ use lib.ListN.{length}
 use Rattle.refusals.specs.declared.Check.the-variants.{Fine}
 use Rattle.members.specs.Held.{heldCheck}
 use Rattle.members.proofs.Held.{held-says}
-use Rattle.clean.specs.Calls.{outputs, outputsCheck}
+use Rattle.clean.specs.Calls.{outputs, keptRoomCheck}
 use Rattle.clean.proofs.Entry.{Lent, lent-says, room-of, clean-held, clean-lent, clean-all}
 use Rattle.clean.proofs.clean.Statement.{statement}
 use Rattle.clean.proofs.clean.Tie as tie
@@ -17,7 +17,7 @@ held : (c : tie.After-enum-told) → let a = c .before .before .before .before .
 held c = sym (c .before .before .check-held .ensures) ∙ c .enum-told .given .1
 
 -- the outputs have room
-lent : (c : tie.After-enum-told2) → let a = c .before .before .before .before .before .before .before .before .before .before .before .before .before .before .before .before .before .args in outputsCheck (length (a .x .now)) (outputs (a .kept-x .now) (a .kept-y .now) (a .kept-lengths .now) (a .reasons .now)) ≡ Fine
+lent : (c : tie.After-enum-told2) → let a = c .before .before .before .before .before .before .before .before .before .before .before .before .before .before .before .before .before .args in keptRoomCheck (length (a .x .now)) (outputs (a .kept-x .now) (a .kept-y .now) (a .kept-lengths .now) (a .reasons .now)) ≡ Fine
 lent c = sym (c .before .before .check-outputs .ensures) ∙ c .enum-told2 .given .1
 
 returns : tie.Need-returns

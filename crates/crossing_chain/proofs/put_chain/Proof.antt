@@ -6,7 +6,7 @@ use Rattle.wkb.specs.Reading.{nought}
 use Rattle.report.proofs.Putting.{puts-text}
 use Rattle.chain.specs.Printed.{refusedText}
 use Rattle.chain.proofs.Chains.{points-read, refused-read}
-use Rattle.crossing_chain.specs.Printed.{printedLines}
+use Rattle.crossing_chain.specs.Printed.{crossingsOfLines}
 use Rattle.crossing_chain.proofs.Answers.{printed-by}
 use borrow.Author.Needs.{needs}
 use Rattle.crossing_chain.proofs.put_chain.Statement.{statement}
@@ -80,7 +80,7 @@ returns-2 : tie.Need-returns-2
 returns-2 c =
     let b = c .before .before .before .before .before .before .before .before .before .before .before in
     puts-text
-    (points-read _ _ _ _ _ (length-replicate 1024 nought) (length-replicate 1024 nought) _ (rw (c .before .before .before .before .before .before .before .read2 .given .1) at (b .read-line-string .ensures)) .said refusedText (printedLines _) ∙ printed-by _ _)
+    (points-read _ _ _ _ _ (length-replicate 1024 nought) (length-replicate 1024 nought) _ (rw (c .before .before .before .before .before .before .before .read2 .given .1) at (b .read-line-string .ensures)) .said refusedText (crossingsOfLines _) ∙ printed-by _ _)
     (c .before .before .put-points .ensures)
 
 pub put-chain-spec : {M : Type 1} → statement M

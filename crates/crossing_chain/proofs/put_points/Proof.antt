@@ -4,7 +4,7 @@ use native.Mathlib.Omega.{arith}
 use lib.Seq.{length-take-le}
 use Rattle.report.proofs.Putting.{puts-text}
 use Rattle.chain.proofs.Chains.{chain-parts}
-use Rattle.crossing_chain.specs.Printed.{printedLines}
+use Rattle.crossing_chain.specs.Printed.{crossingsOfLines}
 use Rattle.crossing_chain.proofs.Answers.{held}
 use borrow.Author.Needs.{needs}
 use Rattle.crossing_chain.proofs.put_points.Statement.{statement}
@@ -62,7 +62,7 @@ returns : tie.Need-returns
 returns c =
     let s = c .before .before .before .before .before .before .before .before .before .before .before .args in
     let p = c .before .before .before .before .before .before .before .before .before .before .before .pre in
-    puts-text (ap (printedLines (s .plan)) (chain-parts (s .n) (s .x .now) (s .y .now) (p .0) (p .2) (p .3))) (c .before .before .put-lines .ensures)
+    puts-text (ap (crossingsOfLines (s .plan)) (chain-parts (s .n) (s .x .now) (s .y .now) (p .0) (p .2) (p .3))) (c .before .before .put-lines .ensures)
 
 pub put-points-spec : {M : Type 1} → statement M
 put-points-spec =

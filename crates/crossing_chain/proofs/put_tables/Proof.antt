@@ -1,6 +1,6 @@
 -- `crossing_chain::put_tables` meets its contract. Assumes nothing.
 use Rattle.report.proofs.Putting.{puts-text}
-use Rattle.crossing_chain.specs.Printed.{printedTables, crossingsIn}
+use Rattle.crossing_chain.specs.Printed.{crossingsOfTables, crossingsIn}
 use Rattle.crossing_chain.proofs.Answers.{listed-refused, listed-pairs}
 use borrow.Author.Needs.{needs}
 use Rattle.crossing_chain.proofs.put_tables.Statement.{statement}
@@ -67,7 +67,7 @@ same-length c = search needs
 
 -- src/lib.rt:24:1
 returns : tie.Need-returns
-unfolding printedTables crossingsIn
+unfolding crossingsOfTables crossingsIn
 returns c = puts-text (listed-refused (c .before .before .before .before .before .before .before .before .before .before .before .before .list-crossings .ensures) (c .before .before .before .before .before .listed .given .1)) (c .before .before .refused-line .ensures)
 
 -- src/lib.rt:24:1
@@ -76,7 +76,7 @@ same-length-2 c = search needs
 
 -- src/lib.rt:24:1
 returns-2 : tie.Need-returns-2
-unfolding printedTables crossingsIn
+unfolding crossingsOfTables crossingsIn
 returns-2 c = puts-text (listed-pairs (c .before .before .before .before .before .before .before .before .before .before .before .before .before .before .list-crossings .ensures) (c .before .before .before .before .before .before .before .listed2 .given .1) .text) (c .before .before .put-crossings .ensures)
 
 pub put-tables-spec : {M : Type 1} → statement M

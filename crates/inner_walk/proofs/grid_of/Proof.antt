@@ -2,16 +2,16 @@
 use borrow.Author.Needs.{needs}
 use borrow.Author.Tests.{lt-ltb, le-ltb}
 use lib.Ieee.{ofBits}
-use Rattle.inner_walk.specs.Replies.{gridOf}
+use Rattle.inner_walk.specs.Replies.{gridBySizes}
 use Rattle.inner_walk.proofs.grid_of.Statement.{statement}
 use Rattle.inner_walk.proofs.grid_of.Tie as tie
 
 returns : tie.Need-returns
-unfolding gridOf ofBits
+unfolding gridBySizes ofBits
 returns c = rw (lt-ltb _ 4 (c .if1 .taken))
 
 returns-2 : tie.Need-returns-2
-unfolding gridOf
+unfolding gridBySizes
 returns-2 c = rw (le-ltb _ 4 (c .before .before .before .before .if1 .left))
 
 pub grid-of-spec : {M : Type 1} → statement M

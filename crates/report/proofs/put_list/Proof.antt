@@ -6,7 +6,7 @@ use native.Mathlib.Omega.{arith}
 use lib.ListN.{length, take}
 use Rattle.report.specs.Pages.{page, Puts}
 use Rattle.report.specs.Lines.{spaced}
-use Rattle.report.specs.Numbers.{decimal}
+use Rattle.report.specs.Numbers.{inDecimal}
 use Rattle.report.proofs.Putting.{spaced-start, spaced-more, spaced-all}
 use Rattle.report.proofs.put_list.Statement.{statement}
 use Rattle.report.proofs.put_list.Tie as tie

@@ -1,5 +1,5 @@
 -- `sizing::side_on` meets its contract. Assumes nothing.
-use Rattle.sizing.specs.Size.{sideOn}
+use Rattle.sizing.specs.Size.{lengthOn}
 use borrow.Author.Needs.{needs}
 use Rattle.sizing.proofs.side_on.Statement.{statement}
 use Rattle.sizing.proofs.side_on.Tie as tie
@@ -8,7 +8,7 @@ largest-of-requires : tie.Need-largest-of-requires
 largest-of-requires c κs = search needs
 
 returns : tie.Need-returns
-unfolding sideOn
+unfolding lengthOn
 returns c = c .largest-of .ensures
 
 pub side-on-spec : {M : Type 1} → statement M

@@ -4,14 +4,14 @@ use native.Mathlib.Omega.{arith}
 use borrow.Author.Needs.{needs}
 use lib.ListN.{length}
 use Rattle.refusals.specs.declared.Check.the-variants.{Fine}
-use Rattle.cover.specs.Covering.{roomCheck}
+use Rattle.cover.specs.Covering.{scratchShapeCheck}
 use Rattle.cover.proofs.Entry.{room-for, room-shape}
 use Rattle.walk.proofs.Answer.{check-answer, none-answer, turns-answer}
 use Rattle.walk.proofs.cells_by_turns.Statement.{statement}
 use Rattle.walk.proofs.cells_by_turns.Tie as tie
 
 -- 3 and 8 have found nothing
-checked : (c : tie.After-enum-told) → let a = c .before .before .before .before .args in roomCheck (length (a .scratch .now)) (a .grid) ≡ Fine
+checked : (c : tie.After-enum-told) → let a = c .before .before .before .before .args in scratchShapeCheck (length (a .scratch .now)) (a .grid) ≡ Fine
 checked c = sym (c .before .before .check-room .ensures) ∙ c .enum-told .given .1
 
 returns : tie.Need-returns

@@ -2,7 +2,7 @@
 use mathlib.Core.Path.{_≡_, refl, sym, _∙_}
 use borrow.Author.Needs.{needs}
 use Rattle.grid.specs.Domain.{lines}
-use Rattle.window.specs.Window.{beside}
+use Rattle.tables.specs.Tables.{beside}
 use Rattle.window.proofs.Entry.{lines-refused, window-refused, tables-checked}
 use Rattle.window.proofs.check_all.Statement.{statement}
 use Rattle.window.proofs.check_all.Tie as tie

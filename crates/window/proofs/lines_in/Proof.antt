@@ -3,7 +3,7 @@ use mathlib.Core.Path.{sym, _∙_}
 use native.Mathlib.Omega.{arith}
 use borrow.Author.Needs.{needs}
 use Rattle.grid.specs.Domain.{lines}
-use Rattle.window.specs.Window.{beside}
+use Rattle.tables.specs.Tables.{beside}
 use Rattle.window.proofs.Entry.{refused-first, none-in, too-many, all-in, checked, out-of-order, not-set, set}
 use Rattle.window.proofs.lines_in.Statement.{statement}
 use Rattle.window.proofs.lines_in.Tie as tie

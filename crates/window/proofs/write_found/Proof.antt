@@ -3,7 +3,7 @@ use mathlib.Core.Path.{sym}
 use lib.Seq.{length-take-le}
 use borrow.Author.Needs.{needs}
 use Rattle.grid.specs.Domain.{lines}
-use Rattle.window.specs.Window.{beside}
+use Rattle.tables.specs.Tables.{beside}
 use Rattle.window.proofs.Entry.{fresh, fresh-few, globals-below, mid-enough, marks-enough, met-all}
 use Rattle.window.proofs.write_found.Statement.{statement}
 use Rattle.window.proofs.write_found.Tie as tie

@@ -5,7 +5,7 @@ use Prim.Native.Nat.{ℕ, _≤_}
 use native.Mathlib.Omega.{arith}
 use borrow.Author.Needs.{needs}
 use Rattle.wkb.specs.Reading.{countAt}
-use Rattle.wkb.specs.Steps.{HeadAt}
+use Rattle.wkb.specs.Inside.{HeadAt}
 use Rattle.wkb.proofs.Fields.{counted-at, head-refused, count-cut, count-none, count-many, points-cut, points-right}
 use Rattle.wkb.proofs.Looks.{headed, head-faulted}
 use Rattle.wkb.proofs.check_line.Statement.{statement}

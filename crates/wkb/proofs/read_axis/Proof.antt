@@ -7,7 +7,7 @@ use lib.Ieee.{Float, binary64, ofBits}
 use lib.ListN.{length, take, set, replicate, length-map}
 use Rattle.refusals.specs.Refusals.{zeroBeyond}
 use Rattle.wkb.specs.Bytes.{numberAt}
-use Rattle.wkb.specs.Steps.{numbersAt, Put}
+use Rattle.wkb.specs.Inside.{numbersAt, PutIn}
 use Rattle.wkb.specs.Reading.{nought}
 use Rattle.wkb.specs.declared.Order.{Order}
 use Rattle.wkb.proofs.Axes.{length-numbers, axis-more}
@@ -17,7 +17,7 @@ use Rattle.wkb.proofs.read_axis.Tie as tie
 
 -- after i turns: the coordinates of the first i points, then what the slice held
 record Turned (bs : List ℕ) (at : ℕ) (o : Order) (s₀ s : List Float) (i : ℕ) : Type 0 where
-  is : Put 0 (map (ofBits binary64) (numbersAt o i at bs)) s₀ s
+  is : PutIn 0 (map (ofBits binary64) (numbersAt o i at bs)) s₀ s
 
 turned-none : (bs : List ℕ) (at : ℕ) (o : Order) (s₀ : List Float) → Turned bs at o s₀ s₀ 0
 unfolding numbersAt
@@ -53,7 +53,7 @@ loop-again c =
 -- zeros beyond the last point
 ended : {bs : List ℕ} {at : ℕ} {o : Order} {s₀ s t : List Float} {i n : ℕ} → Turned bs at o s₀ s i → i ≡ n → t ≡ take n s ++ replicate (length s - n) nought → t ≡ zeroBeyond nought (length s₀) (map (ofBits binary64) (numbersAt o n at bs))
 ended {bs} {at} {o} {s₀} {s} {t} {i} {n} w e z =
-    let p : Put 0 (map (ofBits binary64) (numbersAt o n at bs)) s₀ s = rw (← e) (w .is) in
+    let p : PutIn 0 (map (ofBits binary64) (numbersAt o n at bs)) s₀ s = rw (← e) (w .is) in
     put-cleared nought p (sym (count o bs at n)) z
 
 returns : tie.Need-returns Inv-loop μ-loop

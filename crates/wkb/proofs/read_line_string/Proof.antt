@@ -5,7 +5,7 @@ use borrow.Author.Needs.{needs}
 use lib.ListN.{length}
 use Rattle.refusals.specs.declared.Check.the-variants.{Fine}
 use Rattle.wkb.specs.Reading.{slicesCheck}
-use Rattle.wkb.specs.Steps.{LineAt}
+use Rattle.wkb.specs.Inside.{LineAt}
 use Rattle.wkb.proofs.Words.{Small, small-of}
 use Rattle.wkb.proofs.Looks.{lined, line-faulted}
 use Rattle.wkb.proofs.Readings.{slices-fine, found-fault, found-more, found-line, read-lent, read-none, read-all}

@@ -5,7 +5,7 @@ use borrow.Author.Needs.{needs}
 use lib.ListN.{length}
 use Rattle.grid.specs.Domain.{lines}
 use Rattle.seek.specs.Tests.{testsOf}
-use Rattle.seek.specs.Bookmarks.{beside}
+use Rattle.tables.specs.Tables.{beside}
 use Rattle.chain.proofs.Visiting.{Visiting, visiting-none, visiting-few, visiting-more, visiting-less, visit-refused, visit-tally, visit-counted}
 use Rattle.chain.proofs.whole.visit.Statement.{statement}
 use Rattle.chain.proofs.whole.visit.Tie as tie

@@ -5,7 +5,7 @@ use native.Mathlib.Omega.{arith}
 use borrow.Author.Needs.{needs}
 use lib.ListN.{length, length-set}
 use Rattle.wkb.proofs.Stores.{fill-length}
-use Rattle.clean.specs.Steps.{Part}
+use Rattle.clean.specs.Inside.{Part}
 use Rattle.clean.proofs.Parts.{Marking, marking-first, marking-more, marking-all, one-most}
 use Rattle.clean.proofs.marks.mark_repeats.Statement.{statement}
 use Rattle.clean.proofs.marks.mark_repeats.Tie as tie

@@ -3,7 +3,7 @@ use mathlib.Core.Path.{_≡_, sym, _∙_}
 use Prim.Native.Nat.{ℕ, _-_}
 use native.Mathlib.Omega.{arith}
 use borrow.Author.Needs.{needs}
-use Rattle.clean.specs.Steps.{Part}
+use Rattle.clean.specs.Inside.{Part}
 use Rattle.clean.proofs.Parts.{Ending, ending-none, ending-more, ending-bad, ending-all}
 use Rattle.clean.proofs.points.piece_end.Statement.{statement}
 use Rattle.clean.proofs.points.piece_end.Tie as tie

@@ -4,7 +4,7 @@ use native.Mathlib.Omega.{arith}
 use borrow.Author.Needs.{needs}
 use borrow.Author.Tests.{le-leb, lt-leb}
 use Rattle.wkb.proofs.Stores.{put-none, put-one}
-use Rattle.clean.specs.Steps.{valueIf}
+use Rattle.clean.specs.Inside.{valueIf}
 use Rattle.clean.proofs.values.put_if.Statement.{statement}
 use Rattle.clean.proofs.values.put_if.Tie as tie
 

@@ -3,14 +3,14 @@ use mathlib.Core.Path.{_≡_, refl}
 use Prim.Native.Nat.{_≤_, _+_, _-_}
 use native.Mathlib.Omega.{arith}
 use lib.ListN.{length, take, length-set}
-use Rattle.wkb.specs.Steps.{Put}
+use Rattle.wkb.specs.Inside.{PutIn}
 use Rattle.wkb.proofs.Stores.{put-none}
 use Rattle.clean_bytes.proofs.Reading.{copy-more, copy-all}
 use Rattle.clean_bytes.proofs.either.put_bytes.Statement.{statement}
 use Rattle.clean_bytes.proofs.either.put_bytes.Tie as tie
 
 abbrev Inv-loop : tie.InvT-loop
-Inv-loop from s₀ at i₀ s i = (i ≤ length from) × (at + length from ≤ length s₀) × (length s ≡ length s₀) × Put at (take i from) s₀ s
+Inv-loop from s₀ at i₀ s i = (i ≤ length from) × (at + length from ≤ length s₀) × (length s ≡ length s₀) × PutIn at (take i from) s₀ s
 
 abbrev μ-loop : tie.MeasureT-loop
 μ-loop from s₀ at i₀ s i = length from - i

@@ -2,7 +2,7 @@
 use mathlib.Core.Path.{refl, _∙_}
 use Prim.Native.Nat.{_-_}
 use native.Mathlib.Omega.{arith}
-use Rattle.samples.specs.Samples.{samples, count}
+use Rattle.samples.specs.Samples.{samples, sampleCount}
 use Rattle.samples.specs.Sharing.{shares}
 use Rattle.once.proofs.Lists.{Cells, cells-begin, cells-done, cell-rows, cell-counts, cells-next}
 use Rattle.once.proofs.Passing.{Beside}
@@ -17,7 +17,7 @@ use Rattle.crossings.proofs.cells.scan_cell.Reads as scan-cell-reads
 abbrev Inv-loop : tie.InvT-loop
 Inv-loop cells cols offsets items start-x start-y end-x end-y starts listing counts₀ first₀ second₀ marks₀ hits₀ cell₀ counts first second marks hits cell =
     let ss = samples start-x start-y end-x end-y in
-    Beside 4096 marks (Cells (shares ss) (count ss) cells offsets items starts listing counts₀ first₀ second₀ counts first second hits cell)
+    Beside 4096 marks (Cells (shares ss) (sampleCount ss) cells offsets items starts listing counts₀ first₀ second₀ counts first second hits cell)
 
 abbrev μ-loop : tie.MeasureT-loop
 μ-loop cells cols offsets items start-x start-y end-x end-y starts listing counts₀ first₀ second₀ marks₀ hits₀ cell₀ counts first second marks hits cell =

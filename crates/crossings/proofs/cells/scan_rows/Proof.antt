@@ -3,7 +3,7 @@ use mathlib.Core.Path.{refl}
 use Prim.Native.Nat.{_+_, _-_}
 use native.Mathlib.Omega.{arith}
 use lib.ListN.{length}
-use Rattle.samples.specs.Samples.{samples, count}
+use Rattle.samples.specs.Samples.{samples, sampleCount}
 use Rattle.samples.specs.Sharing.{shares}
 use Rattle.crossings.proofs.RowLaws.{row-first, row-held}
 use Rattle.once.proofs.Lists.{part-all, rows-done, row-scan}
@@ -19,7 +19,7 @@ use Rattle.crossings.proofs.rows.scan_marked.Reads as scan-marked-reads
 
 abbrev Inv-loop : tie.InvT-loop
 Inv-loop list marks start-x start-y end-x end-y starts listing counts first₀ second₀ hits hits₀ i₀ first second hits' i =
-    let ss = samples start-x start-y end-x end-y in ListRows (shares ss) (count ss) list marks starts listing counts first₀ second₀ hits first second hits' i
+    let ss = samples start-x start-y end-x end-y in ListRows (shares ss) (sampleCount ss) list marks starts listing counts first₀ second₀ hits first second hits' i
 
 abbrev μ-loop : tie.MeasureT-loop
 μ-loop list marks start-x start-y end-x end-y starts listing counts first₀ second₀ hits hits₀ i₀ first second hits' i =

@@ -3,7 +3,7 @@ use mathlib.Core.Path.{_≡_, refl, sym, _∙_}
 use Prim.Native.Nat.{ℕ, _+_, _-_}
 use native.Mathlib.Omega.{arith}
 use borrow.Author.Needs.{needs}
-use Rattle.samples.specs.Samples.{samples, count}
+use Rattle.samples.specs.Samples.{samples, sampleCount}
 use Rattle.samples.specs.Sharing.{shares}
 use Rattle.crossings.specs.Inside.{Held}
 use Rattle.crossings.proofs.RowLaws.{row-first, row-held}
@@ -17,7 +17,7 @@ use Rattle.crossings.proofs.rows.scan_lines.Reads as scan-lines-reads
 
 abbrev Inv-loop : tie.InvT-loop
 Inv-loop n p globals start-x start-y end-x end-y starts listing counts first₀ second₀ hits row hits₀ k₀ q₀ first second hits' k q =
-    let ss = samples start-x start-y end-x end-y in Held ss row (Runs (shares ss) (count ss) n p globals starts listing counts (row .first) first₀ second₀ hits first second hits' k q)
+    let ss = samples start-x start-y end-x end-y in Held ss row (Runs (shares ss) (sampleCount ss) n p globals starts listing counts (row .first) first₀ second₀ hits first second hits' k q)
 
 abbrev μ-loop : tie.MeasureT-loop
 μ-loop n p globals start-x start-y end-x end-y starts listing counts first₀ second₀ hits row hits₀ k₀ q₀ first second hits' k q =

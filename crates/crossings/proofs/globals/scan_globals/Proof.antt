@@ -2,7 +2,7 @@
 use mathlib.Core.Path.{_≡_, refl, sym, _∙_}
 use Prim.Native.Nat.{ℕ, _-_}
 use native.Mathlib.Omega.{arith}
-use Rattle.samples.specs.Samples.{samples, count}
+use Rattle.samples.specs.Samples.{samples, sampleCount}
 use Rattle.samples.specs.Sharing.{shares}
 use Rattle.once.proofs.Runs.{Globals, globals-begin, globals-done, global-asks, globals-next}
 use Rattle.crossings.proofs.globals.scan_globals.Statement.{statement}
@@ -13,7 +13,7 @@ use Rattle.crossings.proofs.globals.scan_global.Reads as scan-global-re
 
 abbrev Inv-loop : tie.InvT-loop
 Inv-loop n globals global-count start-x start-y end-x end-y starts listing counts first₀ second₀ hits hits₀ p₀ first second hits' p =
-    let ss = samples start-x start-y end-x end-y in (Globals (shares ss) (count ss) n globals global-count starts listing counts first₀ second₀ hits first second hits' p)
+    let ss = samples start-x start-y end-x end-y in (Globals (shares ss) (sampleCount ss) n globals global-count starts listing counts first₀ second₀ hits first second hits' p)
 
 abbrev μ-loop : tie.MeasureT-loop
 μ-loop n globals global-count start-x start-y end-x end-y starts listing counts first₀ second₀ hits hits₀ p₀ first second hits' p =

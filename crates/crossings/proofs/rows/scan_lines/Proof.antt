@@ -2,7 +2,7 @@
 use mathlib.Core.Path.{_≡_, refl, sym, _∙_}
 use Prim.Native.Nat.{ℕ, _-_}
 use native.Mathlib.Omega.{arith}
-use Rattle.samples.specs.Samples.{samples, count}
+use Rattle.samples.specs.Samples.{samples, sampleCount}
 use Rattle.samples.specs.Sharing.{shares}
 use Rattle.crossings.specs.Inside.{Held}
 use Rattle.once.proofs.Scans.{LineScan, lines-begin, lines-done, lines-pair, lines-fits, lines-yes, lines-no}
@@ -16,7 +16,7 @@ use Rattle.lent.proofs.put_pair.Reads as put-pair-reads
 
 abbrev Inv-loop : tie.InvT-loop
 Inv-loop row k stop start-x start-y end-x end-y starts listing counts first₀ second₀ hits hits₀ b₀ first second hits' b =
-    let ss = samples start-x start-y end-x end-y in Held ss row (LineScan (shares ss) (count ss) (row .first) k stop starts listing counts first₀ second₀ hits first second hits' b)
+    let ss = samples start-x start-y end-x end-y in Held ss row (LineScan (shares ss) (sampleCount ss) (row .first) k stop starts listing counts first₀ second₀ hits first second hits' b)
 
 abbrev μ-loop : tie.MeasureT-loop
 μ-loop row k stop start-x start-y end-x end-y starts listing counts first₀ second₀ hits hits₀ b₀ first second hits' b =

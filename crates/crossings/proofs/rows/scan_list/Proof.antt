@@ -3,7 +3,7 @@ use mathlib.Core.Path.{_≡_, refl, sym, _∙_}
 use Prim.Native.Nat.{ℕ, _-_}
 use native.Mathlib.Omega.{arith}
 use lib.ListN.{length}
-use Rattle.samples.specs.Samples.{samples, count}
+use Rattle.samples.specs.Samples.{samples, sampleCount}
 use Rattle.samples.specs.Sharing.{shares}
 use Rattle.crossings.specs.Inside.{Held}
 use Rattle.once.proofs.Scans.{ListScan, list-begin, list-done, list-pair, list-fits, list-yes, list-no}
@@ -17,7 +17,7 @@ use Rattle.lent.proofs.put_pair.Reads as put-pair-reads
 
 abbrev Inv-loop : tie.InvT-loop
 Inv-loop row list start-x start-y end-x end-y starts listing counts first₀ second₀ hits hits₀ j₀ first second hits' j =
-    let ss = samples start-x start-y end-x end-y in Held ss row (ListScan (shares ss) (count ss) (row .first) list starts listing counts first₀ second₀ hits first second hits' j)
+    let ss = samples start-x start-y end-x end-y in Held ss row (ListScan (shares ss) (sampleCount ss) (row .first) list starts listing counts first₀ second₀ hits first second hits' j)
 
 abbrev μ-loop : tie.MeasureT-loop
 μ-loop row list start-x start-y end-x end-y starts listing counts first₀ second₀ hits hits₀ j₀ first second hits' j =

@@ -2,7 +2,7 @@
 use Prim.Native.Nat.{_-_}
 use native.Mathlib.Omega.{arith}
 use lib.ListN.{length}
-use Rattle.samples.specs.Samples.{samples, count}
+use Rattle.samples.specs.Samples.{samples, sampleCount}
 use Rattle.samples.specs.Sharing.{shares}
 use Rattle.crossings.specs.Inside.{Held}
 use Rattle.crossings.proofs.RowLaws.{held-other}
@@ -19,7 +19,7 @@ use Rattle.lent.proofs.put_pair.Reads as put-pair-reads
 abbrev Inv-loop : tie.InvT-loop
 Inv-loop row mark list marks start-x start-y end-x end-y starts listing counts first₀ second₀ hits hits₀ j₀ first second hits' j =
     let ss = samples start-x start-y end-x end-y in
-    Held ss row (MarkScan (shares ss) (count ss) (row .first) mark list marks starts listing counts first₀ second₀ hits first second hits' j)
+    Held ss row (MarkScan (shares ss) (sampleCount ss) (row .first) mark list marks starts listing counts first₀ second₀ hits first second hits' j)
 
 abbrev μ-loop : tie.MeasureT-loop
 μ-loop row mark list marks start-x start-y end-x end-y starts listing counts first₀ second₀ hits hits₀ j₀ first second hits' j =

@@ -4,13 +4,13 @@ use Prim.Native.Nat.{_-_, _≤_}
 use native.Mathlib.Omega.{arith}
 use lib.ListN.{length, getD}
 use mathlib.Core.Bool.{false}
-use Rattle.fill.specs.Fill.{above}
+use Rattle.fill.specs.Fill.{moreThan}
 use Rattle.fill.proofs.Sums.{above-none, above-more, above-at}
 use Rattle.fill.proofs.offsets.some_above.Statement.{statement}
 use Rattle.fill.proofs.offsets.some_above.Tie as tie
 
 abbrev Inv-loop : tie.InvT-loop
-Inv-loop offsets cells most c₀ c = (c ≤ cells) × (cells ≤ length offsets) × (above most (λ c. getD offsets c 0) c ≡ false)
+Inv-loop offsets cells most c₀ c = (c ≤ cells) × (cells ≤ length offsets) × (moreThan most (λ c. getD offsets c 0) c ≡ false)
 
 abbrev μ-loop : tie.MeasureT-loop
 μ-loop offsets cells most c₀ c = cells - c

@@ -9,7 +9,7 @@ use lib.ListN.{length, take, drop, getD, length-drop}
 use lib.Seq.{length-take-le}
 use Rattle.wkb.specs.declared.Order.the-variants.{Little}
 use Rattle.wkb.specs.Bytes.{lineBytes}
-use Rattle.wkb.specs.Steps.{Put}
+use Rattle.wkb.specs.Inside.{PutIn}
 use Rattle.wkb.proofs.LineStrings.{length-line}
 use Rattle.wkb.proofs.Stores.{Filling, fill-none, fill-length, fill-room, fill-more, fill-all}
 use Rattle.members.specs.Held.{pointsOf, chainsOf}
@@ -43,7 +43,7 @@ module _ {x y ns s₀ s : List ℕ} {at from k : ℕ} (t : Turned x y ns s₀ s 
   room-next : at + 9 + 16 * n ≤ length s
   room-next = let r = fill-room (t .filled) (lineBytes Little (take n (drop from (pointsOf x y)))) _ (bytes-next ns k from (pointsOf x y) n h e) (t .room) in omega (arith, length-next)
 
-  turned-more : {s₁ : List ℕ} → Put at (lineBytes Little (take n (drop from (pointsOf x y)))) s s₁ → Turned x y ns s₀ s₁ (at + 9 + 16 * n) (from + n) (k + 1)
+  turned-more : {s₁ : List ℕ} → PutIn at (lineBytes Little (take n (drop from (pointsOf x y)))) s s₁ → Turned x y ns s₀ s₁ (at + 9 + 16 * n) (from + n) (k + 1)
   turned-more p = record {
     alike = t .alike;
     along = along-more (t .along) h n e;

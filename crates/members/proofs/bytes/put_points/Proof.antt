@@ -7,7 +7,7 @@ use lib.ListN.{length, take, drop, getD, length-drop}
 use lib.Seq.{getD-drop}
 use Rattle.wkb.specs.declared.Order.the-variants.{Little}
 use Rattle.wkb.specs.Bytes.{littleBytes, pointsBytes}
-use Rattle.wkb.specs.Steps.{Put}
+use Rattle.wkb.specs.Inside.{PutIn}
 use Rattle.wkb.proofs.Stores.{put-none, put-length}
 use Rattle.members.specs.Held.{pointsOf}
 use Rattle.members.proofs.Held.{origin, length-points-of, point-at}
@@ -16,14 +16,14 @@ use Rattle.members.proofs.bytes.put_points.Statement.{statement}
 use Rattle.members.proofs.bytes.put_points.Tie as tie
 
 record Turned (x y : List ℕ) (from at : ℕ) (s₀ s : List ℕ) (i : ℕ) : Type 0 where
-  is : Put at (pointsBytes Little (take i (drop from (pointsOf x y)))) s₀ s
+  is : PutIn at (pointsBytes Little (take i (drop from (pointsOf x y)))) s₀ s
 
 turned-none : (x y : List ℕ) (from at : ℕ) (s₀ : List ℕ) → at ≤ length s₀ → Turned x y from at s₀ s₀ 0
 unfolding pointsBytes
 turned-none x y from at s₀ h = record { is = put-none at s₀ h }
 
 turned-more : {x y : List ℕ} {from at : ℕ} {s₀ s s₁ s₂ : List ℕ} {i : ℕ} → Turned x y from at s₀ s i → length y ≡ length x → from + i < length x
-    → Put (at + 16 * i) (littleBytes 8 (getD x (from + i) 0)) s s₁ → Put (at + 16 * i + 8) (littleBytes 8 (getD y (from + i) 0)) s₁ s₂ → Turned x y from at s₀ s₂ (i + 1)
+    → PutIn (at + 16 * i) (littleBytes 8 (getD x (from + i) 0)) s s₁ → PutIn (at + 16 * i + 8) (littleBytes 8 (getD y (from + i) 0)) s₁ s₂ → Turned x y from at s₀ s₂ (i + 1)
 turned-more {x} {y} {from} {at} {s₀} {s} {s₁} {s₂} {i} t e h p q =
     let ps = pointsOf x y in
     let k : i < length (drop from ps) = rw (length-drop from ps) (omega (arith, length-points-of x y e)) in
@@ -50,7 +50,7 @@ loop-again c =
     (v .0, v .1, v .2, omega arith, put-length (t .is), t)
 
 -- all points were put
-ended : {x y : List ℕ} {from at : ℕ} {s₀ s : List ℕ} {i n : ℕ} → Turned x y from at s₀ s i → i ≡ n → Put at (pointsBytes Little (take n (drop from (pointsOf x y)))) s₀ s
+ended : {x y : List ℕ} {from at : ℕ} {s₀ s : List ℕ} {i n : ℕ} → Turned x y from at s₀ s i → i ≡ n → PutIn at (pointsBytes Little (take n (drop from (pointsOf x y)))) s₀ s
 ended t e = rw (← e) (t .is)
 
 returns : tie.Need-returns Inv-loop μ-loop

@@ -1,7 +1,7 @@
 -- `members::lines::clear_lines` meets its contract. Assumes nothing.
 use borrow.Author.Needs.{needs}
 use Rattle.wkb.specs.Reading.{nought}
-use Rattle.members.specs.Steps.{zeroLines}
+use Rattle.members.specs.Inside.{zeroLines}
 use Rattle.members.proofs.Putting.{cleared-all}
 use Rattle.members.proofs.Writings.{lines-eq}
 use Rattle.members.proofs.lines.clear_lines.Statement.{statement}

@@ -7,10 +7,10 @@ use native.Mathlib.Omega.{arith}
 use borrow.Author.Needs.{needs}
 use lib.Ieee.{Float, binary64, ofBits}
 use lib.ListN.{length, take, drop, getD, length-map}
-use Rattle.wkb.specs.Steps.{Put}
+use Rattle.wkb.specs.Inside.{PutIn}
 use Rattle.wkb.specs.Reading.{nought}
 use Rattle.wkb.proofs.Stores.{Filling, fill-none, fill-length, fill-room, fill-more, fill-cleared}
-use Rattle.members.specs.Steps.{endsAt, floatsAt}
+use Rattle.members.specs.Inside.{endsAt, floatsAt}
 use Rattle.members.proofs.Along.{Along, along-none, along-next, along-more, Fitting, floats-next, floats-over, floats-count}
 use Rattle.members.proofs.lines.put_ends.Statement.{statement}
 use Rattle.members.proofs.lines.put_ends.Tie as tie
@@ -38,7 +38,7 @@ module _ {cs ns : List ℕ} {skip : ℕ} {s₀ s : List Float} {at to k : ℕ} (
       let r = fill-room (t .filled) (map (ofBits binary64) (take (n - 1) (drop (at + skip) cs))) _ (floats-next (ofBits binary64) skip ns k at cs n h e) (t .room) in
       omega (arith, length-next)
 
-  turned-more : {s₁ : List Float} → Put to (map (ofBits binary64) (take (n - 1) (drop (at + skip) cs))) s s₁ → Turned cs ns skip s₀ s₁ (at + n) (to + (n - 1)) (k + 1)
+  turned-more : {s₁ : List Float} → PutIn to (map (ofBits binary64) (take (n - 1) (drop (at + skip) cs))) s s₁ → Turned cs ns skip s₀ s₁ (at + n) (to + (n - 1)) (k + 1)
   turned-more p = record {
     along = along-more (t .along) h n e;
     one = t .one;

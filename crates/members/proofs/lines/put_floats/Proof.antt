@@ -8,13 +8,13 @@ use borrow.Author.Needs.{needs}
 use lib.Ieee.{Float, binary64, ofBits}
 use lib.ListN.{length, take, drop, getD, set, length-map, length-drop}
 use lib.Seq.{take-suc, length-take-le, getD-drop}
-use Rattle.wkb.specs.Steps.{Put}
+use Rattle.wkb.specs.Inside.{PutIn}
 use Rattle.wkb.proofs.Stores.{put-none, put-more, put-length}
 use Rattle.members.proofs.lines.put_floats.Statement.{statement}
 use Rattle.members.proofs.lines.put_floats.Tie as tie
 
 record Turned (from : List ℕ) (at to : ℕ) (s₀ s : List Float) (i : ℕ) : Type 0 where
-  is : Put to (map (ofBits binary64) (take i (drop at from))) s₀ s
+  is : PutIn to (map (ofBits binary64) (take i (drop at from))) s₀ s
 
 turned-none : (from : List ℕ) (at to : ℕ) (s₀ : List Float) → to ≤ length s₀ → Turned from at to s₀ s₀ 0
 turned-none from at to s₀ h = record { is = put-none to s₀ h }
@@ -47,7 +47,7 @@ loop-again c =
     (v .0, v .1, omega arith, put-length (t .is), t)
 
 -- all patterns were taken
-ended : {from : List ℕ} {at to : ℕ} {s₀ s : List Float} {i n : ℕ} → Turned from at to s₀ s i → i ≡ n → Put to (map (ofBits binary64) (take n (drop at from))) s₀ s
+ended : {from : List ℕ} {at to : ℕ} {s₀ s : List Float} {i n : ℕ} → Turned from at to s₀ s i → i ≡ n → PutIn to (map (ofBits binary64) (take n (drop at from))) s₀ s
 ended t e = rw (← e) (t .is)
 
 returns : tie.Need-returns Inv-loop μ-loop

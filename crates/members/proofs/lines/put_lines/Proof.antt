@@ -11,7 +11,7 @@ use Rattle.grid.specs.Domain.{Lines, lines, count, lengthsCheck}
 use Rattle.grid.proofs.Fine.{lengths-fine}
 use Rattle.members.specs.Held.{allLengths, sumOf, heldCheck}
 use Rattle.members.specs.Writing.{fitCheck}
-use Rattle.members.specs.Steps.{endsAt, linesAt}
+use Rattle.members.specs.Inside.{endsAt, linesPut}
 use Rattle.members.proofs.Held.{Held, held-says}
 use Rattle.members.proofs.Along.{length-ends}
 use Rattle.members.proofs.Writings.{fit-says, lines-eq}
@@ -58,7 +58,7 @@ put-ends-requires-4 : tie.Need-put-ends-requires-4
 put-ends-requires-4 c κs = let q = asked (c .before .before .before .before .before .before .before .before .before .before .before .before .before) .3 in (q .one, q .each, q .sum, omega (arith, q .room))
 
 returns : tie.Need-returns
-unfolding linesAt
+unfolding linesPut
 returns c = lines-eq _ _ (c .before .before .before .before .before .before .before .before .before .before .before .before .before .before .put-ends .ensures) (c .before .before .before .before .before .before .before .before .before .before .put-ends2 .ensures) (c .before .before .before .before .before .before .put-ends3 .ensures) (c .before .before .put-ends4 .ensures)
 
 pub put-lines-spec : {M : Type 1} → statement M

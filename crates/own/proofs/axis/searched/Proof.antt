@@ -4,13 +4,13 @@ use mathlib.Core.Path.{sym, _∙_}
 use Prim.Native.Nat.{_-_}
 use native.Mathlib.Omega.{arith}
 use borrow.Author.Needs.{needs}
-use Rattle.own.specs.Inside.{Halved}
+use Rattle.own.specs.Inside.{HalvedRange}
 use Rattle.own.proofs.Halving.{lower-half, upper-half, found, nowhere}
 use Rattle.own.proofs.axis.searched.Statement.{statement}
 use Rattle.own.proofs.axis.searched.Tie as tie
 
 abbrev Inv-loop : tie.InvT-loop
-Inv-loop axis p guess low₀ high₀ low high = Halved axis p low high
+Inv-loop axis p guess low₀ high₀ low high = HalvedRange axis p low high
 
 abbrev μ-loop : tie.MeasureT-loop
 μ-loop axis p guess low₀ high₀ low high = high - low

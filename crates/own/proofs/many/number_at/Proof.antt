@@ -3,7 +3,7 @@
 use mathlib.Core.Path.{ap, _∙_}
 use native.Mathlib.Omega.{arith}
 use borrow.Author.Needs.{needs}
-use Rattle.own.specs.Many.{numberOf}
+use Rattle.own.specs.Many.{ownerNumber}
 use Rattle.own.proofs.Owners.{asked, cell-of}
 use Rattle.own.proofs.ManyLaws.{cell-below, number-fits}
 use Rattle.own.proofs.many.number_at.Statement.{statement}
@@ -34,8 +34,8 @@ add-result : tie.Need-add-result
 add-result c = let l = cell-below _ _ _ _ _ (cell-of _ _ _ _ _ _ _ (c .before .before .before .before .before .before .x-axis .ensures) (c .before .before .before .y-axis .ensures) (c .before .before .before .before .before .settled .ensures (c .before .before .before .before .if1 .taken)) (c .before .before .settled2 .ensures (c .before .if2 .taken))) in omega (arith, c .before .before .before .before .before .before .before .before .before .before .before .pre .few)
 
 returns : tie.Need-returns
-unfolding numberOf
-returns c = ap (numberOf _) (cell-of _ _ _ _ _ _ _ (c .before .before .before .before .before .before .x-axis .ensures) (c .before .before .before .y-axis .ensures) (c .before .before .before .before .before .settled .ensures (c .before .before .before .before .if1 .taken)) (c .before .before .settled2 .ensures (c .before .if2 .taken)))
+unfolding ownerNumber
+returns c = ap (ownerNumber _) (cell-of _ _ _ _ _ _ _ (c .before .before .before .before .before .before .x-axis .ensures) (c .before .before .before .y-axis .ensures) (c .before .before .before .before .before .settled .ensures (c .before .before .before .before .if1 .taken)) (c .before .before .settled2 .ensures (c .before .if2 .taken)))
 
 first-cell-requires : tie.Need-first-cell-requires
 first-cell-requires c κs = search needs
@@ -44,7 +44,7 @@ numbered-requires : tie.Need-numbered-requires
 numbered-requires c κs = number-fits _ _ _ _ (c .before .before .before .before .before .before .before .before .pre .few) (c .first-cell .ensures)
 
 returns-2 : tie.Need-returns-2
-returns-2 c = c .numbered .ensures ∙ ap (numberOf _) (c .before .first-cell .ensures)
+returns-2 c = c .numbered .ensures ∙ ap (ownerNumber _) (c .before .first-cell .ensures)
 
 pub number-at-spec : {M : Type 1} → statement M
 number-at-spec =

@@ -3,7 +3,7 @@ use mathlib.Core.Path.{_≡_, refl, sym, ap, _∙_}
 use Prim.Native.Nat.{ℕ, _+_, _-_, _*_, _≤_, _<_}
 use lib.ListN.{length, getD}
 use Rattle.grid.specs.Domain.{lines}
-use Rattle.seek.specs.Bookmarks.{beside}
+use Rattle.tables.specs.Tables.{beside}
 use Rattle.resume.proofs.NextLaws.{next-refused, next-clears, next-fine, next-went}
 use borrow.Author.Needs.{needs}
 use Rattle.resume.proofs.nexts.next.Statement.{statement}

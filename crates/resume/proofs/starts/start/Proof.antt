@@ -4,7 +4,7 @@ use mathlib.Core.Path.{_≡_, refl, sym, ap, _∙_}
 use Prim.Native.Nat.{ℕ, _+_, _-_, _*_, _≤_, _<_}
 use lib.ListN.{length, getD}
 use Rattle.grid.specs.Domain.{lines}
-use Rattle.seek.specs.Bookmarks.{beside}
+use Rattle.tables.specs.Tables.{beside}
 use Rattle.seek.proofs.Lengths.{length-increasing}
 use Rattle.tables.proofs.Turns.{cells-fit}
 use Rattle.resume.specs.declared.StartAnswer.the-variants as start

@@ -1,7 +1,7 @@
 -- `seek::bookmarks::check_visit` meets its contract. Assumes nothing.
 use mathlib.Core.Path.{_≡_, refl, sym, _∙_}
 use Rattle.grid.specs.Domain.{lines}
-use Rattle.seek.specs.Bookmarks.{beside}
+use Rattle.tables.specs.Tables.{beside}
 use Rattle.seek.proofs.FindLaws.{visit-lines, visit-tables}
 use borrow.Author.Needs.{needs}
 use Rattle.seek.proofs.bookmarks.check_visit.Statement.{statement}

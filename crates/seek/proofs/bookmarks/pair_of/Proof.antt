@@ -3,7 +3,7 @@ use mathlib.Core.Path.{_≡_, refl, sym, _∙_}
 use Prim.Native.Nat.{_*_, _+_, _≤_, _<_}
 use native.Mathlib.Omega.{arith}
 use lib.ListN.{length, getD}
-use Rattle.seek.specs.Inside.{PairAsks}
+use Rattle.seek.specs.Inside.{PairAtAsks}
 use Rattle.seek.proofs.Standing.{has-columns}
 use Rattle.seek.proofs.FirstTests.{pair-in, pair-cell, pair-line, pair-over}
 use borrow.Author.Needs.{needs}

@@ -1,7 +1,7 @@
 -- `visit::visits::batch_with_places` meets its contract: 3 where the places' slice has another length, and else what both batches make. Assumes nothing.
 use borrow.Author.Needs.{needs}
 use Rattle.grid.specs.Domain.{lines}
-use Rattle.seek.specs.Bookmarks.{beside}
+use Rattle.tables.specs.Tables.{beside}
 use Rattle.visit.proofs.EntryLaws.{places-alike, places-unlike, placed-unlike, placed-made}
 use Rattle.visit.proofs.visits.batch_with_places.Statement.{statement}
 use Rattle.visit.proofs.visits.batch_with_places.Tie as tie

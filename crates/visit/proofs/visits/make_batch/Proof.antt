@@ -2,7 +2,7 @@
 use mathlib.Core.Path.{_≡_, refl, sym, ap, _∙_}
 use Rattle.refusals.specs.declared.Check.the-variants.{Fine}
 use Rattle.grid.specs.Domain.{lines}
-use Rattle.seek.specs.Bookmarks.{beside}
+use Rattle.tables.specs.Tables.{beside}
 use Rattle.seek.specs.Cursors.{CursorIs}
 use Rattle.seek.proofs.Passed.{rows-cols}
 use Rattle.seek.proofs.FindLaws.{found-at, found-none}

@@ -1,8 +1,9 @@
 -- `visit::visits::test_at` meets its contract. Assumes nothing.
 use mathlib.Core.Path.{_≡_, refl, sym, _∙_}
+use Rattle.tables.specs.Tables.{beside}
 use Rattle.grid.specs.Domain.{lines}
 use Rattle.seek.specs.declared.PairAnswer.the-variants as one
-use Rattle.seek.specs.Bookmarks.{beside, pairAt}
+use Rattle.seek.specs.Bookmarks.{pairAt}
 use Rattle.visit.proofs.EntryLaws.{test-refused, test-end, first-asks, second-asks, test-made}
 use borrow.Author.Needs.{needs}
 use Rattle.visit.proofs.visits.test_at.Statement.{statement}

@@ -2,7 +2,7 @@
 use mathlib.Core.Path.{refl}
 use native.Mathlib.Omega.{arith}
 use borrow.Author.Needs.{needs}
-use Rattle.wkb.specs.Steps.{LineAt}
+use Rattle.wkb.specs.Inside.{LineAt}
 use Rattle.wkb.proofs.Looks.{lined, line-faulted}
 use Rattle.wkb.proofs.Walks.{Passed, passed-none, passed-more, passed-fault, passed-over, passed-all}
 use Rattle.wkb.proofs.members.check_members.Statement.{statement}

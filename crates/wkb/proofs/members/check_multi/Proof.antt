@@ -2,7 +2,7 @@
 use mathlib.Core.Path.{_≡_, _∙_}
 use native.Mathlib.Omega.{arith}
 use borrow.Author.Needs.{needs}
-use Rattle.wkb.specs.Steps.{HeadAt}
+use Rattle.wkb.specs.Inside.{HeadAt}
 use Rattle.wkb.proofs.Fields.{counted-at}
 use Rattle.wkb.proofs.Looks.{headed, head-faulted}
 use Rattle.wkb.proofs.MultiLineStrings.{multi-head, multi-cut, to-members, looked-members}

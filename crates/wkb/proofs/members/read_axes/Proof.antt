@@ -7,7 +7,7 @@ use lib.ListN.{length}
 use Rattle.refusals.specs.declared.Check.the-variants.{Fine}
 use Rattle.wkb.specs.Reading.{orderAt}
 use Rattle.wkb.specs.Multi.{membersCheck}
-use Rattle.wkb.specs.Steps.{numbersAt, axesAt}
+use Rattle.wkb.specs.Inside.{numbersAt, axesAt}
 use Rattle.wkb.proofs.Axes.{length-numbers}
 use Rattle.wkb.proofs.Fields.{LineFits}
 use Rattle.wkb.proofs.Stores.{Filling, fill-none, fill-length, fill-within, fill-room, fill-more, fill-cleared}

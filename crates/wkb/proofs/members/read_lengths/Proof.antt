@@ -10,7 +10,7 @@ use Rattle.refusals.specs.declared.Check.the-variants.{Fine}
 use Rattle.slices.specs.Slices.{clearedFrom}
 use Rattle.wkb.specs.Reading.{orderAt}
 use Rattle.wkb.specs.Multi.{membersCheck}
-use Rattle.wkb.specs.Steps.{countsAt}
+use Rattle.wkb.specs.Inside.{countsAt}
 use Rattle.wkb.proofs.Fields.{LineFits}
 use Rattle.wkb.proofs.Stores.{put-one, Filling, fill-none, fill-length, fill-room, fill-more, fill-cleared}
 use Rattle.wkb.proofs.Walks.{left-line, left-rest, counts-next, counts-over, length-counts}

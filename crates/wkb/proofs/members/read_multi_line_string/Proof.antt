@@ -8,8 +8,8 @@ use lib.ListN.{length, take, replicate}
 use Rattle.refusals.specs.declared.Check.the-variants.{Fine}
 use Rattle.slices.specs.Slices.{clearedFrom}
 use Rattle.grid.specs.Domain.{countCheck}
-use Rattle.wkb.specs.Multi.{pairCheck, roomCheck}
-use Rattle.wkb.specs.Steps.{MultiAt}
+use Rattle.wkb.specs.Multi.{pairCheck, membersRoomCheck}
+use Rattle.wkb.specs.Inside.{MultiAt}
 use Rattle.wkb.proofs.Words.{Small, small-of}
 use Rattle.wkb.proofs.Looks.{whole, multi-faulted}
 use Rattle.wkb.proofs.MultiReadings.{pair-fine, room-fine, Lines, lines-found, axes-room, multi-lent, multi-none, multi-many, multi-short, multi-all}
@@ -32,7 +32,7 @@ found c = whole (c .before .before .before .check-multi .ensures) (c .before .me
 few : (c : tie.After-enum-told2) → let v = c .before .before .before .before .members .given .0 in countCheck (v .1 .0 - v .0) ≡ Fine
 few c = sym (c .before .before .check-count .ensures) ∙ c .enum-told2 .given .1
 
-room : (c : tie.After-enum-told3) → let a = c .before .before .before .before .before .before .before .before .before .before .before .before .before .before .before .before .before .args in let v = c .before .before .before .before .before .before .before .members .given .0 in roomCheck (length (a .x .now)) (length (a .lengths .now)) (v .1 .0) (v .0) ≡ Fine
+room : (c : tie.After-enum-told3) → let a = c .before .before .before .before .before .before .before .before .before .before .before .before .before .before .before .before .before .args in let v = c .before .before .before .before .before .before .before .members .given .0 in membersRoomCheck (length (a .x .now)) (length (a .lengths .now)) (v .1 .0) (v .0) ≡ Fine
 room c = sym (c .before .before .check-room .ensures) ∙ c .enum-told3 .given .1
 
 returns : tie.Need-returns

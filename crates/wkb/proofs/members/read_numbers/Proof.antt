@@ -5,7 +5,7 @@ use Prim.Native.Nat.{ℕ, _+_, _*_, _-_, _≤_, _<_}
 use native.Mathlib.Omega.{arith}
 use lib.ListN.{length, set}
 use Rattle.wkb.specs.Bytes.{numberAt}
-use Rattle.wkb.specs.Steps.{numbersAt, Put}
+use Rattle.wkb.specs.Inside.{numbersAt, PutIn}
 use Rattle.wkb.specs.declared.Order.{Order}
 use Rattle.wkb.proofs.Axes.{length-numbers, axis-more}
 use Rattle.wkb.proofs.Stores.{put-none, put-more, put-length}
@@ -13,7 +13,7 @@ use Rattle.wkb.proofs.members.read_numbers.Statement.{statement}
 use Rattle.wkb.proofs.members.read_numbers.Tie as tie
 
 record Turned (bs : List ℕ) (at : ℕ) (o : Order) (to : ℕ) (s₀ s : List ℕ) (i : ℕ) : Type 0 where
-  is : Put to (numbersAt o i at bs) s₀ s
+  is : PutIn to (numbersAt o i at bs) s₀ s
 
 turned-none : (bs : List ℕ) (at : ℕ) (o : Order) (to : ℕ) (s₀ : List ℕ) → to ≤ length s₀ → Turned bs at o to s₀ s₀ 0
 unfolding numbersAt
@@ -21,7 +21,7 @@ turned-none bs at o to s₀ h = record { is = put-none to s₀ h }
 
 turned-more : {bs : List ℕ} {at : ℕ} {o : Order} {to : ℕ} {s₀ s : List ℕ} {i v : ℕ} → Turned bs at o to s₀ s i → to + i < length s₀ → v ≡ numberAt o 8 (at + 16 * i) bs → Turned bs at o to s₀ (set s (to + i) v) (i + 1)
 turned-more {bs} {at} {o} {to} {s₀} {s} {i} {v} t l e =
-    let p : Put to (numbersAt o (i + 1) at bs) s₀ (set s (to + i) (numberAt o 8 (at + 16 * i) bs)) =
+    let p : PutIn to (numbersAt o (i + 1) at bs) s₀ (set s (to + i) (numberAt o 8 (at + 16 * i) bs)) =
     rw (← axis-more o bs i at) (put-more _ (t .is) (ap (λ (k : ℕ). to + k) (sym (length-numbers o bs i at))) l) in
     record { is = rw e p }
 
@@ -44,7 +44,7 @@ loop-again c =
     (v .0, v .1, omega arith, put-length (t .is), t)
 
 -- all points were read
-ended : {bs : List ℕ} {at : ℕ} {o : Order} {to : ℕ} {s₀ s : List ℕ} {i n : ℕ} → Turned bs at o to s₀ s i → i ≡ n → Put to (numbersAt o n at bs) s₀ s
+ended : {bs : List ℕ} {at : ℕ} {o : Order} {to : ℕ} {s₀ s : List ℕ} {i n : ℕ} → Turned bs at o to s₀ s i → i ≡ n → PutIn to (numbersAt o n at bs) s₀ s
 ended t e = rw (← e) (t .is)
 
 returns : tie.Need-returns Inv-loop μ-loop

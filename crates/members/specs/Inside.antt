@@ -26,8 +26,8 @@ unfoldable pub floatsAt : ℕ → List ℕ → List ℕ → List Float → List 
 floatsAt skip ns cs s = zeroBeyond nought (length s) (map (ofBits binary64) (endsAt skip ns cs))
 
 -- the lines of members whose coordinates are xs and ys
-unfoldable pub linesAt : List ℕ → List ℕ → List ℕ → Lines → Lines
-linesAt ns xs ys ls = record {
+unfoldable pub linesPut : List ℕ → List ℕ → List ℕ → Lines → Lines
+linesPut ns xs ys ls = record {
   «start_x» = floatsAt 0 ns xs (ls .«start_x»);
   «start_y» = floatsAt 0 ns ys (ls .«start_y»);
   «end_x» = floatsAt 1 ns xs (ls .«end_x»);

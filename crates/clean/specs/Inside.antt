@@ -8,9 +8,9 @@ use lib.ListN.{length, getD}
 use lib.Seq.{slice}
 use Rattle.refusals.specs.Refusals.{zeroBeyond}
 use Rattle.wkb.specs.Bytes.{Point}
-use Rattle.wkb.specs.Steps.{Put}
+use Rattle.wkb.specs.Inside.{PutIn}
 use Rattle.members.specs.Held.{pointsOf}
-use Rattle.clean.specs.Cleaning.{good, thin, cleaned, reasonsAfter, reasons, kept, keptBy}
+use Rattle.clean.specs.Cleaning.{good, thin, cleaned, reasonsAfter, reasons, kept, keptValues}
 
 -- the point at a place of two slices
 abbrev pub pointIn : List ℕ → List ℕ → ℕ → Point
@@ -39,20 +39,20 @@ pub record PieceEnds (xs ys : List ℕ) (from end r : ℕ) : Type 0 where
   pub bad : r < end → good (pointIn xs ys r) ≡ false
 
 -- the points of a piece after its first are marked, and what is left of it counted
-pub record Marked (xs ys : List ℕ) (from to : ℕ) (s₀ : List ℕ) (r : ℕ) (s₁ : List ℕ) : Type 0 where
-  pub marks : Put (from + 1) (reasonsAfter kept (pointIn xs ys from) (part xs ys (from + 1) to)) s₀ s₁
+pub record ReasonsMarked (xs ys : List ℕ) (from to : ℕ) (s₀ : List ℕ) (r : ℕ) (s₁ : List ℕ) : Type 0 where
+  pub marks : PutIn (from + 1) (reasonsAfter kept (pointIn xs ys from) (part xs ys (from + 1) to)) s₀ s₁
   pub count : r ≡ length (thin (part xs ys from to))
 
 -- there is room for what may be kept: the reasons, and the lengths after the first `at`
-pub record Room (xs : List ℕ) (reasons lengths : List ℕ) (from at : ℕ) : Type 0 where
+pub record CleanRoom (xs : List ℕ) (reasons lengths : List ℕ) (from at : ℕ) : Type 0 where
   pub marks : length xs ≤ length reasons
   pub halves : length xs / 2 ≤ length lengths
   pub twice : 2 * at ≤ from
 
 -- the reasons of points, and the lengths of the pieces that are kept of them, are put into their slices
 pub record Did (from : ℕ) (why : List ℕ) (pieces : List (List Point)) (rs₀ ls₀ : List ℕ) (at r : ℕ) (rs₁ ls₁ : List ℕ) : Type 0 where
-  pub in-reasons : Put from why rs₀ rs₁
-  pub in-lengths : Put at (map length pieces) ls₀ ls₁
+  pub in-reasons : PutIn from why rs₀ rs₁
+  pub in-lengths : PutIn at (map length pieces) ls₀ ls₁
   pub count : r ≡ at + length pieces
 
 -- a value of a reason
@@ -67,5 +67,5 @@ pub record MarkedAll (pss : List (List Point)) (rs₀ ls₀ : List ℕ) (r : ℕ
 
 -- the values that are kept stand at the start
 pub record PutKept (rs vs s₀ : List ℕ) (r : ℕ) (s₁ : List ℕ) : Type 0 where
-  pub is : s₁ ≡ zeroBeyond 0 (length s₀) (keptBy rs vs)
-  pub count : r ≡ length (keptBy rs vs)
+  pub is : s₁ ≡ zeroBeyond 0 (length s₀) (keptValues rs vs)
+  pub count : r ≡ length (keptValues rs vs)

@@ -32,7 +32,7 @@ pub record Parts (x y lengths : List ℕ) (points members : ℕ) : Type 0 where
   pub in-lengths : members ≤ length lengths
 
 -- points and lengths that go together, few enough for the file, and a slice for it
-pub record Asks (x y lengths file : List ℕ) : Type 0 where
+pub record BytesAsk (x y lengths file : List ℕ) : Type 0 where
   pub held : heldCheck (length x) (length y) lengths ≡ Fine
   pub few : 9 + 9 * length lengths + 16 * length x ≤ 65545
   pub room : 65545 ≤ length file
@@ -44,6 +44,6 @@ pub record Fits (x y lengths file : List ℕ) : Type 0 where
   pub room : length (multiBytes (chainsOf lengths (pointsOf x y))) ≤ length file
 
 -- members are written
-pub record Wrote (pss : List (List Point)) (f₀ : List ℕ) (r : ℕ) (f₁ : List ℕ) : Type 0 where
+pub record WroteText (pss : List (List Point)) (f₀ : List ℕ) (r : ℕ) (f₁ : List ℕ) : Type 0 where
   pub count : r ≡ length (multiBytes pss)
   pub is : f₁ ≡ zeroBeyond 0 (length f₀) (multiBytes pss)

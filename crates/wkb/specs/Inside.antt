@@ -80,6 +80,6 @@ countsAt zero at bs = []
 countsAt (suc m) at bs = countAt at bs ∷ countsAt m (endAt at bs) bs
 
 -- s₁ is s₀ with xs put at a position
-pub record Put {A : Type 0} (at : ℕ) (xs s₀ s₁ : List A) : Type 0 where
+pub record PutIn {A : Type 0} (at : ℕ) (xs s₀ s₁ : List A) : Type 0 where
   pub is : s₁ ≡ take at s₀ ++ (xs ++ drop (at + length xs) s₀)
   pub within : at + length xs ≤ length s₀

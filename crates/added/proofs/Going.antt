@@ -17,7 +17,7 @@ use Rattle.grid.specs.declared.Segment.{Segment}
 use Rattle.walk.specs.declared.Mode.{Mode}
 use Rattle.walk.specs.declared.Reached.{Reached}
 use Rattle.walk.specs.declared.Reached.the-variants as reached
-use Rattle.walk.specs.Pushes.{Outcome}
+use Rattle.turns.specs.Pushes.{Outcome}
 use Rattle.walk.specs.Segment as walk
 use Rattle.walk.proofs.Visits.{Cells, segment-visits, segment-refused}
 use Rattle.walk.proofs.Answer.{reach-is}

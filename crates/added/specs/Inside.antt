@@ -12,7 +12,7 @@ use Rattle.refusals.specs.Refusals.{refusal, unless, andThen, refused, gives, _
 use Rattle.grid.specs.declared.Grid.{Grid}
 use Rattle.grid.specs.declared.Segment.{Segment}
 use Rattle.grid.specs.Domain.{segment, fit}
-use Rattle.walk.specs.Pushes.{Outcome}
+use Rattle.turns.specs.Pushes.{Outcome}
 use Rattle.tables.specs.Tables.{Tables, cells, listIn}
 use Rattle.tables.specs.Lists.{long, only, itemsOf, offsetsOf}
 use Rattle.tables.specs.Fit.{ListsFit, TablesFit}

@@ -12,7 +12,7 @@ use Rattle.refusals.proofs.Checks.{each-says, andThen-right}
 use Rattle.refusals.proofs.Answers.{then-passed}
 use Rattle.grid.specs.declared.Grid.{Grid}
 use Rattle.grid.specs.Domain.{Lines, count, fit, scratchCheck, linesCheck}
-use Rattle.walk.specs.Pushes.{Outcome}
+use Rattle.turns.specs.Pushes.{Outcome}
 use Rattle.walk.specs.declared.Mode.{Mode}
 use Rattle.tables.specs.Tables.{tables, listIn}
 use Rattle.tables.specs.Lists.{sum, offsetsOf, itemsOf}

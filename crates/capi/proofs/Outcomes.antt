@@ -13,7 +13,7 @@ use Rattle.grid.specs.Domain.{Lines}
 use Rattle.grid.specs.declared.Grid.{Grid}
 use Rattle.grid.specs.Words.{gridWords}
 use Rattle.tables.specs.Tables.{Tables}
-use Rattle.walk.specs.Pushes.{Outcome}
+use Rattle.turns.specs.Pushes.{Outcome}
 use Rattle.walk.proofs.Outcomes as walk
 use Rattle.build.proofs.Theorems as build
 use Rattle.own.proofs.ManyEnds as own

@@ -12,7 +12,7 @@ use Rattle.grid.specs.Domain.{Lines}
 use Rattle.grid.specs.declared.Grid.{Grid}
 use Rattle.grid.specs.Words.{gridWords}
 use Rattle.tables.specs.Tables.{Tables}
-use Rattle.walk.specs.Pushes.{Outcome}
+use Rattle.turns.specs.Pushes.{Outcome}
 use Rattle.walk.specs.Segment.{cellsOf, Entered}
 use Rattle.build.specs.Build as build
 use Rattle.own.specs.Many.{ownersCheck, OwnersAre}

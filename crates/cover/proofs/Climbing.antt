@@ -11,7 +11,7 @@ use lib.Seq.{length-take-le}
 use Rattle.slices.proofs.Laws.{le-or}
 use Rattle.cover.specs.declared.Ends.{Ends}
 use Rattle.cover.specs.Rule.{fineCell, bottomOf, topOf, spanOf, slopeOf, asideOf, leftOf, rightOf, firstRow, lastRow, run, rowCells, rowsFrom, cellsBetween}
-use Rattle.cover.specs.Inside.{Grown, Front, Across, Level, Rises, CoveredRow, ColumnsAre, RowRoom}
+use Rattle.cover.specs.Inside.{Appended, Front, Across, Level, Rises, CoveredRow, ColumnsAre, RowRoom}
 use Rattle.cover.proofs.Slope.{aside-under, aside-over}
 use Rattle.cover.proofs.Sides.{top-before, top-last, left-at-start, right-at-start, left-at-end, right-at-end, left-by-bottom, right-by-bottom, first-level, last-level, first-rising, last-rising, first-in, last-in}
 use Rattle.cover.proofs.Growing.{length-run}
@@ -134,7 +134,7 @@ module _ {cols rows : ℕ} {e : Ends} {s r : ℕ} (p : CoveredRow cols rows e s 
 
 -- ---- a row, written
 
-pub grown-by : {xs ys : List ℕ} {n m k j : ℕ} (first : ℕ) → k ≡ j → Grown xs ys n m (run k first) → Grown xs ys n m (run j first)
+pub grown-by : {xs ys : List ℕ} {n m k j : ℕ} (first : ℕ) → k ≡ j → Appended xs ys n m (run k first) → Appended xs ys n m (run j first)
 grown-by first e g = rw (← e) g
 
 module _ (cols rows : ℕ) (e : Ends) (r : ℕ) where
@@ -217,7 +217,7 @@ module _ {cols rows : ℕ} {e : Ends} {first last s : ℕ} where
           let c3 = row-length cols rows e r c in
           row-room cols rows e r c (omega arith) (f .some-cols) (f .few-cols) (omega (arith, f .holds, p .len, p .count)) (omega (arith, f .holds, p .len, p .count))
 
-      pub climbing-more : {zs : List ℕ} {m : ℕ} → Grown ys zs n m (run (b + 1 - a) (r * cols + a)) → Climbing cols rows e first last s xs zs (r + 1) m
+      pub climbing-more : {zs : List ℕ} {m : ℕ} → Appended ys zs n m (run (b + 1 - a) (r * cols + a)) → Climbing cols rows e first last s xs zs (r + 1) m
       climbing-more {zs} {m} g =
           record {
             base = p .base;
@@ -293,7 +293,7 @@ module _ {cols rows : ℕ} {e : Ends} {r room : ℕ} (p : Level cols rows e r ro
       within : (k m n : ℕ) → k ≤ m → m + 8 ≤ n → 0 + k ≤ n
       within k m n h l = omega arith
 
-  pub level-done : {xs ys : List ℕ} {m : ℕ} → Grown xs ys 0 m (run (b + 1 - a) (r * cols + a)) → Front (cellsBetween cols rows e) ys m
+  pub level-done : {xs ys : List ℕ} {m : ℕ} → Appended xs ys 0 m (run (b + 1 - a) (r * cols + a)) → Front (cellsBetween cols rows e) ys m
   level-done w =
       let t : run (b + 1 - a) (r * cols + a) ≡ cellsBetween cols rows e = row-is cols rows e r columns-level ∙ sym line-is in
       let n = w .count in

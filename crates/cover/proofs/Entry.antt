@@ -27,7 +27,7 @@ use Rattle.cover.specs.declared.Covered.the-variants.{Found, Everywhere,
 use Rattle.cover.specs.Fine.{fineOn, nearOn}
 use Rattle.cover.specs.Rule.{run, cellsBetween}
 use Rattle.cover.specs.Covering.{endPasses, passes, ordered, fineEnds, everyCell, unlessNoColumn, coveringOf, offGrid, everywhere, scratchShapeCheck, foundOf, coveredOf, CoverIs}
-use Rattle.cover.specs.Inside.{Grown, Front, Small, Frame}
+use Rattle.cover.specs.Inside.{Appended, Front, Small, Frame}
 use Rattle.cover.proofs.Guarding.{fine-small}
 
 -- ---- the guard
@@ -195,7 +195,7 @@ module _ (g : Grid) (line : Segment) (was : List ℕ) where
     unfolding foundOf
     everywhere-answer h l = record { answer = sym (found-is (length was) g fine line ∙ rw (everywhere-so g line h l)); size = refl; left = refl }
 
-    pub all-answer : (now : List ℕ) (n : ℕ) → 0 < g .cols → passes g line ≡ false → g .rows * g .cols ≤ 2048 → Grown was now 0 n (run (g .rows * g .cols) 0) → CoverIs g line was (Found n) now
+    pub all-answer : (now : List ℕ) (n : ℕ) → 0 < g .cols → passes g line ≡ false → g .rows * g .cols ≤ 2048 → Appended was now 0 n (run (g .rows * g .cols) 0) → CoverIs g line was (Found n) now
     all-answer now n c h l w =
         let z : everyCell g ≡ coveringOf g line = sym (covering-all g line c h) in
         let k = ap length z in

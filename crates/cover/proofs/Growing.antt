@@ -8,14 +8,14 @@ use mathlib.Core.List.{List, [], _∷_, _++_, append-nil, append-assoc}
 use lib.ListN.{length, take, set, length-set, length-append}
 use lib.Seq.{take-suc-set, take-take, take-append-add, length-take-le}
 use Rattle.cover.specs.Rule.{run}
-use Rattle.cover.specs.Inside.{Grown}
+use Rattle.cover.specs.Inside.{Appended}
 
 -- ---- a scratch that grows
 
-none : {xs : List ℕ} {n : ℕ} → n ≤ length xs → Grown xs xs n n []
+pub none : {xs : List ℕ} {n : ℕ} → n ≤ length xs → Appended xs xs n n []
 none {xs} {n} h = record { len = refl; count = omega arith; within = h; is = sym (append-nil (take n xs)) }
 
-one : (xs : List ℕ) (n v : ℕ) → n < length xs → Grown xs (set xs n v) n (n + 1) (v ∷ [])
+pub one : (xs : List ℕ) (n v : ℕ) → n < length xs → Appended xs (set xs n v) n (n + 1) (v ∷ [])
 one xs n v h = record {
   len = length-set xs n v;
   count = refl;
@@ -23,7 +23,7 @@ one xs n v h = record {
   is = rw add-one (take-suc-set xs n v h);
 }
 
-then : {xs ys zs : List ℕ} {n m r : ℕ} {a b : List ℕ} → Grown xs ys n m a → Grown ys zs m r b → Grown xs zs n r (a ++ b)
+pub then : {xs ys zs : List ℕ} {n m r : ℕ} {a b : List ℕ} → Appended xs ys n m a → Appended ys zs m r b → Appended xs zs n r (a ++ b)
 then {xs} {ys} {zs} {n} {m} {r} {a} {b} g h = record {
   len = h .len ∙ g .len;
   count = rw length-append (omega (arith, g .count, h .count));
@@ -31,8 +31,8 @@ then {xs} {ys} {zs} {n} {m} {r} {a} {b} g h = record {
   is = h .is ∙ ap (λ (l : List ℕ). l ++ b) (g .is) ∙ append-assoc (take n xs) a b;
 }
 
-same : {xs ys : List ℕ} {n r : ℕ} {a b : List ℕ} → a ≡ b → Grown xs ys n r a → Grown xs ys n r b
-same {xs} {ys} {n} {r} e g = subst (λ (l : List ℕ). Grown xs ys n r l) e g
+pub same : {xs ys : List ℕ} {n r : ℕ} {a b : List ℕ} → a ≡ b → Appended xs ys n r a → Appended xs ys n r b
+same {xs} {ys} {n} {r} e g = subst (λ (l : List ℕ). Appended xs ys n r l) e g
 
 -- ---- a run, one number at a time
 
@@ -55,7 +55,7 @@ length-run (suc n) k = ap suc (length-run n (k + 1))
 
 -- i of the k numbers from `first` on are written behind the first n of xs
 pub record Running (xs : List ℕ) (n first k : ℕ) (ys : List ℕ) (m i : ℕ) : Type 0 where
-  pub grown : Grown xs ys n m (run i first)
+  pub grown : Appended xs ys n m (run i first)
   pub at : m ≡ n + i
   pub upto : i ≤ k
   pub room : n + k ≤ length xs
@@ -75,7 +75,7 @@ running-more {xs} {n} {first} {k} {ys} {m} {i} p h =
       fits = p .fits;
     }
 
-pub running-done : {xs : List ℕ} {n first k : ℕ} {ys : List ℕ} {m i : ℕ} → Running xs n first k ys m i → k ≤ i → Grown xs ys n m (run k first)
+pub running-done : {xs : List ℕ} {n first k : ℕ} {ys : List ℕ} {m i : ℕ} → Running xs n first k ys m i → k ≤ i → Appended xs ys n m (run k first)
 running-done {xs} {n} {first} {k} {ys} {m} {i} p h = let e : i ≡ k = omega (arith, p .upto) in same (ap (λ (z : ℕ). run z first) e) (p .grown)
 
 -- ---- more than the run is written: its front is what counts
@@ -98,7 +98,7 @@ run-split (suc a) b f =
     over : (a b : ℕ) → suc (a + b) ≡ suc a + b
     over a b = omega arith
 
-pub run-front : {xs ys : List ℕ} {n m : ℕ} (w f k : ℕ) → k ≤ w → n ≤ length xs → Grown xs ys n m (run w f) → Grown xs ys n (n + k) (run k f)
+pub run-front : {xs ys : List ℕ} {n m : ℕ} (w f k : ℕ) → k ≤ w → n ≤ length xs → Appended xs ys n m (run w f) → Appended xs ys n (n + k) (run k f)
 run-front {xs} {ys} {n} {m} w f k h l g =
     let c = g .count in
     let d : length (run w f) ≡ w = length-run w f in record {
@@ -114,11 +114,11 @@ run-front {xs} {ys} {n} {m} w f k h l g =
         ∙ ap (λ (z : ℕ). take (z + k) (take n xs ++ run w f)) (sym (length-take-le n xs l)) ∙ take-append-add (take n xs) (run w f) k
         ∙ ap (λ (l : List ℕ). take n xs ++ l) (take-run k w f h)
 
-pub run-rest : {xs ys zs : List ℕ} {n m r : ℕ} (w f k : ℕ) → w ≤ k → Grown xs ys n m (run w f) → Grown ys zs m r (run (k - w) (f + w)) → Grown xs zs n r (run k f)
+pub run-rest : {xs ys zs : List ℕ} {n m r : ℕ} (w f k : ℕ) → w ≤ k → Appended xs ys n m (run w f) → Appended ys zs m r (run (k - w) (f + w)) → Appended xs zs n r (run k f)
 run-rest w f k h g g' = same (run-split w (k - w) f ∙ ap (λ (z : ℕ). run z f) (whole w k h)) (then g g')
   where
     whole : (w k : ℕ) → w ≤ k → w + (k - w) ≡ k
     whole w k h = omega arith
 
-pub run-room : {xs ys : List ℕ} {n m : ℕ} (w f k : ℕ) → w ≤ k → n + k ≤ length xs → Grown xs ys n m (run w f) → m + (k - w) ≤ length ys
+pub run-room : {xs ys : List ℕ} {n m : ℕ} (w f k : ℕ) → w ≤ k → n + k ≤ length xs → Appended xs ys n m (run w f) → m + (k - w) ≤ length ys
 run-room w f k h l g = let d : length (run w f) ≡ w = length-run w f in omega (arith, g .len, g .count)

@@ -7,7 +7,7 @@ use Rattle.cover.specs.declared.Ends.{Ends}
 use Rattle.cover.specs.Rule.{slopeOf, firstRow, lastRow, firstCol, lastCol}
 
 -- ys has `more` after the first n of xs, r in all
-pub record Grown (xs ys : List ℕ) (n r : ℕ) (more : List ℕ) : Type 0 where
+pub record Appended (xs ys : List ℕ) (n r : ℕ) (more : List ℕ) : Type 0 where
   pub len : length ys ≡ length xs
   pub count : r ≡ n + length more
   pub within : r ≤ length ys

@@ -6,7 +6,7 @@ ghost use mathlib.Core.Path.{_≡_};
 ghost use Prim.Native.Nat.{_+_, _-_, _*_, _<_, _≤_, min, max};
 ghost use lib.ListN.{length};
 ghost use Rattle.cover.specs.Rule.{fineCell, bottomOf, topOf, slopeOf, asideOf, leftOf, rightOf, firstRow, run, cellsBetween};
-ghost use Rattle.cover.specs.Inside.{Small, Across, CoveredRow, ColumnsAre, RowRoom, Frame, Level, Rises, Front, Grown};
+ghost use Rattle.cover.specs.Inside.{Small, Across, CoveredRow, ColumnsAre, RowRoom, Frame, Level, Rises, Front, Appended};
 
 fn lesser(a: u64, b: u64) -> u64
     ensures { λ r. ⌜ r ≡ min a b ⌝ }
@@ -157,7 +157,7 @@ fn end_columns(e: Ends, s: u64, cols: u64, rows: u64, r: u64) -> Columns
 // Writes the cells of the row r, at n.
 fn put_row(scratch: &mut [u32], n: usize, cols: u64, r: u64, c: Columns) -> usize
     requires { ⌜ RowRoom cols r (c .first) (c .last) n (length (now scratch)) ⌝ }
-    ensures { λ m. ⌜ Grown (now (scratch .entry)) (now (scratch .exit)) n m (run (c .last + 1 - c .first) (r * cols + c .first)) ⌝ }
+    ensures { λ m. ⌜ Appended (now (scratch .entry)) (now (scratch .exit)) n m (run (c .last + 1 - c .first) (r * cols + c .first)) ⌝ }
 {
     put_run(scratch, n, r * cols + c.first, less(c.last + 1, c.first))
 }

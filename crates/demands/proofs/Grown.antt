@@ -18,7 +18,7 @@ use Rattle.grid.specs.declared.Segment.{Segment}
 use Rattle.grid.specs.Domain.{Lines, lines, count, Alike, segmentAt, segmentBy, segment, lineFits, fit, lengthsCheck, countCheck, coordinatesCheck, linesCheck}
 use Rattle.grid.proofs.Fine.{LinesFit, lines-fine}
 use Rattle.walk.specs.declared.Mode.{Mode}
-use Rattle.walk.specs.Pushes.{Outcome}
+use Rattle.turns.specs.Pushes.{Outcome}
 use Rattle.walk.specs.Segment.{segmentOf}
 use Rattle.tables.specs.Tables.{Tables, tables, cells, listOf, globalsOf}
 use Rattle.tables.specs.Lists.{Walks}

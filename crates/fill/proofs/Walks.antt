@@ -15,7 +15,7 @@ use Rattle.grid.proofs.Shapes.{shape-says, fit-shape}
 use Rattle.walk.specs.declared.Mode.{Mode}
 use Rattle.walk.specs.declared.Reached.{Reached}
 use Rattle.walk.specs.declared.Reached.the-variants as reached
-use Rattle.walk.specs.Pushes.{Outcome}
+use Rattle.turns.specs.Pushes.{Outcome}
 use Rattle.walk.specs.Segment as walk
 use Rattle.walk.proofs.Visits.{Cells, segment-visits}
 use Rattle.walk.proofs.Checked.{as-is}

@@ -7,7 +7,7 @@ use Rattle.refusals.specs.Refusals.{refused, gives}
 use Rattle.grid.specs.declared.Grid.{Grid}
 use Rattle.grid.specs.Domain.{Lines, count, segmentAt}
 use Rattle.walk.specs.declared.Mode.{Mode}
-use Rattle.walk.specs.Pushes.{Outcome}
+use Rattle.turns.specs.Pushes.{Outcome}
 use Rattle.walk.specs.Segment.{segmentOf}
 use Rattle.tables.specs.Lists.{localLines, globalLines, start, tabulate}
 

@@ -26,13 +26,13 @@ use Rattle.grid.proofs.Shapes.{Shape, shape-says}
 use Rattle.walk.specs.declared.Mode.{Mode}
 use Rattle.walk.specs.declared.Neighbour.{Neighbour}
 use Rattle.walk.specs.declared.Neighbour.the-variants.{None}
-use Rattle.walk.specs.Turns.{nought, signOf, deltaOf, firstOn, strideOn, progressOn, Ray, rayOf, startOf}
-use Rattle.walk.specs.Pushes.{walkedOf}
-use Rattle.walk.specs.Neighbours.{neighbourOn, alongOn, besideOf, lineOf, cellOf, endOf}
+use Rattle.turns.specs.Turns.{nought, signOf, deltaOf, firstOn, strideOn, progressOn, Ray, rayOf, startOf}
+use Rattle.turns.specs.Pushes.{walkedOf}
+use Rattle.walk.specs.Neighbours.{neighbourOn, alongOn, besideOf, lineOf, cellOf, endpointOf}
 use Rattle.walk.specs.Segment.{pushesOf, answered, turning, segmentOf}
-use Rattle.walk.proofs.Floats.{index-le}
+use Rattle.turns.proofs.Floats.{index-le}
 use Rattle.walk.proofs.Flat.{any-flat}
-use Rattle.walk.proofs.Room.{first-far}
+use Rattle.turns.proofs.Few.{first-far}
 use Rattle.walk.proofs.Answer.{segment-is}
 use Rattle.walk.proofs.Visits.{turns-visit}
 use Rattle.straight.specs.Sentence.{between, nextTo, besideOn, sentence, verticalBy, horizontalBy, verticalIn, horizontalIn}
@@ -140,7 +140,7 @@ module _ (mode : Mode) where
       || elem u (endBy v g (heldEnd v line) (runEnd v line)))
 
   pushes-by : (v : Bool) (g : Grid) (line : Segment) (walked : List ℕ) (u : ℕ) → elem u (pushesOf mode g line walked) ≡ allPushed v g line walked u
-  unfolding pushesOf lineOf endOf cellOf
+  unfolding pushesOf lineOf endpointOf cellOf
   pushes-by v g line walked u = go v
     where
       beside : ℕ → List ℕ

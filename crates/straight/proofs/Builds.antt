@@ -26,7 +26,7 @@ use Rattle.sizing.specs.Counts.{gridOf, emptyGrid}
 use Rattle.sizing.proofs.Reach.{Lie, Among, lowest-among}
 use Rattle.sizing.proofs.FitLaws.{whole-count, lie-x, lie-y, AllFit, all-fit}
 use Rattle.walk.specs.declared.Mode.{Mode}
-use Rattle.walk.specs.Pushes.{Outcome}
+use Rattle.turns.specs.Pushes.{Outcome}
 use Rattle.walk.specs.Segment.{segmentOf}
 use Rattle.fill.specs.OnGrid.{gridCells, walkOn, completes, listOn, globalsOn, total}
 use Rattle.fill.specs.Checks.{roomCheck, turnsCheck, triedCheck, spaceCheck}

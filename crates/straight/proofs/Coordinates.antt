@@ -30,7 +30,7 @@ use Rattle.grid.specs.Domain.{coordinate, sizeFits}
 use Rattle.grid.proofs.Bools.{and-left, and-right}
 use Rattle.sizing.proofs.Constants.{1e9-is, 2e9-is, quarter, quarter-is}
 use Rattle.numbers.proofs.FloatFractions as Plain
-use Rattle.walk.specs.Turns.{nought, signOf}
+use Rattle.turns.specs.Turns.{nought, signOf}
 use Rattle.straight.proofs.Answering.{Keeps, Goes}
 use Rattle.straight.proofs.Bounds.{Bounded, Room, Apart, neg-fine, sub-bounded}
 use Rattle.straight.proofs.Units.{Units, units-le, parts-neg, den-neg, sub-over, sub-under}

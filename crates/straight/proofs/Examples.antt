@@ -16,9 +16,9 @@ use Rattle.grid.specs.Domain.{segmentBy}
 use Rattle.grid.specs.Axes.{scaledOn, indexOn, lowOn, nearWhole, boundaryOn, sideOf, sideOn}
 use Rattle.walk.specs.declared.Mode.{Mode}
 use Rattle.walk.specs.declared.Mode.the-variants.{Rust, Sided}
-use Rattle.walk.specs.Turns.{finiteOf, signOf, deltaOf, nextOn, firstOn, strideOn, progressOn, rayOf, startOf, toleranceOf, nearOf, furtherOf, same, arrivedOf, turnOf, advanced, movedOf, goesOf}
-use Rattle.walk.specs.Pushes.{keptIf, pushOf, sidesOf, pushedOf, before, after, nextOf, goingOf, turns, walkedOf}
-use Rattle.walk.specs.Neighbours.{neighbourFor, neighbourOn, alongOn, lowColOf, upColOf, lowRowOf, upRowOf, columnOf, rowOf, besideOf, lineOf, cellOf, endOf}
+use Rattle.turns.specs.Turns.{finiteOf, signOf, deltaOf, nextOn, firstOn, strideOn, progressOn, rayOf, startOf, toleranceOf, nearOf, furtherOf, sameInt, arrivedOf, turnOf, advanced, movedOf, goesOf}
+use Rattle.turns.specs.Pushes.{keptIf, pushOf, sidesOf, pushedOf, before, followedBy, nextOf, goingOf, turns, walkedOf}
+use Rattle.walk.specs.Neighbours.{neighbourFor, neighbourOn, alongOn, lowColOf, upColOf, lowRowOf, upRowOf, columnOf, rowOf, besideOf, lineOf, cellOf, endpointOf}
 use Rattle.walk.specs.Segment.{pushesOf, answered, byTurns, unlessNone, turnsOf, turning, segmentOf}
 use Rattle.straight.specs.Sentence.{sentence, those, verticalBy, horizontalBy, verticalCells, horizontalCells, verticalIn, horizontalIn}
 use Rattle.straight.specs.Lines.{vertical, horizontal}
@@ -69,5 +69,5 @@ pub examples :
     -- a line that rises is neither
     × (vertical (segmentBy (part 1 2) (part 1 2) (part 3 2) (part 5 2)) ≡ false)
     × (horizontal (segmentBy (part 1 2) (part 1 2) (part 3 2) (part 5 2)) ≡ false)
-unfolding round add sub mul div neg lt le eq ne isNan size span climb units odd sum ofInt trailingZeros leastOf greatestOf magnitudeOf clampedFloor roundAway sorted insert insertIf distinctOf runAfter unlessHere scaledOn indexOn lowOn nearWhole boundaryOn sideOf sideOn finiteOf signOf deltaOf nextOn firstOn strideOn progressOn rayOf startOf toleranceOf nearOf furtherOf same arrivedOf turnOf advanced movedOf goesOf keptIf pushOf sidesOf pushedOf before after nextOf goingOf turns walkedOf neighbourFor neighbourOn alongOn lowColOf upColOf lowRowOf upRowOf columnOf rowOf besideOf lineOf cellOf endOf flatMap pushesOf answered byTurns unlessNone turnsOf turning segmentOf _into_ sentence those verticalBy horizontalBy
+unfolding round add sub mul div neg lt le eq ne isNan size span climb units odd sum ofInt trailingZeros leastOf greatestOf magnitudeOf clampedFloor roundAway sorted insert insertIf distinctOf runAfter unlessHere scaledOn indexOn lowOn nearWhole boundaryOn sideOf sideOn finiteOf signOf deltaOf nextOn firstOn strideOn progressOn rayOf startOf toleranceOf nearOf furtherOf sameInt arrivedOf turnOf advanced movedOf goesOf keptIf pushOf sidesOf pushedOf before followedBy nextOf goingOf turns walkedOf neighbourFor neighbourOn alongOn lowColOf upColOf lowRowOf upRowOf columnOf rowOf besideOf lineOf cellOf endpointOf flatMap pushesOf answered byTurns unlessNone turnsOf turning segmentOf _into_ sentence those verticalBy horizontalBy
 examples = ((refl, refl), (refl, refl), (refl, refl), (refl, refl), (refl, refl), (refl, refl), (refl, refl), (refl, refl), (refl, refl), (refl, refl), (refl, refl), refl, refl)

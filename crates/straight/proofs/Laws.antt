@@ -25,8 +25,8 @@ use Rattle.grid.proofs.Bools.{and-left, and-right}
 use Rattle.grid.proofs.Shapes.{fit-says, fit-shape}
 use Rattle.walk.specs.declared.Mode.{Mode}
 use Rattle.walk.specs.declared.Mode.the-variants.{Rust}
-use Rattle.walk.specs.Turns.{rayOf, startOf}
-use Rattle.walk.specs.Pushes.{Outcome, walkedOf}
+use Rattle.turns.specs.Turns.{rayOf, startOf}
+use Rattle.turns.specs.Pushes.{Outcome, walkedOf}
 use Rattle.walk.specs.declared.Cells.{Cells}
 use Rattle.walk.specs.declared.Cells.the-variants as cells
 use Rattle.walk.specs.Segment.{answered, byTurns, unlessNone, turnsOf, turning, segmentOf, entryCheck, offIn, offCheck, entryOf, reachOf, cellsOf, Entered}

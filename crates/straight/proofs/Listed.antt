@@ -13,7 +13,7 @@ use Rattle.slices.specs.Lists.{any, elem, Below, Rising}
 use Rattle.slices.proofs.Members.{any-append, elem-head, below-append}
 use Rattle.slices.proofs.Laws.{le-or}
 use Rattle.grid.proofs.Bools.{and-left, and-right, and-both, or-false}
-use Rattle.walk.specs.Pushes.{keptIf}
+use Rattle.turns.specs.Pushes.{keptIf}
 use lib.Ieee.{Float}
 use Rattle.grid.specs.declared.Axis.{Axis}
 use Rattle.grid.specs.declared.Grid.{Grid}

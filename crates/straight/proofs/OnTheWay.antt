@@ -13,8 +13,8 @@ use Rattle.numbers.specs.Order.{magnitudeOf}
 use Rattle.grid.specs.declared.Axis.{Axis}
 use Rattle.grid.specs.Axes.{indexOn, lowOn}
 use Rattle.grid.specs.Domain.{coordinate}
-use Rattle.walk.specs.Turns.{nought, deltaOf, nextOn, firstOn}
-use Rattle.walk.proofs.Floats.{index-le}
+use Rattle.turns.specs.Turns.{nought, deltaOf, nextOn, firstOn}
+use Rattle.turns.proofs.Floats.{index-le}
 use Rattle.straight.proofs.Walking.{Ahead, Finite}
 use Rattle.straight.proofs.Answering.{Goes, StaysFinite}
 use Rattle.straight.proofs.Bounds.{Bounded, Apart, round-bounded, add-bounded, sub-bounded, mul-bounded, div-bounded, magnitude-apart, greatest-bounded, below-infinity}

@@ -12,10 +12,10 @@ use lib.Ieee.{Float, nan, inf, fin, binary64, add, mul, lt}
 use borrow.Author.Tests.{lt-ltb, eq-eqb, ne-eqb}
 use Rattle.numbers.specs.Order.{leastOf, greatestOf, magnitudeOf}
 use Rattle.refusals.specs.Refusals.{gives, _into_}
-use Rattle.walk.specs.Turns.{one, infinite, Stride, Progress, Ray, State, toleranceOf, stop, single, furtherOf, same, arrivedOf, turnOf, advanced, movedOf, goesOf}
-use Rattle.walk.specs.Pushes.{keptIf, pushOf, sidesOf, pushedOf, before, after, nextOf, goingOf, turns, walkedOf}
-use Rattle.walk.proofs.Tolerance.{top-first, top-last, constant}
-use Rattle.walk.proofs.Loop.{near-far}
+use Rattle.turns.specs.Turns.{one, infinite, Stride, Progress, Ray, State, toleranceOf, stop, single, furtherOf, sameInt, arrivedOf, turnOf, advanced, movedOf, goesOf}
+use Rattle.turns.specs.Pushes.{keptIf, pushOf, sidesOf, pushedOf, before, followedBy, nextOf, goingOf, turns, walkedOf}
+use Rattle.turns.proofs.Tolerance.{top-first, top-last, constant}
+use Rattle.turns.proofs.Loop.{near-far}
 
 -- ---- an infinite t_max makes the tolerance infinite: no stop, and no move both ways
 
@@ -143,7 +143,7 @@ and-true false = refl
 
 module _ (i e : ℕ) (hs : ℤ) (hd : Float) (step : ℤ) (delta : Float) (j : ℕ) (t : Float) where
   arrived-is : (v : Bool) → arrivedOf (along v i e hs hd step delta) (at v i (pos j) t) ≡ eqb j e
-  unfolding arrivedOf same
+  unfolding arrivedOf sameInt
   arrived-is true = rw (eq-eqb i i refl)
   arrived-is false = rw (eq-eqb i i refl) (and-true (eqb j e))
 
@@ -242,7 +242,7 @@ module _ (v : Bool) (cols rows i e : ℕ) (hs : ℤ) (hd : Float) (step : ℤ) (
   -- the whole walk, from j
   pub walked-all : (n j : ℕ) (t : Float) → n ≤ 5000 → (0 < n → step ≡ stepBy up) → Ahead up n j e → Inside v cols rows i j → (v ≡ false → Finite n t delta)
       → walkedOf cols rows (along v i e hs hd step delta) (at v i (pos j) t) ≡ gives (map (cellBy v cols i) (stops up n j e))
-  unfolding walkedOf ray before after _into_
+  unfolding walkedOf ray before followedBy _into_
   walked-all n j t l s a k f =
       let w = at v i (pos j) t in
       let q = along v i e hs hd step delta in

@@ -14,7 +14,7 @@ use Rattle.grid.specs.Axes.{xAxis, yAxis, indexOn, boundaryOn}
 use Rattle.walk.specs.declared.Mode.{Mode}
 use Rattle.walk.specs.declared.Neighbour.{Neighbour}
 use Rattle.walk.specs.declared.Neighbour.the-variants.{None, Lower, Upper}
-use Rattle.walk.specs.Pushes.{keptIf}
+use Rattle.turns.specs.Pushes.{keptIf}
 use Rattle.walk.specs.Neighbours.{neighbourOn}
 
 -- ---- one axis

@@ -19,10 +19,12 @@ use Rattle.grid.proofs.Shapes.{Shape}
 use Rattle.walk.specs.declared.Mode.{Mode}
 use Rattle.walk.specs.declared.Neighbour.{Neighbour}
 use Rattle.walk.specs.declared.Neighbour.the-variants.{None, Lower, Upper}
-use Rattle.walk.specs.Neighbours.{neighbourOn, lowColOf, upColOf, lowRowOf, upRowOf, columnOf, rowOf, besideOf, cellOf, endOf}
-use Rattle.walk.specs.Inside.{Grown, Within, AllWithin, manyOf, share}
-use Rattle.walk.proofs.Floats.{index-le}
-use Rattle.walk.proofs.Grows.{none, then, same, number}
+use Rattle.walk.specs.Neighbours.{neighbourOn, lowColOf, upColOf, lowRowOf, upRowOf, columnOf, rowOf, besideOf, cellOf, endpointOf}
+use Rattle.cover.specs.Inside.{Appended}
+use Rattle.walk.specs.Inside.{Within, AllWithin, manyOf, share}
+use Rattle.turns.proofs.Floats.{index-le}
+use Rattle.cover.proofs.Growing.{none, then, same}
+use Rattle.turns.proofs.Grows.{number}
 use Rattle.walk.proofs.Flat.{flat-append, flat-le, cond-below}
 
 -- ---- the cell beside a cell
@@ -107,8 +109,8 @@ beside-le x y cols cells c =
     let q : length (columnOf x cols c) * manyOf y ≤ manyOf x * manyOf y = mul-le-mul-right (manyOf y) (column-le x cols c) in
     rw (length-append, length-append) (omega (arith, column-le x cols c, row-le y cols cells c))
 
-pub end-le : (mode : Mode) (g : Grid) (x y : Float) → length (endOf mode g x y) ≤ 3
-unfolding endOf
+pub end-le : (mode : Mode) (g : Grid) (x y : Float) → length (endpointOf mode g x y) ≤ 3
+unfolding endpointOf
 end-le mode g x y =
     let v = neighbourOn mode (xAxis g) x in
     let h = neighbourOn mode (yAxis g) y in
@@ -159,7 +161,7 @@ pub column-room : (x y : Neighbour) (n l : ℕ) → n + share x y ≤ l → n + 
 unfolding share
 column-room x y n l h = omega arith
 
-pub row-room : (x y : Neighbour) (cols c : ℕ) {xs ys : List ℕ} {n a : ℕ} → Grown xs ys n a (columnOf x cols c) → n + share x y ≤ length xs → a + manyOf y ≤ length ys
+pub row-room : (x y : Neighbour) (cols c : ℕ) {xs ys : List ℕ} {n a : ℕ} → Appended xs ys n a (columnOf x cols c) → n + share x y ≤ length xs → a + manyOf y ≤ length ys
 unfolding share
 row-room x y cols c p r = omega (arith, column-le x cols c, p .count, p .len)
 
@@ -181,7 +183,7 @@ near Upper cols c = unfold upColOf in cond-below (c + 2) (ltb (c % cols + 1) col
 
 -- what is pushed in x, then in y; the corner is what the cell pushed in x has in y
 module _ {xs ys zs : List ℕ} {n a b : ℕ} (more : n ≤ length xs) where
-  one-in-x : (in-x : List ℕ) {in-y : List ℕ} → length in-x ≤ 1 → Grown xs ys n a in-x → Grown ys zs a b in-y → n < a → in-x ≡ getD zs n 0 ∷ []
+  one-in-x : (in-x : List ℕ) {in-y : List ℕ} → length in-x ≤ 1 → Appended xs ys n a in-x → Appended ys zs a b in-y → n < a → in-x ≡ getD zs n 0 ∷ []
   one-in-x [] one p q h = absurd (omega (arith, p .count))
   one-in-x (v ∷ []) {in-y} one p q h =
       let l : length (take n xs) ≡ n = length-take-le n xs more in
@@ -193,7 +195,7 @@ module _ {xs ys zs : List ℕ} {n a b : ℕ} (more : n ≤ length xs) where
       ap (λ (u : ℕ). u ∷ []) (sym e)
   one-in-x (v ∷ w ∷ l) one p q h = absurd (omega arith)
 
-  module _ (x y : Neighbour) (cols cells c : ℕ) (p : Grown xs ys n a (columnOf x cols c)) (q : Grown ys zs a b (rowOf y cols cells c)) where
+  module _ (x y : Neighbour) (cols cells c : ℕ) (p : Appended xs ys n a (columnOf x cols c)) (q : Appended ys zs a b (rowOf y cols cells c)) where
     pub corner-room : n < a → n + share x y ≤ length xs → b + manyOf y ≤ length zs
     unfolding share
     corner-room h r =
@@ -207,7 +209,7 @@ module _ {xs ys zs : List ℕ} {n a b : ℕ} (more : n ≤ length xs) where
         let l = subst (λ (z : List ℕ). Below (c + 2) z) e (near x cols c) in
         record { some = w .some; wide = w .wide; low = omega (arith, l .0, w .low) }
 
-    pub with-corner : {ws : List ℕ} {r : ℕ} → n < a → Grown zs ws b r (rowOf y cols cells (getD zs n 0)) → Grown xs ws n r (besideOf x y cols cells c)
+    pub with-corner : {ws : List ℕ} {r : ℕ} → n < a → Appended zs ws b r (rowOf y cols cells (getD zs n 0)) → Appended xs ws n r (besideOf x y cols cells c)
     unfolding besideOf flatMap
     with-corner {ws} {r} h k =
         let e = one-in-x (columnOf x cols c) (omega (arith, column-le x cols c, many-le x)) p q h in
@@ -215,17 +217,17 @@ module _ {xs ys zs : List ℕ} {n a b : ℕ} (more : n ≤ length xs) where
         ap (flatMap (rowOf y cols cells)) e ∙ append-nil (rowOf y cols cells (getD zs n 0)) in
         same (ap (λ (z : List ℕ). (columnOf x cols c ++ rowOf y cols cells c) ++ z) (sym f)) (then (then p q) k)
 
-    pub without-corner : a ≤ n → Grown xs zs n b (besideOf x y cols cells c)
+    pub without-corner : a ≤ n → Appended xs zs n b (besideOf x y cols cells c)
     unfolding besideOf
     without-corner h = go (columnOf x cols c) p
       where
-        go : (in-x : List ℕ) → Grown xs ys n a in-x → Grown xs zs n b ((in-x ++ rowOf y cols cells c) ++ flatMap (rowOf y cols cells) in-x)
+        go : (in-x : List ℕ) → Appended xs ys n a in-x → Appended xs zs n b ((in-x ++ rowOf y cols cells c) ++ flatMap (rowOf y cols cells) in-x)
         go [] k = unfold flatMap in same (sym (append-nil (rowOf y cols cells c))) (then k q)
         go (v ∷ l) k = absurd (omega (arith, k .count))
 
 -- ---- of each cell
 
-front-kept : {xs ys : List ℕ} {n m : ℕ} {a : List ℕ} → Grown xs ys n m a → n ≤ length xs → (i : ℕ) → i < n → getD ys i 0 ≡ getD xs i 0
+front-kept : {xs ys : List ℕ} {n m : ℕ} {a : List ℕ} → Appended xs ys n m a → n ≤ length xs → (i : ℕ) → i < n → getD ys i 0 ≡ getD xs i 0
 front-kept {xs} {ys} {n} {m} {a} g h i l =
     let k : n ≡ length (take n xs) = sym (length-take-le n xs h) in
     sym (getD-take m ys i 0 (omega (arith, g .count)))
@@ -237,7 +239,7 @@ front-kept {xs} {ys} {n} {m} {a} g h i l =
 pub record Adding (f : ℕ → List ℕ) (k n : ℕ) (xs : List ℕ) (i m : ℕ) (ys : List ℕ) : Type 0 where
   pub at : i ≤ n
   pub room : m + (n - i) * k ≤ length xs
-  pub grown : Grown xs ys n m (flatMap f (take i xs))
+  pub grown : Appended xs ys n m (flatMap f (take i xs))
 
 pub added-start : (f : ℕ → List ℕ) (k n : ℕ) (xs : List ℕ) → n + n * k ≤ length xs → Adding f k n xs 0 n xs
 unfolding flatMap
@@ -256,7 +258,7 @@ module _ {f : ℕ → List ℕ} {k n : ℕ} {xs : List ℕ} {i m : ℕ} {ys : Li
       let c : getD ys i 0 < cells = subst (λ (c : ℕ). c < cells) (getD-take n xs i 0 b ∙ sym (front-kept (g .grown) l i b)) (below-at cells (take n xs) i (h .inside) (omega (arith, length-take-le n xs l))) in
       record { some = h .most .some; wide = h .most .wide; low = omega (arith, h .most .low) }
 
-  pub added-more : {m′ : ℕ} {zs : List ℕ} → ((c : ℕ) → length (f c) ≤ k) → n ≤ length xs → i < n → Grown ys zs m m′ (f (getD ys i 0)) → Adding f k n xs (i + 1) m′ zs
+  pub added-more : {m′ : ℕ} {zs : List ℕ} → ((c : ℕ) → length (f c) ≤ k) → n ≤ length xs → i < n → Appended ys zs m m′ (f (getD ys i 0)) → Adding f k n xs (i + 1) m′ zs
   added-more {m′} {zs} h l b p = record {
     at = omega arith;
     room = omega (arith, g .room, p .count, h (getD ys i 0), left b);
@@ -269,11 +271,11 @@ module _ {f : ℕ → List ℕ} {k n : ℕ} {xs : List ℕ} {i m : ℕ} {ys : Li
           ∙ sym (flat-append f (take i xs) (getD xs i 0))
           ∙ ap (flatMap f) (sym (take-suc xs i 0 (omega arith)) ∙ ap (λ (j : ℕ). take j xs) (sym (add-one i)))
 
-  pub added-done : n ≤ i → Grown xs ys n m (flatMap f (take n xs))
-  added-done l = let e : i ≡ n = omega (arith, g .at) in subst (λ (j : ℕ). Grown xs ys n m (flatMap f (take j xs))) e (g .grown)
+  pub added-done : n ≤ i → Appended xs ys n m (flatMap f (take n xs))
+  added-done l = let e : i ≡ n = omega (arith, g .at) in subst (λ (j : ℕ). Appended xs ys n m (flatMap f (take j xs))) e (g .grown)
 
 -- how many were added
-pub added-bound : (f : ℕ → List ℕ) (k : ℕ) → ((c : ℕ) → length (f c) ≤ k) → {xs ys : List ℕ} {n m : ℕ} → n ≤ length xs → Grown xs ys n m (flatMap f (take n xs)) → m ≤ n + n * k
+pub added-bound : (f : ℕ → List ℕ) (k : ℕ) → ((c : ℕ) → length (f c) ≤ k) → {xs ys : List ℕ} {n m : ℕ} → n ≤ length xs → Appended xs ys n m (flatMap f (take n xs)) → m ≤ n + n * k
 added-bound f k h {xs} {ys} {n} {m} l g =
     let a : length (flatMap f (take n xs)) ≤ n * k = subst (λ (j : ℕ). length (flatMap f (take n xs)) ≤ j * k) (length-take-le n xs l) (flat-le f k h (take n xs)) in
     omega (arith, g .count)

@@ -1,6 +1,6 @@
 -- The whole answer from its parts. Assumes nothing.
-use mathlib.Core.Path.{_≡_, refl, sym, ap, _∙_, subst}
-use Prim.Native.Nat.{ℕ, zero, suc, _-_, _*_, _≤_}
+use mathlib.Core.Path.{_≡_, refl, sym, ap, _∙_}
+use Prim.Native.Nat.{ℕ, zero, suc, _+_, _*_, _≤_}
 use native.Mathlib.Omega.{arith}
 use mathlib.Core.Bool.{Bool, true, false}
 use mathlib.Core.List.{List, [], _++_, flatMap}
@@ -8,15 +8,17 @@ use lib.ListN.{length, take, drop}
 use lib.Seq.{take-at}
 use lib.Dec.{eqb}
 use borrow.Author.Tests.{le-leb}
-use Rattle.slices.specs.Lists.{any}
-use Rattle.slices.specs.Slices.{sorted, distinctOf, OneOfEach, clearedFrom}
+use Rattle.slices.specs.Lists.{any, Below}
+use Rattle.slices.specs.Slices.{sorted, distinctOf, OneOfEach}
+use Rattle.slices.proofs.Members.{below-elem, below-of}
 use Rattle.slices.proofs.Distinct.{same-members}
 use Rattle.refusals.specs.declared.Refusal.{Refusal}
+use Rattle.refusals.specs.declared.Check.{Check}
 use Rattle.refusals.specs.declared.Check.the-variants.{Fine}
 use Rattle.refusals.specs.declared.Check.the-variants as check
-use Rattle.refusals.specs.Refusals.{refusal, unless, andThen, refused, gives, _then_, _into_, answerBy, clears, leftBy}
+use Rattle.refusals.specs.Refusals.{unless, andThen, refused, gives, _then_, _into_, answerBy, leftBy}
 use Rattle.refusals.proofs.Answers.{then-refused, then-fine}
-use Rattle.refusals.proofs.Leaving.{left-zero, left-same}
+use Rattle.refusals.proofs.Leaving.{left-same, Clearing}
 use Rattle.grid.specs.declared.Grid.{Grid}
 use Rattle.grid.specs.declared.Segment.{Segment}
 use Rattle.grid.specs.Axes.{xAxis, yAxis}
@@ -24,24 +26,27 @@ use Rattle.grid.specs.Domain.{segment, fit, scratchCheck, segmentCheck, gridChe
 use Rattle.grid.proofs.Shapes.{Shape}
 use Rattle.walk.specs.declared.Mode.{Mode}
 use Rattle.walk.specs.declared.Neighbour.{Neighbour}
-use Rattle.walk.specs.declared.Walk.{Walk}
-use Rattle.walk.specs.declared.Way.{Way}
-use Rattle.walk.specs.declared.Ran.{Ran}
-use Rattle.walk.specs.declared.Ran.the-variants.{Done, Over}
 use Rattle.walk.specs.declared.Reached.{Reached}
 use Rattle.walk.specs.declared.Reached.the-variants.{Found, Refused}
-use Rattle.walk.specs.Turns.{rayOf, startOf}
-use Rattle.walk.specs.Pushes.{Outcome, walkedOf}
-use Rattle.walk.specs.Modular.{wayBy, startBy, walkedBy}
-use Rattle.walk.specs.Neighbours.{alongOn, besideOf, lineOf, endOf}
+use Rattle.turns.specs.declared.Trod.{Trod}
+use Rattle.turns.specs.declared.Trail.{Trail}
+use Rattle.turns.specs.declared.Trail.the-variants as trail
+use Rattle.turns.specs.Turns.{rayOf, startOf}
+use Rattle.turns.specs.Pushes.{Outcome, walkedOf}
+use Rattle.turns.specs.Trails.{TrailIs}
+use Rattle.turns.proofs.Few.{Few, walked-few}
+use Rattle.turns.proofs.Entry.{room-spares, Trodden, trodden, untrodden}
+use Rattle.walk.specs.Neighbours.{alongOn, besideOf, lineOf, endpointOf}
 use Rattle.cover.specs.Covering.{scratchShapeCheck}
+use Rattle.cover.proofs.Entry.{room-for, room-shape}
 use Rattle.walk.specs.Segment.{pushesOf, answered, byTurns, unlessNone, turnsOf, turning, segmentOf, everywhereIn, entryCheck, reachOf, asIsOf, reachedOf, Walked}
-use Rattle.walk.specs.Inside.{Grown, Covers, Complete, WalkedTo, Walks}
-use Rattle.walk.proofs.Whole.{walked-is}
+use Rattle.cover.specs.Inside.{Appended}
+use Rattle.walk.specs.Inside.{Covers, Complete, shareOf}
 use Rattle.walk.proofs.Grows.{and-then}
 use Rattle.walk.proofs.Added.{end-le}
 use Rattle.walk.proofs.Faithful.{same-answer}
-use Rattle.walk.proofs.Checked.{room-spares, entry-spares, as-is-checked}
+use Rattle.walk.proofs.Room.{room}
+use Rattle.walk.proofs.Checked.{entry-spares, as-is-checked}
 use Rattle.walk.proofs.Reaching.{segment-turns}
 
 module _ (mode : Mode) (g : Grid) (line : Segment) where
@@ -49,7 +54,7 @@ module _ (mode : Mode) (g : Grid) (line : Segment) where
 
   pub completes : (x y : Neighbour) → x ≡ alongOn mode (xAxis g) (line .«start_x») (line .«end_x») → y ≡ alongOn mode (yAxis g) (line .«start_y») (line .«end_y»)
       → {s t u w : List ℕ} {n a c r b : ℕ} → Covers s t n a b (flatMap (besideOf x y (g .cols) (g .rows * g .cols)) (take n s))
-      → Grown t u a c (endOf mode g (line .«start_x») (line .«start_y»)) → Grown u w c r (endOf mode g (line .«end_x») (line .«end_y»))
+      → Appended t u a c (endpointOf mode g (line .«start_x») (line .«start_y»)) → Appended u w c r (endpointOf mode g (line .«end_x») (line .«end_y»))
       → Complete w r (pushesOf mode g line (take n s))
   unfolding pushesOf lineOf
   completes x y e f p q k =
@@ -90,58 +95,84 @@ found-walked : (o : Outcome) (xs was now : List ℕ) (r : ℕ) → o ≡ gives x
 unfolding reachedOf answerBy
 found-walked o xs was now r e l c h = rw (e, c) (record { answer = refl; size = l; left = h })
 
--- by turns
-module _ (mode : Mode) (g : Grid) (line : Segment) (shape : Shape (g .cols) (g .rows)) (was : List ℕ) (way : Way) (w : Walk) (R : Ran) (s : List ℕ)
-    (e : way ≡ wayBy g line) (f : w ≡ startBy g line) (run : Walks way w (walkedBy (g .cols) (g .rows) way w) R s) where
-  -- by the code's walk
-  turned : byTurns mode g line ≡ answered mode g line (walkedBy (g .cols) (g .rows) way w)
-  unfolding byTurns
-  turned = ap (answered mode g line) (walked-is g line shape) ∙ rw (← e, ← f)
+-- on a grid of 0 columns
+module _ (n : ℕ) (g : Grid) where
+  pub none-refused : (r : Refusal) → scratchShapeCheck n g ≡ check.Refused r → Refused r ≡ reachedOf false (scratchShapeCheck n g then gives [])
+  unfolding reachedOf answerBy _then_
+  none-refused r e = rw e
 
-  ordered : (o : Outcome) (n : ℕ) (l : List ℕ) → WalkedTo o (Done n) s → ((f : ℕ → Bool) → any f l ≡ any f (pushesOf mode g line (take n s))) → answered mode g line o ≡ gives (distinctOf (sorted l))
-  unfolding answered _into_
-  ordered (refused why) n l p q = absurd p
-  ordered (gives xs) n l p q = ap gives (sym (same-answer mode g line (take n s) xs (p .1)) ∙ sym (same-members l (pushesOf mode g line (take n s)) (λ u. q (eqb u))))
+  pub none-found : scratchShapeCheck n g ≡ Fine → Found 0 ≡ reachedOf false (scratchShapeCheck n g then gives [])
+  unfolding reachedOf answerBy _then_
+  none-found e = rw e
 
-  pub found-answer : (n m r : ℕ) (t u : List ℕ) → R ≡ Done n → Complete t m (pushesOf mode g line (take n s)) → length u ≡ length was
-      → OneOfEach (sorted (take m t)) (sorted (take m t) ++ drop m t) u r
-      → Walked false (byTurns mode g line) was (Found r) u
-  found-answer n m r t u d q l k =
-      found-walked _ (distinctOf (sorted (take m t))) was u r
-      (turned ∙ ordered (walkedBy (g .cols) (g .rows) way w) n (take m t) (subst (λ (z : Ran). WalkedTo (walkedBy (g .cols) (g .rows) way w) z s) d (run .ran)) (q .same))
-      l (k .count) (rw (k .left) (take-at (distinctOf (sorted (take m t))) (drop r (sorted (take m t) ++ drop m t)) (length (distinctOf (sorted (take m t)))) refl))
+pub none-answer : (mode : Mode) (g : Grid) (line : Segment) (was : List ℕ) (r : Reached) → g .cols ≡ 0 → r ≡ reachedOf false (scratchShapeCheck (length was) g then gives [])
+    → Walked false (scratchShapeCheck (length was) g then turnsOf mode g line) was r was
+unfolding _then_ reachedOf answerBy
+none-answer mode g line was r e h = rw (none-is mode g line e, h) (go (scratchShapeCheck (length was) g) (room-spares (length was) g))
+  where
+    go : (c : Check) → Clearing false c → Walked false (c then gives []) was (reachedOf false (c then gives [])) was
+    go (check.Refused y) s = record { answer = refl; size = refl; left = sym (left-same 0 y was (s .says y refl)) }
+    go Fine s = record { answer = refl; size = refl; left = refl }
 
-  budget : (o : Outcome) → WalkedTo o Over s → answered mode g line o ≡ refused (refusal 7 0)
-  unfolding answered _into_
-  budget (refused why) p = ap refused p
-  budget (gives xs) p = absurd p
-
-  -- 7 clears
-  pub over-answer : (t : List ℕ) → R ≡ Over → length s ≡ length was → length t ≡ length s → t ≡ clearedFrom 0 s → Walked false (byTurns mode g line) was (Refused (refusal 7 0)) t
-  unfolding clears clearedFrom
-  over-answer t d l k c =
-      let z : length s - 0 ≡ length was = omega arith in
-      refused-walked _ (refusal 7 0) was t
-      (turned ∙ budget (walkedBy (g .cols) (g .rows) way w) (subst (λ (z : Ran). WalkedTo (walkedBy (g .cols) (g .rows) way w) z s) d (run .ran)))
-      (k ∙ l) (c ∙ rw z (sym (left-zero 0 (refusal 7 0) was refl)))
-
--- behind 3, and 8 by the counts
-module _ (mode : Mode) (g : Grid) (line : Segment) (was : List ℕ) where
+-- behind the walk by turns
+module _ (mode : Mode) (g : Grid) (line : Segment) {was now : List ℕ} {T : Trail} (some : g .cols ≡ 0 → ⊥) (p : TrailIs g line was T now) where
   abbrev o : Outcome
   o = scratchShapeCheck (length was) g then turnsOf mode g line
 
-  pub check-answer : (r : Refusal) → scratchShapeCheck (length was) g ≡ check.Refused r → Walked false o was (Refused r) was
-  check-answer r e = refused-walked _ r was was (then-refused _ _ r e) refl (sym (left-same 0 r was (room-spares (length was) g .says r e)))
+  abbrev w : Outcome
+  w = walkedOf (g .cols) (g .rows) (rayOf g line) (startOf g line)
 
-  module _ (fine : scratchShapeCheck (length was) g ≡ Fine) where
+  module _ (t : Trod) (e : T ≡ trail.Walked t) where
+    fine : scratchShapeCheck (length was) g ≡ Fine
+    fine = trodden p t e .0
+
+    trod : Trodden g line (t .count) now
+    trod = trodden p t e .1
+
+    pub trod-shape : Shape (g .cols) (g .rows)
+    trod-shape = room-shape (length was) g fine
+
+    few : Few g line (trod .walked)
+    few = walked-few g line trod-shape (trod .walked) (trod .is)
+
+    -- room for all that is added, beside cells of the grid
+    pub trod-room : t .count + t .count * shareOf mode g line + 6 ≤ length now
+    trod-room = omega (arith, room mode g line (trod .walked) few (t .count) (trod .few), room-for (length was) g fine, p .size)
+
+    pub trod-inside : Below (g .rows * g .cols) (take (t .count) now)
+    trod-inside = below-of (g .rows * g .cols) (take (t .count) now) (λ v h. below-elem (g .rows * g .cols) v (trod .walked) (few .inside) (sym (trod .same (eqb v)) ∙ h))
+
     walks-on : o ≡ turnsOf mode g line
     walks-on = then-fine _ _ fine
 
-    pub none-answer : g .cols ≡ 0 → Walked false o was (Found 0) was
-    none-answer e = found-walked _ [] was was 0 (walks-on ∙ none-is mode g line e) refl refl refl
+    ordered : (l : List ℕ) → ((f : ℕ → Bool) → any f l ≡ any f (pushesOf mode g line (take (t .count) now))) → byTurns mode g line ≡ gives (distinctOf (sorted l))
+    unfolding byTurns answered _into_
+    ordered l q =
+        ap (answered mode g line) (trod .is)
+        ∙ ap gives (sym (same-answer mode g line (take (t .count) now) (trod .walked) (trod .same)) ∙ sym (same-members l (pushesOf mode g line (take (t .count) now)) (λ u. q (eqb u))))
 
-    pub turns-answer : (r : Reached) (now : List ℕ) → (g .cols ≡ 0 → ⊥) → Walked false (byTurns mode g line) was r now → Walked false o was r now
-    turns-answer r now h k = subst (λ (o : Outcome). Walked false o was r now) (sym (walks-on ∙ some-is mode g line h)) k
+    pub found-answer : (m r : ℕ) (s u : List ℕ) → Complete s m (pushesOf mode g line (take (t .count) now)) → length u ≡ length was
+        → OneOfEach (sorted (take m s)) (sorted (take m s) ++ drop m s) u r
+        → Walked false o was (Found r) u
+    found-answer m r s u q l k =
+        found-walked _ (distinctOf (sorted (take m s))) was u r
+        (walks-on ∙ some-is mode g line some ∙ ordered (take m s) (q .same))
+        l (k .count) (rw (k .left) (take-at (distinctOf (sorted (take m s))) (drop r (sorted (take m s) ++ drop m s)) (length (distinctOf (sorted (take m s)))) refl))
+
+  module _ (why : Refusal) where
+    seven : w ≡ refused why → turnsOf mode g line ≡ refused why
+    unfolding byTurns answered _into_
+    seven e = some-is mode g line some ∙ ap (answered mode g line) e
+
+    out : (c : Check) → (c then w) ≡ refused why → (c then turnsOf mode g line) ≡ refused why
+    unfolding _then_
+    out (check.Refused r) e = e
+    out Fine e = seven e
+
+    pub refused-answer : T ≡ trail.Refused why → Walked false o was (Refused why) now
+    refused-answer e =
+        let u = untrodden p why e in
+        refused-walked _ why was now (out (scratchShapeCheck (length was) g) (u .0)) (p .size) (u .1)
 
 -- behind 3, 1 and 8
 module _ (mode : Mode) (g : Grid) (line : Segment) {was : List ℕ} where

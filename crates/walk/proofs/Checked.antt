@@ -20,11 +20,6 @@ use Rattle.walk.specs.Segment.{segmentOf, entryCheck, reachOf, asIsOf}
 -- ---- 3, and 8 by the counts alone
 
 module _ (n : ℕ) (g : Grid) where
-  -- neither is one of 4 to 7
-  pub room-spares : Clearing false (scratchShapeCheck n g)
-  unfolding scratchShapeCheck clears
-  room-spares = clearing-then (scratch-spares n) (clearing-unless _ 8 0 refl)
-
   room-fine : 16384 ≤ n → shape (g .cols) (g .rows) ≡ true → scratchShapeCheck n g ≡ Fine
   unfolding scratchShapeCheck scratchCheck andThen unless
   room-fine h k = rw (le-leb 16384 n h, k)

@@ -18,7 +18,7 @@ use Rattle.walk.specs.declared.Mode.{Mode}
 use Rattle.walk.specs.declared.Cells.the-variants as cells
 use Rattle.walk.specs.declared.Reached.{Reached}
 use Rattle.walk.specs.declared.Reached.the-variants.{Found, Everywhere, Refused}
-use Rattle.walk.specs.Pushes.{Outcome}
+use Rattle.turns.specs.Pushes.{Outcome}
 use Rattle.walk.specs.Segment.{segmentOf, everywhereIn, entryCheck, offIn, offCheck, entryOf, reachOf, asIsOf, cellsOf, scratchOf, reachedOf, Walked, Entered}
 use Rattle.walk.proofs.Checked.{entry-spares, as-is-checked}
 use Rattle.walk.proofs.Reaching.{everywhere-out}

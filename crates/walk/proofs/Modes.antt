@@ -13,7 +13,7 @@ use Rattle.walk.specs.declared.Mode.{Mode}
 use Rattle.walk.specs.declared.Mode.the-variants.{Rust, Sided, Covering}
 use Rattle.walk.specs.declared.Neighbour.{Neighbour}
 use Rattle.walk.specs.declared.Neighbour.the-variants.{None, Lower, Upper}
-use Rattle.walk.specs.Neighbours.{neighbourFor, neighbourOn, alongOn, lineOf, endOf}
+use Rattle.walk.specs.Neighbours.{neighbourFor, neighbourOn, alongOn, lineOf, endpointOf}
 use Rattle.walk.specs.Segment.{pushesOf, answered, byTurns, turnsOf, turning, segmentOf}
 
 -- ---- the table, by rows of the code
@@ -53,5 +53,5 @@ module _ (g : Grid) (line : Segment)
     (sx : Alike (sideOn (xAxis g) (line .«start_x»))) (sy : Alike (sideOn (yAxis g) (line .«start_y»)))
     (ex : Alike (sideOn (xAxis g) (line .«end_x»))) (ey : Alike (sideOn (yAxis g) (line .«end_y»))) where
   pub modes-agree : segmentOf Sided g line ≡ segmentOf Rust g line
-  unfolding segmentOf turning turnsOf byTurns answered pushesOf lineOf endOf alongOn neighbourOn
+  unfolding segmentOf turning turnsOf byTurns answered pushesOf lineOf endpointOf alongOn neighbourOn
   modes-agree = rw (sx, sy, ex, ey)

@@ -27,12 +27,12 @@ use Rattle.walk.specs.declared.Mode.{Mode}
 use Rattle.walk.specs.declared.Mode.the-variants.{Rust, Sided, Covering}
 use Rattle.walk.specs.declared.Neighbour.{Neighbour}
 use Rattle.walk.specs.declared.Neighbour.the-variants.{None}
-use Rattle.walk.specs.Turns.{nought, one}
-use Rattle.walk.specs.Neighbours.{neighbourFor, neighbourOn, alongOn, cellOf, endOf}
+use Rattle.turns.specs.Turns.{nought, one}
+use Rattle.walk.specs.Neighbours.{neighbourFor, neighbourOn, alongOn, cellOf, endpointOf}
 use Rattle.walk.specs.Segment.{pushesOf}
-use Rattle.walk.specs.Inside.{Grown, Complete, Clear, share, manyOf}
-use Rattle.walk.proofs.Plain.{not-le}
-use Rattle.walk.proofs.Grows.{none, same}
+use Rattle.walk.specs.Inside.{Complete, Clear, share, manyOf}
+use Rattle.turns.proofs.Plain.{not-le}
+use Rattle.cover.proofs.Growing.{none, same}
 use Rattle.walk.proofs.Added.{nothing-beside}
 use Rattle.walk.proofs.Spread.{nothing-covers}
 use Rattle.walk.proofs.Answer.{completes}
@@ -138,8 +138,8 @@ module _ (mode : Mode) where
   unfolding share manyOf
   nothing x y p q = rw (p, q)
 
-  no-end : (g : Grid) (x y : Float) → sideOn (xAxis g) x ≡ Off → sideOn (yAxis g) y ≡ Off → [] ≡ endOf mode g x y
-  unfolding endOf
+  no-end : (g : Grid) (x y : Float) → sideOn (xAxis g) x ≡ Off → sideOn (yAxis g) y ≡ Off → [] ≡ endpointOf mode g x y
+  unfolding endpointOf
   no-end g x y p q =
       sym
       (nothing-beside (neighbourOn mode (xAxis g) x) (neighbourOn mode (yAxis g) y) (g .cols) (g .rows * g .cols)

@@ -20,9 +20,8 @@ use Rattle.walk.specs.declared.Mode.{Mode}
 use Rattle.walk.specs.declared.Mode.the-variants.{Rust, Sided, Covering}
 use Rattle.walk.specs.declared.Reached.{Reached}
 use Rattle.walk.specs.declared.Reached.the-variants.{Found, Everywhere, Refused}
-use Rattle.walk.specs.Pushes.{Outcome}
+use Rattle.turns.proofs.Entry.{room-spares}
 use Rattle.walk.specs.Segment.{turnsOf, turning, segmentOf, everywhereIn, offIn, offCheck, entryOf, reachOf, asIsOf, reachedOf, Walked}
-use Rattle.walk.proofs.Checked.{room-spares}
 
 -- ---- which walk it is
 

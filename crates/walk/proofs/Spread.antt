@@ -14,8 +14,9 @@ use Rattle.slices.proofs.Members.{any-append}
 use Rattle.walk.specs.declared.Neighbour.{Neighbour}
 use Rattle.walk.specs.declared.Neighbour.the-variants.{None, Lower}
 use Rattle.walk.specs.Neighbours.{lowColOf, columnOf, rowOf, besideOf}
-use Rattle.walk.specs.Inside.{Grown, Covers, lowerOf, manyOf, share}
-use Rattle.walk.proofs.Grows.{same}
+use Rattle.cover.specs.Inside.{Appended}
+use Rattle.walk.specs.Inside.{Covers, lowerOf, manyOf, share}
+use Rattle.cover.proofs.Growing.{same}
 use Rattle.walk.proofs.Flat.{flat-none, flat-same}
 use Rattle.walk.proofs.Added.{beside-le, nothing-beside, row-only, added-bound}
 
@@ -150,7 +151,7 @@ nothing-covers x y cols cells {xs} {n} p q l = record {
   same = λ f. ap (any f) (sym (ap (λ (z : List ℕ). take n xs ++ z) (flat-none (besideOf x y cols cells) (nothing-beside x y cols cells (none-share p q)) (take n xs)) ∙ append-nil (take n xs)));
 }
 
-pub besides-cover : (x y : Neighbour) (cols cells : ℕ) {xs ys : List ℕ} {n m : ℕ} → n ≤ length xs → Grown xs ys n m (flatMap (besideOf x y cols cells) (take n xs))
+pub besides-cover : (x y : Neighbour) (cols cells : ℕ) {xs ys : List ℕ} {n m : ℕ} → n ≤ length xs → Appended xs ys n m (flatMap (besideOf x y cols cells) (take n xs))
     → Covers xs ys n m (n * share x y) (flatMap (besideOf x y cols cells) (take n xs))
 besides-cover x y cols cells l g = record {
   len = g .len;
@@ -163,7 +164,7 @@ pub rows-share : (x y : Neighbour) → x ≡ None → share x y ≡ manyOf y
 unfolding share manyOf
 rows-share x y p = rw p (omega arith)
 
-pub rows-cover : (x y : Neighbour) (cols cells : ℕ) {xs ys : List ℕ} {n m : ℕ} → x ≡ None → n ≤ length xs → Grown xs ys n m (flatMap (rowOf y cols cells) (take n xs))
+pub rows-cover : (x y : Neighbour) (cols cells : ℕ) {xs ys : List ℕ} {n m : ℕ} → x ≡ None → n ≤ length xs → Appended xs ys n m (flatMap (rowOf y cols cells) (take n xs))
     → Covers xs ys n m (n * share x y) (flatMap (besideOf x y cols cells) (take n xs))
 rows-cover x y cols cells {xs} {ys} {n} {m} p l g =
     besides-cover x y cols cells l

@@ -27,18 +27,17 @@ use Rattle.cover.proofs.Laws.{covering-rises, found-few, everywhere-all}
 use Rattle.walk.specs.declared.Mode.{Mode}
 use Rattle.walk.specs.declared.Neighbour.{Neighbour}
 use Rattle.walk.specs.declared.Neighbour.the-variants.{None, Lower, Upper}
-use Rattle.walk.specs.Turns.{Ray, State, rayOf, startOf, turnOf}
-use Rattle.walk.specs.Pushes.{pushOf, pushedOf, Outcome, before, after, nextOf, goingOf, turns, walkedOf}
-use Rattle.walk.specs.Modular.{wayBy, startBy, walkedBy}
-use Rattle.walk.specs.Neighbours.{neighbourOn, alongOn, lowColOf, upColOf, lowRowOf, upRowOf, columnOf, rowOf, besideOf, lineOf, cellOf, endOf}
+use Rattle.turns.specs.Turns.{rayOf, startOf}
+use Rattle.turns.specs.Pushes.{Outcome, walkedOf}
+use Rattle.walk.specs.Neighbours.{neighbourOn, alongOn, lowColOf, upColOf, lowRowOf, upRowOf, columnOf, rowOf, besideOf, lineOf, cellOf, endpointOf}
 use Rattle.walk.specs.Segment.{pushesOf, answered, byTurns, unlessNone, turnsOf, turning, segmentOf, everywhereIn}
-use Rattle.walk.specs.Inside.{Straight, Still, share}
-use Rattle.walk.proofs.Whole.{walked-is}
-use Rattle.walk.proofs.Grows.{number}
+use Rattle.walk.specs.Inside.{share}
+use Rattle.turns.proofs.Grows.{number}
 use Rattle.walk.proofs.Flat.{flat-le, flat-below, cond-below}
-use Rattle.walk.proofs.Added.{beside-le, cell-below, end-le, share-room}
-use Rattle.walk.proofs.Room.{straight-x, straight-y, still}
-use Rattle.walk.proofs.Pushed.{no-cells, same-cells, walked-pushed}
+use Rattle.walk.proofs.Added.{beside-le, cell-below, end-le}
+use Rattle.walk.proofs.Room.{share-few}
+use Rattle.turns.proofs.Pushed.{no-cells, same-cells, walked-refused}
+use Rattle.turns.proofs.Few.{Few, walked-few}
 use Rattle.walk.proofs.Answer.{segment-is}
 use Rattle.walk.proofs.Reaching.{segment-turns, segment-covers, covering-everywhere, everywhere-covers}
 
@@ -82,26 +81,24 @@ pub record Visits (g : Grid) (xs : List ℕ) : Type 0 where
   pub few : length xs ≤ 15008
 
 module _ (mode : Mode) (g : Grid) (line : Segment) where
-  end-below : Shape (g .cols) (g .rows) → 0 < g .cols → (x y : Float) → Below (g .rows * g .cols) (endOf mode g x y)
-  unfolding endOf
+  end-below : Shape (g .cols) (g .rows) → 0 < g .cols → (x y : Float) → Below (g .rows * g .cols) (endpointOf mode g x y)
+  unfolding endpointOf
   end-below s h x y = beside-below (g .rows) (g .cols) (neighbourOn mode (xAxis g) x) (neighbourOn mode (yAxis g) y) (cellOf g x y) (cell-below g x y s h)
 
-  pushes-visit : (walked : List ℕ) → Shape (g .cols) (g .rows) → 0 < g .cols → Below (g .rows * g .cols) walked
-      → length walked ≤ 15002 → (Straight (wayBy g line) (startBy g line) → length walked ≤ 5002) → (Still (wayBy g line) (startBy g line) → length walked ≤ 2)
-      → Visits g (distinctOf (sorted (pushesOf mode g line walked)))
+  pushes-visit : (walked : List ℕ) → Shape (g .cols) (g .rows) → 0 < g .cols → Few g line walked → Visits g (distinctOf (sorted (pushesOf mode g line walked)))
   unfolding pushesOf lineOf
-  pushes-visit walked s c b l p q =
+  pushes-visit walked s c k =
       let n = g .rows * g .cols in
       let v = alongOn mode (xAxis g) (line .«start_x») (line .«end_x») in
       let h = alongOn mode (yAxis g) (line .«start_y») (line .«end_y») in
       let beside = besideOf v h (g .cols) n in
       let a = flatMap beside walked in
-      let e = endOf mode g (line .«start_x») (line .«start_y») in
-      let f = endOf mode g (line .«end_x») (line .«end_y») in
+      let e = endpointOf mode g (line .«start_x») (line .«start_y») in
+      let f = endpointOf mode g (line .«end_x») (line .«end_y») in
       let m : length (walked ++ ((a ++ e) ++ f)) ≡ length walked + ((length a + length e) + length f) =
       length-append walked ((a ++ e) ++ f) ∙ ap (λ (k : ℕ). length walked + k) (length-append (a ++ e) f ∙ ap (λ (k : ℕ). k + length f) (length-append a e)) in
-      let r = share-room v h (length walked) l
-      (λ t. p (straight-x mode g line t)) (λ t. p (straight-y mode g line t)) (λ t u. q (still mode g line s t u)) in
+      let b = k .inside in
+      let r = share-few mode g line walked k (length walked) (omega arith) in
       record {
         rising = one-of-each-rising (walked ++ ((a ++ e) ++ f));
         inside =
@@ -111,14 +108,12 @@ module _ (mode : Mode) (g : Grid) (line : Segment) where
         few = omega (arith, m, r, flat-le beside (share v h) (beside-le v h (g .cols) n) walked, end-le mode g (line .«start_x») (line .«start_y»), end-le mode g (line .«end_x») (line .«end_y»), length-one-of-each (walked ++ ((a ++ e) ++ f)));
       }
 
-  answer-visits : (o : Outcome) (xs : List ℕ) → Shape (g .cols) (g .rows) → 0 < g .cols → o ≡ walkedBy (g .cols) (g .rows) (wayBy g line) (startBy g line)
+  answer-visits : (o : Outcome) (xs : List ℕ) → Shape (g .cols) (g .rows) → 0 < g .cols → walkedOf (g .cols) (g .rows) (rayOf g line) (startOf g line) ≡ o
       → answered mode g line o ≡ gives xs → Visits g xs
   unfolding answered _into_
   answer-visits (refused why) xs s h e d = absurd (no-cells why xs d)
   answer-visits (gives walked) xs s h e d =
-      let w = walked-pushed (g .cols) (g .rows) (wayBy g line) (startBy g line) walked (sym e) in
-      subst (λ (z : List ℕ). Visits g z) (same-cells (distinctOf (sorted (pushesOf mode g line walked))) xs d)
-      (pushes-visit walked s h (w .0) (w .1 .0) (w .1 .1 .0) (w .1 .1 .1))
+      subst (λ (z : List ℕ). Visits g z) (same-cells (distinctOf (sorted (pushesOf mode g line walked))) xs d) (pushes-visit walked s h (walked-few g line s walked e))
 
   unless-visits : (n : ℕ) (o : Outcome) (xs : List ℕ) → unlessNone n o ≡ gives xs → (0 < n → o ≡ gives xs → Visits g xs) → Visits g xs
   unfolding unlessNone
@@ -131,7 +126,7 @@ module _ (mode : Mode) (g : Grid) (line : Segment) where
   turns-visit t xs s e =
       let w = walkedOf (g .cols) (g .rows) (rayOf g line) (startOf g line) in
       let k = shape-says (g .cols) (g .rows) s in
-      unless-visits (g .cols) (answered mode g line w) xs (sym (segment-turns mode g line t) ∙ e) (λ h d. answer-visits w xs k h (walked-is g line k) d)
+      unless-visits (g .cols) (answered mode g line w) xs (sym (segment-turns mode g line t) ∙ e) (λ h d. answer-visits w xs k h refl d)
 
   -- the cells are those that were pushed: the walked ones and the added ones
   pub segment-members : turning mode ≡ true → (walked xs : List ℕ) → (g .cols ≡ 0 → ⊥) → walkedOf (g .cols) (g .rows) (rayOf g line) (startOf g line) ≡ gives walked
@@ -176,32 +171,6 @@ module _ (mode : Mode) (g : Grid) (line : Segment) (fits : fit g ≡ true) where
       go false t = subst (λ (z : List ℕ). Cells mode g line z) (same-cells (coveringOf g line) xs (sym (segment-covers mode g line t) ∙ e)) (by-covering t)
 
 -- ---- the one refusal
-
-before-refused : (ps : List ℕ) (o : Outcome) (why : Refusal) → before ps o ≡ refused why → o ≡ refused why
-unfolding before _into_
-before-refused ps (refused y) why d = d
-before-refused ps (gives ys) why d = absurd (no-cells why (ps ++ ys) (sym d))
-
-after-refused : (o : Outcome) (ps : List ℕ) (why : Refusal) → after o ps ≡ refused why → o ≡ refused why
-unfolding after _into_
-after-refused (refused y) ps why d = d
-after-refused (gives ys) ps why d = absurd (no-cells why (ys ++ ps) (sym d))
-
-turns-refused : (left : ℕ) (g : Bool) (cols rows : ℕ) (r : Ray) (s : State) (why : Refusal) → turns left g cols rows r s ≡ refused why → why ≡ refusal 7 0
-unfolding turns
-turns-refused zero false cols rows r s why e = absurd (no-cells why [] (sym e))
-turns-refused zero true cols rows r s why e = cc
-turns-refused (suc left) false cols rows r s why e = absurd (no-cells why [] (sym e))
-turns-refused (suc left) true cols rows r s why e =
-    turns-refused left (goingOf r (nextOf r s)) cols rows r (nextOf r s) why
-    (before-refused (pushedOf (turnOf r s) cols rows r s) (turns left (goingOf r (nextOf r s)) cols rows r (nextOf r s)) why e)
-
-walked-refused : (cols rows : ℕ) (r : Ray) (s : State) (why : Refusal) → walkedOf cols rows r s ≡ refused why → why ≡ refusal 7 0
-unfolding walkedOf
-walked-refused cols rows r s why e =
-    let f = pushOf cols rows (s .x .index) (s .y .index) in
-    let t = turns 5000 (goingOf r s) cols rows r s in
-    turns-refused 5000 (goingOf r s) cols rows r s why (before-refused f t why (after-refused (before f t) (pushOf cols rows (r .x .end) (r .y .end)) why e))
 
 module _ (mode : Mode) (g : Grid) (line : Segment) (why : Refusal) where
   answer-refused : (o : Outcome) → answered mode g line o ≡ refused why → o ≡ refused why

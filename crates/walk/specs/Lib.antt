@@ -1,8 +1,5 @@
--- `Turns`, `Pushes`, `Neighbours` and `Segment` say what the public promises mean, in document 01's order; `Modular` and `Inside` are what the private functions
--- promise to one another.
-pub mod Turns
-pub mod Pushes
+-- `Neighbours` and `Segment` say what the public promises mean, in document 01's order, behind `Turns` and `Pushes` of the crate `turns`; `Inside` is what the
+-- private functions promise to one another.
 pub mod Neighbours
 pub mod Segment
-pub mod Modular
 pub mod Inside

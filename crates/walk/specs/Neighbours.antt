@@ -11,11 +11,11 @@ use Rattle.grid.specs.declared.Segment.{Segment}
 use Rattle.grid.specs.declared.Side.{Side}
 use Rattle.grid.specs.declared.Side.the-variants.{Off, Above, Below}
 use Rattle.grid.specs.Axes.{xAxis, yAxis, indexOn, sideOn}
+use Rattle.turns.specs.Turns.{nought}
 use Rattle.walk.specs.declared.Mode.{Mode}
 use Rattle.walk.specs.declared.Mode.the-variants.{Rust, Sided, Covering}
 use Rattle.walk.specs.declared.Neighbour.{Neighbour}
 use Rattle.walk.specs.declared.Neighbour.the-variants.{None, Lower, Upper}
-use Rattle.walk.specs.Turns.{nought}
 
 -- ---- which neighbour
 
@@ -86,5 +86,5 @@ unfoldable pub cellOf : Grid → Float → Float → ℕ
 cellOf g x y = indexOn (yAxis g) y * g .cols + indexOn (xAxis g) x
 
 -- what an endpoint adds beside its cell
-unfoldable pub endOf : Mode → Grid → Float → Float → List ℕ
-endOf mode g x y = besideOf (neighbourOn mode (xAxis g) x) (neighbourOn mode (yAxis g) y) (g .cols) (g .rows * g .cols) (cellOf g x y)
+unfoldable pub endpointOf : Mode → Grid → Float → Float → List ℕ
+endpointOf mode g x y = besideOf (neighbourOn mode (xAxis g) x) (neighbourOn mode (yAxis g) y) (g .cols) (g .rows * g .cols) (cellOf g x y)

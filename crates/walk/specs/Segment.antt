@@ -11,15 +11,15 @@ use Rattle.grid.specs.declared.Grid.{Grid}
 use Rattle.grid.specs.declared.Segment.{Segment}
 use Rattle.grid.specs.Domain.{scratchCheck, segmentCheck, gridCheck}
 use Rattle.cover.specs.Covering.{coveringOf, offGrid, everywhere, scratchShapeCheck}
+use Rattle.turns.specs.Turns.{rayOf, startOf}
+use Rattle.turns.specs.Pushes.{Outcome, walkedOf}
 use Rattle.walk.specs.declared.Mode.{Mode}
 use Rattle.walk.specs.declared.Mode.the-variants.{Rust, Sided, Covering}
 use Rattle.walk.specs.declared.Cells.{Cells}
 use Rattle.walk.specs.declared.Cells.the-variants as cells
 use Rattle.walk.specs.declared.Reached.{Reached}
 use Rattle.walk.specs.declared.Reached.the-variants as reached
-use Rattle.walk.specs.Turns.{rayOf, startOf}
-use Rattle.walk.specs.Pushes.{Outcome, walkedOf}
-use Rattle.walk.specs.Neighbours.{lineOf, endOf}
+use Rattle.walk.specs.Neighbours.{lineOf, endpointOf}
 
 -- ---- the answer
 
@@ -27,7 +27,7 @@ use Rattle.walk.specs.Neighbours.{lineOf, endOf}
 unfoldable pub pushesOf : Mode → Grid → Segment → List ℕ → List ℕ
 pushesOf mode g line walked =
     walked
-    ++ ((lineOf mode g line walked ++ endOf mode g (line .«start_x») (line .«start_y»)) ++ endOf mode g (line .«end_x») (line .«end_y»))
+    ++ ((lineOf mode g line walked ++ endpointOf mode g (line .«start_x») (line .«start_y»)) ++ endpointOf mode g (line .«end_x») (line .«end_y»))
 
 -- increasing, no cell twice
 unfoldable pub answered : Mode → Grid → Segment → Outcome → Outcome

@@ -1,13 +1,12 @@
 // What a line on a boundary, and its endpoints, add beside the walked cells.
 use crate::Mode;
 use crate::Neighbour;
-use crate::Walk;
-use crate::Way;
 use grid::Axis;
 use grid::Grid;
 use grid::Segment;
 use grid::Side;
 use numbers::order::magnitude;
+use turns::Trod;
 ghost use mathlib.Core.Path.{_≡_};
 ghost use mathlib.Core.Bool.{true};
 ghost use mathlib.Core.List.{flatMap};
@@ -18,9 +17,10 @@ ghost use Rattle.slices.specs.Lists.{Below};
 ghost use Rattle.grid.specs.declared.Side.the-variants.{Off};
 ghost use Rattle.grid.specs.Axes.{sideOn};
 ghost use Rattle.grid.proofs.Shapes.{Shape};
-ghost use Rattle.walk.specs.Neighbours.{neighbourFor, neighbourOn, alongOn, lowColOf, upColOf, lowRowOf, upRowOf, columnOf, rowOf, besideOf, cellOf, endOf};
+ghost use Rattle.cover.specs.Inside.{Appended};
+ghost use Rattle.walk.specs.Neighbours.{neighbourFor, neighbourOn, alongOn, lowColOf, upColOf, lowRowOf, upRowOf, columnOf, rowOf, besideOf, cellOf, endpointOf};
 ghost use Rattle.walk.specs.Segment.{pushesOf};
-ghost use Rattle.walk.specs.Inside.{Grown, Covers, Complete, Within, AllWithin, lowerOf, manyOf, share, shareOf, Clear};
+ghost use Rattle.walk.specs.Inside.{Covers, Complete, Within, AllWithin, lowerOf, manyOf, share, shareOf, Clear};
 
 // Where the modes that walk by turns differ.
 fn neighbour_for(mode: Mode, side: Side) -> Neighbour
@@ -60,7 +60,7 @@ fn along(mode: Mode, axis: Axis, start: f64, end: f64) -> Neighbour
 
 fn low_col(s: &mut [u32], n: usize, cols: u32, c: u32) -> usize
     requires { ⌜ n < length (now s) ⌝ ∗ ⌜ 0 < cols ⌝ }
-    ensures { λ r. ⌜ Grown (now (s .entry)) (now (s .exit)) n r (lowColOf cols c) ⌝ }
+    ensures { λ r. ⌜ Appended (now (s .entry)) (now (s .exit)) n r (lowColOf cols c) ⌝ }
 {
     if c % cols == 0 {
         return n;
@@ -71,7 +71,7 @@ fn low_col(s: &mut [u32], n: usize, cols: u32, c: u32) -> usize
 
 fn up_col(s: &mut [u32], n: usize, cols: u32, c: u32) -> usize
     requires { ⌜ n < length (now s) ⌝ ∗ ⌜ Within cols c ⌝ }
-    ensures { λ r. ⌜ Grown (now (s .entry)) (now (s .exit)) n r (upColOf cols c) ⌝ }
+    ensures { λ r. ⌜ Appended (now (s .entry)) (now (s .exit)) n r (upColOf cols c) ⌝ }
 {
     if c % cols + 1 < cols {
         s[n] = c + 1;
@@ -82,7 +82,7 @@ fn up_col(s: &mut [u32], n: usize, cols: u32, c: u32) -> usize
 
 fn low_row(s: &mut [u32], n: usize, cols: u32, c: u32) -> usize
     requires { ⌜ n < length (now s) ⌝ }
-    ensures { λ r. ⌜ Grown (now (s .entry)) (now (s .exit)) n r (lowRowOf cols c) ⌝ }
+    ensures { λ r. ⌜ Appended (now (s .entry)) (now (s .exit)) n r (lowRowOf cols c) ⌝ }
 {
     if c < cols {
         return n;
@@ -93,7 +93,7 @@ fn low_row(s: &mut [u32], n: usize, cols: u32, c: u32) -> usize
 
 fn up_row(s: &mut [u32], n: usize, cols: u32, cells: u32, c: u32) -> usize
     requires { ⌜ n < length (now s) ⌝ ∗ ⌜ Within cols c ⌝ }
-    ensures { λ r. ⌜ Grown (now (s .entry)) (now (s .exit)) n r (upRowOf cols cells c) ⌝ }
+    ensures { λ r. ⌜ Appended (now (s .entry)) (now (s .exit)) n r (upRowOf cols cells c) ⌝ }
 {
     let next = c + cols;
     if next < cells {
@@ -106,7 +106,7 @@ fn up_row(s: &mut [u32], n: usize, cols: u32, cells: u32, c: u32) -> usize
 // Pushes the neighbour of a cell in x.
 fn column(s: &mut [u32], n: usize, x: Neighbour, cols: u32, c: u32) -> usize
     requires { ⌜ n + manyOf x ≤ length (now s) ⌝ ∗ ⌜ Within cols c ⌝ }
-    ensures { λ r. ⌜ Grown (now (s .entry)) (now (s .exit)) n r (columnOf x cols c) ⌝ }
+    ensures { λ r. ⌜ Appended (now (s .entry)) (now (s .exit)) n r (columnOf x cols c) ⌝ }
 {
     match x {
         Neighbour::None => n,
@@ -118,7 +118,7 @@ fn column(s: &mut [u32], n: usize, x: Neighbour, cols: u32, c: u32) -> usize
 // Pushes the neighbour of a cell in y.
 fn row(s: &mut [u32], n: usize, y: Neighbour, cols: u32, cells: u32, c: u32) -> usize
     requires { ⌜ n + manyOf y ≤ length (now s) ⌝ ∗ ⌜ Within cols c ⌝ }
-    ensures { λ r. ⌜ Grown (now (s .entry)) (now (s .exit)) n r (rowOf y cols cells c) ⌝ }
+    ensures { λ r. ⌜ Appended (now (s .entry)) (now (s .exit)) n r (rowOf y cols cells c) ⌝ }
 {
     match y {
         Neighbour::None => n,
@@ -138,7 +138,7 @@ fn beside(
     c: u32,
 ) -> usize
     requires { ⌜ n + share x y ≤ length (now s) ⌝ ∗ ⌜ Within cols (c + 1) ⌝ }
-    ensures { λ r. ⌜ Grown (now (s .entry)) (now (s .exit)) n r (besideOf x y cols cells c) ⌝ }
+    ensures { λ r. ⌜ Appended (now (s .entry)) (now (s .exit)) n r (besideOf x y cols cells c) ⌝ }
 {
     let a = column(s, n, x, cols, c);
     let b = row(s, a, y, cols, cells, c);
@@ -152,7 +152,7 @@ fn beside(
 // Pushes the neighbours of each of the first n.
 fn besides(s: &mut [u32], n: usize, x: Neighbour, y: Neighbour, cols: u32, cells: u32) -> usize
     requires { ⌜ n + n * share x y ≤ length (now s) ⌝ ∗ ⌜ AllWithin cols cells (take n (now s)) ⌝ }
-    ensures { λ r. ⌜ Grown (now (s .entry)) (now (s .exit)) n r (flatMap (besideOf x y cols cells) (take n (now (s .entry)))) ⌝ }
+    ensures { λ r. ⌜ Appended (now (s .entry)) (now (s .exit)) n r (flatMap (besideOf x y cols cells) (take n (now (s .entry)))) ⌝ }
 {
     let mut m = n;
     let mut i = 0;
@@ -167,7 +167,7 @@ fn besides(s: &mut [u32], n: usize, x: Neighbour, y: Neighbour, cols: u32, cells
 // Pushes the neighbours in y of each of the first n.
 fn rows(s: &mut [u32], n: usize, y: Neighbour, cols: u32, cells: u32) -> usize
     requires { ⌜ n + n * manyOf y ≤ length (now s) ⌝ ∗ ⌜ AllWithin cols cells (take n (now s)) ⌝ }
-    ensures { λ r. ⌜ Grown (now (s .entry)) (now (s .exit)) n r (flatMap (rowOf y cols cells) (take n (now (s .entry)))) ⌝ }
+    ensures { λ r. ⌜ Appended (now (s .entry)) (now (s .exit)) n r (flatMap (rowOf y cols cells) (take n (now (s .entry)))) ⌝ }
 {
     let mut m = n;
     let mut i = 0;
@@ -248,7 +248,7 @@ fn cell(grid: Grid, x: f64, y: f64) -> u32
 // Pushes what an endpoint adds. Mostly that is nothing, and its cell is not asked for.
 fn ended(s: &mut [u32], n: usize, mode: Mode, grid: Grid, x: f64, y: f64) -> usize
     requires { ⌜ n + 3 ≤ length (now s) ⌝ ∗ ⌜ Shape (grid .cols) (grid .rows) ⌝ ∗ ⌜ 0 < grid .cols ⌝ }
-    ensures { λ r. ⌜ Grown (now (s .entry)) (now (s .exit)) n r (endOf mode grid x y) ⌝ }
+    ensures { λ r. ⌜ Appended (now (s .entry)) (now (s .exit)) n r (endpointOf mode grid x y) ⌝ }
 {
     let in_x = neighbour(mode, grid.x_axis(), x);
     let in_y = neighbour(mode, grid.y_axis(), y);
@@ -286,15 +286,15 @@ fn is_between(axis: Axis, v: f64, i: u32) -> bool
 }
 
 // Whether all four coordinates are off the boundaries, by the indices of the ends.
-fn is_clear(grid: Grid, line: Segment, way: Way, start: Walk) -> bool
+fn is_clear(grid: Grid, line: Segment, trod: Trod) -> bool
     ensures { λ r. ⌜ (r ≡ true → Clear grid line) ⌝ }
 {
     let x = grid.x_axis();
     let y = grid.y_axis();
-    if is_between(x, line.start_x, start.x.index) {
-        if is_between(y, line.start_y, start.y.index) {
-            if is_between(x, line.end_x, way.x.end) {
-                return is_between(y, line.end_y, way.y.end);
+    if is_between(x, line.start_x, trod.start_col) {
+        if is_between(y, line.start_y, trod.start_row) {
+            if is_between(x, line.end_x, trod.end_col) {
+                return is_between(y, line.end_y, trod.end_row);
             }
             return false;
         }
@@ -303,25 +303,17 @@ fn is_clear(grid: Grid, line: Segment, way: Way, start: Walk) -> bool
     false
 }
 
-// Pushes what the line and its endpoints add to the n walked cells. Mostly that is nothing, which the indices of a walk show.
-pub(crate) fn completed(
-    s: &mut [u32],
-    n: usize,
-    mode: Mode,
-    grid: Grid,
-    line: Segment,
-    way: Way,
-    start: Walk,
-) -> usize
-    requires { ⌜ Shape (grid .cols) (grid .rows) ⌝ ∗ ⌜ 0 < grid .cols ⌝ ∗ ⌜ n + n * shareOf mode grid line + 6 ≤ length (now s) ⌝ ∗ ⌜ Below (grid .rows * grid .cols) (take n (now s)) ⌝ }
-    ensures { λ r. ⌜ Complete (now (s .exit)) r (pushesOf mode grid line (take n (now (s .entry)))) ⌝ }
+// Pushes what the line and its endpoints add to the cells that were walked. Mostly that is nothing, which the indices of a walk show.
+pub(crate) fn completed(s: &mut [u32], mode: Mode, grid: Grid, line: Segment, trod: Trod) -> usize
+    requires { ⌜ Shape (grid .cols) (grid .rows) ⌝ ∗ ⌜ 0 < grid .cols ⌝ ∗ ⌜ trod .count + trod .count * shareOf mode grid line + 6 ≤ length (now s) ⌝ ∗ ⌜ Below (grid .rows * grid .cols) (take (trod .count) (now s)) ⌝ }
+    ensures { λ r. ⌜ Complete (now (s .exit)) r (pushesOf mode grid line (take (trod .count) (now (s .entry)))) ⌝ }
 {
-    if is_clear(grid, line, way, start) {
-        return n;
+    if is_clear(grid, line, trod) {
+        return trod.count;
     }
     let x = along(mode, grid.x_axis(), line.start_x, line.end_x);
     let y = along(mode, grid.y_axis(), line.start_y, line.end_y);
-    let a = added(s, n, x, y, grid.cols, grid.rows * grid.cols);
+    let a = added(s, trod.count, x, y, grid.cols, grid.rows * grid.cols);
     let b = ended(s, a, mode, grid, line.start_x, line.start_y);
     ended(s, b, mode, grid, line.end_x, line.end_y)
 }

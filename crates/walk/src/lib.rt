@@ -1,26 +1,21 @@
 // The cells of a uniform grid that a segment visits: document 01, "The walk", and the Rust's `segment_cells`.
 mod beside;
-mod pushes;
-mod turns;
 
 use beside::completed;
 use cover::Covered;
 use grid::Grid;
 use grid::Segment;
-use pushes::walked;
 use refusals::Check;
 use refusals::Refusal;
-use turns::started;
-use turns::way_of;
+use turns::Trail;
 ghost use mathlib.Core.Path.{_≡_};
 ghost use mathlib.Core.Bool.{false};
-ghost use Prim.Native.Nat.{_≤_, _<_};
+ghost use mathlib.Core.List.{[]};
 ghost use lib.ListN.{length};
 ghost use Rattle.refusals.specs.Refusals.{gives, _then_};
 ghost use Rattle.grid.specs.Domain.{segmentBy};
-ghost use Rattle.grid.proofs.Shapes.{Shape};
 ghost use Rattle.cover.specs.Covering.{coveringOf, everywhere, scratchShapeCheck};
-ghost use Rattle.walk.specs.Segment.{byTurns, turnsOf, turning, everywhereIn, entryCheck, offIn, entryOf, reachOf, asIsOf, Walked, Entered};
+ghost use Rattle.walk.specs.Segment.{turnsOf, turning, everywhereIn, entryCheck, offIn, entryOf, reachOf, asIsOf, reachedOf, Walked, Entered};
 
 // Which cells a line visits. By turns, and beside a boundary those that the Rust adds, or by the side of the boundary that a value lies on; or those of the
 // covering walk, so that two lines with a common exact point share a cell.
@@ -50,47 +45,6 @@ pub enum Reached {
     Refused(Refusal),
 }
 
-// One axis of the line: what a move adds to the index, modulo 2^32, and to t_max; and the index of the end.
-pub(crate) struct Course {
-    pub step: u32,
-    pub t_delta: f64,
-    pub end: u32,
-}
-
-// One axis of the state: the index, modulo 2^32, and t at the next boundary.
-pub(crate) struct Position {
-    pub index: u32,
-    pub t_max: f64,
-}
-
-pub(crate) struct Way {
-    pub x: Course,
-    pub y: Course,
-}
-
-pub(crate) struct Walk {
-    pub x: Position,
-    pub y: Position,
-}
-
-// On which axes a turn moves. On none, the walk stops.
-pub(crate) struct Turn {
-    pub x: bool,
-    pub y: bool,
-}
-
-// What a turn comes to: the state, and how many are pushed.
-pub(crate) struct Next {
-    pub at: Walk,
-    pub count: usize,
-}
-
-// How a run of turns ends: at a stop, with so many pushed, or with no turn left.
-pub(crate) enum Ran {
-    Done(usize),
-    Over,
-}
-
 // Refusals 3, 1 and 8, of n entries of scratch.
 fn check_entry(grid: Grid, line: Segment, n: usize) -> Check
     ensures { λ r. ⌜ r ≡ entryCheck n grid line ⌝ }
@@ -106,43 +60,35 @@ fn check_entry(grid: Grid, line: Segment, n: usize) -> Check
     grid::checks::check_grid(grid)
 }
 
-// The walk by turns: the cells that it walks, with those that its mode adds. Refusal 7.
-fn by_turns(mode: Mode, grid: Grid, line: Segment, scratch: &mut [u32]) -> Reached
-    requires { ⌜ 16384 ≤ length (now scratch) ⌝ ∗ ⌜ Shape (grid .cols) (grid .rows) ⌝ ∗ ⌜ 0 < grid .cols ⌝ }
-    ensures { λ r. ⌜ Walked false (byTurns mode grid line) (now (scratch .entry)) r (now (scratch .exit)) ⌝ }
+// A grid of 0 columns visits nothing, behind refusals 3 and 8.
+fn none_reached(grid: Grid, n: usize) -> Reached
+    ensures { λ r. ⌜ r ≡ reachedOf false (scratchShapeCheck n grid then gives []) ⌝ }
 {
-    let way = way_of(grid, line);
-    let start = started(grid, line);
-    let r = walked(scratch, grid.cols, grid.rows, way, start);
-    match r {
-        Ran::Done(n) => {
-            let m = completed(scratch, n, mode, grid, line, way, start);
-            let count = ordering::order_and_keep(scratch, m);
-            Reached::Found(count)
-        },
-        Ran::Over => {
-            slices::clear_from(scratch, 0);
-            Reached::Refused(Refusal {
-                number: 7,
-                value: 0,
-            })
-        },
+    let check = cover::check_room(grid, n);
+    if let Check::Refused(r) = check {
+        return Reached::Refused(r);
     }
+    Reached::Found(0)
 }
 
-// The same on a grid as it is, behind refusals 3, and 8 by the counts of the grid alone. A grid of 0 columns visits nothing.
+// The walk by turns, with the cells that its mode adds, on a grid as it is: refusals 3, and 8 by the counts of the grid alone, and 7. That there are columns is
+// asked first: then no index asks for it again.
 fn cells_by_turns(mode: Mode, grid: Grid, line: Segment, scratch: &mut [u32]) -> Reached
     ensures { λ r. let o = scratchShapeCheck (length (now (scratch .entry))) grid then turnsOf mode grid line in
         ⌜ Walked false o (now (scratch .entry)) r (now (scratch .exit)) ⌝ }
 {
-    let check = cover::check_room(grid, scratch.len());
-    if let Check::Refused(r) = check {
-        return Reached::Refused(r);
-    }
     if grid.cols == 0 {
-        return Reached::Found(0);
+        return none_reached(grid, scratch.len());
     }
-    by_turns(mode, grid, line, scratch)
+    let trail = turns::walk_by_turns(grid, line, scratch);
+    match trail {
+        Trail::Walked(trod) => {
+            let m = completed(scratch, mode, grid, line, trod);
+            let count = ordering::order_and_keep(scratch, m);
+            Reached::Found(count)
+        },
+        Trail::Refused(r) => Reached::Refused(r),
+    }
 }
 
 // The covering walk on a grid as it is, which makes the same checks itself.

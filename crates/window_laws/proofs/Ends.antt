@@ -14,10 +14,10 @@ use Rattle.grid.specs.declared.Grid.{Grid}
 use Rattle.grid.specs.declared.Segment.{Segment}
 use Rattle.grid.specs.Axes.{xAxis, yAxis, indexOn}
 use Rattle.walk.specs.declared.Mode.{Mode}
-use Rattle.walk.specs.Turns.{rayOf, startOf, strideOn, progressOn}
-use Rattle.walk.specs.Pushes.{Outcome, keptIf, pushOf, before, after, from, walkedOf}
+use Rattle.turns.specs.Turns.{rayOf, startOf, strideOn, progressOn}
+use Rattle.turns.specs.Pushes.{Outcome, keptIf, pushOf, before, followedBy, from, walkedOf}
 use Rattle.walk.specs.Segment.{pushesOf, answered, turning, segmentOf}
-use Rattle.walk.proofs.Pushed.{no-cells, same-cells}
+use Rattle.turns.proofs.Pushed.{no-cells, same-cells}
 use Rattle.walk.proofs.Answer.{segment-is}
 use Rattle.walk.proofs.Visits.{segment-members}
 use Rattle.window.proofs.Blocks.{or-right}
@@ -34,8 +34,8 @@ in-second v xs ys h = any-append (eqb v) xs ys ∙ or-right (elem v xs) (elem v 
 -- ---- what is pushed
 
 -- a walk that ends is the first push, its turns and the last push
-in-walked : (S E walked : List ℕ) (T : Outcome) → after (before S T) E ≡ gives walked → (v : ℕ) → ((elem v S ≡ true → elem v walked ≡ true) × (elem v E ≡ true → elem v walked ≡ true))
-unfolding before after _into_
+in-walked : (S E walked : List ℕ) (T : Outcome) → followedBy (before S T) E ≡ gives walked → (v : ℕ) → ((elem v S ≡ true → elem v walked ≡ true) × (elem v E ≡ true → elem v walked ≡ true))
+unfolding before followedBy _into_
 in-walked S E walked (refused why) h v = absurd (no-cells why walked h)
 in-walked S E walked (gives ys) h v =
     let e : (S ++ ys) ++ E ≡ walked = same-cells ((S ++ ys) ++ E) walked h in

@@ -36,7 +36,7 @@ use Rattle.cover.proofs.Cells.{in-all}
 use Rattle.cover.proofs.Entry.{covering-all}
 use Rattle.walk.specs.declared.Mode.the-variants.{Covering}
 use Rattle.walk.specs.Segment.{turning, segmentOf}
-use Rattle.walk.proofs.Pushed.{same-cells}
+use Rattle.turns.proofs.Pushed.{same-cells}
 use Rattle.walk.proofs.Reaching.{segment-covers}
 use Rattle.fill.specs.OnGrid.{walkOn, cellsOn}
 use Rattle.build.specs.declared.Plan.{Plan}

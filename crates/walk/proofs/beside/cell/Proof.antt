@@ -5,8 +5,8 @@ use native.Mathlib.Omega.{arith}
 use borrow.Author.Needs.{needs}
 use Rattle.grid.specs.declared.Axis.{Axis}
 use Rattle.walk.specs.Neighbours.{cellOf}
-use Rattle.walk.proofs.Grows.{number}
-use Rattle.walk.proofs.Floats.{index-le}
+use Rattle.turns.proofs.Grows.{number}
+use Rattle.turns.proofs.Floats.{index-le}
 use Rattle.walk.proofs.beside.cell.Statement.{statement}
 use Rattle.walk.proofs.beside.cell.Tie as tie
 

@@ -24,8 +24,8 @@ in-y c =
     c .along2 .ensures ∙ ap (λ (z : Axis). alongOn (a .mode) z (a .line .«start_y») (a .line .«end_y»)) (c .before .y-axis .ensures)
 
 -- how many they are for all walked cells
-shared : (c : tie.After-along2) → let a = c .before .before .before .before .before .before .before .args in a .n * shareOf (a .mode) (a .grid) (a .line) ≡ a .n * share (c .before .before .along .result) (c .along2 .result)
-shared c = ap (λ (k : ℕ). c .before .before .before .before .before .before .before .args .n * k) (share-is _ _ _ _ _ (in-x (c .before .before)) (in-y c))
+shared : (c : tie.After-along2) → let a = c .before .before .before .before .before .before .before .args in a .trod .count * shareOf (a .mode) (a .grid) (a .line) ≡ a .trod .count * share (c .before .before .along .result) (c .along2 .result)
+shared c = ap (λ (k : ℕ). c .before .before .before .before .before .before .before .args .trod .count * k) (share-is _ _ _ _ _ (in-x (c .before .before)) (in-y c))
 
 added-requires : tie.Need-added-requires
 added-requires c κs =

@@ -4,17 +4,17 @@ use Prim.Native.Nat.{ℕ, _*_}
 use native.Mathlib.Omega.{arith}
 use borrow.Author.Needs.{needs}
 use borrow.Author.Tests.{eqb-true}
-use Rattle.walk.specs.Neighbours.{besideOf, cellOf, endOf}
+use Rattle.walk.specs.Neighbours.{besideOf, cellOf, endpointOf}
 use Rattle.walk.proofs.Added.{share-le, nothing-beside, cell-within}
-use Rattle.walk.proofs.Grows.{none, same}
+use Rattle.cover.proofs.Growing.{none, same}
 use Rattle.walk.proofs.beside.ended.Statement.{statement}
 use Rattle.walk.proofs.beside.ended.Tie as tie
 
 -- what the endpoint adds, by its neighbours
 added : (c : tie.After-neighbour2) → let a = c .before .before .before .before .before .args in
     besideOf (c .before .before .neighbour .result) (c .neighbour2 .result) (a .grid .cols) (a .grid .rows * a .grid .cols) (cellOf (a .grid) (a .x) (a .y))
-    ≡ endOf (a .mode) (a .grid) (a .x) (a .y)
-unfolding endOf
+    ≡ endpointOf (a .mode) (a .grid) (a .x) (a .y)
+unfolding endpointOf
 added c = rw (c .before .before .neighbour .ensures, c .neighbour2 .ensures, c .before .before .before .x-axis .ensures, c .before .y-axis .ensures)
 
 returns : tie.Need-returns

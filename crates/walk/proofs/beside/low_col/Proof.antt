@@ -1,7 +1,7 @@
 -- `walk::beside::low_col` meets its contract. Assumes nothing.
 use native.Mathlib.Omega.{arith}
 use borrow.Author.Needs.{needs}
-use Rattle.walk.proofs.Grows.{none, one}
+use Rattle.cover.proofs.Growing.{none, one}
 use Rattle.walk.proofs.Added.{positive, col-none, col-one}
 use Rattle.walk.proofs.beside.low_col.Statement.{statement}
 use Rattle.walk.proofs.beside.low_col.Tie as tie

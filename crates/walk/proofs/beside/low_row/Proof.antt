@@ -1,7 +1,7 @@
 -- `walk::beside::low_row` meets its contract. Assumes nothing.
 use native.Mathlib.Omega.{arith}
 use borrow.Author.Needs.{needs}
-use Rattle.walk.proofs.Grows.{none, one}
+use Rattle.cover.proofs.Growing.{none, one}
 use Rattle.walk.proofs.Added.{row-none, row-one}
 use Rattle.walk.proofs.beside.low_row.Statement.{statement}
 use Rattle.walk.proofs.beside.low_row.Tie as tie

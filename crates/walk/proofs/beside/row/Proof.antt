@@ -2,7 +2,7 @@
 use native.Mathlib.Omega.{arith}
 use borrow.Author.Needs.{needs}
 use Rattle.walk.specs.Neighbours.{rowOf}
-use Rattle.walk.proofs.Grows.{none}
+use Rattle.cover.proofs.Growing.{none}
 use Rattle.walk.proofs.Added.{one-lower, one-upper}
 use Rattle.walk.proofs.beside.row.Statement.{statement}
 use Rattle.walk.proofs.beside.row.Tie as tie

@@ -2,7 +2,7 @@
 use native.Mathlib.Nat.{mod-lt}
 use native.Mathlib.Omega.{arith}
 use borrow.Author.Needs.{needs}
-use Rattle.walk.proofs.Grows.{none, one}
+use Rattle.cover.proofs.Growing.{none, one}
 use Rattle.walk.proofs.Added.{up-col-none, up-col-one}
 use Rattle.walk.proofs.beside.up_col.Statement.{statement}
 use Rattle.walk.proofs.beside.up_col.Tie as tie

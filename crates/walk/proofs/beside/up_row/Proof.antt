@@ -1,7 +1,7 @@
 -- `walk::beside::up_row` meets its contract. Assumes nothing.
 use native.Mathlib.Omega.{arith}
 use borrow.Author.Needs.{needs}
-use Rattle.walk.proofs.Grows.{none, one}
+use Rattle.cover.proofs.Growing.{none, one}
 use Rattle.walk.proofs.Added.{up-row-none, up-row-one}
 use Rattle.walk.proofs.beside.up_row.Statement.{statement}
 use Rattle.walk.proofs.beside.up_row.Tie as tie

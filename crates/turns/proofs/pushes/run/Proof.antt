@@ -1,0 +1,75 @@
+-- `turns::pushes::run` meets its contract. Assumes nothing.
+use mathlib.Core.Path.{_≡_, refl, _∙_}
+use native.Mathlib.Omega.{arith}
+use borrow.Author.Tests.{not-true, not-false}
+use lib.ListN.{length, take}
+use Rattle.turns.specs.Pushes.{before}
+use Rattle.turns.specs.Modular.{goingBy, turnsBy}
+use Rattle.turns.proofs.Loop.{Going, going-is, again, done, over}
+use Rattle.turns.proofs.pushes.run.Statement.{statement}
+use Rattle.turns.proofs.pushes.run.Tie as tie
+
+abbrev Inv-loop : tie.InvT-loop
+Inv-loop s₀ n cols rows way w₀ m₀ left₀ s w m left = Going (before (take n s₀) (turnsBy 5000 (goingBy way w₀) cols rows way w₀)) n cols rows way left w m s × (length s ≡ length s₀)
+
+abbrev μ-loop : tie.MeasureT-loop
+μ-loop s₀ n cols rows way w₀ m₀ left₀ s w m left = left
+
+loop-holds : tie.Need-loop-holds Inv-loop μ-loop
+loop-holds c = (record { size = c .before .pre .0; room = omega arith; is = refl }, refl)
+
+turn-requires : tie.Need-turn-requires Inv-loop μ-loop
+turn-requires c κs = tt
+
+goes-requires : tie.Need-goes-requires Inv-loop μ-loop
+goes-requires c κs = tt
+
+same-length : tie.Need-same-length Inv-loop μ-loop
+same-length c = c .before .before .before .loop .inv .1
+
+returns : tie.Need-returns Inv-loop μ-loop
+returns c = done (c .before .before .before .loop .inv .0) (going-is _ _ _ _ (c .before .before .turn .ensures) (c .before .goes .ensures) ∙ not-true _ (c .if1 .taken))
+
+same-length-2 : tie.Need-same-length-2 Inv-loop μ-loop
+same-length-2 c = c .before .before .before .before .loop .inv .1
+
+returns-2 : tie.Need-returns-2 Inv-loop μ-loop
+returns-2 c = over (c .before .before .before .before .loop .inv .0) (going-is _ _ _ _ (c .before .before .before .turn .ensures) (c .before .before .goes .ensures) ∙ not-false _ (c .before .if1 .left)) (c .if2 .taken)
+
+sub-left : tie.Need-sub-left Inv-loop μ-loop
+sub-left c = omega arith
+
+stride-requires : tie.Need-stride-requires Inv-loop μ-loop
+stride-requires c κs =
+    let g = c .before .before .before .before .before .loop .inv .0 in
+    (omega (arith, g .room, g .size), c .before .before .before .before .before .before .before .pre .1)
+
+loop-less : tie.Need-loop-less Inv-loop μ-loop
+loop-less c = omega arith
+
+loop-again : tie.Need-loop-again Inv-loop μ-loop
+loop-again c =
+    let l = c .before .before .before .before .before .before .before .before .before .loop in
+    let p = c .before .before .before .stride .ensures in (
+      again (l .inv .0) _ _ _ (c .before .before .before .before .before .before .before .before .turn .ensures) (c .before .before .before .before .before .before .before .goes .ensures)
+          (not-false _ (c .before .before .before .before .before .before .if1 .left)) (omega arith) p,
+      p .1 .len ∙ l .inv .1,
+    )
+
+pub run-spec : {M : Type 1} → statement M
+run-spec =
+    tie.close
+    (tie.spec
+    Inv-loop
+    μ-loop
+    loop-holds
+    turn-requires
+    goes-requires
+    same-length
+    returns
+    same-length-2
+    returns-2
+    sub-left
+    stride-requires
+    loop-less
+    loop-again)

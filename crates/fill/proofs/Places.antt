@@ -1,5 +1,5 @@
 -- The second pass over all lines, with the global lines listed on the way. Assumes nothing.
-use mathlib.Core.Path.{_≡_, refl, sym, ap, _∙_}
+use mathlib.Core.Path.{_≡_, refl, sym, ap, subst, _∙_}
 use mathlib.Core.Bool.{Bool, true, false, not}
 use mathlib.Core.List.{List, [], _∷_, _++_, append-nil, append-assoc}
 use Prim.Native.Nat.{ℕ, zero, suc, _+_, _-_, _≤_, _<_, _^_}
@@ -16,12 +16,17 @@ use Rattle.tables.specs.Lists.{long, only, globalLines}
 use Rattle.tables.specs.States.{CanPlace}
 use Rattle.fill.specs.declared.passes.Walked.{Walked}
 use Rattle.fill.specs.OnGrid.{walkOn, completes, cellsOn, globalsOn, oneIf}
-use Rattle.fill.specs.Inside.{Walkable, WalkAsks, LineFront, WalkedIs, VisitsPlaced, PlacedTo, LineAsks, LinePlaced, listed, PlaceAsks, AllPlaced}
+use Rattle.fill.specs.Inside.{Walkable, WalkAsks, LineFront, WalkedIs, VisitsPlaced, PlacedTo, LineAsks, LinePlaced, PlaceAsks, AllPlaced}
 use Rattle.fill.proofs.Lines.{can-place, line-placed}
 use Rattle.fill.proofs.Counts.{globals-count, one-if, walkable-again, turns-all}
 
-pub listed-some : (more : ℕ) (xs : List ℕ) (at i : ℕ) → (more ≡ 0 → ⊥) → set xs at i ≡ listed more xs at i
-listed-some zero xs at i h = absurd (h refl)
+-- a global line written at its place
+abbrev listed : ℕ → List ℕ → ℕ → ℕ → List ℕ
+listed zero xs at i = xs
+listed (suc n) xs at i = set xs at i
+
+listed-some : (more : ℕ) (xs : List ℕ) (at i : ℕ) → 0 < more → set xs at i ≡ listed more xs at i
+listed-some zero xs at i h = absurd (omega arith)
 listed-some (suc n) xs at i h = refl
 
 -- a store just past xs, in zeros
@@ -96,6 +101,9 @@ module _ {mode : Mode} {g : Grid} {ls : Lines} {o₀ t₀ gs₀ s₀ o t gs s : 
   placing-line : LineAsks mode g ls i o t s
   placing-line = record { at = l; walkable = k .walkable; ended = k .ended i l; placed = k .placed }
 
+  pub placing-few : found < 65536
+  placing-few = omega (arith, k .so-far, globals-few (cellsOn mode g ls) i, k .walkable .few)
+
   next-fits : length (globalLines (cellsOn mode g ls) (i + 1)) ≤ length gs₀
   next-fits = omega (arith, globals-within mode g ls (i + 1) (omega arith), k .fits)
 
@@ -110,15 +118,14 @@ module _ {mode : Mode} {g : Grid} {ls : Lines} {o₀ t₀ gs₀ s₀ o t gs s : 
       placing-done : LinePlaced mode g ls i o′ t′ more
       placing-done = line-placed placing-line front p a b
 
-      pub placing-asks : (i < 65536) × (0 < more → found < length gs)
-      placing-asks =
-          (omega (arith, k .walkable .few), λ p. omega (arith, next-fits, globals-count (cellsOn mode g ls) i, placing-done .kind, k .so-far, k .len-globals))
+      pub placing-room : 0 < more → found < length gs
+      placing-room p = omega (arith, next-fits, globals-count (cellsOn mode g ls) i, placing-done .kind, k .so-far, k .len-globals)
 
       pub placing-found : Fits w64 (found + more)
       placing-found =
           record { fits = omega (arith, placing-done .kind, k .so-far, one-if (long (cellsOn mode g ls i)), globals-few (cellsOn mode g ls) i, k .walkable .few) }
 
-      pub placing-next : {gs′ : List ℕ} → gs′ ≡ listed more gs found i → length gs′ ≡ length gs → length s′ ≡ length s → PlacingAll mode g ls o₀ t₀ gs₀ s₀ o′ t′ gs′ s′ (found + more) (i + 1)
+      placing-next : {gs′ : List ℕ} → gs′ ≡ listed more gs found i → length gs′ ≡ length gs → length s′ ≡ length s → PlacingAll mode g ls o₀ t₀ gs₀ s₀ o′ t′ gs′ s′ (found + more) (i + 1)
       placing-next q d f =
           let h = placing-done in
           record {
@@ -134,6 +141,15 @@ module _ {mode : Mode} {g : Grid} {ls : Lines} {o₀ t₀ gs₀ s₀ o t gs s : 
             so-far = omega (arith, k .so-far, h .kind, globals-count (cellsOn mode g ls) i);
             listing = q ∙ rw (h .kind, k .so-far, k .listing) (listed-next (cellsOn mode g ls) i (length gs₀) next-fits);
           }
+
+      pub placing-global : 0 < more → length s′ ≡ length s → PlacingAll mode g ls o₀ t₀ gs₀ s₀ o′ t′ (set gs found i) s′ (found + more) (i + 1)
+      placing-global l f = placing-next (listed-some more gs found i l) (length-set gs found i) f
+
+      pub placing-local : more ≤ 0 → length s′ ≡ length s → PlacingAll mode g ls o₀ t₀ gs₀ s₀ o′ t′ gs s′ found (i + 1)
+      placing-local l f =
+          let e : more ≡ 0 = omega arith in
+          let d : found + more ≡ found = omega arith in
+          subst (λ (n : ℕ). PlacingAll mode g ls o₀ t₀ gs₀ s₀ o′ t′ gs s′ n (i + 1)) d (placing-next (rw e) refl f)
 
 pub placing-end : {mode : Mode} {g : Grid} {ls : Lines} {o₀ t₀ gs₀ s₀ o t gs s : List ℕ} {found i : ℕ} → PlacingAll mode g ls o₀ t₀ gs₀ s₀ o t gs s found i → count ls ≤ i → AllPlaced mode g ls o t (length gs₀) gs
 unfolding globalsOn

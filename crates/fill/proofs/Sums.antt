@@ -1,6 +1,6 @@
--- The loops over the offsets: running sums, the shift back, and the search for a crowded cell. Assumes nothing.
+-- The loops over the offsets: running sums, with the search for a crowded cell, and the shift back. Assumes nothing.
 use mathlib.Core.Path.{_≡_, refl, sym, ap, _∙_}
-use mathlib.Core.Bool.{Bool, true, false, _||_}
+use mathlib.Core.Bool.{Bool, true, false, true≢false, _||_}
 use mathlib.Core.List.{List}
 use Prim.Native.Nat.{ℕ, zero, suc, _+_, _-_, _≤_, _<_, _^_}
 use native.Mathlib.Decide.{ℕ-discrete}
@@ -13,7 +13,7 @@ use lib.Seq.{getD-set-same, getD-set-other}
 use Rattle.tables.specs.Lists.{sum}
 use Rattle.tables.proofs.Laws.{sum-below}
 use Rattle.fill.specs.Fill.{moreThan}
-use Rattle.fill.specs.Inside.{Summed, ShiftedBack}
+use Rattle.fill.specs.Inside.{Summed, SumsAre, ShiftedBack}
 
 -- ---- o₀ with the sums of its first c entries in their place
 
@@ -132,3 +132,18 @@ module _ (most : ℕ) (g : ℕ → ℕ) where
   unfolding moreThan
   above-never h zero = refl
   above-never h (suc n) = rw (above-never h n, le-ltb most (g n) (h n))
+
+-- ---- the sums, up to a cell that has more
+
+module _ (most : ℕ) {o₀ : List ℕ} {cells : ℕ} {o : List ℕ} {total c : ℕ} (h : Summing o₀ cells o total c) (u : moreThan most (λ k. getD o₀ k 0) c ≡ false) where
+  same-count : getD o c 0 ≡ getD o₀ c 0
+  same-count = h .left c (omega arith)
+
+  pub sums-crowded : c < cells → most < getD o c 0 → SumsAre most o₀ o cells (record { crowded = true; total = total })
+  sums-crowded l m = record { crowd = sym (above-at most (λ k. getD o₀ k 0) c cells l (omega (arith, same-count))); sums = λ e. absurd (true≢false e) }
+
+  pub sums-pass : getD o c 0 ≤ most → moreThan most (λ k. getD o₀ k 0) (c + 1) ≡ false
+  sums-pass l = above-more most (λ k. getD o₀ k 0) c u (omega (arith, same-count))
+
+  pub sums-end : cells ≤ c → SumsAre most o₀ (set o cells total) cells (record { crowded = false; total = total })
+  sums-end l = let e : c ≡ cells = omega (arith, h .at) in record { crowd = sym (rw e at u); sums = λ _. summing-done h l }

@@ -16,11 +16,12 @@ use Rattle.tables.specs.States.{Counted, Placed, CanCount, CanPlace}
 use Rattle.fill.specs.declared.Count.{Count}
 use Rattle.fill.specs.declared.Count.the-variants as counted
 use Rattle.fill.specs.declared.passes.Walked.{Walked}
+use Rattle.fill.specs.declared.offsets.SumsEnd.{SumsEnd}
 use Rattle.fill.specs.declared.Filled.{Filled}
 use Rattle.fill.specs.declared.Filled.the-variants as filled
 use Rattle.fill.specs.OnGrid.{gridCells, walkOn, completes, cellsOn, listOn, globalsOn, total, oneIf}
 use Rattle.fill.specs.Checks.{turnsCheck, countingCheck}
-use Rattle.fill.specs.Fill.{Filling, crowded, made}
+use Rattle.fill.specs.Fill.{moreThan, Filling, crowded, made}
 
 -- ---- a number, or refused
 
@@ -119,11 +120,6 @@ pub record LinePlaced (mode : Mode) (g : Grid) (ls : Lines) (i : ℕ) (o t : Lis
   pub kind : k ≡ oneIf (long (cellsOn mode g ls i))
   pub next : PlacedTo mode g ls (i + 1) o t
 
--- a global line written at its place
-abbrev pub listed : ℕ → List ℕ → ℕ → ℕ → List ℕ
-listed zero xs at i = xs
-listed (suc n) xs at i = set xs at i
-
 -- the second pass can begin, and has room
 pub record PlaceAsks (mode : Mode) (g : Grid) (ls : Lines) (o t gs s : List ℕ) : Type 0 where
   pub walkable : Walkable g ls s
@@ -144,6 +140,11 @@ pub record Summed (o₀ o : List ℕ) (gridCells r : ℕ) : Type 0 where
   pub total : r ≡ sum (λ k. getD o₀ k 0) gridCells
   pub sums : (k : ℕ) → k ≤ gridCells → getD o k 0 ≡ sum (λ k. getD o₀ k 0) k
   pub beyond : (k : ℕ) → gridCells < k → getD o k 0 ≡ getD o₀ k 0
+
+-- whether some entry is above `most`; where none is, the running sums
+pub record SumsAre (most : ℕ) (o₀ o : List ℕ) (gridCells : ℕ) (r : SumsEnd) : Type 0 where
+  pub crowd : r .crowded ≡ moreThan most (λ c. getD o₀ c 0) gridCells
+  pub sums : r .crowded ≡ false → Summed o₀ o gridCells (r .total)
 
 -- o is o₀ with its first entries moved up by one place, and 0 first
 pub record ShiftedBack (o₀ o : List ℕ) (gridCells : ℕ) : Type 0 where

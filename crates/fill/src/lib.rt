@@ -10,12 +10,14 @@ ghost use lib.ListN.{length};
 ghost use Rattle.grid.specs.Domain.{lines};
 ghost use Rattle.fill.specs.Fill.{countOf, CountIs, fillingOf, FillIs};
 ghost use Rattle.fill.specs.Inside.{CountLent};
-use crate::filling::lay_out;
 use crate::filling::plan;
 use crate::lent::check;
 use crate::lent::leave;
 use crate::lent::rule_of;
+use crate::offsets::shift_back;
+use crate::passes::cell_count;
 use crate::passes::count_lines;
+use crate::passes::place_lines;
 use grid::Grid;
 use refusals::Check;
 use refusals::Refusal;
@@ -90,7 +92,8 @@ pub fn count_on(
 }
 
 // Fills the tables of a grid, unless some cell would list more than `most` lines. `offsets[c] .. offsets[c + 1]` is the range in the items of the
-// lines that visit cell c; lines that visit more than 2,048 cells go to the globals instead.
+// lines that visit cell c; lines that visit more than 2,048 cells go to the globals instead. Each item below the total is written by the placing, so
+// only those beyond it are cleared.
 pub fn fill_on(
     mode: Mode,
     start_x: &[f64],
@@ -127,22 +130,25 @@ pub fn fill_on(
     );
     if let Filled::Tables {
         items: total,
-        globals: found,
+        globals: _,
     } = planned {
-        return lay_out(
+        slices::clear_from(items, total);
+        slices::clear(globals);
+        place_lines(
             mode,
             start_x,
             start_y,
             end_x,
             end_y,
             grid,
-            total,
-            found,
             offsets,
             items,
             globals,
             scratch,
         );
+        shift_back(offsets, cell_count(grid));
+        slices::clear(scratch);
+        return planned;
     }
     let rule = rule_of(planned);
     leave(rule, offsets);

@@ -1,41 +1,39 @@
-// Passes over the offsets alone: the search for a crowded cell, running sums, and the shift back.
-ghost use mathlib.Core.Path.{_≡_};
-ghost use Prim.Native.Nat.{_≤_, _<_, _^_};
+// Passes over the offsets alone: running sums, unless a cell is crowded, and the shift back.
+ghost use Prim.Native.Nat.{_<_, _^_};
 ghost use lib.ListN.{length, getD};
 ghost use Rattle.tables.specs.Lists.{sum};
-ghost use Rattle.fill.specs.Fill.{moreThan};
-ghost use Rattle.fill.specs.Inside.{Summed, ShiftedBack};
+ghost use Rattle.fill.specs.Inside.{SumsAre, ShiftedBack};
 
-// Whether some cell has more than `most` lines.
-pub(crate) fn some_above(offsets: &[u32], cells: usize, most: u32) -> bool
-    requires { ⌜ cells ≤ length (now offsets) ⌝ }
-    ensures { λ r. ⌜ r ≡ moreThan most (λ c. getD (now (offsets .entry)) c 0) cells ⌝ }
-{
-    let mut c = 0;
-    while c < cells {
-        if most < offsets[c] {
-            return true;
-        }
-        c += 1;
-    }
-    false
+// Whether some cell has more lines than it may; and else the total.
+pub(crate) struct SumsEnd {
+    pub crowded: bool,
+    pub total: u32,
 }
 
-// Turns counts into running sums from 0, and answers the total.
-pub(crate) fn running_sums(offsets: &mut [u32], cells: usize) -> u32
+// Turns counts into running sums from 0, up to the first cell that has more than `most` lines.
+pub(crate) fn running_sums(offsets: &mut [u32], cells: usize, most: u32) -> SumsEnd
     requires { ⌜ (cells < length (now offsets)) × (sum (λ k. getD (now offsets) k 0) cells < 2 ^ 32) ⌝ }
-    ensures { λ r. ⌜ Summed (now (offsets .entry)) (now (offsets .exit)) cells r ⌝ }
+    ensures { λ r. ⌜ SumsAre most (now (offsets .entry)) (now (offsets .exit)) cells r ⌝ }
 {
     let mut total: u32 = 0;
     let mut c = 0;
     while c < cells {
         let count = offsets[c];
+        if most < count {
+            return SumsEnd {
+                crowded: true,
+                total,
+            };
+        }
         offsets[c] = total;
         total += count;
         c += 1;
     }
     offsets[cells] = total;
-    total
+    SumsEnd {
+        crowded: false,
+        total,
+    }
 }
 
 // Moves the pointers back: each has come to where the next list begins.

@@ -7,7 +7,7 @@ ghost use Rattle.grid.specs.Domain.{lines, fit};
 ghost use Rattle.tables.specs.States.{CanCount, CanPlace};
 ghost use Rattle.fill.specs.OnGrid.{gridCells};
 ghost use Rattle.fill.specs.Checks.{turnsCheck};
-ghost use Rattle.fill.specs.Inside.{CountAs, WalkAsks, WalkedIs, VisitsCounted, PassAsks, AllCounted, VisitsPlaced, listed, PlaceAsks, AllPlaced};
+ghost use Rattle.fill.specs.Inside.{CountAs, WalkAsks, WalkedIs, VisitsCounted, PassAsks, AllCounted, VisitsPlaced, PlaceAsks, AllPlaced};
 use crate::Count;
 use grid::Grid;
 use grid::segments::segment_at;
@@ -148,17 +148,6 @@ fn place_visits(
     0
 }
 
-// Writes the number of a global line to its place; a line that is none writes nothing.
-fn list_global(i: usize, more: usize, at: usize, globals: &mut [u32])
-    requires { ⌜ (i < 65536) × (0 < more → at < length (now globals)) ⌝ }
-    ensures { λ _. ⌜ now (globals .exit) ≡ listed more (now (globals .entry)) at i ⌝ }
-{
-    if more == 0 {
-        return;
-    }
-    globals[at] = i as u32;
-}
-
 // Pass 2: writes the items and the global lines.
 pub(crate) fn place_lines(
     mode: Mode,
@@ -182,8 +171,11 @@ pub(crate) fn place_lines(
     while i < start_x.len() {
         let walked = walk_line(mode, start_x, start_y, end_x, end_y, i, grid, scratch);
         let more = place_visits(i, scratch, walked.cells, offsets, items);
-        list_global(i, more, found, globals);
-        found += more;
+        let line = i as u32;
         i += 1;
+        if 0 < more {
+            globals[found] = line;
+            found += more;
+        }
     }
 }

@@ -36,10 +36,10 @@ module _ (m : ℕ) (offsets items : List ℕ) (cell₀ i₀ j₀ cell i j : ℕ)
     long : length (listIn offsets items cell) ≡ to - from
     long = length-list m offsets items (s .table) cell h ∙ rw (to-is, ← f)
 
-    pub settled-here : j < to - from → CellIs m offsets items cell₀ i₀ j₀ cell i j
-    settled-here k = record { same = s .same; fits = s .fits; inside = h; one = omega (arith, to-is) }
+    pub settled-here : j < to - from → CellIs m offsets items cell₀ i₀ j₀ cell i j from to
+    settled-here k = record { same = s .same; fits = s .fits; inside = h; begins = f; ends = sym to-is; one = k }
 
-    pub settled-row : to - from ≤ j → i + 2 < to - from → CellIs m offsets items cell₀ i₀ j₀ cell (i + 1) (i + 2)
+    pub settled-row : to - from ≤ j → i + 2 < to - from → CellIs m offsets items cell₀ i₀ j₀ cell (i + 1) (i + 2) from to
     settled-row k l =
         let e : i + 1 ≡ suc i = omega arith in
         let e₂ : i + 2 ≡ suc (suc i) = omega arith in
@@ -47,7 +47,9 @@ module _ (m : ℕ) (offsets items : List ℕ) (cell₀ i₀ j₀ cell i j : ℕ)
           same = λ cols. s .same cols ∙ rw (e, e₂) (next-row cols offsets items m cell h i j (omega (arith, long)) (omega (arith, long)));
           fits = record { at-most = s .fits .at-most; later = omega arith; small = omega (arith, to-in) };
           inside = h;
-          one = omega (arith, to-is);
+          begins = f;
+          ends = sym to-is;
+          one = l;
         }
 
     pub settling-more : to - from ≤ j → to - from ≤ i + 2 → Settling m offsets items cell₀ i₀ j₀ (cell + 1) 0 1

@@ -34,8 +34,8 @@ use Rattle.visit.proofs.Placing.{number-of-cell, placed-none, placed-th
 
 -- what was found, taken apart by what it is
 module _ (m : ℕ) (offsets items : List ℕ) (cell i j : ℕ) (r : CellAt) (f : CellFound m offsets items cell i j r) where
-  pub cell-at : (a b d : ℕ) → r ≡ cellat.At a b d → CellIs m offsets items cell i j a b d
-  cell-at a b d e = subst (CellFound m offsets items cell i j) e f
+  pub cell-at : (a b d from to : ℕ) → r ≡ cellat.At a b d from to → CellIs m offsets items cell i j a b d from to
+  cell-at a b d from to e = subst (CellFound m offsets items cell i j) e f
 
   pub cell-past : r ≡ cellat.Past → (cols : ℕ) → cellsRest cols offsets items (m - cell) cell i j ≡ []
   cell-past e = subst (CellFound m offsets items cell i j) e f
@@ -58,23 +58,19 @@ pub record PartOf (offsets items : List ℕ) (a b d from to : ℕ) : Type 0 wher
   pub later : d < length (listIn offsets items a)
   pub first : b < length (listIn offsets items a)
 
-module _ (m : ℕ) (offsets items : List ℕ) (t : CellsFit m offsets items) (cell i j a b d : ℕ) (f : CellIs m offsets items cell i j a b d)
-    (from to : ℕ) (ef : from ≡ getD offsets a 0) (et : to ≡ getD offsets (a + 1) 0) where
-  to-is : getD offsets (suc a) 0 ≡ to
-  to-is = sym (et ∙ rw add-one)
-
+module _ (m : ℕ) (offsets items : List ℕ) (t : CellsFit m offsets items) (cell i j a b d from to : ℕ) (f : CellIs m offsets items cell i j a b d from to) where
   part-long : length (listIn offsets items a) ≡ to - from
-  part-long = length-list m offsets items t a (f .inside) ∙ rw (to-is, ← ef)
+  part-long = length-list m offsets items t a (f .inside) ∙ rw (f .begins, f .ends)
 
   later-in : d < length (listIn offsets items a)
-  later-in = omega (arith, part-long, to-is, f .one)
+  later-in = omega (arith, part-long, f .one)
 
   pub part-of : PartOf offsets items a b d from to
   part-of =
       record {
-        rises = omega (arith, to-is, t .rises a (f .inside));
-        within = omega (arith, to-is, t .within (suc a) (f .inside));
-        is = part-slice from to items ∙ rw (ef, to-is);
+        rises = omega (arith, f .begins, f .ends, t .rises a (f .inside));
+        within = omega (arith, f .ends, t .within (suc a) (f .inside));
+        is = part-slice from to items ∙ rw (f .begins, f .ends);
         long = part-long;
         later = later-in;
         first = omega (arith, later-in, f .fits .later);
@@ -128,13 +124,7 @@ module _ (ls : Lines) (cols m : ℕ) (offsets items : List ℕ) (cell₀ i₀ j�
   pub cells-over : ((c : ℕ) → cellsRest c offsets items (m - cell) cell i j ≡ []) → CellsRan ls cols m offsets items cell₀ i₀ j₀ fs ss ps fs′ ss′ ps′ (record { tests = tests; hits = hits })
   cells-over e = record { rest = cellsRest cols offsets items (m - cell) cell i j; moved = s .moved; placed = s .placed; ends = λ l. e cols }
 
-  module _ (a b d : ℕ) (f : CellIs m offsets items cell i j a b d) where
-    cell-list : List ℕ
-    cell-list = listIn offsets items a
-
-    cell-place : Place
-    cell-place = placeOf cols a
-
+  module _ (a b d from to : ℕ) (f : CellIs m offsets items cell i j a b d from to) where
     pub row-asks : (v : ℕ) → v ≡ getD (listIn offsets items a) b 0 → b < length (listIn offsets items a) → LineAsks ls v
     row-asks v e h = record { fine = q .fine; one = rw e (below-at (count ls) (listIn offsets items a) b (q .below a (f .inside)) h) }
 

@@ -42,15 +42,17 @@ pub record CellAsks (m : ℕ) (offsets items : List ℕ) (cell i j : ℕ) : Type
   pub table : CellsFit m offsets items
   pub place : PlaceFits m items cell i j
 
--- the place that was found: the same is left, and a pair stands there
-pub record CellIs (m : ℕ) (offsets items : List ℕ) (cell i j cell′ i′ j′ : ℕ) : Type 0 where
+-- the place that was found: the same is left, and a pair stands there, of a list that is the items from `from` to before `to`
+pub record CellIs (m : ℕ) (offsets items : List ℕ) (cell i j cell′ i′ j′ from to : ℕ) : Type 0 where
   pub same : (cols : ℕ) → cellsRest cols offsets items (m - cell) cell i j ≡ cellsRest cols offsets items (m - cell′) cell′ i′ j′
   pub fits : PlaceFits m items cell′ i′ j′
   pub inside : cell′ < m
-  pub one : j′ < getD offsets (suc cell′) 0 - getD offsets cell′ 0
+  pub begins : from ≡ getD offsets cell′ 0
+  pub ends : to ≡ getD offsets (suc cell′) 0
+  pub one : j′ < to - from
 
 abbrev pub CellFound : ℕ → List ℕ → List ℕ → ℕ → ℕ → ℕ → CellAt → Type 0
-CellFound m offsets items cell i j (cellat.At c a b) = CellIs m offsets items cell i j c a b
+CellFound m offsets items cell i j (cellat.At c a b from to) = CellIs m offsets items cell i j c a b from to
 CellFound m offsets items cell i j cellat.Past = (cols : ℕ) → cellsRest cols offsets items (m - cell) cell i j ≡ []
 
 -- ---- places among the globals

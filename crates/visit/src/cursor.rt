@@ -3,8 +3,15 @@ ghost use mathlib.Core.Path.{_≡_};
 ghost use Rattle.seek.specs.Inside.{stopOf};
 ghost use Rattle.visit.specs.Inside.{CellAsks, CellFound, GlobalAsks, GlobalFound, StopAsks};
 
+// A pair of a cell's list, and where the list stands in the items.
 pub(crate) enum CellAt {
-    At { cell: usize, i: usize, j: usize },
+    At {
+        cell: usize,
+        i: usize,
+        j: usize,
+        from: usize,
+        to: usize,
+    },
     Past,
 }
 
@@ -23,22 +30,25 @@ pub(crate) fn settle_cell(
     cells: usize,
     offsets: &[u32],
     items: &[u32],
-    cell: usize,
-    i: usize,
-    j: usize,
+    mut cell: usize,
+    mut i: usize,
+    mut j: usize,
 ) -> CellAt
     requires { ⌜ CellAsks cells (now offsets) (now items) cell i j ⌝ }
     ensures { λ r. ⌜ CellFound cells (now (offsets .entry)) (now (items .entry)) cell i j r ⌝ }
 {
-    let mut cell = cell;
-    let mut i = i;
-    let mut j = j;
     while cell < cells {
-        let from = offsets[cell];
-        let to = offsets[cell + 1];
-        let len = (to - from) as usize;
+        let from = offsets[cell] as usize;
+        let to = offsets[cell + 1] as usize;
+        let len = to - from;
         if j < len {
-            return CellAt::At { cell, i, j };
+            return CellAt::At {
+                cell,
+                i,
+                j,
+                from,
+                to,
+            };
         }
         let next = i + 1;
         let after = i + 2;
@@ -47,6 +57,8 @@ pub(crate) fn settle_cell(
                 cell,
                 i: next,
                 j: after,
+                from,
+                to,
             };
         }
         cell = cell + 1;
@@ -72,16 +84,13 @@ pub(crate) fn settle_global(
     lines: u32,
     count: usize,
     globals: &[u32],
-    p: usize,
-    q: usize,
-    k: u32,
+    mut p: usize,
+    mut q: usize,
+    mut k: u32,
 ) -> GlobalAt
     requires { ⌜ GlobalAsks lines count (now globals) p q k ⌝ }
     ensures { λ r. ⌜ GlobalFound lines count (now (globals .entry)) p q k r ⌝ }
 {
-    let mut p = p;
-    let mut q = q;
-    let mut k = k;
     while p < count {
         let stop = stop_at(lines, globals, p, q);
         if k < stop {

@@ -206,16 +206,15 @@ fn scan_lines(
 
 // The number of a row's place, beside each pair that it handed out. A slice that ends before is left alone: a batch without places lends an
 // empty one.
-fn put_places(places: &mut [u32], from: usize, to: usize, number: u32)
+fn put_places(places: &mut [u32], mut from: usize, to: usize, number: u32)
     ensures { λ r. ⌜ PutIs (now (places .entry)) «from» to number (now (places .exit)) ⌝ }
 {
     if places.len() < to {
         return;
     }
-    let mut i = from;
-    while i < to {
-        places[i] = number;
-        i = i + 1;
+    while from < to {
+        places[from] = number;
+        from = from + 1;
     }
 }
 
@@ -225,9 +224,9 @@ pub(crate) fn run_cells(
     cells: usize,
     offsets: &[u32],
     items: &[u32],
-    cell: usize,
-    i: usize,
-    j: usize,
+    mut cell: usize,
+    mut i: usize,
+    mut j: usize,
     start_x: &[f64],
     start_y: &[f64],
     end_x: &[f64],
@@ -243,9 +242,6 @@ pub(crate) fn run_cells(
         let ps = now (places .entry) in
         ⌜ CellsRan ls cols cells (now (offsets .entry)) (now (items .entry)) cell i j fs ss ps (now (first .exit)) (now (second .exit)) (now (places .exit)) r ⌝ }
 {
-    let mut cell = cell;
-    let mut i = i;
-    let mut j = j;
     let mut tests: u64 = 0;
     let mut hits: usize = 0;
     while hits < first.len() {
@@ -253,15 +249,22 @@ pub(crate) fn run_cells(
             cell: c,
             i: a,
             j: b,
+            from,
+            to,
         } = cursor::settle_cell(cells, offsets, items, cell, i, j)
         else {
             break;
         };
-        let from = offsets[c] as usize;
-        let to = offsets[c + 1] as usize;
         let list = &items[from..to];
-        let place = place_of(cols, c as u32);
-        let row = row_of(place, list[a], start_x, start_y, end_x, end_y);
+        let number = c as u32;
+        let row = row_of(
+            place_of(cols, number),
+            list[a],
+            start_x,
+            start_y,
+            end_x,
+            end_y,
+        );
         let end = scan_list(
             list,
             row,
@@ -274,7 +277,7 @@ pub(crate) fn run_cells(
             second,
             hits,
         );
-        put_places(places, hits, end.hits, c as u32);
+        put_places(places, hits, end.hits, number);
         tests = tests + ((end.j - b) as u64);
         hits = end.hits;
         cell = c;
@@ -289,9 +292,9 @@ pub(crate) fn run_globals(
     cells: usize,
     globals: &[u32],
     count: usize,
-    p: usize,
-    q: usize,
-    k: u32,
+    mut p: usize,
+    mut q: usize,
+    mut k: u32,
     start_x: &[f64],
     start_y: &[f64],
     end_x: &[f64],
@@ -299,7 +302,7 @@ pub(crate) fn run_globals(
     first: &mut [u32],
     second: &mut [u32],
     places: &mut [u32],
-    hits: usize,
+    mut hits: usize,
 ) -> Ran
     requires { ⌜ GlobalsAsk (lines (now «start_x») (now «start_y») (now «end_x») (now «end_y»)) cells count (now globals) p q k (now first) (now second) hits ⌝ }
     ensures { λ r. let ls = lines (now («start_x» .entry)) (now («start_y» .entry)) (now («end_x» .entry)) (now («end_y» .entry)) in
@@ -309,11 +312,7 @@ pub(crate) fn run_globals(
         ⌜ GlobalsRan ls cells count (now (globals .entry)) p k fs ss ps hits (now (first .exit)) (now (second .exit)) (now (places .exit)) r ⌝ }
 {
     let n = start_x.len() as u32;
-    let mut p = p;
-    let mut q = q;
-    let mut k = k;
     let mut tests: u64 = 0;
-    let mut hits = hits;
     while hits < first.len() {
         let GlobalAt::At {
             p: a,

@@ -1,25 +1,34 @@
 -- `fill::offsets::running_sums` meets its contract. Assumes nothing.
+use mathlib.Core.Path.{_≡_}
+use mathlib.Core.Bool.{false}
 use Prim.Native.Nat.{_-_}
 use native.Mathlib.Omega.{arith}
-use lib.ListN.{length-set}
-use Rattle.fill.proofs.Sums.{Summing, summing-none, summing-fits, summing-more, summing-done}
+use lib.ListN.{getD, length-set}
+use Rattle.fill.specs.Fill.{moreThan}
+use Rattle.fill.proofs.Sums.{Summing, summing-none, summing-fits, summing-more, above-none, sums-crowded, sums-pass, sums-end}
 use Rattle.fill.proofs.offsets.running_sums.Statement.{statement}
 use Rattle.fill.proofs.offsets.running_sums.Tie as tie
 
 abbrev Inv-loop : tie.InvT-loop
-Inv-loop offsets₀ cells total₀ c₀ offsets total c = Summing offsets₀ cells offsets total c
+Inv-loop offsets₀ cells most total₀ c₀ offsets total c = Summing offsets₀ cells offsets total c × (moreThan most (λ k. getD offsets₀ k 0) c ≡ false)
 
 abbrev μ-loop : tie.MeasureT-loop
-μ-loop offsets₀ cells total₀ c₀ offsets total c = cells - c
+μ-loop offsets₀ cells most total₀ c₀ offsets total c = cells - c
 
 loop-holds : tie.Need-loop-holds Inv-loop μ-loop
-loop-holds c = summing-none _ _ (c .pre .0) (c .pre .1)
+loop-holds c = (summing-none _ _ (c .pre .0) (c .pre .1), above-none _ _)
 
 mul-count : tie.Need-mul-count Inv-loop μ-loop
 mul-count c = omega arith
 
 slice-read-count : tie.Need-slice-read-count Inv-loop μ-loop
 slice-read-count c = omega arith
+
+same-length : tie.Need-same-length Inv-loop μ-loop
+same-length c = c .before .before .before .loop .inv .0 .len
+
+returns : tie.Need-returns Inv-loop μ-loop
+returns c = let k = c .before .before .before .loop .inv in sums-crowded (c .before .before .before .before .args .most) (k .0) (k .1) (c .before .before .loop-test .taken) (c .if1 .taken)
 
 mul-offsets : tie.Need-mul-offsets Inv-loop μ-loop
 mul-offsets c = omega arith
@@ -28,7 +37,7 @@ slice-write-offsets : tie.Need-slice-write-offsets Inv-loop μ-loop
 slice-write-offsets c = omega arith
 
 add-total : tie.Need-add-total Inv-loop μ-loop
-add-total c = record { fits = summing-fits (c .before .before .loop .inv) (c .before .loop-test .taken) }
+add-total c = record { fits = summing-fits (c .before .before .before .loop .inv .0) (c .before .before .loop-test .taken) }
 
 add-c : tie.Need-add-c Inv-loop μ-loop
 add-c c = omega arith
@@ -37,7 +46,7 @@ loop-less : tie.Need-loop-less Inv-loop μ-loop
 loop-less c = omega arith
 
 loop-again : tie.Need-loop-again Inv-loop μ-loop
-loop-again c = summing-more (c .before .before .loop .inv) (c .before .loop-test .taken)
+loop-again c = let k = c .before .before .before .loop .inv in (summing-more (k .0) (c .before .before .loop-test .taken), sums-pass (c .before .before .before .before .args .most) (k .0) (k .1) (c .if1 .left))
 
 mul-offsets-2 : tie.Need-mul-offsets-2 Inv-loop μ-loop
 mul-offsets-2 c = omega arith
@@ -45,11 +54,11 @@ mul-offsets-2 c = omega arith
 slice-write-offsets-2 : tie.Need-slice-write-offsets-2 Inv-loop μ-loop
 slice-write-offsets-2 c = omega arith
 
-same-length : tie.Need-same-length Inv-loop μ-loop
-same-length c = simp length-set (c .before .loop .inv .len)
+same-length-2 : tie.Need-same-length-2 Inv-loop μ-loop
+same-length-2 c = simp length-set (c .before .loop .inv .0 .len)
 
-returns : tie.Need-returns Inv-loop μ-loop
-returns c = summing-done (c .before .loop .inv) (c .loop-test .left)
+returns-2 : tie.Need-returns-2 Inv-loop μ-loop
+returns-2 c = let k = c .before .loop .inv in sums-end (c .before .before .args .most) (k .0) (k .1) (c .loop-test .left)
 
 pub running-sums-spec : {M : Type 1} → statement M
 running-sums-spec =
@@ -60,6 +69,8 @@ running-sums-spec =
     loop-holds
     mul-count
     slice-read-count
+    same-length
+    returns
     mul-offsets
     slice-write-offsets
     add-total
@@ -68,5 +79,5 @@ running-sums-spec =
     loop-again
     mul-offsets-2
     slice-write-offsets-2
-    same-length
-    returns)
+    same-length-2
+    returns-2)

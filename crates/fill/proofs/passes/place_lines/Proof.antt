@@ -3,7 +3,7 @@ use native.Mathlib.Omega.{arith}
 use Prim.Native.Nat.{_-_}
 use lib.ListN.{length}
 use Rattle.grid.specs.Domain.{lines}
-use Rattle.fill.proofs.Places.{PlacingAll, placing-all, placing-walk, placing-can, placing-asks, placing-found, placing-next, placing-end}
+use Rattle.fill.proofs.Places.{PlacingAll, placing-all, placing-walk, placing-can, placing-few, placing-room, placing-found, placing-global, placing-local, placing-end}
 use Rattle.fill.proofs.passes.place_lines.Statement.{statement}
 use Rattle.fill.proofs.passes.place_lines.Tie as tie
 
@@ -24,23 +24,37 @@ walk-line-requires c κs = placing-walk (c .before .before .loop .inv) (c .befor
 place-visits-requires : tie.Need-place-visits-requires Inv-loop μ-loop
 place-visits-requires c κs = placing-can (c .before .before .before .before .before .before .before .before .loop .inv) (c .before .before .before .before .before .before .before .loop-test .taken) (c .before .before .before .before .before .walk-line .ensures)
 
-list-global-requires : tie.Need-list-global-requires Inv-loop μ-loop
-list-global-requires c κs =
+cast-line : tie.Need-cast-line Inv-loop μ-loop
+cast-line c = omega (arith, c .before .before .before .before .before .before .before .before .before .before .before .before .before .loop .inv .walkable .few, c .before .before .before .before .before .before .before .before .before .before .before .before .loop-test .taken)
+
+mul-globals : tie.Need-mul-globals Inv-loop μ-loop
+mul-globals c = omega (arith, placing-few (c .before .before .before .before .before .before .before .before .before .before .before .before .before .before .loop .inv) (c .before .before .before .before .before .before .before .before .before .before .before .before .before .loop-test .taken))
+
+slice-write-globals : tie.Need-slice-write-globals Inv-loop μ-loop
+slice-write-globals c =
     let p = c .before .before .before .before .before .place-visits in
-    placing-asks (c .before .before .before .before .before .before .before .before .before .before .before .before .before .before .loop .inv) (c .before .before .before .before .before .before .before .before .before .before .before .before .before .loop-test .taken) (c .before .before .before .before .before .before .before .before .before .before .before .walk-line .ensures) (p .ensures) (p .kept .1 .1 .1 .0) (p .kept .1 .1 .1 .1 .0)
+    placing-room (c .before .before .before .before .before .before .before .before .before .before .before .before .before .before .loop .inv) (c .before .before .before .before .before .before .before .before .before .before .before .before .before .loop-test .taken) (c .before .before .before .before .before .before .before .before .before .before .before .walk-line .ensures) (p .ensures) (p .kept .1 .1 .1 .0) (p .kept .1 .1 .1 .1 .0) (c .if1 .taken)
 
 add-found : tie.Need-add-found Inv-loop μ-loop
 add-found c =
-    let p = c .before .before .before .before .before .before .before .before .place-visits in
-    placing-found (c .before .before .before .before .before .before .before .before .before .before .before .before .before .before .before .before .before .loop .inv) (c .before .before .before .before .before .before .before .before .before .before .before .before .before .before .before .before .loop-test .taken) (c .before .before .before .before .before .before .before .before .before .before .before .before .before .before .walk-line .ensures) (p .ensures) (p .kept .1 .1 .1 .0) (p .kept .1 .1 .1 .1 .0)
+    let p = c .before .before .before .before .before .place-visits in
+    placing-found (c .before .before .before .before .before .before .before .before .before .before .before .before .before .before .loop .inv) (c .before .before .before .before .before .before .before .before .before .before .before .before .before .loop-test .taken) (c .before .before .before .before .before .before .before .before .before .before .before .walk-line .ensures) (p .ensures) (p .kept .1 .1 .1 .0) (p .kept .1 .1 .1 .1 .0)
 
 loop-less : tie.Need-loop-less Inv-loop μ-loop
-loop-less c = let l = c .before .before .before .before .before .before .before .before .before .before .before .before .before .before .before .before .loop-test .taken in omega arith
+loop-less c = let l = c .before .before .before .before .before .before .before .before .before .before .before .before .before .loop-test .taken in omega arith
 
 loop-again : tie.Need-loop-again Inv-loop μ-loop
 loop-again c =
-    let p = c .before .before .before .before .before .before .before .before .place-visits in
-    placing-next (c .before .before .before .before .before .before .before .before .before .before .before .before .before .before .before .before .before .loop .inv) (c .before .before .before .before .before .before .before .before .before .before .before .before .before .before .before .before .loop-test .taken) (c .before .before .before .before .before .before .before .before .before .before .before .before .before .before .walk-line .ensures) (p .ensures) (p .kept .1 .1 .1 .0) (p .kept .1 .1 .1 .1 .0) (c .before .before .list-global .ensures) (c .before .before .list-global .kept .1 .1 .1 .0) (c .before .before .before .before .before .before .before .before .before .before .before .before .before .before .walk-line .kept .1 .1 .1 .1 .1 .1 .1 .0)
+    let p = c .before .before .before .before .before .place-visits in
+    placing-global (c .before .before .before .before .before .before .before .before .before .before .before .before .before .before .loop .inv) (c .before .before .before .before .before .before .before .before .before .before .before .before .before .loop-test .taken) (c .before .before .before .before .before .before .before .before .before .before .before .walk-line .ensures) (p .ensures) (p .kept .1 .1 .1 .0) (p .kept .1 .1 .1 .1 .0) (c .if1 .taken) (c .before .before .before .before .before .before .before .before .before .before .before .walk-line .kept .1 .1 .1 .1 .1 .1 .1 .0)
+
+loop-less-2 : tie.Need-loop-less-2 Inv-loop μ-loop
+loop-less-2 c = let l = c .before .before .before .before .before .before .before .before .before .before .before .before .before .loop-test .taken in omega arith
+
+loop-again-2 : tie.Need-loop-again-2 Inv-loop μ-loop
+loop-again-2 c =
+    let p = c .before .before .before .before .before .place-visits in
+    placing-local (c .before .before .before .before .before .before .before .before .before .before .before .before .before .before .loop .inv) (c .before .before .before .before .before .before .before .before .before .before .before .before .before .loop-test .taken) (c .before .before .before .before .before .before .before .before .before .before .before .walk-line .ensures) (p .ensures) (p .kept .1 .1 .1 .0) (p .kept .1 .1 .1 .1 .0) (c .if1 .left) (c .before .before .before .before .before .before .before .before .before .before .before .walk-line .kept .1 .1 .1 .1 .1 .1 .1 .0)
 
 pub place-lines-spec : {M : Type 1} → statement M
 place-lines-spec =
@@ -51,11 +65,15 @@ place-lines-spec =
     loop-holds
     walk-line-requires
     place-visits-requires
-    list-global-requires
-    add-found
+    cast-line
     (λ c. omega arith)
+    mul-globals
+    slice-write-globals
+    add-found
     loop-less
     loop-again
+    loop-less-2
+    loop-again-2
     (λ c. c .before .loop .inv .len)
     (λ c. c .before .loop .inv .len-items)
     (λ c. c .before .loop .inv .len-globals)

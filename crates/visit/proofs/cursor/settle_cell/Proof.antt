@@ -1,18 +1,18 @@
 -- `visit::cursor::settle_cell` meets its contract. The invariant: the same is left as at the start. Assumes nothing.
 use mathlib.Core.Path.{refl}
-use Prim.Native.Nat.{_-_}
+use Prim.Native.Nat.{_+_, _-_}
 use native.Mathlib.Omega.{arith}
-use Rattle.visit.proofs.CellTurns.{Settling, settling-none, settled-past, from-to, to-in, settled-here, settled-row, settling-more}
+use Rattle.visit.proofs.CellTurns.{Settling, settling-none, settled-past, from-to, settled-here, settled-row, settling-more}
 use Rattle.visit.proofs.cursor.settle_cell.Statement.{statement}
 use Rattle.visit.proofs.cursor.settle_cell.Tie as tie
 use Rattle.visit.proofs.cursor.settle_cell.Reads as reads
 use Rattle.visit.proofs.cursor.settle_cell.Lts as lts
 
 abbrev Inv-loop : tie.InvT-loop
-Inv-loop cells offsets items cell i j cell₀ i₀ j₀ cell' i' j' = Settling cells offsets items cell i j cell' i' j'
+Inv-loop cells offsets items cell₀ i₀ j₀ cell i j = Settling cells offsets items cell₀ i₀ j₀ cell i j
 
 abbrev μ-loop : tie.MeasureT-loop
-μ-loop cells offsets items cell i j cell₀ i₀ j₀ cell' i' j' = cells - cell'
+μ-loop cells offsets items cell₀ i₀ j₀ cell i j = cells - cell
 
 loop-holds : tie.Need-loop-holds Inv-loop μ-loop
 loop-holds c =
@@ -25,6 +25,9 @@ mul-from c = omega arith
 shared-slice-read-from : tie.Need-shared-slice-read-from Inv-loop μ-loop
 shared-slice-read-from c = omega arith
 
+cast-from : tie.Need-cast-from Inv-loop μ-loop
+cast-from c = let l = c .before .before .loop in omega (arith, l .inv .table .within (l .cell) (omega (arith, c .before .loop-test .taken)), c .before .before .before .good .1 .1 .0)
+
 add-to : tie.Need-add-to Inv-loop μ-loop
 add-to c = omega arith
 
@@ -34,17 +37,14 @@ mul-to c = omega arith
 shared-slice-read-to : tie.Need-shared-slice-read-to Inv-loop μ-loop
 shared-slice-read-to c = omega arith
 
+cast-to : tie.Need-cast-to Inv-loop μ-loop
+cast-to c = let l = c .before .before .before .loop in omega (arith, l .inv .table .within (l .cell + 1) (omega (arith, c .before .before .loop-test .taken)), c .before .before .before .before .good .1 .1 .0)
+
 sub-len : tie.Need-sub-len Inv-loop μ-loop
 sub-len c =
     let a = c .before .before .before .before .args in
     let l = c .before .before .before .loop in
     from-to (a .cells) (a .offsets .now) (a .items .now) (a .cell) (a .i) (a .j) (l .cell) (l .i) (l .j) (l .inv) (c .before .before .loop-test .taken) _ _ refl refl
-
-cast-len : tie.Need-cast-len Inv-loop μ-loop
-cast-len c =
-    let a = c .before .before .before .before .args in
-    let l = c .before .before .before .loop in
-    omega (arith, to-in (a .cells) (a .offsets .now) (a .items .now) (a .cell) (a .i) (a .j) (l .cell) (l .i) (l .j) (l .inv) (c .before .before .loop-test .taken) _ _ refl refl, c .before .before .before .before .good .1 .1 .0)
 
 returns : tie.Need-returns Inv-loop μ-loop
 returns c =
@@ -91,11 +91,12 @@ settle-cell-spec =
     loop-holds
     mul-from
     shared-slice-read-from
+    cast-from
     add-to
     mul-to
     shared-slice-read-to
+    cast-to
     sub-len
-    cast-len
     returns
     add-next
     add-after

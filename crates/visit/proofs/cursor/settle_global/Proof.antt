@@ -9,10 +9,10 @@ use Rattle.visit.proofs.cursor.settle_global.Lts as lts
 use Rattle.visit.proofs.cursor.stop_at.Reads as stop-at-reads
 
 abbrev Inv-loop : tie.InvT-loop
-Inv-loop lines count globals p q k p₀ q₀ k₀ p' q' k' = Gliding lines count globals p q k p' q' k'
+Inv-loop lines count globals p₀ q₀ k₀ p q k = Gliding lines count globals p₀ q₀ k₀ p q k
 
 abbrev μ-loop : tie.MeasureT-loop
-μ-loop lines count globals p q k p₀ q₀ k₀ p' q' k' = (count - p') * (count + 2) + (p' + 1 - q')
+μ-loop lines count globals p₀ q₀ k₀ p q k = (count - p) * (count + 2) + (p + 1 - q)
 
 loop-holds : tie.Need-loop-holds Inv-loop μ-loop
 loop-holds c =

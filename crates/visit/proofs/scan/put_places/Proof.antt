@@ -8,46 +8,37 @@ use Rattle.visit.proofs.scan.put_places.Reads as reads
 use Rattle.visit.proofs.scan.put_places.Lts as lts
 
 abbrev Inv-loop : tie.InvT-loop
-Inv-loop places₀ from to number i₀ places i = Putting places₀ from to number places i
+Inv-loop places₀ from₀ to number places from = Putting places₀ from₀ to number places from
 
 abbrev μ-loop : tie.MeasureT-loop
-μ-loop places₀ from to number i₀ places i = to - i
+μ-loop places₀ from₀ to number places from = to - from
 
--- src/scan.rt:215:9
 returns : tie.Need-returns Inv-loop μ-loop
 returns c = put-short (c .before .args .places .now) (c .before .args .from) (c .before .args .to) (c .before .args .number) (c .if1 .taken)
 
--- src/scan.rt:218:5
 loop-holds : tie.Need-loop-holds Inv-loop μ-loop
 loop-holds c = putting-none (c .before .args .places .now) (c .before .args .from) (c .before .args .to) (c .before .args .number)
 
--- src/scan.rt:219:9
 mul-places : tie.Need-mul-places Inv-loop μ-loop
 mul-places c = omega (arith, c .before .loop .inv .long, c .before .before .if1 .left)
 
--- src/scan.rt:219:9
 slice-write-places : tie.Need-slice-write-places Inv-loop μ-loop
 slice-write-places c = omega (arith, c .before .loop .inv .long, c .before .before .if1 .left)
 
--- src/scan.rt:220:13
-add-i : tie.Need-add-i Inv-loop μ-loop
-add-i c = omega arith
+add-from : tie.Need-add-from Inv-loop μ-loop
+add-from c = omega arith
 
--- src/scan.rt:218:5
 loop-less : tie.Need-loop-less Inv-loop μ-loop
 loop-less c = omega arith
 
--- src/scan.rt:218:5
 loop-again : tie.Need-loop-again Inv-loop μ-loop
-loop-again c = putting-more (c .before .before .before .args .places .now) (c .before .before .before .args .from) (c .before .before .before .args .to) (c .before .before .before .args .number) (c .before .loop .places) (c .before .loop .i) (c .before .loop .inv) (c .loop-test .taken) (omega (arith, c .before .loop .inv .long, c .before .before .if1 .left))
+loop-again c = putting-more (c .before .before .before .args .places .now) (c .before .before .before .args .from) (c .before .before .before .args .to) (c .before .before .before .args .number) (c .before .loop .places) (c .before .loop .from) (c .before .loop .inv) (c .loop-test .taken) (omega (arith, c .before .loop .inv .long, c .before .before .if1 .left))
 
--- src/scan.rt:211:1
 same-length : tie.Need-same-length Inv-loop μ-loop
 same-length c = c .before .loop .inv .long
 
--- src/scan.rt:211:1
 returns-2 : tie.Need-returns-2 Inv-loop μ-loop
-returns-2 c = putting-done (c .before .before .before .args .places .now) (c .before .before .before .args .from) (c .before .before .before .args .to) (c .before .before .before .args .number) (c .before .loop .places) (c .before .loop .i) (c .before .loop .inv) (omega arith)
+returns-2 c = putting-done (c .before .before .before .args .places .now) (c .before .before .before .args .from) (c .before .before .before .args .to) (c .before .before .before .args .number) (c .before .loop .places) (c .before .loop .from) (c .before .loop .inv) (omega arith)
 
 pub put-places-spec : {M : Type 1} → statement M
 put-places-spec =
@@ -59,7 +50,7 @@ put-places-spec =
     loop-holds
     mul-places
     slice-write-places
-    add-i
+    add-from
     loop-less
     loop-again
     same-length

@@ -8,7 +8,7 @@ use Rattle.grid.specs.Domain.{lines}
 use Rattle.grid.proofs.Fine.{lines-fine}
 use Rattle.seek.specs.Cursors.{globalsRest}
 use Rattle.visit.specs.Inside.{GlobalIs}
-use Rattle.visit.proofs.RunTurns.{global-at, global-past, GlobalsRun, globals-run, globals-long, globals-long-2, globals-long-3, globals-full, globals-over, global-in, global-few, global-asks, lines-asks, globals-turn, globals-less, globals-small}
+use Rattle.visit.proofs.RunTurns.{global-at, global-past, GlobalsRun, globals-run, globals-full, globals-over, global-in, global-few, global-asks, lines-asks, globals-turn, globals-less, globals-small}
 use Rattle.visit.proofs.scan.run_globals.Statement.{statement}
 use Rattle.visit.proofs.scan.run_globals.Tie as tie
 use Rattle.visit.proofs.scan.run_globals.Reads as reads
@@ -19,12 +19,12 @@ use Rattle.visit.proofs.scan.scan_lines.Reads as scan-lines-reads
 use Rattle.visit.proofs.scan.put_places.Reads as put-places-reads
 
 abbrev Inv-loop : tie.InvT-loop
-Inv-loop cells globals count p q k start-x start-y end-x end-y first₀ second₀ places₀ hits n p₀ q₀ k₀ tests₀ hits₀ first second places p' q' k' tests hits' =
-    GlobalsRun (lines start-x start-y end-x end-y) cells count globals p k first₀ second₀ places₀ hits first second places p' q' k' tests hits'
+Inv-loop cells globals count p₀ q₀ k₀ start-x start-y end-x end-y first₀ second₀ places₀ hits₀ n tests₀ p q k first second places hits tests =
+    GlobalsRun (lines start-x start-y end-x end-y) cells count globals p₀ k₀ first₀ second₀ places₀ hits₀ first second places p q k tests hits
 
 abbrev μ-loop : tie.MeasureT-loop
-μ-loop cells globals count p q k start-x start-y end-x end-y first₀ second₀ places₀ hits n p₀ q₀ k₀ tests₀ hits₀ first second places p' q' k' tests hits' =
-    length (globalsRest (length start-x) globals (count - p') p' k')
+μ-loop cells globals count p₀ q₀ k₀ start-x start-y end-x end-y first₀ second₀ places₀ hits₀ n tests₀ p q k first second places hits tests =
+    length (globalsRest (length start-x) globals (count - p) p k)
 
 -- the run that was found
 found : (c : tie.After-a Inv-loop μ-loop)
@@ -139,53 +139,29 @@ loop-again c =
     globals-turn ls (a .cells) (a .count) (a .globals .now) (a .p) (a .q) (a .k) (a .first .now) (a .second .now) (a .places .now) (a .hits) (c .before .before .before .before .before .before .before .before .before .before .before .before .before .before .before .before .before .before .before .before .before .before .before .before .before .before .before .before .pre) (l .first) (l .second) (l .places) (l .p) (l .q) (l .k) (l .tests) (l .hits) (l .inv) (f .0) (f .1 .0) (f .1 .1 .0) (f .1 .1 .1 .0) (found (c .before .before .before .before .before .before .before .before .before .before .before .before .before .before .before)) _ (c .before .before .before .before .before .before .before .before .before .before .before .before .row-of .ensures) _ _ (c .before .before .before .before .before .before .before .before .before .scan-lines .result) (c .before .before .before .before .before .before .before .before .before .scan-lines .ensures) _ (c .before .before .before .put-places .ensures)
 
 same-length : tie.Need-same-length Inv-loop μ-loop
-same-length c =
-    let a = c .before .before .before .before .before .before .before .before .before .before .args in
-    let l = c .before .loop in
-    let ls = lines (a .start-x .now) (a .start-y .now) (a .end-x .now) (a .end-y .now) in
-    globals-long ls (a .cells) (a .count) (a .globals .now) (a .p) (a .q) (a .k) (a .first .now) (a .second .now) (a .places .now) (a .hits) (c .before .before .before .before .before .before .before .before .before .before .pre) (l .first) (l .second) (l .places) (l .p) (l .q) (l .k) (l .tests) (l .hits) (l .inv)
+same-length c = c .before .loop .inv .moved .first-long
 
 same-length-2 : tie.Need-same-length-2 Inv-loop μ-loop
-same-length-2 c =
-    let a = c .before .before .before .before .before .before .before .before .before .before .args in
-    let l = c .before .loop in
-    let ls = lines (a .start-x .now) (a .start-y .now) (a .end-x .now) (a .end-y .now) in
-    globals-long-2 ls (a .cells) (a .count) (a .globals .now) (a .p) (a .q) (a .k) (a .first .now) (a .second .now) (a .places .now) (a .hits) (c .before .before .before .before .before .before .before .before .before .before .pre) (l .first) (l .second) (l .places) (l .p) (l .q) (l .k) (l .tests) (l .hits) (l .inv)
+same-length-2 c = c .before .loop .inv .moved .second-long
 
 same-length-3 : tie.Need-same-length-3 Inv-loop μ-loop
-same-length-3 c =
-    let a = c .before .before .before .before .before .before .before .before .before .before .args in
-    let l = c .before .loop in
-    let ls = lines (a .start-x .now) (a .start-y .now) (a .end-x .now) (a .end-y .now) in
-    globals-long-3 ls (a .cells) (a .count) (a .globals .now) (a .p) (a .q) (a .k) (a .first .now) (a .second .now) (a .places .now) (a .hits) (c .before .before .before .before .before .before .before .before .before .before .pre) (l .first) (l .second) (l .places) (l .p) (l .q) (l .k) (l .tests) (l .hits) (l .inv)
+same-length-3 c = c .before .loop .inv .placed 0 .place-long
 
 returns : tie.Need-returns Inv-loop μ-loop
 returns c =
     let a = c .before .before .before .before .before .before .before .before .before .before .args in
     let l = c .before .loop in
     let ls = lines (a .start-x .now) (a .start-y .now) (a .end-x .now) (a .end-y .now) in
-    globals-full ls (a .cells) (a .count) (a .globals .now) (a .p) (a .q) (a .k) (a .first .now) (a .second .now) (a .places .now) (a .hits) (c .before .before .before .before .before .before .before .before .before .before .pre) (l .first) (l .second) (l .places) (l .p) (l .q) (l .k) (l .tests) (l .hits) (l .inv) (omega (arith, globals-long ls (a .cells) (a .count) (a .globals .now) (a .p) (a .q) (a .k) (a .first .now) (a .second .now) (a .places .now) (a .hits) (c .before .before .before .before .before .before .before .before .before .before .pre) (l .first) (l .second) (l .places) (l .p) (l .q) (l .k) (l .tests) (l .hits) (l .inv), c .loop-test .left))
+    globals-full ls (a .cells) (a .count) (a .globals .now) (a .p) (a .q) (a .k) (a .first .now) (a .second .now) (a .places .now) (a .hits) (c .before .before .before .before .before .before .before .before .before .before .pre) (l .first) (l .second) (l .places) (l .p) (l .q) (l .k) (l .tests) (l .hits) (l .inv) (omega (arith, l .inv .moved .first-long, c .loop-test .left))
 
 same-length-4 : tie.Need-same-length-4 Inv-loop μ-loop
-same-length-4 c =
-    let a = c .before .before .before .before .before .before .before .before .before .before .before .before .before .args in
-    let l = c .before .before .before .before .loop in
-    let ls = lines (a .start-x .now) (a .start-y .now) (a .end-x .now) (a .end-y .now) in
-    globals-long ls (a .cells) (a .count) (a .globals .now) (a .p) (a .q) (a .k) (a .first .now) (a .second .now) (a .places .now) (a .hits) (c .before .before .before .before .before .before .before .before .before .before .before .before .before .pre) (l .first) (l .second) (l .places) (l .p) (l .q) (l .k) (l .tests) (l .hits) (l .inv)
+same-length-4 c = c .before .before .before .before .loop .inv .moved .first-long
 
 same-length-5 : tie.Need-same-length-5 Inv-loop μ-loop
-same-length-5 c =
-    let a = c .before .before .before .before .before .before .before .before .before .before .before .before .before .args in
-    let l = c .before .before .before .before .loop in
-    let ls = lines (a .start-x .now) (a .start-y .now) (a .end-x .now) (a .end-y .now) in
-    globals-long-2 ls (a .cells) (a .count) (a .globals .now) (a .p) (a .q) (a .k) (a .first .now) (a .second .now) (a .places .now) (a .hits) (c .before .before .before .before .before .before .before .before .before .before .before .before .before .pre) (l .first) (l .second) (l .places) (l .p) (l .q) (l .k) (l .tests) (l .hits) (l .inv)
+same-length-5 c = c .before .before .before .before .loop .inv .moved .second-long
 
 same-length-6 : tie.Need-same-length-6 Inv-loop μ-loop
-same-length-6 c =
-    let a = c .before .before .before .before .before .before .before .before .before .before .before .before .before .args in
-    let l = c .before .before .before .before .loop in
-    let ls = lines (a .start-x .now) (a .start-y .now) (a .end-x .now) (a .end-y .now) in
-    globals-long-3 ls (a .cells) (a .count) (a .globals .now) (a .p) (a .q) (a .k) (a .first .now) (a .second .now) (a .places .now) (a .hits) (c .before .before .before .before .before .before .before .before .before .before .before .before .before .pre) (l .first) (l .second) (l .places) (l .p) (l .q) (l .k) (l .tests) (l .hits) (l .inv)
+same-length-6 c = c .before .before .before .before .loop .inv .placed 0 .place-long
 
 returns-2 : tie.Need-returns-2 Inv-loop μ-loop
 returns-2 c =

@@ -3,8 +3,9 @@ ghost use mathlib.Core.Path.{_≡_};
 ghost use mathlib.Core.List.{map};
 ghost use Prim.Native.Nat.{_≤_};
 ghost use lib.ListN.{length};
-ghost use Rattle.records.specs.Questions.{floatBy, firstWords};
-ghost use Rattle.asked.specs.Asked.{WordsAnswered, Walked, WalkAnswer, BuiltWith, BuildAnswer};
+ghost use Rattle.grid.specs.Domain.{lines};
+ghost use Rattle.records.specs.Questions.{floatBy, shortAt, floatAt, wordsIn, floatsIn, firstWords};
+ghost use Rattle.asked.specs.Asked.{WordsAnswered, WalkedWith, WalkAnswer, BuiltWith, BuildAnswer};
 use records::answers;
 use records::questions;
 
@@ -13,7 +14,8 @@ const RUST: u32 = 0;
 
 // A walk in lent scratch.
 fn walked(q: &[u64], scratch: &mut [u32], answer: &mut [u64]) -> usize
-    ensures { λ r. ⌜ WordsAnswered (Walked (now (q .entry)) (now (scratch .entry))) (now (answer .entry)) r (now (answer .exit)) ⌝ }
+    ensures { λ r. let q₀ = now (q .entry) in
+        ⌜ WordsAnswered (WalkedWith (floatAt q₀ 0) (floatAt q₀ 1) (floatAt q₀ 2) (floatAt q₀ 3) (wordsIn q₀ 5 0) (now (scratch .entry))) (now (answer .entry)) r (now (answer .exit)) ⌝ }
 {
     let mut out = [0u64; 1];
     let number = capi::walking::mt_segment_cells(
@@ -52,7 +54,9 @@ fn built(
     answer: &mut [u64],
 ) -> usize
     requires { ⌜ (length (now q) ≤ 16384) × (now floats ≡ map floatBy (firstWords 16384 (now q))) ⌝ }
-    ensures { λ r. ⌜ WordsAnswered (BuiltWith (now (q .entry)) (now (offsets .entry)) (now (items .entry)) (now (globals .entry)) (now (scratch .entry))) (now (answer .entry)) r (now (answer .exit)) ⌝ }
+    ensures { λ r. let q₀ = now (q .entry) in
+        let ls = lines (floatsIn q₀ 5 0) (floatsIn q₀ 5 1) (floatsIn q₀ 5 2) (floatsIn q₀ 5 3) in
+        ⌜ WordsAnswered (BuiltWith (shortAt q₀ 0) ls (now (offsets .entry)) (now (items .entry)) (now (globals .entry)) (now (scratch .entry))) (now (answer .entry)) r (now (answer .exit)) ⌝ }
 {
     let mut out = [0u64; 8];
     let number = capi::building::mt_build(

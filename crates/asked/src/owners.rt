@@ -3,7 +3,7 @@ ghost use mathlib.Core.Path.{_≡_};
 ghost use mathlib.Core.List.{map};
 ghost use Prim.Native.Nat.{_≤_};
 ghost use lib.ListN.{length};
-ghost use Rattle.records.specs.Questions.{floatBy, firstWords};
+ghost use Rattle.records.specs.Questions.{floatBy, wordsIn, floatsIn, firstWords};
 ghost use Rattle.asked.specs.Asked.{WordsAnswered, OwnersWith, OwnersAnswer};
 use records::answers;
 use records::questions;
@@ -11,7 +11,8 @@ use records::questions;
 // The owners, in lent answers. All words of the question are at hand as floats.
 fn told(q: &[u64], floats: &[f64], owners: &mut [u32], answer: &mut [u64]) -> usize
     requires { ⌜ (length (now q) ≤ 16384) × (now floats ≡ map floatBy (firstWords 16384 (now q))) ⌝ }
-    ensures { λ r. ⌜ WordsAnswered (OwnersWith (now (q .entry)) (now (owners .entry))) (now (answer .entry)) r (now (answer .exit)) ⌝ }
+    ensures { λ r. let q₀ = now (q .entry) in
+        ⌜ WordsAnswered (OwnersWith (wordsIn q₀ 1 0) (floatsIn q₀ 1 1) (floatsIn q₀ 1 2) (now (owners .entry))) (now (answer .entry)) r (now (answer .exit)) ⌝ }
 {
     let mut out = [0u64; 1];
     let number = capi::ownership::mt_owners(

@@ -2,10 +2,10 @@
 ghost use mathlib.Core.Path.{_≡_};
 ghost use mathlib.Core.List.{map};
 ghost use Prim.Native.Nat.{_≤_};
-ghost use lib.ListN.{length};
+ghost use lib.ListN.{length, getD, drop};
 ghost use Rattle.records.specs.Questions.{floatBy, shortBy, firstWords};
-ghost use Rattle.records.specs.Answers.{Put};
-ghost use Rattle.asked.specs.Asked.{WordsAnswered, BatchedWith, BatchAnswer, testWords};
+ghost use Rattle.records.specs.Answers.{PutWords};
+ghost use Rattle.asked.specs.Asked.{WordsAnswered, readTables, BatchedWith, BatchAnswer, testWords};
 use records::answers;
 use records::questions;
 
@@ -19,7 +19,8 @@ fn batched(
     answer: &mut [u64],
 ) -> usize
     requires { ⌜ (length (now q) ≤ 16384) × (now floats ≡ map floatBy (firstWords 16384 (now q))) × (now shorts ≡ map shortBy (firstWords 16384 (now q))) ⌝ }
-    ensures { λ r. ⌜ WordsAnswered (BatchedWith (now (q .entry)) (now (first .entry)) (now (second .entry))) (now (answer .entry)) r (now (answer .exit)) ⌝ }
+    ensures { λ r. let q₀ = now (q .entry) in
+        ⌜ WordsAnswered (readTables (getD q₀ 0 0) (drop 4 q₀) (λ w ls t. BatchedWith w ls t (getD q₀ 1 0) (now (first .entry)) (now (second .entry)))) (now (answer .entry)) r (now (answer .exit)) ⌝ }
 {
     let mut out = [0u64; 3];
     let number = capi::visiting::mt_batch(
@@ -71,7 +72,7 @@ pub(crate) fn batch(q: &[u64], answer: &mut [u64]) -> usize
 // One test, with the question's words at hand in the same way.
 fn tested(q: &[u64], floats: &[f64], shorts: &[u32], answer: &mut [u64]) -> usize
     requires { ⌜ (length (now q) ≤ 16384) × (now floats ≡ map floatBy (firstWords 16384 (now q))) × (now shorts ≡ map shortBy (firstWords 16384 (now q))) ⌝ }
-    ensures { λ r. ⌜ Put 0 (testWords (now (q .entry))) (now (answer .entry)) r (now (answer .exit)) ⌝ }
+    ensures { λ r. ⌜ PutWords 0 (testWords (now (q .entry))) (now (answer .entry)) r (now (answer .exit)) ⌝ }
 {
     let mut out = [0u64; 6];
     let number = capi::visiting::mt_test_at(
@@ -92,7 +93,7 @@ fn tested(q: &[u64], floats: &[f64], shorts: &[u32], answer: &mut [u64]) -> usiz
 
 pub(crate) fn test(q: &[u64], answer: &mut [u64]) -> usize
     requires { ⌜ length (now q) ≤ 16384 ⌝ }
-    ensures { λ r. ⌜ Put 0 (testWords (now (q .entry))) (now (answer .entry)) r (now (answer .exit)) ⌝ }
+    ensures { λ r. ⌜ PutWords 0 (testWords (now (q .entry))) (now (answer .entry)) r (now (answer .exit)) ⌝ }
 {
     let floats = questions::all_floats(q);
     let shorts = questions::all_shorts(q);

@@ -1,11 +1,10 @@
--- The words of the answer to a question q about numbers or one point, by its kind: what the exported function answers. compare/REPLAY.md has the form of a
--- question. Definitions only.
+-- The words of the answer to a question q about numbers or one point, by its kind: what the exported function answers. The question is read in order, as
+-- compare/REPLAY.md has its form. Definitions only.
 use Prim.Native.Nat.{ℕ}
 use mathlib.Core.Bool.{cond}
 use mathlib.Core.List.{List, [], _∷_}
 use lib.Dec.{eqb, leb}
 use lib.Ieee.{Float, binary64, toBits}
-use lib.ListN.{getD}
 use Rattle.numbers.specs.Order.{leastOf, greatestOf, magnitudeOf}
 use Rattle.numbers.specs.Floor.{floorOf, clampedFloor}
 use Rattle.numbers.specs.Ceiling.{ceilingOf}
@@ -18,7 +17,7 @@ use Rattle.snap.specs.Snap.{snapAnswer}
 use Rattle.snap.specs.Strategies.{agreementAnswer}
 use Rattle.replies.specs.Answers.{ofOwned, ofOwnerAnswer, ofSnap, ofAgreement}
 use Rattle.capi.specs.Few.{unlessFew}
-use Rattle.records.specs.Questions.{shortBy, floatBy, shortAt, floatAt, wordsIn}
+use Rattle.records.specs.Questions.{shortBy, floatBy, readWord, readShort, readFloat, readWords}
 use Rattle.asked_points.specs.Replying.{replyWords}
 
 -- ---- kind 1
@@ -35,26 +34,48 @@ numberBy f v w =
     (cond (eqb f 7) (toBits binary64 (roundAway v)) (toBits binary64 (root v))))))))
 
 unfoldable pub numberWords : List ℕ → List ℕ
-numberWords q = let f = getD q 0 0 in cond (leb 1 f) (cond (leb f 8) (numberBy f (floatAt q 1) (getD q 2 0) ∷ []) []) []
+numberWords q =
+    readWord q λ f q.
+    readFloat q λ v q.
+    readWord q λ w _. cond (leb 1 f) (cond (leb f 8) (numberBy f v w ∷ []) []) []
 
 -- ---- kinds 6 to 10
 
 unfoldable pub pointOwnedWords : List ℕ → List ℕ
-pointOwnedWords q = let w = wordsIn q 4 0 in replyWords 1 (unlessFew w (ofOwned (pointAnswer (gridBy w) (shortAt q 0) (shortAt q 1) (floatAt q 2) (floatAt q 3))))
+pointOwnedWords q =
+    readShort q λ row q.
+    readShort q λ col q.
+    readFloat q λ x q.
+    readFloat q λ y q.
+    readWords q λ w _. replyWords 1 (unlessFew w (ofOwned (pointAnswer (gridBy w) row col x y)))
 
 unfoldable pub overlapOwnedWords : List ℕ → List ℕ
 overlapOwnedWords q =
-    let w = wordsIn q 6 0 in
-    replyWords 1 (unlessFew w (ofOwned (overlapAnswer (gridBy w) (shortAt q 0) (shortAt q 1) (floatAt q 2) (floatAt q 3) (floatAt q 4) (shortAt q 5))))
+    readShort q λ row q.
+    readShort q λ col q.
+    readFloat q λ x q.
+    readFloat q λ y q.
+    readFloat q λ size q.
+    readShort q λ strategy q.
+    readWords q λ w _. replyWords 1 (unlessFew w (ofOwned (overlapAnswer (gridBy w) row col x y size strategy)))
 
 unfoldable pub ownerWords : List ℕ → List ℕ
-ownerWords q = let w = wordsIn q 2 0 in replyWords 3 (unlessFew w (ofOwnerAnswer (ownerAnswer (gridBy w) (floatAt q 0) (floatAt q 1))))
+ownerWords q =
+    readFloat q λ x q.
+    readFloat q λ y q.
+    readWords q λ w _. replyWords 3 (unlessFew w (ofOwnerAnswer (ownerAnswer (gridBy w) x y)))
 
 unfoldable pub snapWords : List ℕ → List ℕ
-snapWords q = replyWords 2 (ofSnap (snapAnswer (floatAt q 0) (floatAt q 1) (floatAt q 2) (shortAt q 3)))
+snapWords q =
+    readFloat q λ x q.
+    readFloat q λ y q.
+    readFloat q λ size q.
+    readShort q λ strategy _. replyWords 2 (ofSnap (snapAnswer x y size strategy))
 
 unfoldable pub strategiesWords : List ℕ → List ℕ
-strategiesWords q = replyWords 1 (ofAgreement (agreementAnswer (floatAt q 0) (floatAt q 1)))
+strategiesWords q =
+    readFloat q λ v q.
+    readFloat q λ size _. replyWords 1 (ofAgreement (agreementAnswer v size))
 
 -- ---- by kind: no word where the kind is none of these
 

@@ -1,6 +1,6 @@
 // Kind 1: the number functions.
 ghost use mathlib.Core.Path.{_≡_};
-ghost use Rattle.records.specs.Answers.{Put};
+ghost use Rattle.records.specs.Answers.{PutWords};
 ghost use Rattle.asked_points.specs.Asked.{numberBy, numberWords};
 use numbers::bits::from_bits;
 use numbers::bits::to_bits;
@@ -36,7 +36,7 @@ fn number_of(function: u64, v: f64, other: u64) -> u64
 }
 
 pub(crate) fn number(q: &[u64], answer: &mut [u64]) -> usize
-    ensures { λ r. ⌜ Put 0 (numberWords (now (q .entry))) (now (answer .entry)) r (now (answer .exit)) ⌝ }
+    ensures { λ r. ⌜ PutWords 0 (numberWords (now (q .entry))) (now (answer .entry)) r (now (answer .exit)) ⌝ }
 {
     let function = questions::number(q, 0);
     if function < 1 {

@@ -9,23 +9,23 @@ use mathlib.Core.List.{List, [], _∷_, map}
 use lib.ListN.{length, getD, take, drop, set, length-take, length-set, length-map, List·getD-map, List·getD-eq-default, drop-of-length-le}
 use lib.Seq.{slice, take-nil, drop-nil, take-all, getD-set-same, getD-set-other, ext-getD, take-take}
 use Rattle.slices.proofs.Laws.{le-or}
-use Rattle.records.specs.Questions.{endOf, placeOf, besideSlice, wordsIn, firstWords}
+use Rattle.records.specs.Questions.{sliceEnd, slicePlace, besideSlice, wordsIn, firstWords}
 
 -- ---- numbers and places
 
 pub number-beyond : (q : List ℕ) (at : ℕ) → length q ≤ at → 0 ≡ getD q at 0
 number-beyond q at h = sym (List·getD-eq-default q 0 {n = at} h)
 
-pub place-first : (q : List ℕ) (numbers : ℕ) → numbers ≡ placeOf q numbers 0
-unfolding placeOf
+pub place-first : (q : List ℕ) (numbers : ℕ) → numbers ≡ slicePlace q numbers 0
+unfolding slicePlace
 place-first q numbers = refl
 
-pub place-next : (q : List ℕ) (numbers i at to : ℕ) → at ≡ placeOf q numbers i → to ≡ endOf q at → to ≡ placeOf q numbers (i + 1)
-unfolding placeOf
-place-next q numbers i at to e f = rw (add-one i) (f ∙ ap (endOf q) e)
+pub place-next : (q : List ℕ) (numbers i at to : ℕ) → at ≡ slicePlace q numbers i → to ≡ sliceEnd q at → to ≡ slicePlace q numbers (i + 1)
+unfolding slicePlace
+place-next q numbers i at to e f = rw (add-one i) (f ∙ ap (sliceEnd q) e)
 
-end-within : (q : List ℕ) (at : ℕ) → endOf q at ≤ length q
-unfolding endOf
+end-within : (q : List ℕ) (at : ℕ) → sliceEnd q at ≤ length q
+unfolding sliceEnd
 end-within q at = omega arith
 
 -- ---- parts
@@ -42,7 +42,7 @@ module _ {A : Type 0} where
   slice-none f t l h = drop-of-length-le (take t l) {i = f} (omega (arith, length-take t l))
 
   -- a part that ends beyond the end
-  slice-cut : (f t : ℕ) (l : List A) → slice f (min t (length l)) l ≡ slice f t l
+  pub slice-cut : (f t : ℕ) (l : List A) → slice f (min t (length l)) l ≡ slice f t l
   slice-cut f t l = go (le-or t (length l))
     where
       go : (t ≤ length l) ⊎ (length l < t) → slice f (min t (length l)) l ≡ slice f t l
@@ -50,7 +50,7 @@ module _ {A : Type 0} where
       go (inr h) = ap (drop f) (take-all (min t (length l)) l (omega arith) ∙ sym (take-all t l (omega arith)))
 
   -- what is handed out beside slice k, where it has entries, and where it has none
-  pub beside-some : (q : List ℕ) (numbers k at end to : ℕ) (all : List A) → at ≡ placeOf q numbers k → end ≡ endOf q at → to ≡ min end (length all)
+  pub beside-some : (q : List ℕ) (numbers k at end to : ℕ) (all : List A) → at ≡ slicePlace q numbers k → end ≡ sliceEnd q at → to ≡ min end (length all)
       → take (to - (at + 1)) (drop (at + 1) all) ≡ besideSlice q numbers k all
   unfolding besideSlice
   beside-some q numbers k at end to all e f g =
@@ -59,7 +59,7 @@ module _ {A : Type 0} where
       ∙ slice-cut (at + 1) end all
       ∙ rw (add-one at, f, e)
 
-  pub beside-none : (q : List ℕ) (numbers k at end to : ℕ) (all : List A) → at ≡ placeOf q numbers k → end ≡ endOf q at → to ≡ min end (length all) → to ≤ at
+  pub beside-none : (q : List ℕ) (numbers k at end to : ℕ) (all : List A) → at ≡ slicePlace q numbers k → end ≡ sliceEnd q at → to ≡ min end (length all) → to ≤ at
       → [] ≡ besideSlice q numbers k all
   unfolding besideSlice
   beside-none q numbers k at end to all e f g h =
@@ -69,11 +69,11 @@ module _ {A : Type 0} where
       ∙ rw (f, e)
 
 -- the same of the question's own words
-pub words-some : (q : List ℕ) (numbers k at to : ℕ) → at ≡ placeOf q numbers k → to ≡ endOf q at → take (to - (at + 1)) (drop (at + 1) q) ≡ wordsIn q numbers k
+pub words-some : (q : List ℕ) (numbers k at to : ℕ) → at ≡ slicePlace q numbers k → to ≡ sliceEnd q at → take (to - (at + 1)) (drop (at + 1) q) ≡ wordsIn q numbers k
 unfolding wordsIn
 words-some q numbers k at to e f = beside-some q numbers k at to to q e f (omega (arith, f, end-within q at))
 
-pub words-none : (q : List ℕ) (numbers k at to : ℕ) → at ≡ placeOf q numbers k → to ≡ endOf q at → to ≤ at → [] ≡ wordsIn q numbers k
+pub words-none : (q : List ℕ) (numbers k at to : ℕ) → at ≡ slicePlace q numbers k → to ≡ sliceEnd q at → to ≤ at → [] ≡ wordsIn q numbers k
 unfolding wordsIn
 words-none q numbers k at to e f h = beside-none q numbers k at to to q e f (omega (arith, f, end-within q at)) h
 
@@ -140,8 +140,8 @@ module _ {A : Type 0} (f : ℕ → A) where
   pub beside-all : (n : ℕ) (q : List ℕ) (numbers k : ℕ) → length q ≤ n → besideSlice q numbers k (map f (firstWords n q)) ≡ map f (wordsIn q numbers k)
   unfolding besideSlice wordsIn
   beside-all n q numbers k h =
-      let at : ℕ = placeOf q numbers k in
-      let to : ℕ = endOf q at in
+      let at : ℕ = slicePlace q numbers k in
+      let to : ℕ = sliceEnd q at in
       let l : to ≤ length q = end-within q at in
       ap (drop (suc at)) (map-take to (firstWords n q) ∙ ap (map f) (take-first to n q (omega arith) l))
       ∙ map-drop (suc at) (take to q)

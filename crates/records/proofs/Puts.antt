@@ -9,7 +9,7 @@ use mathlib.Core.List.{List, [], _∷_, _++_, append-assoc}
 use lib.ListN.{length, getD, take, set, length-append}
 use lib.Seq.{sets, length-sets, set-out, take-suc, length-take-le}
 use Rattle.slices.proofs.Laws.{le-or}
-use Rattle.records.specs.Answers.{Put, unlessZero, listedOf, lentWords}
+use Rattle.records.specs.Answers.{PutWords, unlessZero, listedOf, lentWords}
 
 -- ---- words after words
 
@@ -32,14 +32,14 @@ sets-cut a at m ws h = go (le-or at m)
     go (inl l) = let e : min at m ≡ at = omega arith in ap (λ (n : ℕ). sets a n ws) e
     go (inr l) = sets-out a (min at m) ws (omega arith) ∙ sym (sets-out a at ws (omega arith))
 
-pub put-none : (at : ℕ) (a : List ℕ) → at ≤ 2 ^ 64 - 1 → Put at [] a at a
+pub put-none : (at : ℕ) (a : List ℕ) → at ≤ 2 ^ 64 - 1 → PutWords at [] a at a
 put-none at a h = record { count = omega arith; words = refl }
 
 -- a word with no room
-pub put-beyond : (at v r : ℕ) (a : List ℕ) → length a ≤ at → r ≡ min (at + 1) (2 ^ 64 - 1) → Put at (v ∷ []) a r a
+pub put-beyond : (at v r : ℕ) (a : List ℕ) → length a ≤ at → r ≡ min (at + 1) (2 ^ 64 - 1) → PutWords at (v ∷ []) a r a
 put-beyond at v r a h e = record { count = e; words = sym (set-out a at v h) }
 
-pub put-then : {at r s : ℕ} {xs ys a b c : List ℕ} → Put at xs a r b → Put r ys b s c → length a ≤ 2 ^ 64 - 1 → Put at (xs ++ ys) a s c
+pub put-then : {at r s : ℕ} {xs ys a b c : List ℕ} → PutWords at xs a r b → PutWords r ys b s c → length a ≤ 2 ^ 64 - 1 → PutWords at (xs ++ ys) a s c
 put-then {at} {r} {s} {xs} {ys} {a} {b} {c} f g h =
     let l : length b ≤ 2 ^ 64 - 1 = omega (arith, ap length (f .words) ∙ length-sets a at xs) in
     record {
@@ -52,12 +52,12 @@ put-then {at} {r} {s} {xs} {ys} {a} {b} {c} f g h =
           ∙ sym (sets-append a at xs ys);
     }
 
-pub put-length : {at r : ℕ} {ws a b : List ℕ} → Put at ws a r b → length b ≡ length a
+pub put-length : {at r : ℕ} {ws a b : List ℕ} → PutWords at ws a r b → length b ≡ length a
 put-length {at} {r} {ws} {a} {b} f = ap length (f .words) ∙ length-sets a at ws
 
 -- the words that are put are the first i of s, after others: one more
-pub put-more : {at r t i v : ℕ} (xs s : List ℕ) {a b c : List ℕ} → Put at (xs ++ take i s) a r b → Put r (v ∷ []) b t c → v ≡ getD s i 0 → i < length s → length a ≤ 2 ^ 64 - 1
-    → Put at (xs ++ take (i + 1) s) a t c
+pub put-more : {at r t i v : ℕ} (xs s : List ℕ) {a b c : List ℕ} → PutWords at (xs ++ take i s) a r b → PutWords r (v ∷ []) b t c → v ≡ getD s i 0 → i < length s → length a ≤ 2 ^ 64 - 1
+    → PutWords at (xs ++ take (i + 1) s) a t c
 put-more {at} {r} {t} {i} {v} xs s {a} {b} {c} f g e h l =
     let p : (xs ++ take i s) ++ (v ∷ []) ≡ xs ++ take (i + 1) s = rw (add-one i, take-suc s i 0, append-assoc, e) in
     rw p at (put-then f g l)

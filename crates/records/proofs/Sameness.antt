@@ -1,17 +1,13 @@
--- How far two rows of words are the same, and which records agree: exactly those all of whose words, with all words before them, are the same
--- in both files. Assumes nothing.
-use Prim.Native.Nat.{ℕ, zero, suc, _+_, _≤_, _<_}
+-- How far two rows of words are the same. Assumes nothing.
+use Prim.Native.Nat.{ℕ, zero, suc, _≤_, _<_}
 use native.Mathlib.Omega.{arith}
 use native.Mathlib.Decide.{ℕ-discrete}
-use mathlib.Core.Path.{_≡_, refl, sym, ap, _∙_}
-use mathlib.Core.List.{List, [], _∷_, List·Memᴰ, cons≢nil, head-eq-of-cons-eq, tail-eq-of-cons-eq}
-use mathlib.Core.Logic.{_↔_}
+use mathlib.Core.Path.{_≡_, refl}
+use mathlib.Core.List.{List, [], _∷_, cons≢nil, head-eq-of-cons-eq, tail-eq-of-cons-eq}
 use borrow.Author.Tests.{eq-eqb, ne-eqb}
 use lib.ListN.{length, take, drop, getD, drop-of-length-le}
 use lib.Seq.{drop-cons}
 use Rattle.records.specs.Words.{sameTo}
-use Rattle.records.specs.Files.{Record, recordsOf}
-use Rattle.records.proofs.Rows.{ends-within, first-records}
 
 -- ---- the words up to the first that differs
 
@@ -33,7 +29,7 @@ same-within (x ∷ a) (y ∷ b) = elim (ℕ-discrete x y) [
 ]
 
 -- the first n words are the same in both, up to that place and no further
-same-take : (n : ℕ) (a b : List ℕ) → n ≤ sameTo a b → take n a ≡ take n b
+pub same-take : (n : ℕ) (a b : List ℕ) → n ≤ sameTo a b → take n a ≡ take n b
 unfolding sameTo
 same-take zero a b h = refl
 same-take (suc n) [] b h = absurd (omega (arith, h))
@@ -43,31 +39,13 @@ same-take (suc n) (x ∷ a) (y ∷ b) h = elim (ℕ-discrete x y) [
   | no d ↦ absurd (let g = rw (same-none x y a b d) at h in omega (arith, g))
 ]
 
-take-same : (n : ℕ) (a b : List ℕ) → n ≤ length a → take n a ≡ take n b → n ≤ sameTo a b
+pub take-same : (n : ℕ) (a b : List ℕ) → n ≤ length a → take n a ≡ take n b → n ≤ sameTo a b
 unfolding sameTo
 take-same zero a b h e = omega arith
 take-same (suc n) [] b h e = absurd (omega (arith, h))
 take-same (suc n) (x ∷ a) [] h e = absurd (cons≢nil e)
 take-same (suc n) (x ∷ a) (y ∷ b) h e =
     rw (same-more x y a b (head-eq-of-cons-eq e)) (omega (arith, take-same n a b (omega (arith, h)) (tail-eq-of-cons-eq e)))
-
--- ---- the records that agree
-
--- A RECORD AGREES EXACTLY WHERE ALL ITS WORDS, AND ALL BEFORE IT, ARE THE SAME IN BOTH FILES
-pub same-exactly : (a b : List ℕ) (r : Record) →
-    List·Memᴰ r (recordsOf (take (sameTo a b) a)) ↔ (List·Memᴰ r (recordsOf a) × (take (r .end) a ≡ take (r .end) b))
-unfolding recordsOf
-same-exactly a b r =
-    let f = first-records 0 0 (sameTo a b) a r in (
-      λ m.
-          let p = f .0 m in
-          let h = p .1 in
-          (p .0, same-take (r .end) a b (omega (arith, h))),
-      λ p.
-          let h = ends-within 0 0 a (p .0) in
-          let k = take-same (r .end) a b (omega (arith, h)) (p .1) in
-          f .1 (p .0, omega (arith, k)),
-    )
 
 -- ---- word by word
 

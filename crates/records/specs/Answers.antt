@@ -7,7 +7,7 @@ use lib.Seq.{sets}
 
 -- The words ws are written to a from a place on, as far as there is room, and no other; r is how many there are by then, those that have no room too,
 -- or 2^64 - 1 where there are more.
-pub record Put (at : ℕ) (ws a : List ℕ) (r : ℕ) (a′ : List ℕ) : Type 0 where
+pub record PutWords (at : ℕ) (ws a : List ℕ) (r : ℕ) (a′ : List ℕ) : Type 0 where
   pub count : r ≡ min (at + length ws) (2 ^ 64 - 1)
   pub words : a′ ≡ sets a at ws
 

@@ -3,35 +3,32 @@
 use Prim.Native.Nat.{ℕ, zero, suc, _+_}
 use mathlib.Core.Bool.{cond}
 use mathlib.Core.List.{List, [], _∷_}
-use lib.Dec.{eqb, leb}
-use lib.ListN.{length}
+use lib.Dec.{leb}
+use lib.ListN.{length, take, drop}
 
--- a record by its kind and the place where it ends
 pub record Record : Type 0 where
   pub kind : ℕ
-  pub end : ℕ
+  pub question : List ℕ
+  pub answer : List ℕ
 
--- the records that stand whole in w, the first of them after n words, where `at` words stand before w
-unfoldable pub recordsFrom : ℕ → ℕ → List ℕ → List Record
-recordsFrom at (suc n) [] = []
-recordsFrom at (suc n) (x ∷ w) = recordsFrom (suc at) n w
-recordsFrom at zero [] = []
-recordsFrom at zero (kind ∷ []) = []
-recordsFrom at zero (kind ∷ q ∷ []) = []
-recordsFrom at zero (kind ∷ q ∷ a ∷ w) =
-    cond (leb (q + a) (length w)) (record { kind = kind; end = at + 3 + (q + a) } ∷ recordsFrom (at + 3) (q + a) w) []
+-- the records that stand whole in w, the first of them after n words
+unfoldable pub recordsFrom : ℕ → List ℕ → List Record
+recordsFrom (suc n) [] = []
+recordsFrom (suc n) (x ∷ w) = recordsFrom n w
+recordsFrom zero [] = []
+recordsFrom zero (kind ∷ []) = []
+recordsFrom zero (kind ∷ q ∷ []) = []
+recordsFrom zero (kind ∷ q ∷ a ∷ w) =
+    cond (leb (q + a) (length w)) (record { kind = kind; question = take q w; answer = take a (drop q w) } ∷ recordsFrom (q + a) w) []
 
 -- the records that stand whole in w, from the first on
 unfoldable pub recordsOf : List ℕ → List Record
-recordsOf w = recordsFrom 0 0 w
+recordsOf w = recordsFrom 0 w
 
--- how many are of the kind k
-unfoldable pub ofKind : ℕ → List Record → ℕ
-ofKind k [] = 0
-ofKind k (r ∷ rs) = cond (eqb (r .kind) k) 1 0 + ofKind k rs
-
-unfoldable pub countOf : ℕ → List ℕ → ℕ
-countOf k w = ofKind k (recordsOf w)
+-- how many words records have
+unfoldable pub spanOf : List Record → ℕ
+spanOf [] = 0
+spanOf (r ∷ rs) = 3 + (length (r .question) + length (r .answer)) + spanOf rs
 
 -- how many words the record has that w begins with; 0 where none stands whole there
 unfoldable pub sizeOf : List ℕ → ℕ

@@ -1,4 +1,4 @@
--- `Words`: words in bytes, and how far two rows of them are the same. `Files`: the records of a file, how many are of a kind, and how long one is.
+-- `Words`: words in bytes, and how far two rows of them are the same. `Files`: the records of a file, and how long they are.
 -- `Questions`: what stands in the words of a question. `Answers`: words written as far as there is room.
 pub mod Words
 pub mod Files

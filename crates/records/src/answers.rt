@@ -4,12 +4,12 @@ ghost use mathlib.Core.Path.{_≡_};
 ghost use mathlib.Core.List.{[], _∷_};
 ghost use Prim.Native.Nat.{_≤_};
 ghost use lib.ListN.{length, take};
-ghost use Rattle.records.specs.Answers.{Put, listedOf, lentWords};
+ghost use Rattle.records.specs.Answers.{PutWords, listedOf, lentWords};
 
 const MOST: usize = 18446744073709551615;
 
 pub fn word(out: &mut [u64], at: usize, v: u64) -> usize
-    ensures { λ r. ⌜ Put at (v ∷ []) (now (out .entry)) r (now (out .exit)) ⌝ }
+    ensures { λ r. ⌜ PutWords at (v ∷ []) (now (out .entry)) r (now (out .exit)) ⌝ }
 {
     if at < out.len() {
         out[at] = v;
@@ -22,7 +22,7 @@ pub fn word(out: &mut [u64], at: usize, v: u64) -> usize
 }
 
 pub fn words(out: &mut [u64], at: usize, s: &[u64]) -> usize
-    ensures { λ r. ⌜ Put at (now (s .entry)) (now (out .entry)) r (now (out .exit)) ⌝ }
+    ensures { λ r. ⌜ PutWords at (now (s .entry)) (now (out .entry)) r (now (out .exit)) ⌝ }
 {
     let mut to = at;
     let mut i = 0;
@@ -35,7 +35,7 @@ pub fn words(out: &mut [u64], at: usize, s: &[u64]) -> usize
 
 // How an answer begins: the number that is returned, and the words of `out`.
 pub fn reply(answer: &mut [u64], number: u32, out: &[u64]) -> usize
-    ensures { λ r. ⌜ Put 0 (number ∷ now (out .entry)) (now (answer .entry)) r (now (answer .exit)) ⌝ }
+    ensures { λ r. ⌜ PutWords 0 (number ∷ now (out .entry)) (now (answer .entry)) r (now (answer .exit)) ⌝ }
 {
     let to = word(answer, 0, number as u64);
     words(answer, to, out)
@@ -57,7 +57,7 @@ fn listed(s: &[u32]) -> usize
 
 // A slice that was lent: the number of its entries up to the last that is not zero, and those entries.
 pub fn written(answer: &mut [u64], at: usize, s: &[u32]) -> usize
-    ensures { λ r. ⌜ Put at (lentWords (now (s .entry))) (now (answer .entry)) r (now (answer .exit)) ⌝ }
+    ensures { λ r. ⌜ PutWords at (lentWords (now (s .entry))) (now (answer .entry)) r (now (answer .exit)) ⌝ }
 {
     let n = listed(s);
     let mut to = word(answer, at, n as u64);

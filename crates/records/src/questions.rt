@@ -4,7 +4,7 @@ ghost use mathlib.Core.Path.{_≡_};
 ghost use mathlib.Core.List.{map};
 ghost use Prim.Native.Nat.{_≤_};
 ghost use lib.ListN.{length, getD};
-ghost use Rattle.records.specs.Questions.{floatBy, shortBy, shortAt, floatAt, endOf, placeOf, wordsIn, besideSlice, firstWords};
+ghost use Rattle.records.specs.Questions.{floatBy, shortBy, shortAt, floatAt, sliceEnd, slicePlace, wordsIn, besideSlice, firstWords};
 use numbers::bits::from_bits;
 use slices::least;
 
@@ -64,7 +64,7 @@ pub fn all_shorts(q: &[u64]) -> [u32; 16384]
 
 // Where the slice at a place ends.
 fn end(q: &[u64], at: usize) -> usize
-    ensures { λ r. ⌜ (r ≡ endOf (now (q .entry)) at) × (r ≤ length (now (q .entry))) ⌝ }
+    ensures { λ r. ⌜ (r ≡ sliceEnd (now (q .entry)) at) × (r ≤ length (now (q .entry))) ⌝ }
 {
     if q.len() <= at {
         return q.len();
@@ -79,7 +79,7 @@ fn end(q: &[u64], at: usize) -> usize
 
 // Where slice k is, from 0 on, in a question with so many numbers.
 fn place(q: &[u64], numbers: usize, k: usize) -> usize
-    ensures { λ r. ⌜ r ≡ placeOf (now (q .entry)) numbers k ⌝ }
+    ensures { λ r. ⌜ r ≡ slicePlace (now (q .entry)) numbers k ⌝ }
 {
     let mut at = numbers;
     let mut i = 0;

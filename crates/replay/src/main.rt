@@ -1,57 +1,72 @@
 // The program: recorded questions and answers of the Rust from standard input; how many of each kind the port answers alike, to standard output.
-// The file is made once more with the port's answers, and the two are compared. The last line is `all agree`, or says which word is the first
-// that differs.
+// The last line is `all agree`, or says how many of the words are those of records that agree.
 ghost use mathlib.Core.Path.{_≡_};
-ghost use Prim.Native.Nat.{_*_};
+ghost use Prim.Native.Nat.{_≤_};
 ghost use lib.ListN.{length};
 use libc::STDIN_FILENO;
 use libc::STDOUT_FILENO;
-use records::files;
 use records::words;
 
-mod asking;
-
 // A name and a number.
-fn say(name: &[u8], n: u64) {
+fn say(name: &[u8], n: usize) {
     io::write_all(STDOUT_FILENO, name);
     io::write_all(STDOUT_FILENO, b" ");
-    io::print_decimal(STDOUT_FILENO, n);
+    io::print_decimal(STDOUT_FILENO, n as u64);
     io::write_all(STDOUT_FILENO, b"\n");
 }
 
-// How many of the records are of each kind.
-fn say_kinds(w: &[u64]) {
-    say(b"numbers", files::count(w, 1));
-    say(b"walks", files::count(w, 2));
-    say(b"builds", files::count(w, 3));
-    say(b"batches", files::count(w, 4));
-    say(b"tests", files::count(w, 5));
-    say(b"points owned", files::count(w, 6));
-    say(b"overlaps owned", files::count(w, 7));
-    say(b"owners", files::count(w, 8));
-    say(b"snaps", files::count(w, 9));
-    say(b"strategies", files::count(w, 10));
-    say(b"owners of many", files::count(w, 11));
+// How many records of a kind agree. Answers how many words they have.
+fn say_kind(name: &[u8], file: &[u64], kind: u64) -> usize
+    ensures { λ r. ⌜ r ≤ length (now (file .entry)) ⌝ }
+{
+    let tally = agreed::agreeing(file, kind);
+    say(name, tally.records);
+    tally.words
 }
 
-// The records up to the first word that differs, and that word, if there is one.
-fn compare(file: &[u64], made: &[u64]) {
-    let same = words::same_to(file, made);
-    say_kinds(&file[..same]);
-    if same == file.len() {
+// Where the line ends that begins at a place.
+fn line_end(text: &[u8], from: usize) -> usize
+    requires { ⌜ from ≤ length (now text) ⌝ }
+    ensures { λ r. ⌜ (from ≤ r) × (r ≤ length (now (text .entry))) ⌝ }
+{
+    let mut to = from;
+    while to < text.len() {
+        if text[to] == 10 {
+            return to;
+        }
+        to += 1;
+    }
+    to
+}
+
+// The kinds in order, each by the line that names it. Answers how many words the records that agree have.
+fn say_kinds(names: &[u8], file: &[u64]) -> usize
+    requires { ⌜ (length (now names) ≤ 196608) × (length (now file) ≤ 196608) ⌝ }
+{
+    let mut agree = 0;
+    let mut kind = 1;
+    let mut from = 0;
+    while from < names.len() {
+        let to = line_end(names, from);
+        agree += say_kind(&names[from..to], file, kind);
+        kind += 1;
+        from = to + 1;
+    }
+    agree
+}
+
+// Whether every word of the file is one of a record that agrees.
+fn replay(file: &[u64])
+    requires { ⌜ length (now file) ≤ 196608 ⌝ }
+{
+    let names =
+        b"numbers\nwalks\nbuilds\nbatches\ntests\npoints owned\noverlaps owned\nowners\nsnaps\nstrategies\nowners of many\n";
+    let agree = say_kinds(names, file);
+    if agree == file.len() {
         io::write_all(STDOUT_FILENO, b"all agree\n");
         return;
     }
-    say(b"differs at word", same as u64);
-}
-
-// Makes the file once more, and compares.
-fn replay(bytes: &[u8], file: &mut [u64], made: &mut [u64])
-    requires { ⌜ (length (now bytes) ≡ 8 * length (now file)) × (length (now made) ≡ length (now file)) ⌝ }
-{
-    words::words_of(bytes, file);
-    let to = asking::make(file, made);
-    compare(file, &made[..to]);
+    say(b"words of records that agree", agree);
 }
 
 fn room_for_bytes() -> [u8; 1572864]
@@ -79,7 +94,6 @@ fn main() {
         return;
     }
     let mut file = room_for_words();
-    let mut made = room_for_words();
-    let k = n / 8;
-    replay(&bytes[..n], &mut file[..k], &mut made[..k]);
+    words::words_of(&bytes[..n], &mut file);
+    replay(&file[..n / 8]);
 }

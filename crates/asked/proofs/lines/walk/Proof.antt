@@ -17,4 +17,4 @@ walk-spec =
     (λ c. sym (length-take-le _ _ (omega arith)))
     (λ c κs. tt)
     (λ c. search needs)
-    (λ c. also (c .before .before .before .walked .ensures) (λ _. walk-lent _ (c .before .before .before .before .before .before .before .lent .ensures) (c .before .before .before .before .before .before .if1 .left))))
+    (λ c. also (c .before .before .before .walked .ensures) (λ ws. walk-lent _ ws _ (c .before .before .before .before .before .before .before .lent .ensures) (c .before .before .before .before .before .before .if1 .left))))

@@ -19,4 +19,4 @@ owners-spec =
     (λ c. sym (length-take-le _ _ (omega arith)))
     (λ c κs. search needs)
     (λ c. search needs)
-    (λ c. also (c .before .before .before .told .ensures) (λ _. owners-lent _ (c .before .before .before .before .before .before .before .before .before .lent .ensures) (c .before .before .before .before .before .before .before .before .if1 .left))))
+    (λ c. also (c .before .before .before .told .ensures) (λ ws. owners-lent _ ws _ (c .before .before .before .before .before .before .before .before .before .lent .ensures) (c .before .before .before .before .before .before .before .before .if1 .left))))

@@ -1,12 +1,11 @@
 -- `asked_points::points::point_owned` meets its contract. Assumes nothing.
 use borrow.Author.Needs.{needs}
-use Rattle.asked_points.specs.Asked.{pointOwnedWords}
 use Rattle.asked_points.proofs.Replied.{reply-words}
+use Rattle.asked_points.proofs.InOrder.{point-owned-words}
 use Rattle.asked_points.proofs.points.point_owned.Statement.{statement}
 use Rattle.asked_points.proofs.points.point_owned.Tie as tie
 
 pub point-owned-spec : {M : Type 1} → statement M
-unfolding pointOwnedWords
 point-owned-spec =
     tie.close
     (tie.spec
@@ -20,4 +19,4 @@ point-owned-spec =
     (λ c. search needs)
     (λ c κs. tt)
     (λ c. search needs)
-    (λ c. rw (← c .before .before .before .before .before .before .before .before .before .before .before .before .words .ensures, ← c .before .before .before .before .before .before .before .before .before .before .before .short .ensures, ← c .before .before .before .before .before .before .before .before .before .before .short2 .ensures, ← c .before .before .before .before .before .before .before .before .before .float .ensures, ← c .before .before .before .before .before .before .before .before .float2 .ensures, ← reply-words (c .before .before .before .before .before .before .mt-point-owned .ensures)) (c .before .before .reply .ensures)))
+    (λ c. rw (point-owned-words, ← c .before .before .before .before .before .before .before .before .before .before .before .before .words .ensures, ← c .before .before .before .before .before .before .before .before .before .before .before .short .ensures, ← c .before .before .before .before .before .before .before .before .before .before .short2 .ensures, ← c .before .before .before .before .before .before .before .before .before .float .ensures, ← c .before .before .before .before .before .before .before .before .float2 .ensures, ← reply-words (c .before .before .before .before .before .before .mt-point-owned .ensures)) (c .before .before .reply .ensures)))

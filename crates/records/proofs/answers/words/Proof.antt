@@ -5,13 +5,13 @@ use Prim.Native.Nat.{_-_, _≤_}
 use native.Mathlib.Omega.{arith}
 use lib.ListN.{length, take}
 use lib.Seq.{take-all}
-use Rattle.records.specs.Answers.{Put}
+use Rattle.records.specs.Answers.{PutWords}
 use Rattle.records.proofs.Puts.{put-none, put-more, put-length}
 use Rattle.records.proofs.answers.words.Statement.{statement}
 use Rattle.records.proofs.answers.words.Tie as tie
 
 abbrev Inv-loop : tie.InvT-loop
-Inv-loop out₀ at s to₀ i₀ out to i = Put at (take i s) out₀ to out
+Inv-loop out₀ at s to₀ i₀ out to i = PutWords at (take i s) out₀ to out
 
 abbrev μ-loop : tie.MeasureT-loop
 μ-loop out₀ at s to₀ i₀ out to i = length s - i

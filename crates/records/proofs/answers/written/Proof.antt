@@ -4,13 +4,13 @@ use mathlib.Core.List.{[]}
 use Prim.Native.Nat.{_-_, _≤_}
 use native.Mathlib.Omega.{arith}
 use lib.ListN.{length, take}
-use Rattle.records.specs.Answers.{Put}
+use Rattle.records.specs.Answers.{PutWords}
 use Rattle.records.proofs.Puts.{put-none, put-more, put-then, put-length, lent-words}
 use Rattle.records.proofs.answers.written.Statement.{statement}
 use Rattle.records.proofs.answers.written.Tie as tie
 
 abbrev Inv-loop : tie.InvT-loop
-Inv-loop answer₀ at s n to₀ i₀ answer to i = Put to₀ (take i s) answer₀ to answer × (i ≤ n) × (n ≤ length s)
+Inv-loop answer₀ at s n to₀ i₀ answer to i = PutWords to₀ (take i s) answer₀ to answer × (i ≤ n) × (n ≤ length s)
 
 abbrev μ-loop : tie.MeasureT-loop
 μ-loop answer₀ at s n to₀ i₀ answer to i = n - i

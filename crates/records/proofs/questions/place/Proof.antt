@@ -2,13 +2,13 @@
 use mathlib.Core.Path.{_≡_, ap, _∙_}
 use Prim.Native.Nat.{_-_, _≤_}
 use native.Mathlib.Omega.{arith}
-use Rattle.records.specs.Questions.{placeOf}
+use Rattle.records.specs.Questions.{slicePlace}
 use Rattle.records.proofs.Parts.{place-first, place-next}
 use Rattle.records.proofs.questions.place.Statement.{statement}
 use Rattle.records.proofs.questions.place.Tie as tie
 
 abbrev Inv-loop : tie.InvT-loop
-Inv-loop q numbers k at₀ i₀ at i = (at ≡ placeOf q numbers i) × (i ≤ k)
+Inv-loop q numbers k at₀ i₀ at i = (at ≡ slicePlace q numbers i) × (i ≤ k)
 
 abbrev μ-loop : tie.MeasureT-loop
 μ-loop q numbers k at₀ i₀ at i = k - i
@@ -24,4 +24,4 @@ place-spec =
     (λ c. omega arith)
     (λ c. omega arith)
     (λ c. (place-next _ _ _ _ _ (c .before .before .loop .inv .0) (c .end .ensures .0), omega arith))
-    (λ c. let e : c .before .loop .i ≡ c .before .before .before .args .k = omega arith in c .before .loop .inv .0 ∙ ap (placeOf _ _) e))
+    (λ c. let e : c .before .loop .i ≡ c .before .before .before .args .k = omega arith in c .before .loop .inv .0 ∙ ap (slicePlace _ _) e))

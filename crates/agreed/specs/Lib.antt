@@ -1,0 +1,2 @@
+-- `Agreed`: which records agree, and the tally of them.
+pub mod Agreed

@@ -310,41 +310,49 @@ module _ {W : ℕ → List ℕ} {m n : ℕ} {starts listing : List ℕ} {c : ℕ
 -- ---- the marks of a list
 
 pub record Listing (list : List ℕ) (before low : ℕ) (starts listing counts marks₀ marks : List ℕ) (j : ℕ) : Type 0 where
+  pub room : length list ≤ length marks₀
   pub at : j ≤ length list
   pub long : length marks ≡ length marks₀
-  pub done : (i : ℕ) → i < j → i < length marks₀ → getD marks i 0 ≡ markOf (getD list i 0) before low starts listing counts
+  pub done : (i : ℕ) → i < j → getD marks i 0 ≡ markOf (getD list i 0) before low starts listing counts
   pub rest : (i : ℕ) → j ≤ i → getD marks i 0 ≡ getD marks₀ i 0
 
-pub listing-begin : {list : List ℕ} {before low : ℕ} {starts listing counts marks : List ℕ} → Listing list before low starts listing counts marks marks 0
-listing-begin = record { at = omega arith; long = refl; done = λ i l k. absurd (omega (arith, l)); rest = λ i l. refl }
+pub listing-begin : {list : List ℕ} {before low : ℕ} {starts listing counts marks : List ℕ} → length list ≤ length marks
+    → Listing list before low starts listing counts marks marks 0
+listing-begin h = record { room = h; at = omega arith; long = refl; done = λ i l. absurd (omega (arith, l)); rest = λ i l. refl }
+
+-- no room
+pub listing-none : {list : List ℕ} {before low : ℕ} {starts listing counts marks : List ℕ} → length marks < length list
+    → MarksAre list before low starts listing counts marks 0 marks
+listing-none {list} {marks = marks} h =
+    record {
+      answers = rw (lt-leb (length list) (length marks) h);
+      long = refl;
+      marked = λ z. absurd (omega (arith, z));
+      rest = λ i l. refl;
+    }
 
 module _ {list : List ℕ} {before low : ℕ} {starts listing counts marks₀ marks : List ℕ} {j : ℕ} (s : Listing list before low starts listing counts marks₀ marks j) where
-  pub listing-short : length marks ≤ j → MarksAre list before low starts listing counts marks₀ marks
-  listing-short h =
-      record {
+  pub listing-over : length list ≤ j → {b l : ℕ} → before ≡ b → low ≡ l → MarksAre list b l starts listing counts marks₀ 1 marks
+  listing-over h e f =
+      rw (← e, ← f)
+      (record {
+        answers = rw (le-leb (length list) (length marks₀) (s .room));
         long = s .long;
-        marked = λ i l k. s .done i (omega (arith, k, h, s .long)) k;
-        rest = λ i l. s .rest i (omega (arith, l, s .at));
-      }
+        marked = λ z i l. s .done i (omega (arith, l, h));
+        rest = λ i l. s .rest i (omega (arith, l refl, s .at));
+      })
 
-  pub listing-over : length list ≤ j → MarksAre list before low starts listing counts marks₀ marks
-  listing-over h =
-      record {
-        long = s .long;
-        marked = λ i l k. s .done i (omega (arith, l, h)) k;
-        rest = λ i l. s .rest i (omega (arith, l, s .at));
-      }
-
-  pub listing-more : j < length list → j < length marks → {m : ℕ} → m ≡ markOf (getD list j 0) before low starts listing counts
+  pub listing-more : j < length list → {m : ℕ} → m ≡ markOf (getD list j 0) before low starts listing counts
       → Listing list before low starts listing counts marks₀ (set marks j m) (j + 1)
-  listing-more l k {m} e =
+  listing-more l {m} e =
       record {
+        room = s .room;
         at = omega arith;
         long = length-set marks j m ∙ s .long;
-        done = λ i h q. go i q (ℕ-discrete i j) h;
+        done = λ i h. go i (ℕ-discrete i j) h;
         rest = λ i h. getD-set-other marks j i m 0 (λ z. omega (arith, z, h)) ∙ s .rest i (omega (arith, h));
       }
     where
-      go : (i : ℕ) → i < length marks₀ → Dec (i ≡ j) → i < j + 1 → getD (set marks j m) i 0 ≡ markOf (getD list i 0) before low starts listing counts
-      go i q (yes z) h = rw z (getD-set-same marks j m 0 k ∙ e)
-      go i q (no z) h = getD-set-other marks j i m 0 z ∙ s .done i (omega (arith, z, h)) q
+      go : (i : ℕ) → Dec (i ≡ j) → i < j + 1 → getD (set marks j m) i 0 ≡ markOf (getD list i 0) before low starts listing counts
+      go i (yes z) h = rw z (getD-set-same marks j m 0 (omega (arith, l, s .long, s .room)) ∙ e)
+      go i (no z) h = getD-set-other marks j i m 0 z ∙ s .done i (omega (arith, z, h))

@@ -1,6 +1,6 @@
 -- Whether two lines met before, from the lists by line and how many of each list's cells were visited. Definitions only.
 use Prim.Native.Nat.{ℕ, zero, suc, _+_}
-use mathlib.Core.Bool.{Bool, true, false, cond, _&&_, _||_}
+use mathlib.Core.Bool.{Bool, true, false, not, cond, _&&_, _||_}
 use mathlib.Core.List.{List, []}
 use lib.Dec.{leb, ltb, eqb}
 use lib.ListN.{length, getD}
@@ -27,6 +27,10 @@ meetBefore a b starts listing counts =
     let xs = frontOf a starts listing counts in
     let ys = frontOf b starts listing counts in
     meets xs ys (length xs) (length ys)
+
+-- whether a test of two lines is their first, by the bits that their marks have in common: with fewer than `sure` it is; else it is looked up
+unfoldable pub firstBy : ℕ → ℕ → ℕ → ℕ → List ℕ → List ℕ → List ℕ → Bool
+firstBy common sure a b starts listing counts = cond (ltb common sure) true (not (meetBefore a b starts listing counts))
 
 -- some number below n passes a test
 unfoldable pub someBelow : ℕ → (ℕ → Bool) → Bool

@@ -26,8 +26,14 @@ bitsBack cells before low (suc i) m =
 unfoldable pub markOf : ℕ → ℕ → ℕ → List ℕ → List ℕ → List ℕ → ℕ
 markOf line before low starts listing counts = let cells = frontOf line starts listing counts in bitsBack cells before low (length cells) 0
 
--- the marks before and after: the mark of each line of a list stands at its position, as far as there is room; what is beyond the list is as it was
-pub record MarksAre (list : List ℕ) (before low : ℕ) (starts listing counts marks marks′ : List ℕ) : Type 0 where
+-- 1 where there is room for a mark for each line of a list, else 0
+abbrev pub sureOf : List ℕ → List ℕ → ℕ
+sureOf list marks = cond (leb (length list) (length marks)) 1 0
+
+-- the answer r, and the marks before and after: where there is room for all, the mark of each line of a list stands at its position; any other entry is as
+-- it was
+pub record MarksAre (list : List ℕ) (before low : ℕ) (starts listing counts marks : List ℕ) (r : ℕ) (marks′ : List ℕ) : Type 0 where
+  pub answers : r ≡ sureOf list marks
   pub long : length marks′ ≡ length marks
-  pub marked : (j : ℕ) → j < length list → j < length marks → getD marks′ j 0 ≡ markOf (getD list j 0) before low starts listing counts
-  pub rest : (j : ℕ) → (j < length list → ⊥) → getD marks′ j 0 ≡ getD marks j 0
+  pub marked : r ≡ 1 → (j : ℕ) → j < length list → getD marks′ j 0 ≡ markOf (getD list j 0) before low starts listing counts
+  pub rest : (j : ℕ) → (r ≡ 1 → j < length list → ⊥) → getD marks′ j 0 ≡ getD marks j 0

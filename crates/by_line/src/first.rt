@@ -2,7 +2,7 @@
 // share the one before it, so the search goes backwards from where the two lines stand, and mostly ends at once.
 ghost use mathlib.Core.Path.{_≡_};
 ghost use lib.ListN.{length};
-ghost use Rattle.by_line.specs.First.{meets, frontOf, meetBefore};
+ghost use Rattle.by_line.specs.First.{meets, frontOf, meetBefore, firstBy};
 
 // Whether two increasing lists have an entry in common, from their ends back.
 fn meet(xs: &[u32], ys: &[u32]) -> bool
@@ -63,4 +63,26 @@ pub fn met_before(a: u32, b: u32, starts: &[u32], listing: &[u32], counts: &[u32
         front(a, starts, listing, counts),
         front(b, starts, listing, counts),
     )
+}
+
+// Whether a test of two lines is their first, by the bits that their marks have in common: with none it is, where the marks are sure; else it is
+// looked up.
+pub fn is_first(
+    common: u32,
+    sure: u32,
+    a: u32,
+    b: u32,
+    starts: &[u32],
+    listing: &[u32],
+    counts: &[u32],
+) -> bool
+    ensures { λ r. ⌜ r ≡ firstBy common sure a b (now (starts .entry)) (now (listing .entry)) (now (counts .entry)) ⌝ }
+{
+    if common < sure {
+        return true;
+    }
+    if met_before(a, b, starts, listing, counts) {
+        return false;
+    }
+    true
 }

@@ -12,7 +12,7 @@ use Rattle.grid.specs.Words.{gridWords}
 use Rattle.tables.specs.Tables.{Tables}
 use Rattle.refusals.specs.Refusals.{Answer}
 use Rattle.seek.specs.Tests.{Pair}
-use Rattle.once.specs.Once.{PairsAre}
+use Rattle.first_tests.specs.Firsts.{PairsAre}
 use Rattle.replies.proofs.Outcomes.{one-outcome}
 use Rattle.capi_pairs.specs.Lent.{ByLineReplies, onceAnswer, SameFive, OnceReplies}
 

@@ -14,7 +14,7 @@ use Rattle.by_line.specs.ByLine.{byLine, ByLineIs}
 use Rattle.seek.specs.Tests.{Pair}
 use Rattle.lent.specs.declared.OnceAnswer.{OnceAnswer}
 use Rattle.lent.specs.declared.OnceAnswer.the-variants as once
-use Rattle.once.specs.Once.{PairsAre}
+use Rattle.first_tests.specs.Firsts.{PairsAre}
 use Rattle.replies.specs.Replies.{Replies}
 use Rattle.capi.specs.Few.{unlessFew}
 use Rattle.capi_pairs.specs.Answers.{ofByLine, ofOnce}

@@ -23,7 +23,7 @@ use Rattle.build.specs.declared.Built.the-variants as built
 use Rattle.build.specs.Build.{endOf, builtOn, answerOf, BuildIs}
 use Rattle.seek.specs.Tests.{Pair}
 use Rattle.visit.specs.Batches.{firsts, seconds}
-use Rattle.once.specs.Once.{PairsAre}
+use Rattle.first_tests.specs.Firsts.{PairsAre}
 use Rattle.lent.specs.declared.OnceAnswer.{OnceAnswer}
 use Rattle.lent.specs.declared.OnceAnswer.the-variants as answer
 use Rattle.samples.specs.Samples.{Samples, samples, sampleLinesCheck}

@@ -22,9 +22,9 @@ use Rattle.lent.specs.declared.OnceAnswer.{OnceAnswer}
 use Rattle.lent.specs.declared.OnceAnswer.the-variants as answer
 use Rattle.lent.specs.Lent.{beginCheck, Begun, pairsCheck, EndIs}
 use Rattle.lent.proofs.Beginning.{begun-passed}
-use Rattle.once.specs.Once.{keptBy, keeps, firstTests, PairsAre}
-use Rattle.once.specs.Scan.{Grown}
-use Rattle.once.proofs.Ends.{pairs-stopped, pairs-end}
+use Rattle.first_tests.specs.Firsts.{keptBy, keeps, firstTests, PairsAre}
+use Rattle.first_tests.specs.Scan.{HandedOut}
+use Rattle.first_tests.proofs.Ends.{pairs-stopped, pairs-end}
 use Rattle.crossings.specs.Crossings.{besideSamples, crossingsOf, crossingsCheck, crossingsBy}
 
 module _ (ss : Samples) (g : Grid) (offsets items globals : List ℕ) (k : ℕ) (first second starts listing counts : List ℕ) where
@@ -55,7 +55,7 @@ module _ (ss : Samples) (g : Grid) (offsets items globals : List ℕ) (k : ℕ) 
     crossings-stopped s q = pairs-stopped begun s q (samples-spare ss) _ end-is
 
     pub crossings-done : r ≡ Fine → {counts₂ first₁ second₁ first₂ second₂ starts₂ listing₂ counts₃ : List ℕ} {hits : ℕ} {a : OnceAnswer}
-        → Grown (keeps (shares ss) t) (testsOf t) first second 0 first₁ second₁ hits
+        → HandedOut (keeps (shares ss) t) (testsOf t) first second 0 first₁ second₁ hits
         → length starts₁ ≡ length starts → length listing₁ ≡ length listing → length counts₂ ≡ length counts
         → EndIs hits first₁ second₁ starts₁ listing₁ counts₂ a first₂ second₂ starts₂ listing₂ counts₃
         → PairsAre end first second starts listing counts a first₂ second₂ starts₂ listing₂ counts₃

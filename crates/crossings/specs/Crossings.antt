@@ -11,8 +11,8 @@ use Rattle.grid.specs.Domain.{gridCheck}
 use Rattle.tables.specs.Tables.{Tables, tables}
 use Rattle.tables.specs.Fit.{tablesCheck}
 use Rattle.seek.specs.Tests.{Pair}
-use Rattle.lent.specs.Lent.{lentCheck, pairsCheck}
-use Rattle.once.specs.Once.{firstTests}
+use Rattle.lent.specs.Lent.{roomsCheck, pairsCheck}
+use Rattle.first_tests.specs.Firsts.{firstTests}
 use Rattle.samples.specs.Samples.{Samples, sampleCount, sampleLinesCheck}
 use Rattle.samples.specs.Sharing.{shares}
 
@@ -31,7 +31,7 @@ crossingsCheck ss g t = andThen (sampleLinesCheck ss) (andThen (gridCheck g) (ta
 -- 3, of what is lent; then 3, 2, 15, 8 and 10; then 5; else the crossings
 unfoldable pub crossingsBy : Samples → Grid → Tables → List ℕ → List ℕ → List ℕ → List ℕ → List ℕ → Answer (List Pair)
 crossingsBy ss g t first second starts listing counts =
-    lentCheck (t .lines) (length (t .items)) (length first) (length second) (length starts) (length listing) (length counts)
+    roomsCheck (t .lines) (length (t .items)) (length first) (length second) (length starts) (length listing) (length counts)
     then crossingsCheck ss g t
     then pairsCheck (length (crossingsOf ss t)) (length first)
     then gives (crossingsOf ss t)

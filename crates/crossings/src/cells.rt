@@ -1,6 +1,6 @@
 // The cells of a visit: the pairs of each list, and the cells that are behind.
 use crate::rows;
-ghost use Prim.Native.Nat.{_+_, _-_};
+ghost use Prim.Native.Nat.{_+_};
 ghost use mathlib.Core.Path.{_≡_};
 ghost use lib.ListN.{length};
 ghost use Rattle.samples.specs.Samples.{samples, sampleCount};
@@ -9,8 +9,8 @@ ghost use Rattle.tables.specs.Tables.{listIn};
 ghost use Rattle.tables.specs.Lists.{linesAt};
 ghost use Rattle.tables.specs.States.{CanCount, Counted};
 ghost use Rattle.by_line.specs.Inside.{CellListAsks};
-ghost use Rattle.once.specs.Scan.{RowsAsk, RowsDone, CellsAsk, CellsDone};
-ghost use Rattle.once.specs.Marked.{RowsMarked};
+ghost use Rattle.first_tests.specs.Scan.{RowsAsk, RowsDone, CellsAsk, CellsDone};
+ghost use Rattle.first_tests.specs.Marked.{MarkedRows};
 
 // The list of a cell: a part of the items.
 fn list_of<'a>(offsets: &[u32], items: &'a [u32], cell: usize) -> &'a [u32]
@@ -36,8 +36,9 @@ fn count_list(list: &[u32], counts: &mut [u32])
     }
 }
 
-// Each entry of a list with every later one, by marks where there is one for each entry.
+// Each entry of a list with every later one, by marks. Where these are not sure, a row goes by no mark.
 fn scan_rows(
+    sure: u32,
     list: &[u32],
     marks: &[u32],
     start_x: &[i32],
@@ -52,7 +53,7 @@ fn scan_rows(
     hits: usize,
 ) -> usize
     requires { let ss = samples (now «start_x») (now «start_y») (now «end_x») (now «end_y») in
-        ⌜ RowsMarked (sampleCount ss) (now list) (now marks) (now starts) (now listing) (now counts) hits ⌝ }
+        ⌜ MarkedRows (sampleCount ss) sure (now list) (now marks) (now starts) (now listing) (now counts) hits ⌝ }
     ensures { λ r. let ss = samples (now («start_x» .entry)) (now («start_y» .entry)) (now («end_x» .entry)) (now («end_y» .entry)) in
         ⌜ RowsDone (shares ss) (sampleCount ss) (now (starts .entry)) (now (listing .entry)) (now (counts .entry)) (now (list .entry))
         (now (first .entry)) (now (second .entry)) hits (now (first .exit)) (now (second .exit)) r ⌝ }
@@ -60,58 +61,30 @@ fn scan_rows(
     let mut hits = hits;
     let mut i = 0;
     while i < list.len() {
-        let at = i;
-        let row = rows::row_of(list[at], start_x, start_y, end_x, end_y);
+        let row = rows::row_of(list[i], sure, start_x, start_y, end_x, end_y);
+        let mark = marks[i] * sure;
         i = i + 1;
-        if marks.len() < list.len() {
-            hits = rows::scan_list(
-                row,
-                &list[i..],
-                start_x,
-                start_y,
-                end_x,
-                end_y,
-                starts,
-                listing,
-                counts,
-                first,
-                second,
-                hits,
-            );
-        } else {
-            let mark = marks[at];
-            hits = rows::scan_marked(
-                row,
-                mark,
-                &list[i..],
-                &marks[i..],
-                start_x,
-                start_y,
-                end_x,
-                end_y,
-                starts,
-                listing,
-                counts,
-                first,
-                second,
-                hits,
-            );
-        }
+        hits = rows::scan_list(
+            row,
+            mark,
+            &list[i..],
+            &marks[i..],
+            start_x,
+            start_y,
+            end_x,
+            end_y,
+            starts,
+            listing,
+            counts,
+            first,
+            second,
+            hits,
+        );
     }
     hits
 }
 
-// So many before a number, and not below zero.
-fn back(from: u32, by: u32) -> u32
-    ensures { λ r. ⌜ r ≡ from - by ⌝ }
-{
-    if from < by {
-        return 0;
-    }
-    from - by
-}
-
-// The list of a cell, by marks as far as there is room for them. The marks tell of the cell before, and of those about the cell one row back.
+// The list of a cell, by marks where there is room for them.
 fn scan_cell(
     cell: u32,
     cols: u32,
@@ -134,11 +107,12 @@ fn scan_cell(
         ⌜ RowsDone (shares ss) (sampleCount ss) (now (starts .entry)) (now (listing .entry)) (now (counts .entry)) (now (list .entry))
         (now (first .entry)) (now (second .entry)) hits (now (first .exit)) (now (second .exit)) r ⌝ }
 {
-    let low = back(back(cell, cols), 8);
-    by_line::marks::mark_list(list, back(cell, 1), low, starts, listing, counts, marks);
+    let sure = by_line::marks::mark_list(list, cell, cols, starts, listing, counts, marks);
+    let seen = by_line::marks::marks_or_list(sure, list, marks);
     scan_rows(
+        sure,
         list,
-        marks,
+        seen,
         start_x,
         start_y,
         end_x,

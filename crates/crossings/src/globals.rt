@@ -2,7 +2,7 @@
 use crate::rows;
 ghost use Rattle.samples.specs.Samples.{samples, sampleCount};
 ghost use Rattle.samples.specs.Sharing.{shares};
-ghost use Rattle.once.specs.Scan.{GlobalAsks, GlobalDone, GlobalsAsk, GlobalsDone};
+ghost use Rattle.first_tests.specs.Scan.{GlobalAsks, GlobalDone, GlobalsAsk, GlobalsDone};
 
 // The global at a position: runs of lines between the globals that are passed over.
 fn scan_global(
@@ -26,7 +26,7 @@ fn scan_global(
         ⌜ GlobalDone (shares ss) (sampleCount ss) p (now (globals .entry)) (now (starts .entry)) (now (listing .entry)) (now (counts .entry))
         (now (first .entry)) (now (second .entry)) hits (now (first .exit)) (now (second .exit)) r ⌝ }
 {
-    let row = rows::row_of(globals[p], start_x, start_y, end_x, end_y);
+    let row = rows::row_of(globals[p], 0, start_x, start_y, end_x, end_y);
     let mut hits = hits;
     let mut k = 0;
     let mut q = 0;

@@ -3,10 +3,9 @@
 use grid::Grid;
 use lent::OnceAnswer;
 use refusals::Check;
-ghost use mathlib.Core.Path.{_≡_};
 ghost use Rattle.seek.specs.Tests.{testsOf};
-ghost use Rattle.once.specs.Once.{keeps, PairsAre};
-ghost use Rattle.once.specs.Scan.{Grown, RunAsks};
+ghost use Rattle.first_tests.specs.Firsts.{keeps, PairsAre};
+ghost use Rattle.first_tests.specs.Scan.{HandedOut, RunAsks};
 ghost use Rattle.samples.specs.Samples.{samples};
 ghost use Rattle.samples.specs.Sharing.{shares};
 ghost use Rattle.crossings.specs.Crossings.{besideSamples, crossingsBy};
@@ -37,7 +36,7 @@ fn run(
         ⌜ RunAsks grid t (now starts) (now listing) (now counts) ⌝ }
     ensures { λ r. let ss = samples (now («start_x» .entry)) (now («start_y» .entry)) (now («end_x» .entry)) (now («end_y» .entry)) in
         let t = besideSamples ss grid (now (offsets .entry)) (now (items .entry)) (now (globals .entry)) «global_count» in
-        ⌜ Grown (keeps (shares ss) t) (testsOf t) (now (first .entry)) (now (second .entry)) 0 (now (first .exit)) (now (second .exit)) r ⌝ }
+        ⌜ HandedOut (keeps (shares ss) t) (testsOf t) (now (first .entry)) (now (second .entry)) 0 (now (first .exit)) (now (second .exit)) r ⌝ }
 {
     let cells = (grid.rows as usize) * (grid.cols as usize);
     let hits = cells::scan_cells(

@@ -12,7 +12,7 @@ use Rattle.tables.specs.Tables.{Tables}
 use Rattle.seek.specs.Tests.{testsOf}
 use Rattle.visit_laws.specs.Words.{times}
 use Rattle.lent.specs.declared.OnceAnswer.the-variants.{Pairs}
-use Rattle.once.specs.Once.{PairsAre}
+use Rattle.first_tests.specs.Firsts.{PairsAre}
 use Rattle.samples.specs.Samples.{Samples, sampleCount, wholeAt}
 use Rattle.crossings.specs.Crossings.{crossingsBy}
 use Rattle.demands.specs.Calls.{handedOut}

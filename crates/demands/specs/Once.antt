@@ -10,7 +10,8 @@ use Rattle.grid.specs.Domain.{Lines}
 use Rattle.tables.specs.Tables.{Tables}
 use Rattle.visit_laws.specs.Words.{oneWhere}
 use Rattle.lent.specs.declared.OnceAnswer.the-variants.{Pairs}
-use Rattle.once.specs.Once.{onceBy, PairsAre}
+use Rattle.first_tests.specs.Firsts.{PairsAre}
+use Rattle.once.specs.Once.{onceBy}
 use Rattle.demands.specs.Calls.{Call, FullVisit, firstsOf, secondsOf, handedOut}
 use Rattle.demands.specs.Points.{Cross}
 

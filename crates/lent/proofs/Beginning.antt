@@ -23,39 +23,39 @@ use Rattle.by_line.specs.declared.ByLine.{ByLine}
 use Rattle.by_line.specs.declared.ByLine.the-variants as listed
 use Rattle.by_line.specs.ByLine.{cellsListing, listsRoomCheck, byLine, ByLineIs}
 use Rattle.by_line.proofs.Room.{room-says, standing-spares}
-use Rattle.lent.specs.Lent.{lentCheck, beginCheck, keptOr, Begun}
+use Rattle.lent.specs.Lent.{roomsCheck, beginCheck, keptOr, Begun}
 
 -- ---- the lengths of what is lent
 
 module _ (lines items first second starts listing counts : ℕ) where
-  pub lent-outputs : (first ≡ second → ⊥) → unless false 3 0 ≡ lentCheck lines items first second starts listing counts
-  unfolding lentCheck andThen unless
+  pub lent-outputs : (first ≡ second → ⊥) → unless false 3 0 ≡ roomsCheck lines items first second starts listing counts
+  unfolding roomsCheck andThen unless
   lent-outputs n = rw (ne-eqb first second n)
 
   module _ (e : first ≡ second) where
-    pub lent-starts : starts ≤ lines → unless false 3 0 ≡ lentCheck lines items first second starts listing counts
-    unfolding lentCheck andThen unless listsRoomCheck
+    pub lent-starts : starts ≤ lines → unless false 3 0 ≡ roomsCheck lines items first second starts listing counts
+    unfolding roomsCheck andThen unless listsRoomCheck
     lent-starts l = rw (eq-eqb first second e, le-ltb lines starts l)
 
     module _ (h : lines < starts) where
-      pub lent-listing : listing < items → unless false 3 0 ≡ lentCheck lines items first second starts listing counts
-      unfolding lentCheck andThen unless listsRoomCheck
+      pub lent-listing : listing < items → unless false 3 0 ≡ roomsCheck lines items first second starts listing counts
+      unfolding roomsCheck andThen unless listsRoomCheck
       lent-listing l = rw (eq-eqb first second e, lt-ltb lines starts h, lt-leb items listing l)
 
-      pub lent-counts : items ≤ listing → unless (leb lines counts) 3 0 ≡ lentCheck lines items first second starts listing counts
-      unfolding lentCheck andThen unless listsRoomCheck
+      pub lent-counts : items ≤ listing → unless (leb lines counts) 3 0 ≡ roomsCheck lines items first second starts listing counts
+      unfolding roomsCheck andThen unless listsRoomCheck
       lent-counts l = rw (eq-eqb first second e, lt-ltb lines starts h, le-leb items listing l)
 
-pub lent-says : (lines items first second starts listing counts : ℕ) → lentCheck lines items first second starts listing counts ≡ Fine
+pub lent-says : (lines items first second starts listing counts : ℕ) → roomsCheck lines items first second starts listing counts ≡ Fine
     → (first ≡ second) × ((listsRoomCheck lines items starts listing ≡ Fine) × (lines ≤ counts))
-unfolding lentCheck
+unfolding roomsCheck
 lent-says lines items first second starts listing counts h =
     let b = andThen-right _ _ h in
     (eqb-true first second (unless-fine _ 3 0 (andThen-left _ _ h)), (andThen-left _ _ b, leb-true lines counts (unless-fine _ 3 0 (andThen-right _ _ b))))
 
 -- no check of lengths clears
-pub lent-spares : (lines items first second starts listing counts : ℕ) → Clearing false (lentCheck lines items first second starts listing counts)
-unfolding lentCheck listsRoomCheck clears
+pub lent-spares : (lines items first second starts listing counts : ℕ) → Clearing false (roomsCheck lines items first second starts listing counts)
+unfolding roomsCheck listsRoomCheck clears
 lent-spares lines items first second starts listing counts =
     clearing-then (clearing-unless _ 3 0 refl) (clearing-then (clearing-unless _ 3 0 refl) (clearing-unless _ 3 0 refl))
 
@@ -131,7 +131,7 @@ module _ {g : Grid} {t : Tables} {starts listing starts′ listing′ : List ℕ
 
 module _ (checked : Check) (g : Grid) (t : Tables) (first second : ℕ) (starts listing counts : List ℕ) where
   abbrev lent : Check
-  lent = lentCheck (t .lines) (length (t .items)) first second (length starts) (length listing) (length counts)
+  lent = roomsCheck (t .lines) (length (t .items)) first second (length starts) (length listing) (length counts)
 
   same : (r : Refusal) → beginCheck checked g t first second (length starts) (length listing) (length counts) ≡ check.Refused r
       → Begun checked g t first second starts listing counts (check.Refused r) starts listing counts

@@ -20,14 +20,14 @@ use Rattle.lent.specs.declared.OnceAnswer.the-variants as answer
 -- ---- the beginning
 
 -- 3: the outputs differ in length, the lists by line have too little room, or there is no count for each line
-unfoldable pub lentCheck : ℕ → ℕ → ℕ → ℕ → ℕ → ℕ → ℕ → Check
-lentCheck lines items first second starts listing counts =
+unfoldable pub roomsCheck : ℕ → ℕ → ℕ → ℕ → ℕ → ℕ → ℕ → Check
+roomsCheck lines items first second starts listing counts =
     andThen (unless (eqb first second) 3 0) (andThen (listsRoomCheck lines items starts listing) (unless (leb lines counts) 3 0))
 
 -- 3, of what is lent; then what the check of the lines found; then 2, 8 and 10 of the tables
 unfoldable pub beginCheck : Check → Grid → Tables → ℕ → ℕ → ℕ → ℕ → ℕ → Check
 beginCheck checked g t first second starts listing counts =
-    andThen (lentCheck (t .lines) (length (t .items)) first second starts listing counts) (andThen checked (standingCheck g t))
+    andThen (roomsCheck (t .lines) (length (t .items)) first second starts listing counts) (andThen checked (standingCheck g t))
 
 -- what is left in a slice: as it was, where the check refuses
 unfoldable pub keptOr : Check → List ℕ → List ℕ → List ℕ
@@ -48,15 +48,15 @@ unfoldable pub pairsCheck : ℕ → ℕ → Check
 pairsCheck number room = unless (leb number room) 5 number
 
 -- so many pairs, or that there is no room for them
-unfoldable pub endOf : ℕ → ℕ → OnceAnswer
-endOf hits room = answerBy answer.Refused answer.Pairs (pairsCheck hits room then gives hits)
+unfoldable pub pairsEnd : ℕ → ℕ → OnceAnswer
+pairsEnd hits room = answerBy answer.Refused answer.Pairs (pairsCheck hits room then gives hits)
 
 -- an output that holds so many pairs: zero beyond them; where there is no room for them, zero throughout
 unfoldable pub endLeft : ℕ → ℕ → List ℕ → List ℕ
 endLeft hits room s = cond (leb hits room) (clearedFrom hits s) (replicate (length s) 0)
 
 pub record EndIs (hits : ℕ) (first second starts listing counts : List ℕ) (r : OnceAnswer) (first′ second′ starts′ listing′ counts′ : List ℕ) : Type 0 where
-  pub answers : r ≡ endOf hits (length first)
+  pub answers : r ≡ pairsEnd hits (length first)
   pub first-is : first′ ≡ endLeft hits (length first) first
   pub second-is : second′ ≡ endLeft hits (length first) second
   pub starts-are : starts′ ≡ replicate (length starts) 0

@@ -7,7 +7,7 @@ use refusals::Refusal;
 ghost use mathlib.Core.Path.{_≡_};
 ghost use lib.ListN.{set};
 ghost use Rattle.tables.specs.Tables.{tables};
-ghost use Rattle.lent.specs.Lent.{lentCheck, Begun, EndIs};
+ghost use Rattle.lent.specs.Lent.{roomsCheck, Begun, EndIs};
 
 // The number of pairs, or a refusal.
 pub enum OnceAnswer {
@@ -25,7 +25,7 @@ pub fn check_lent(
     listing: usize,
     counts: usize,
 ) -> Check
-    ensures { λ r. ⌜ r ≡ lentCheck lines items first second starts listing counts ⌝ }
+    ensures { λ r. ⌜ r ≡ roomsCheck lines items first second starts listing counts ⌝ }
 {
     if first != second {
         return refusals::refuse_unless(false, 3, 0);

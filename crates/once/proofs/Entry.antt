@@ -23,9 +23,10 @@ use Rattle.lent.specs.declared.OnceAnswer.{OnceAnswer}
 use Rattle.lent.specs.declared.OnceAnswer.the-variants as answer
 use Rattle.lent.specs.Lent.{beginCheck, Begun, pairsCheck, EndIs}
 use Rattle.lent.proofs.Beginning.{begun-passed}
-use Rattle.once.specs.Once.{keptBy, keeps, firstTests, onceOf, onceBy, PairsAre}
-use Rattle.once.specs.Scan.{Grown}
-use Rattle.once.proofs.Ends.{pairs-stopped, pairs-end}
+use Rattle.first_tests.specs.Firsts.{keptBy, keeps, firstTests, PairsAre}
+use Rattle.once.specs.Once.{onceOf, onceBy}
+use Rattle.first_tests.specs.Scan.{HandedOut}
+use Rattle.first_tests.proofs.Ends.{pairs-stopped, pairs-end}
 
 module _ (ls : Lines) (g : Grid) (offsets items globals : List ℕ) (k : ℕ) (first second starts listing counts : List ℕ) where
   abbrev t : Tables
@@ -55,7 +56,7 @@ module _ (ls : Lines) (g : Grid) (offsets items globals : List ℕ) (k : ℕ) (f
     once-stopped s q = pairs-stopped begun s q (lines-spare ls) _ end-is
 
     pub once-done : r ≡ Fine → {counts₂ first₁ second₁ first₂ second₂ starts₂ listing₂ counts₃ : List ℕ} {hits : ℕ} {a : OnceAnswer}
-        → Grown (keeps (overlap ls) t) (testsOf t) first second 0 first₁ second₁ hits
+        → HandedOut (keeps (overlap ls) t) (testsOf t) first second 0 first₁ second₁ hits
         → length starts₁ ≡ length starts → length listing₁ ≡ length listing → length counts₂ ≡ length counts
         → EndIs hits first₁ second₁ starts₁ listing₁ counts₂ a first₂ second₂ starts₂ listing₂ counts₃
         → PairsAre end first second starts listing counts a first₂ second₂ starts₂ listing₂ counts₃

@@ -9,8 +9,7 @@ ghost use lib.ListN.{length};
 ghost use Rattle.grid.specs.Domain.{lines, segmentAt};
 ghost use Rattle.grid.specs.Boxes.{boxOf};
 ghost use Rattle.visit.specs.Inside.{LineAsks};
-ghost use Rattle.once.specs.Inside.{Checked};
-ghost use Rattle.once.specs.Few.{boxIn, withBox, GatherAsks, Boxed};
+ghost use Rattle.once.specs.Inside.{LinesChecked, withReady, BoxesAsk, Boxed};
 
 fn lesser(a: f64, b: f64) -> f64
     ensures { λ r. ⌜ r ≡ cond (lt b a) b a ⌝ }
@@ -53,23 +52,10 @@ pub(crate) fn box_at(
     }
 }
 
-// Box u of a slice that has four floats for each.
-pub(crate) fn box_in(room: &[f64], u: usize) -> Box
-    requires { ⌜ u * 4 + 4 ≤ length (now room) ⌝ }
-    ensures { λ r. ⌜ r ≡ boxIn (now (room .entry)) u ⌝ }
-{
-    let k = u * 4;
-    Box {
-        min_x: room[k],
-        min_y: room[k + 1],
-        max_x: room[k + 2],
-        max_y: room[k + 3],
-    }
-}
-
+// A box becomes box u of a slice that has four floats for each.
 fn put_box(room: &mut [f64], u: usize, bounds: Box)
     requires { ⌜ u * 4 + 4 ≤ length (now room) ⌝ }
-    ensures { λ _. ⌜ now (room .exit) ≡ withBox (now (room .entry)) u bounds ⌝ }
+    ensures { λ _. ⌜ now (room .exit) ≡ withReady (now (room .entry)) u bounds ⌝ }
 {
     let k = u * 4;
     room[k] = bounds.min_x;
@@ -87,7 +73,7 @@ pub(crate) fn gather(
     end_y: &[f64],
     room: &mut [f64],
 )
-    requires { let ls = lines (now «start_x») (now «start_y») (now «end_x») (now «end_y») in ⌜ Checked ls (GatherAsks ls (now list) (now room)) ⌝ }
+    requires { let ls = lines (now «start_x») (now «start_y») (now «end_x») (now «end_y») in ⌜ LinesChecked ls (BoxesAsk ls (now list) (now room)) ⌝ }
     ensures { λ _. let ls = lines (now («start_x» .entry)) (now («start_y» .entry)) (now («end_x» .entry)) (now («end_y» .entry)) in
         ⌜ Boxed ls (now (list .entry)) (length (now (list .entry))) (now (room .exit)) ⌝ }
 {

@@ -1,8 +1,7 @@
 // The cells of a visit: the pairs of each list, and the cells that are behind.
 use crate::boxes;
-use crate::few;
 use crate::rows;
-ghost use Prim.Native.Nat.{_+_, _-_};
+ghost use Prim.Native.Nat.{_+_};
 ghost use mathlib.Core.Path.{_≡_};
 ghost use lib.ListN.{length};
 ghost use Rattle.grid.specs.Domain.{lines, count};
@@ -11,9 +10,9 @@ ghost use Rattle.tables.specs.Tables.{listIn};
 ghost use Rattle.tables.specs.Lists.{linesAt};
 ghost use Rattle.tables.specs.States.{CanCount, Counted};
 ghost use Rattle.by_line.specs.Inside.{CellListAsks};
-ghost use Rattle.once.specs.Scan.{RowsAsk, RowsDone, CellsAsk, CellsDone};
-ghost use Rattle.once.specs.Marked.{RowsMarked};
-ghost use Rattle.once.specs.Inside.{Checked};
+ghost use Rattle.first_tests.specs.Scan.{RowsAsk, RowsDone, CellsAsk, CellsDone};
+ghost use Rattle.first_tests.specs.Marked.{MarkedRows};
+ghost use Rattle.once.specs.Inside.{LinesChecked};
 
 // The list of a cell: a part of the items.
 fn list_of<'a>(offsets: &[u32], items: &'a [u32], cell: usize) -> &'a [u32]
@@ -39,8 +38,9 @@ fn count_list(list: &[u32], counts: &mut [u32])
     }
 }
 
-// Each entry of a list with every later one, by marks where there is one for each entry.
+// Each entry of a list with every later one, by marks. Where these are not sure, a row goes by no mark.
 fn scan_rows(
+    sure: u32,
     list: &[u32],
     marks: &[u32],
     start_x: &[f64],
@@ -55,7 +55,7 @@ fn scan_rows(
     hits: usize,
 ) -> usize
     requires { let ls = lines (now «start_x») (now «start_y») (now «end_x») (now «end_y») in
-        ⌜ Checked ls (RowsMarked (count ls) (now list) (now marks) (now starts) (now listing) (now counts) hits) ⌝ }
+        ⌜ LinesChecked ls (MarkedRows (count ls) sure (now list) (now marks) (now starts) (now listing) (now counts) hits) ⌝ }
     ensures { λ r. let ls = lines (now («start_x» .entry)) (now («start_y» .entry)) (now («end_x» .entry)) (now («end_y» .entry)) in
         ⌜ RowsDone (overlap ls) (count ls) (now (starts .entry)) (now (listing .entry)) (now (counts .entry)) (now (list .entry))
         (now (first .entry)) (now (second .entry)) hits (now (first .exit)) (now (second .exit)) r ⌝ }
@@ -63,59 +63,30 @@ fn scan_rows(
     let mut hits = hits;
     let mut i = 0;
     while i < list.len() {
-        let at = i;
-        let row = rows::row_of(list[at], start_x, start_y, end_x, end_y);
+        let row = rows::row_of(list[i], sure, start_x, start_y, end_x, end_y);
+        let mark = marks[i] * sure;
         i = i + 1;
-        if marks.len() < list.len() {
-            hits = rows::scan_list(
-                row,
-                &list[i..],
-                start_x,
-                start_y,
-                end_x,
-                end_y,
-                starts,
-                listing,
-                counts,
-                first,
-                second,
-                hits,
-            );
-        } else {
-            let mark = marks[at];
-            hits = rows::scan_marked(
-                row,
-                mark,
-                &list[i..],
-                &marks[i..],
-                start_x,
-                start_y,
-                end_x,
-                end_y,
-                starts,
-                listing,
-                counts,
-                first,
-                second,
-                hits,
-            );
-        }
+        hits = rows::scan_list(
+            row,
+            mark,
+            &list[i..],
+            &marks[i..],
+            start_x,
+            start_y,
+            end_x,
+            end_y,
+            starts,
+            listing,
+            counts,
+            first,
+            second,
+            hits,
+        );
     }
     hits
 }
 
-// So many before a number, and not below zero.
-fn back(from: u32, by: u32) -> u32
-    ensures { λ r. ⌜ r ≡ from - by ⌝ }
-{
-    if from < by {
-        return 0;
-    }
-    from - by
-}
-
-// The list of a cell, by marks, and with boxes that stand ready, where there is room for both. The marks tell of the
-// cell before, and of those about the cell one row back. A list of one line has no test.
+// The list of a cell, by marks, and with boxes that stand ready where it is short. A list of one line has no test.
 fn scan_cell(
     cell: u32,
     cols: u32,
@@ -134,7 +105,7 @@ fn scan_cell(
     hits: usize,
 ) -> usize
     requires { let ls = lines (now «start_x») (now «start_y») (now «end_x») (now «end_y») in
-        ⌜ Checked ls (RowsAsk (count ls) (now list) (now starts) (now listing) (now counts) hits) ⌝ }
+        ⌜ LinesChecked ls (RowsAsk (count ls) (now list) (now starts) (now listing) (now counts) hits) ⌝ }
     ensures { λ r. let ls = lines (now («start_x» .entry)) (now («start_y» .entry)) (now («end_x» .entry)) (now («end_y» .entry)) in
         ⌜ RowsDone (overlap ls) (count ls) (now (starts .entry)) (now (listing .entry)) (now (counts .entry)) (now (list .entry))
         (now (first .entry)) (now (second .entry)) hits (now (first .exit)) (now (second .exit)) r ⌝ }
@@ -142,16 +113,13 @@ fn scan_cell(
     if list.len() < 2 {
         return hits;
     }
-    let low = back(back(cell, cols), 8);
-    by_line::marks::mark_list(list, back(cell, 1), low, starts, listing, counts, marks);
-    if slices::least(marks.len(), room.len() / 4) < list.len() {
-        return scan_rows(
+    let sure = by_line::marks::mark_list(list, cell, cols, starts, listing, counts, marks);
+    if short_lists::fits(list.len(), marks.len(), room.len(), hits) {
+        boxes::gather(list, start_x, start_y, end_x, end_y, room);
+        return short_lists::scan(
             list,
             marks,
-            start_x,
-            start_y,
-            end_x,
-            end_y,
+            room,
             starts,
             listing,
             counts,
@@ -160,11 +128,15 @@ fn scan_cell(
             hits,
         );
     }
-    boxes::gather(list, start_x, start_y, end_x, end_y, room);
-    few::scan_rows(
+    let seen = by_line::marks::marks_or_list(sure, list, marks);
+    scan_rows(
+        sure,
         list,
-        marks,
-        room,
+        seen,
+        start_x,
+        start_y,
+        end_x,
+        end_y,
         starts,
         listing,
         counts,
@@ -191,7 +163,7 @@ pub(crate) fn scan_cells(
     second: &mut [u32],
 ) -> usize
     requires { let ls = lines (now «start_x») (now «start_y») (now «end_x») (now «end_y») in
-        ⌜ Checked ls (CellsAsk (count ls) cells (now offsets) (now items) (now starts) (now listing) (now counts)) ⌝ }
+        ⌜ LinesChecked ls (CellsAsk (count ls) cells (now offsets) (now items) (now starts) (now listing) (now counts)) ⌝ }
     ensures { λ r. let ls = lines (now («start_x» .entry)) (now («start_y» .entry)) (now («end_x» .entry)) (now («end_y» .entry)) in
         ⌜ CellsDone (overlap ls) (count ls) cells (now (offsets .entry)) (now (items .entry)) (now (starts .entry)) (now (listing .entry)) (now (counts .exit))
         (now (first .entry)) (now (second .entry)) (now (first .exit)) (now (second .exit)) r ⌝ }

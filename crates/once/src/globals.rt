@@ -2,8 +2,8 @@
 use crate::rows;
 ghost use Rattle.grid.specs.Domain.{lines, count};
 ghost use Rattle.visit.specs.Overlap.{overlap};
-ghost use Rattle.once.specs.Scan.{GlobalAsks, GlobalDone, GlobalsAsk, GlobalsDone};
-ghost use Rattle.once.specs.Inside.{Checked};
+ghost use Rattle.first_tests.specs.Scan.{GlobalAsks, GlobalDone, GlobalsAsk, GlobalsDone};
+ghost use Rattle.once.specs.Inside.{LinesChecked};
 
 // The global at a position: runs of lines between the globals that are passed over.
 fn scan_global(
@@ -22,12 +22,12 @@ fn scan_global(
     hits: usize,
 ) -> usize
     requires { let ls = lines (now «start_x») (now «start_y») (now «end_x») (now «end_y») in
-        ⌜ Checked ls (GlobalAsks (count ls) n p (now globals) (now starts) (now listing) (now counts) hits) ⌝ }
+        ⌜ LinesChecked ls (GlobalAsks (count ls) n p (now globals) (now starts) (now listing) (now counts) hits) ⌝ }
     ensures { λ r. let ls = lines (now («start_x» .entry)) (now («start_y» .entry)) (now («end_x» .entry)) (now («end_y» .entry)) in
         ⌜ GlobalDone (overlap ls) (count ls) p (now (globals .entry)) (now (starts .entry)) (now (listing .entry)) (now (counts .entry))
         (now (first .entry)) (now (second .entry)) hits (now (first .exit)) (now (second .exit)) r ⌝ }
 {
-    let row = rows::row_of(globals[p], start_x, start_y, end_x, end_y);
+    let row = rows::row_of(globals[p], 0, start_x, start_y, end_x, end_y);
     let mut hits = hits;
     let mut k = 0;
     let mut q = 0;
@@ -85,7 +85,7 @@ pub(crate) fn scan_globals(
     hits: usize,
 ) -> usize
     requires { let ls = lines (now «start_x») (now «start_y») (now «end_x») (now «end_y») in
-        ⌜ Checked ls (GlobalsAsk (count ls) n (now globals) «global_count» (now starts) (now listing) (now counts) hits) ⌝ }
+        ⌜ LinesChecked ls (GlobalsAsk (count ls) n (now globals) «global_count» (now starts) (now listing) (now counts) hits) ⌝ }
     ensures { λ r. let ls = lines (now («start_x» .entry)) (now («start_y» .entry)) (now («end_x» .entry)) (now («end_y» .entry)) in
         ⌜ GlobalsDone (overlap ls) (count ls) (now (globals .entry)) «global_count» (now (starts .entry)) (now (listing .entry)) (now (counts .entry))
         (now (first .entry)) (now (second .entry)) hits (now (first .exit)) (now (second .exit)) r ⌝ }

@@ -8,13 +8,13 @@ ghost use Rattle.grid.specs.Domain.{lines};
 ghost use Rattle.seek.specs.Tests.{testsOf};
 ghost use Rattle.visit.specs.Overlap.{overlap};
 ghost use Rattle.tables.specs.Tables.{beside};
-ghost use Rattle.once.specs.Once.{keeps, onceBy, PairsAre};
-ghost use Rattle.once.specs.Scan.{Grown, RunAsks};
-ghost use Rattle.once.specs.Inside.{Checked};
+ghost use Rattle.first_tests.specs.Firsts.{keeps, PairsAre};
+ghost use Rattle.once.specs.Once.{onceBy};
+ghost use Rattle.first_tests.specs.Scan.{HandedOut, RunAsks};
+ghost use Rattle.once.specs.Inside.{LinesChecked};
 
 mod boxes;
 mod cells;
-mod few;
 mod globals;
 mod rows;
 
@@ -37,10 +37,10 @@ fn run(
 ) -> usize
     requires { let ls = lines (now «start_x») (now «start_y») (now «end_x») (now «end_y») in
         let t = beside ls grid (now offsets) (now items) (now globals) «global_count» in
-        ⌜ Checked ls (RunAsks grid t (now starts) (now listing) (now counts)) ⌝ }
+        ⌜ LinesChecked ls (RunAsks grid t (now starts) (now listing) (now counts)) ⌝ }
     ensures { λ r. let ls = lines (now («start_x» .entry)) (now («start_y» .entry)) (now («end_x» .entry)) (now («end_y» .entry)) in
         let t = beside ls grid (now (offsets .entry)) (now (items .entry)) (now (globals .entry)) «global_count» in
-        ⌜ Grown (keeps (overlap ls) t) (testsOf t) (now (first .entry)) (now (second .entry)) 0 (now (first .exit)) (now (second .exit)) r ⌝ }
+        ⌜ HandedOut (keeps (overlap ls) t) (testsOf t) (now (first .entry)) (now (second .entry)) 0 (now (first .exit)) (now (second .exit)) r ⌝ }
 {
     let cells = (grid.rows as usize) * (grid.cols as usize);
     let hits = cells::scan_cells(

@@ -21,9 +21,9 @@ use Rattle.visit_laws.proofs.Number.{sum-zero, sum-suc}
 use Rattle.visit_laws.proofs.Often.{one-true, one-false, times-cons, times-append, cell-times, cells-shared, globals-all}
 use Rattle.visit_laws.proofs.Different.{tests-different}
 use Rattle.by_line.specs.First.{someBelow, metBelow}
-use Rattle.once.specs.Once.{through, isFirst}
-use Rattle.once.proofs.Lists.{cells-more}
-use Rattle.once.proofs.Whole.{through-cell}
+use Rattle.first_tests.specs.Firsts.{through, isFirst}
+use Rattle.first_tests.proofs.Lists.{cells-more}
+use Rattle.first_tests.proofs.Whole.{through-cell}
 use Rattle.once_laws.specs.Words.{FirstsAfter}
 
 -- ---- some cell before, and how many

@@ -19,7 +19,8 @@ use Rattle.visit.specs.Batches.{keepIf, overlapping}
 use Rattle.visit_laws.specs.Words.{oneWhere, testOfBoth, times, Different}
 use Rattle.visit_laws.proofs.Often.{one-true, one-false, times-nil, times-cons, times-append, times-swap, overlap-swap, handed-often, handed-never}
 use Rattle.visit_laws.proofs.Different.{tests-different}
-use Rattle.once.specs.Once.{keeps, keptBy, firstTests, onceOf}
+use Rattle.first_tests.specs.Firsts.{keeps, keptBy, firstTests}
+use Rattle.once.specs.Once.{onceOf}
 use Rattle.once_laws.specs.Words.{FirstsAfter, EachOnce}
 use Rattle.once_laws.proofs.First.{tests-first}
 

@@ -7,7 +7,7 @@ use lib.Dec.{eqb, ltb}
 use Rattle.tables.specs.Tables.{Tables}
 use Rattle.seek.specs.Tests.{Pair, testsOf}
 use Rattle.visit_laws.specs.Words.{oneWhere, times, Different}
-use Rattle.once.specs.Once.{isFirst, firstTests}
+use Rattle.first_tests.specs.Firsts.{isFirst, firstTests}
 
 -- each of some tests, which are made after others, counts as the first exactly if none of those before it is a test of its two lines, either of
 -- them first

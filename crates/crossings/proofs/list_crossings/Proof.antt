@@ -1,7 +1,7 @@
 -- `crossings::list_crossings` meets its contract: each refusal in its order, then the pairs. Assumes nothing.
 use mathlib.Core.Path.{_∙_}
 use Rattle.samples.specs.Samples.{samples}
-use Rattle.once.proofs.MadeLists.{run-asks}
+use Rattle.first_tests.proofs.MadeLists.{run-asks}
 use Rattle.crossings.proofs.Entry.{crossings-stopped, crossings-done}
 use borrow.Author.Needs.{needs}
 use Rattle.crossings.proofs.list_crossings.Statement.{statement}

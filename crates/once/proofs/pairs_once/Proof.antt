@@ -2,7 +2,7 @@
 use mathlib.Core.Path.{sym, _∙_}
 use Rattle.grid.specs.Domain.{lines}
 use Rattle.lent.proofs.Beginning.{begun-passed}
-use Rattle.once.proofs.MadeLists.{run-asks}
+use Rattle.first_tests.proofs.MadeLists.{run-asks}
 use Rattle.once.proofs.Entry.{once-stopped, once-done}
 use borrow.Author.Needs.{needs}
 use Rattle.once.proofs.pairs_once.Statement.{statement}

@@ -1,6 +1,6 @@
 -- `once::run` meets its contract: the cells, and then the globals. Assumes nothing.
 use native.Mathlib.Omega.{arith}
-use Rattle.once.proofs.Whole.{run-cells, run-globals, run-done}
+use Rattle.first_tests.proofs.Whole.{run-cells, run-globals, run-done}
 use borrow.Author.Needs.{needs}
 use Rattle.once.proofs.run.Statement.{statement}
 use Rattle.once.proofs.run.Tie as tie

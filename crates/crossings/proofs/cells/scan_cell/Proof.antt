@@ -1,28 +1,22 @@
 -- `crossings::cells::scan_cell` meets its contract. Assumes nothing.
-use Rattle.once.proofs.Passing.{list-marked}
+use Rattle.first_tests.proofs.Passing.{list-marked}
 use borrow.Author.Needs.{needs}
 use Rattle.crossings.proofs.cells.scan_cell.Statement.{statement}
 use Rattle.crossings.proofs.cells.scan_cell.Tie as tie
 use Rattle.crossings.proofs.cells.scan_cell.Reads as reads
 use Rattle.crossings.proofs.cells.scan_cell.Lts as lts
 use Rattle.by_line.proofs.marks.mark_list.Reads as mark-list-reads
-use Rattle.crossings.proofs.cells.back.Reads as back-reads
+use Rattle.by_line.proofs.marks.marks_or_list.Reads as marks-or-list-reads
 use Rattle.crossings.proofs.cells.scan_rows.Reads as scan-rows-reads
-
-back-requires : tie.Need-back-requires
-back-requires c κs = search needs
-
-back-requires-2 : tie.Need-back-requires-2
-back-requires-2 c κs = search needs
-
-back-requires-3 : tie.Need-back-requires-3
-back-requires-3 c κs = search needs
 
 mark-list-requires : tie.Need-mark-list-requires
 mark-list-requires c κs = search needs
 
+marks-or-list-requires : tie.Need-marks-or-list-requires
+marks-or-list-requires c κs = search needs
+
 scan-rows-requires : tie.Need-scan-rows-requires
-scan-rows-requires c κs = list-marked (c .before .before .before .before .before .before .before .before .before .before .before .before .before .before .before .before .before .pre) (c .before .before .before .before .before .mark-list .ensures)
+scan-rows-requires c κs = list-marked (c .before .before .before .before .before .before .before .before .before .before .before .before .before .before .before .pre) (c .before .before .before .before .before .before .mark-list .ensures) (c .before .before .marks-or-list .ensures)
 
 same-length : tie.Need-same-length
 same-length c = search needs
@@ -40,10 +34,8 @@ pub scan-cell-spec : {M : Type 1} → statement M
 scan-cell-spec =
     tie.close
     (tie.spec
-    back-requires
-    back-requires-2
-    back-requires-3
     mark-list-requires
+    marks-or-list-requires
     scan-rows-requires
     same-length
     same-length-2

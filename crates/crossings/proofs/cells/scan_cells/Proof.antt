@@ -4,8 +4,8 @@ use Prim.Native.Nat.{_-_}
 use native.Mathlib.Omega.{arith}
 use Rattle.samples.specs.Samples.{samples, sampleCount}
 use Rattle.samples.specs.Sharing.{shares}
-use Rattle.once.proofs.Lists.{Cells, cells-begin, cells-done, cell-rows, cell-counts, cells-next}
-use Rattle.once.proofs.Passing.{Beside}
+use Rattle.first_tests.proofs.Lists.{Cells, cells-begin, cells-done, cell-rows, cell-counts, cells-next}
+use Rattle.first_tests.proofs.Passing.{Beside}
 use Rattle.crossings.proofs.cells.scan_cells.Statement.{statement}
 use Rattle.crossings.proofs.cells.scan_cells.Tie as tie
 use Rattle.crossings.proofs.cells.scan_cells.Reads as reads

@@ -1,13 +1,13 @@
 -- `crossings::globals::scan_global` meets its contract. Assumes nothing.
-use mathlib.Core.Path.{_≡_, refl, sym, _∙_}
-use Prim.Native.Nat.{ℕ, _+_, _-_}
+use mathlib.Core.Path.{_∙_}
+use Prim.Native.Nat.{_+_, _-_}
 use native.Mathlib.Omega.{arith}
 use borrow.Author.Needs.{needs}
 use Rattle.samples.specs.Samples.{samples, sampleCount}
 use Rattle.samples.specs.Sharing.{shares}
-use Rattle.crossings.specs.Inside.{Held}
-use Rattle.crossings.proofs.RowLaws.{row-first, row-held}
-use Rattle.once.proofs.Runs.{global-in, Runs, runs-begin, stop-here, stop-inside, stop-small, stop-fits, stop-last, run-scan, runs-next, runs-done}
+use Rattle.crossings.specs.Inside.{RaisedHeld}
+use Rattle.crossings.proofs.RowLaws.{row-first, row-held, held-other}
+use Rattle.first_tests.proofs.Runs.{global-in, Runs, runs-begin, stop-here, stop-inside, stop-small, stop-fits, stop-last, run-scan, runs-next, runs-done}
 use Rattle.crossings.proofs.globals.scan_global.Statement.{statement}
 use Rattle.crossings.proofs.globals.scan_global.Tie as tie
 use Rattle.crossings.proofs.globals.scan_global.Reads as reads
@@ -17,7 +17,7 @@ use Rattle.crossings.proofs.rows.scan_lines.Reads as scan-lines-reads
 
 abbrev Inv-loop : tie.InvT-loop
 Inv-loop n p globals start-x start-y end-x end-y starts listing counts first₀ second₀ hits row hits₀ k₀ q₀ first second hits' k q =
-    let ss = samples start-x start-y end-x end-y in Held ss row (Runs (shares ss) (sampleCount ss) n p globals starts listing counts (row .first) first₀ second₀ hits first second hits' k q)
+    let ss = samples start-x start-y end-x end-y in RaisedHeld ss row (Runs (shares ss) (sampleCount ss) n p globals starts listing counts (row .first) first₀ second₀ hits first second hits' k q)
 
 abbrev μ-loop : tie.MeasureT-loop
 μ-loop n p globals start-x start-y end-x end-y starts listing counts first₀ second₀ hits row hits₀ k₀ q₀ first second hits' k q =
@@ -33,7 +33,7 @@ row-of-requires : tie.Need-row-of-requires Inv-loop μ-loop
 row-of-requires c κs = search needs
 
 loop-holds : tie.Need-loop-holds Inv-loop μ-loop
-loop-holds c = let h = c .before .before .before .before .before .before .before .before .pre in let e = c .row-of .ensures in row-held e (runs-begin h (row-first e))
+loop-holds c = let h = c .before .before .before .before .before .before .before .before .pre in let e = c .row-of .ensures in row-held e (omega arith) (runs-begin h (row-first e))
 
 mul-stop : tie.Need-mul-stop Inv-loop μ-loop
 mul-stop c = let h = stop-inside (c .before .loop .inv .asks) (c .loop-test .taken) in omega arith
@@ -44,7 +44,7 @@ shared-slice-read-stop c = stop-inside (c .before .before .loop .inv .asks) (c .
 scan-lines-requires : tie.Need-scan-lines-requires Inv-loop μ-loop
 scan-lines-requires c κs =
     let h = c .before .before .before .before .loop .inv in
-    record { held = h .held; asks = run-scan (h .asks) _ (stop-here (h .asks) (c .before .before .before .loop-test .taken)) }
+    held-other h (run-scan (h .asks) _ (stop-here (h .asks) (c .before .before .before .loop-test .taken)))
 
 add-k : tie.Need-add-k Inv-loop μ-loop
 add-k c = record { fits = stop-fits (c .before .before .before .before .before .before .before .before .before .loop .inv .asks) (c .before .before .before .before .before .before .before .before .loop-test .taken) }
@@ -59,12 +59,12 @@ loop-again : tie.Need-loop-again Inv-loop μ-loop
 loop-again c =
     let h = c .before .before .before .before .before .before .before .before .before .loop .inv in
     let d = c .before .before .before .before .scan-lines in
-    record { held = h .held; asks = runs-next (h .asks) _ (stop-here (h .asks) (c .before .before .before .before .before .before .before .before .loop-test .taken)) (d .ensures) (c .before .before .before .before .before .before .before .before .loop-test .taken) (d .kept .1 .1 .1 .1 .1 .1 .1 .1 .1 .1 .0) (d .kept .1 .1 .1 .1 .1 .1 .1 .1 .1 .1 .1 .0) }
+    held-other h (runs-next (h .asks) _ (stop-here (h .asks) (c .before .before .before .before .before .before .before .before .loop-test .taken)) (d .ensures) (c .before .before .before .before .before .before .before .before .loop-test .taken) (d .kept .1 .1 .1 .1 .1 .1 .1 .1 .1 .1 .0) (d .kept .1 .1 .1 .1 .1 .1 .1 .1 .1 .1 .1 .0))
 
 scan-lines-requires-2 : tie.Need-scan-lines-requires-2 Inv-loop μ-loop
 scan-lines-requires-2 c κs =
     let h = c .before .before .before .loop .inv in
-    record { held = h .held; asks = run-scan (h .asks) _ (stop-last (h .asks) (c .before .before .loop-test .left)) }
+    held-other h (run-scan (h .asks) _ (stop-last (h .asks) (c .before .before .loop-test .left)))
 
 same-length : tie.Need-same-length Inv-loop μ-loop
 same-length c = c .before .before .before .before .scan-lines2 .kept .1 .1 .1 .1 .1 .1 .1 .1 .1 .1 .0 ∙ c .before .before .before .before .before .before .before .before .loop .inv .asks .first-long

@@ -1,10 +1,9 @@
 -- `crossings::globals::scan_globals` meets its contract. Assumes nothing.
-use mathlib.Core.Path.{_≡_, refl, sym, _∙_}
-use Prim.Native.Nat.{ℕ, _-_}
+use Prim.Native.Nat.{_-_}
 use native.Mathlib.Omega.{arith}
 use Rattle.samples.specs.Samples.{samples, sampleCount}
 use Rattle.samples.specs.Sharing.{shares}
-use Rattle.once.proofs.Runs.{Globals, globals-begin, globals-done, global-asks, globals-next}
+use Rattle.first_tests.proofs.Runs.{Globals, globals-begin, globals-done, global-asks, globals-next}
 use Rattle.crossings.proofs.globals.scan_globals.Statement.{statement}
 use Rattle.crossings.proofs.globals.scan_globals.Tie as tie
 use Rattle.crossings.proofs.globals.scan_globals.Reads as reads

@@ -1,35 +1,36 @@
 -- `crossings::rows::scan_lines` meets its contract. Assumes nothing.
-use mathlib.Core.Path.{_≡_, refl, sym, _∙_}
-use Prim.Native.Nat.{ℕ, _-_}
+use Prim.Native.Nat.{_-_}
 use native.Mathlib.Omega.{arith}
 use Rattle.samples.specs.Samples.{samples, sampleCount}
 use Rattle.samples.specs.Sharing.{shares}
-use Rattle.crossings.specs.Inside.{Held}
-use Rattle.once.proofs.Scans.{LineScan, lines-begin, lines-done, lines-pair, lines-fits, lines-yes, lines-no}
+use Rattle.crossings.specs.Inside.{RaisedHeld}
+use Rattle.first_tests.proofs.Passing.{marked-none}
+use Rattle.crossings.proofs.RowLaws.{held-other}
+use Rattle.first_tests.proofs.Scans.{LineScan, lines-begin, lines-done, lines-pair, lines-fits, lines-yes, lines-no}
 use borrow.Author.Needs.{needs}
 use Rattle.crossings.proofs.rows.scan_lines.Statement.{statement}
 use Rattle.crossings.proofs.rows.scan_lines.Tie as tie
 use Rattle.crossings.proofs.rows.scan_lines.Reads as reads
 use Rattle.crossings.proofs.rows.scan_lines.Lts as lts
-use Rattle.crossings.proofs.rows.keeps_pair.Reads as keeps-pair-reads
+use Rattle.crossings.proofs.rows.keeps.Reads as keeps-reads
 use Rattle.lent.proofs.put_pair.Reads as put-pair-reads
 
 abbrev Inv-loop : tie.InvT-loop
 Inv-loop row k stop start-x start-y end-x end-y starts listing counts first₀ second₀ hits hits₀ b₀ first second hits' b =
-    let ss = samples start-x start-y end-x end-y in Held ss row (LineScan (shares ss) (sampleCount ss) (row .first) k stop starts listing counts first₀ second₀ hits first second hits' b)
+    let ss = samples start-x start-y end-x end-y in RaisedHeld ss row (LineScan (shares ss) (sampleCount ss) (row .first) k stop starts listing counts first₀ second₀ hits first second hits' b)
 
 abbrev μ-loop : tie.MeasureT-loop
 μ-loop row k stop start-x start-y end-x end-y starts listing counts first₀ second₀ hits hits₀ b₀ first second hits' b =
     stop - b
 
 loop-holds : tie.Need-loop-holds Inv-loop μ-loop
-loop-holds c = let h = c .before .before .before .before .before .pre in record { held = h .held; asks = lines-begin (h .asks) }
+loop-holds c = let h = c .before .before .before .before .before .pre in held-other h (lines-begin (h .asks))
 
 add-b : tie.Need-add-b Inv-loop μ-loop
 add-b c = omega arith
 
-keeps-pair-requires : tie.Need-keeps-pair-requires Inv-loop μ-loop
-keeps-pair-requires c κs = let h = c .before .loop .inv in record { held = h .held; asks = lines-pair (h .asks) (c .loop-test .taken) }
+keeps-requires : tie.Need-keeps-requires Inv-loop μ-loop
+keeps-requires c κs = let h = c .before .loop .inv in held-other h (marked-none (lines-pair (h .asks) (c .loop-test .taken)) (h .most))
 
 put-pair-requires : tie.Need-put-pair-requires Inv-loop μ-loop
 put-pair-requires c κs = search needs
@@ -41,13 +42,13 @@ loop-less : tie.Need-loop-less Inv-loop μ-loop
 loop-less c = omega arith
 
 loop-again : tie.Need-loop-again Inv-loop μ-loop
-loop-again c = let h = c .before .before .before .before .before .before .before .before .before .before .loop .inv in record { held = h .held; asks = lines-yes (h .asks) (c .before .before .before .before .before .before .before .before .before .loop-test .taken) (c .before .before .before .before .before .before .before .before .keeps-pair .ensures) (c .before .before .before .before .before .before .before .if1 .taken) (c .before .before .before .before .put-pair .ensures .0) (c .before .before .before .before .put-pair .ensures .1) }
+loop-again c = let h = c .before .before .before .before .before .before .before .before .before .before .loop .inv in held-other h (lines-yes (h .asks) (c .before .before .before .before .before .before .before .before .before .loop-test .taken) (c .before .before .before .before .before .before .before .before .keeps .ensures) (c .before .before .before .before .before .before .before .if1 .taken) (c .before .before .before .before .put-pair .ensures .0) (c .before .before .before .before .put-pair .ensures .1))
 
 loop-less-2 : tie.Need-loop-less-2 Inv-loop μ-loop
 loop-less-2 c = omega arith
 
 loop-again-2 : tie.Need-loop-again-2 Inv-loop μ-loop
-loop-again-2 c = let h = c .before .before .before .loop .inv in record { held = h .held; asks = lines-no (h .asks) (c .before .before .loop-test .taken) (c .before .keeps-pair .ensures) (c .if1 .left) }
+loop-again-2 c = let h = c .before .before .before .loop .inv in held-other h (lines-no (h .asks) (c .before .before .loop-test .taken) (c .before .keeps .ensures) (c .if1 .left))
 
 same-length : tie.Need-same-length Inv-loop μ-loop
 same-length c = c .before .loop .inv .asks .scan .first-long
@@ -66,7 +67,7 @@ scan-lines-spec =
     μ-loop
     loop-holds
     add-b
-    keeps-pair-requires
+    keeps-requires
     put-pair-requires
     add-hits
     loop-less

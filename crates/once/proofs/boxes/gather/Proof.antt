@@ -3,7 +3,7 @@ use native.Mathlib.Omega.{arith}
 use Prim.Native.Nat.{_-_}
 use lib.ListN.{length}
 use Rattle.grid.specs.Domain.{lines}
-use Rattle.once.proofs.Shorts.{Gathering, gather-begin, gather-line, gather-room, gather-more, gather-end}
+use Rattle.once.proofs.Boxed.{Gathering, gather-begin, gather-line, gather-room, gather-more, gather-end}
 use Rattle.once.proofs.boxes.gather.Statement.{statement}
 use Rattle.once.proofs.boxes.gather.Tie as tie
 use Rattle.once.proofs.boxes.gather.Reads as reads

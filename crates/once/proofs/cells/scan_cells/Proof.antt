@@ -4,10 +4,10 @@ use Prim.Native.Nat.{_-_}
 use native.Mathlib.Omega.{arith}
 use Rattle.grid.specs.Domain.{lines, count}
 use Rattle.visit.specs.Overlap.{overlap}
-use Rattle.once.specs.Inside.{Checked}
-use Rattle.once.proofs.Lists.{Cells, cells-begin, cells-done, cell-rows, cell-counts, cells-next}
-use Rattle.once.proofs.Passing.{Beside}
-use Rattle.once.proofs.Shorts.{Ready}
+use Rattle.once.specs.Inside.{LinesChecked}
+use Rattle.first_tests.proofs.Lists.{Cells, cells-begin, cells-done, cell-rows, cell-counts, cells-next}
+use Rattle.first_tests.proofs.Passing.{Beside}
+use Rattle.once.proofs.Boxed.{WithRoom}
 use Rattle.once.proofs.cells.scan_cells.Statement.{statement}
 use Rattle.once.proofs.cells.scan_cells.Tie as tie
 use Rattle.once.proofs.cells.scan_cells.Reads as reads
@@ -19,7 +19,7 @@ use Rattle.once.proofs.cells.scan_cell.Reads as scan-cell-reads
 abbrev Inv-loop : tie.InvT-loop
 Inv-loop cells cols offsets items start-x start-y end-x end-y starts listing counts₀ first₀ second₀ marks₀ room₀ hits₀ cell₀ counts first second marks room hits cell =
     let ls = lines start-x start-y end-x end-y in
-    Beside 4096 marks (Ready 256 room (Checked ls (Cells (overlap ls) (count ls) cells offsets items starts listing counts₀ first₀ second₀ counts first second hits cell)))
+    Beside 4096 marks (WithRoom 256 room (LinesChecked ls (Cells (overlap ls) (count ls) cells offsets items starts listing counts₀ first₀ second₀ counts first second hits cell)))
 
 abbrev μ-loop : tie.MeasureT-loop
 μ-loop cells cols offsets items start-x start-y end-x end-y starts listing counts₀ first₀ second₀ marks₀ room₀ hits₀ cell₀ counts first second marks room hits cell =

@@ -4,9 +4,9 @@ use Prim.Native.Nat.{_+_, _-_}
 use native.Mathlib.Omega.{arith}
 use Rattle.grid.specs.Domain.{lines, count}
 use Rattle.visit.specs.Overlap.{overlap}
-use Rattle.once.specs.Inside.{Held}
-use Rattle.once.proofs.Boxed.{row-first, row-held, line-asks}
-use Rattle.once.proofs.Runs.{global-line, global-in, Runs, runs-begin, stop-here, stop-inside, stop-small, stop-fits, stop-last, run-scan, runs-next, runs-done}
+use Rattle.once.specs.Inside.{RowHeld}
+use Rattle.once.proofs.Boxed.{row-first, row-held, line-asks, held-other}
+use Rattle.first_tests.proofs.Runs.{global-line, global-in, Runs, runs-begin, stop-here, stop-inside, stop-small, stop-fits, stop-last, run-scan, runs-next, runs-done}
 use Rattle.once.proofs.globals.scan_global.Statement.{statement}
 use Rattle.once.proofs.globals.scan_global.Tie as tie
 use Rattle.once.proofs.globals.scan_global.Reads as reads
@@ -16,7 +16,7 @@ use Rattle.once.proofs.rows.scan_lines.Reads as scan-lines-reads
 
 abbrev Inv-loop : tie.InvT-loop
 Inv-loop n p globals start-x start-y end-x end-y starts listing counts first₀ second₀ hits row hits₀ k₀ q₀ first second hits' k q =
-    let ls = lines start-x start-y end-x end-y in Held ls row (Runs (overlap ls) (count ls) n p globals starts listing counts (row .first) first₀ second₀ hits first second hits' k q)
+    let ls = lines start-x start-y end-x end-y in RowHeld ls row (Runs (overlap ls) (count ls) n p globals starts listing counts (row .first) first₀ second₀ hits first second hits' k q)
 
 abbrev μ-loop : tie.MeasureT-loop
 μ-loop n p globals start-x start-y end-x end-y starts listing counts first₀ second₀ hits row hits₀ k₀ q₀ first second hits' k q =
@@ -32,7 +32,7 @@ row-of-requires : tie.Need-row-of-requires Inv-loop μ-loop
 row-of-requires c κs = let h = c .before .before .before .before .before .before .before .before .before .before .before .pre in line-asks (h .fine) (global-line (h .asks))
 
 loop-holds : tie.Need-loop-holds Inv-loop μ-loop
-loop-holds c = let h = c .before .before .before .before .before .before .before .before .before .before .before .before .pre in let e = c .row-of .ensures in row-held e (h .fine) (runs-begin (h .asks) (row-first e))
+loop-holds c = let h = c .before .before .before .before .before .before .before .before .before .before .before .before .pre in let e = c .row-of .ensures in row-held e (h .fine) (omega arith) (runs-begin (h .asks) (row-first e))
 
 mul-stop : tie.Need-mul-stop Inv-loop μ-loop
 mul-stop c = let h = stop-inside (c .before .loop .inv .asks) (c .loop-test .taken) in omega arith
@@ -43,7 +43,7 @@ shared-slice-read-stop c = stop-inside (c .before .before .loop .inv .asks) (c .
 scan-lines-requires : tie.Need-scan-lines-requires Inv-loop μ-loop
 scan-lines-requires c κs =
     let h = c .before .before .before .before .loop .inv in
-    record { fine = h .fine; held = h .held; asks = run-scan (h .asks) _ (stop-here (h .asks) (c .before .before .before .loop-test .taken)) }
+    held-other h (run-scan (h .asks) _ (stop-here (h .asks) (c .before .before .before .loop-test .taken)))
 
 add-k : tie.Need-add-k Inv-loop μ-loop
 add-k c = record { fits = stop-fits (c .before .before .before .before .before .before .before .before .before .loop .inv .asks) (c .before .before .before .before .before .before .before .before .loop-test .taken) }
@@ -58,12 +58,12 @@ loop-again : tie.Need-loop-again Inv-loop μ-loop
 loop-again c =
     let h = c .before .before .before .before .before .before .before .before .before .loop .inv in
     let d = c .before .before .before .before .scan-lines in
-    record { fine = h .fine; held = h .held; asks = runs-next (h .asks) _ (stop-here (h .asks) (c .before .before .before .before .before .before .before .before .loop-test .taken)) (d .ensures) (c .before .before .before .before .before .before .before .before .loop-test .taken) (d .kept .1 .1 .1 .1 .1 .1 .1 .1 .1 .1 .0) (d .kept .1 .1 .1 .1 .1 .1 .1 .1 .1 .1 .1 .0) }
+    held-other h (runs-next (h .asks) _ (stop-here (h .asks) (c .before .before .before .before .before .before .before .before .loop-test .taken)) (d .ensures) (c .before .before .before .before .before .before .before .before .loop-test .taken) (d .kept .1 .1 .1 .1 .1 .1 .1 .1 .1 .1 .0) (d .kept .1 .1 .1 .1 .1 .1 .1 .1 .1 .1 .1 .0))
 
 scan-lines-requires-2 : tie.Need-scan-lines-requires-2 Inv-loop μ-loop
 scan-lines-requires-2 c κs =
     let h = c .before .before .before .loop .inv in
-    record { fine = h .fine; held = h .held; asks = run-scan (h .asks) _ (stop-last (h .asks) (c .before .before .loop-test .left)) }
+    held-other h (run-scan (h .asks) _ (stop-last (h .asks) (c .before .before .loop-test .left)))
 
 same-length : tie.Need-same-length Inv-loop μ-loop
 same-length c = c .before .before .before .before .scan-lines2 .kept .1 .1 .1 .1 .1 .1 .1 .1 .1 .1 .0 ∙ c .before .before .before .before .before .before .before .before .loop .inv .asks .first-long

@@ -3,8 +3,8 @@ use Prim.Native.Nat.{_-_}
 use native.Mathlib.Omega.{arith}
 use Rattle.grid.specs.Domain.{lines, count}
 use Rattle.visit.specs.Overlap.{overlap}
-use Rattle.once.specs.Inside.{Checked}
-use Rattle.once.proofs.Runs.{Globals, globals-begin, globals-done, global-asks, globals-next}
+use Rattle.once.specs.Inside.{LinesChecked}
+use Rattle.first_tests.proofs.Runs.{Globals, globals-begin, globals-done, global-asks, globals-next}
 use Rattle.once.proofs.globals.scan_globals.Statement.{statement}
 use Rattle.once.proofs.globals.scan_globals.Tie as tie
 use Rattle.once.proofs.globals.scan_globals.Reads as reads
@@ -13,7 +13,7 @@ use Rattle.once.proofs.globals.scan_global.Reads as scan-global-reads
 
 abbrev Inv-loop : tie.InvT-loop
 Inv-loop n globals global-count start-x start-y end-x end-y starts listing counts first₀ second₀ hits hits₀ p₀ first second hits' p =
-    let ls = lines start-x start-y end-x end-y in Checked ls (Globals (overlap ls) (count ls) n globals global-count starts listing counts first₀ second₀ hits first second hits' p)
+    let ls = lines start-x start-y end-x end-y in LinesChecked ls (Globals (overlap ls) (count ls) n globals global-count starts listing counts first₀ second₀ hits first second hits' p)
 
 abbrev μ-loop : tie.MeasureT-loop
 μ-loop n globals global-count start-x start-y end-x end-y starts listing counts first₀ second₀ hits hits₀ p₀ first second hits' p =

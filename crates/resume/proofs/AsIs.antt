@@ -10,7 +10,7 @@ use borrow.Author.Tests.{le-leb, lt-leb, lt-ltb, le-ltb}
 use Rattle.grid.proofs.Bools.{and-right}
 use Rattle.tables.specs.Fit.{increases, Increasing}
 use Rattle.tables.proofs.Facts.{increases-says}
-use Rattle.through.proofs.AsIs.{if-true, if-false, if-says, none-increasing}
+use Rattle.listed.proofs.AsIs.{if-true, if-false, if-says, none-increasing}
 use Rattle.resume.specs.AsTheyAre.{cellsLookedAt, globalsBy}
 
 -- ---- the globals

@@ -25,13 +25,13 @@ use Rattle.seek.proofs.CellRests.{pair-taken}
 use Rattle.visit.proofs.RowTurns.{numbers-some}
 use Rattle.seek.proofs.GlobalRests.{grest-run}
 use Rattle.resume.specs.declared.Cursor.{Cursor}
-use Rattle.through.specs.declared.CellAt.{CellAt}
-use Rattle.through.specs.declared.CellAt.the-variants as cellat
-use Rattle.through.specs.Lists.{listBy, cellsOf}
-use Rattle.through.specs.Runs.{FirstAt, LeftAt}
-use Rattle.through.proofs.AsIs.{list-increases}
-use Rattle.through.proofs.ListLaws.{from-later}
-use Rattle.through.proofs.CellTurns.{from-at}
+use Rattle.listed.specs.declared.CellAt.{CellAt}
+use Rattle.listed.specs.declared.CellAt.the-variants as cellat
+use Rattle.listed.specs.Lists.{listBy, testsOfCells}
+use Rattle.listed.specs.Places.{FirstAt, LeftAt}
+use Rattle.listed.proofs.AsIs.{list-increases}
+use Rattle.listed.proofs.ListLaws.{from-later}
+use Rattle.listed.proofs.CellLaws.{from-at}
 use Rattle.resume.specs.AsTheyAre.{cellsLookedAt, cellsToLook, listAs, globalsAs}
 use Rattle.resume.specs.Cursors.{zeroOrNext, indexOf, cursor, globalsFrom, spotOf, cursorOf}
 use Rattle.resume.specs.Inside.{SpotAsks}
@@ -139,12 +139,12 @@ module _ (t : Tables) (m : ℕ) (em : m ≡ cellsToLook t) where
       let x : ℕ = getD (listAs t c) a 0 in
       let y : ℕ = getD (listAs t c) b 0 in
       spot-cell c a b (f .inside) (omega (arith, f .later, f .among)) (f .among)
-      ∙ sym (cursor-at t (placeOf (t .cols) c) x y ((restIn (placeOf (t .cols) c) (listAs t c) a (suc b) ++ cellsOf (t .cols) (listAs t) (m - suc c) (suc c)) ++ later))
+      ∙ sym (cursor-at t (placeOf (t .cols) c) x y ((restIn (placeOf (t .cols) c) (listAs t c) a (suc b) ++ testsOfCells (t .cols) (listAs t) (m - suc c) (suc c)) ++ later))
       ∙ ap (cursorOf t)
       (sym
       (ap (λ (l : List Pair). l ++ later)
       (f .is ∙ from-at (t .cols) (listAs t) m c (f .inside) a b
-      ∙ ap (λ (l : List Pair). l ++ cellsOf (t .cols) (listAs t) (m - suc c) (suc c)) (from-later (placeOf (t .cols) c) (listAs t c) a b (f .later) ∙ pair-taken (placeOf (t .cols) c) (listAs t c) a b (f .among)))))
+      ∙ ap (λ (l : List Pair). l ++ testsOfCells (t .cols) (listAs t) (m - suc c) (suc c)) (from-later (placeOf (t .cols) c) (listAs t c) a b (f .later) ∙ pair-taken (placeOf (t .cols) c) (listAs t c) a b (f .among)))))
 
   module _ (rest : List Pair) (none : rest ≡ []) (n : ℕ) (en : n ≡ t .lines) (globals : List ℕ) (eg : globals ≡ globalsAs t) (p q k : ℕ) where
     -- at a global

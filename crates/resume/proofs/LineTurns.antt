@@ -15,8 +15,10 @@ use Rattle.seek.specs.Inside.{numbers}
 use Rattle.seek.proofs.Clauses.{with-cons, numbers-suc}
 use Rattle.visit.specs.Overlap.{overlap}
 use Rattle.visit.proofs.Moves.{moved-none, moved-then}
-use Rattle.through.specs.Inside.{LineAsks, markOf}
-use Rattle.through.proofs.ScanTurns.{mark-most, one-test}
+use Rattle.listed.specs.Bytes.{byteOf}
+use Rattle.through.specs.Inside.{LineAsks}
+use Rattle.listed.proofs.ByteLaws.{byte-most}
+use Rattle.through.proofs.ScanTurns.{one-test}
 use Rattle.resume.specs.Inside.{LinesAsk, LinesScanned}
 use Rattle.resume.proofs.Zeros.{zero-set}
 
@@ -64,7 +66,7 @@ module _ (ls : Lines) (line from many : ℕ) (fs ss : List ℕ) (hits : ℕ) (bo
         let k : from + (u + 1) ≡ suc (from + u) = omega arith in
         rw (e, k, numbers-suc, with-cons)
 
-    pub lines-more : (m : ℕ) (o : Bool) (other : Box) → other ≡ boxOf (segmentAt ls (from + u)) → o ≡ overlaps bounds other → m ≡ markOf o
+    pub lines-more : (m : ℕ) (o : Bool) (other : Box) → other ≡ boxOf (segmentAt ls (from + u)) → o ≡ overlaps bounds other → m ≡ byteOf o
         → LinesTurn ls line from many fs ss hits bounds (set fs′ hits′ line) (set ss′ hits′ (from + u)) (hits′ + m) (u + 1)
     unfolding overlap
     lines-more m o other eb eo em =
@@ -77,7 +79,7 @@ module _ (ls : Lines) (line from many : ℕ) (fs ss : List ℕ) (hits : ℕ) (bo
                 moved-then ls (length fs) _ _ _ u 1 fs ss hits fs′ ss′ hits′ _ _ _ (p .scanned .moved pl later)
                 (one-test ls (length fs) pl line (from + u) (withEach pl line (numbers (many - u) (from + u)) ++ later) (withEach pl line (numbers (many - (u + 1)) (from + (u + 1))) ++ later) fs′ ss′ hits′
                 (omega (arith, p .scanned .most, p .asks .room)) (p .scanned .first-long) (p .scanned .second-long ∙ p .asks .same) m o (sym (eo ∙ rw (p .bounds-are, eb))) em (begins pl later));
-            most = let q : m ≤ 1 = rw em (mark-most o) in omega (arith, p .scanned .most);
+            most = let q : m ≤ 1 = rw em (byte-most o) in omega (arith, p .scanned .most);
             first-long = length-set fs′ hits′ line ∙ p .scanned .first-long;
             second-long = length-set ss′ hits′ (from + u) ∙ p .scanned .second-long;
             first-zero = λ z. zero-set hits′ m line fs′ (p .scanned .first-zero z);

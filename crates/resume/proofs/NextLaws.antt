@@ -32,10 +32,10 @@ use Rattle.grid.specs.declared.Grid.{Grid}
 use Rattle.tables.specs.Tables.{Tables, beside}
 use Rattle.visit.specs.Entries.{pairsLeft}
 use Rattle.through.specs.declared.CellsMade.{CellsMade}
-use Rattle.through.specs.Lists.{listBy, cellsFrom}
-use Rattle.through.specs.Runs.{lentCheck, withinFit, alsoIf, runs, runTests, RanIs, CellsMadeIs}
+use Rattle.listed.specs.Lists.{listBy, cellsFrom}
+use Rattle.through.specs.Runs.{outputsLinesCheck, withinFit, alsoIf, runs, runTests, RanIs, CellsMadeIs}
 use Rattle.through.specs.Inside.{Goes}
-use Rattle.through.proofs.CellTurns.{from-done}
+use Rattle.listed.proofs.CellLaws.{from-done}
 use Rattle.through.proofs.Bounds.{cells-few}
 use Rattle.through.proofs.RunLaws.{lent-fine}
 use Rattle.through.proofs.Onward.{counts, ends-on, goes-on}
@@ -53,7 +53,7 @@ use Rattle.resume.proofs.Zeros.{Kept, kept}
 use Rattle.resume.proofs.Bounds.{globals-few, globals-table, globals-start, clip}
 use Rattle.resume.proofs.CursorLaws.{reach-most}
 
-pub next-fine : (ls : Lines) (first second : List ℕ) → lentCheck ls first second ≡ Fine → GoAsks ls first second
+pub next-fine : (ls : Lines) (first second : List ℕ) → outputsLinesCheck ls first second ≡ Fine → GoAsks ls first second
 next-fine ls first second h =
     let a = lent-fine ls first second h 0 (omega arith) in
     record { fine = h; alike = a .alike; few = a .few; same = a .same }
@@ -294,15 +294,15 @@ module _ (ls : Lines) (g : Grid) (offsets items globals : List ℕ) (count-of : 
 
 module _ (ls : Lines) (t : Tables) (c : Cursor) (fs ss : List ℕ) where
   -- a refusal by 3 or 2 leaves the outputs as they were
-  pub next-refused : (r : Refusal) → lentCheck ls fs ss ≡ Refused r → clears (r .number) ≡ false → NextIs ls t c fs ss fs ss (next.Refused r)
+  pub next-refused : (r : Refusal) → outputsLinesCheck ls fs ss ≡ Refused r → clears (r .number) ≡ false → NextIs ls t c fs ss fs ss (next.Refused r)
   unfolding nextAnswer nextTests _then_ answerBy pairsLeft leftIn refusals-words.leftBy
   next-refused r e k = record { answers = rw e; first-is = rw (e, k); second-is = rw (e, k) }
 
-  pub next-went : lentCheck ls fs ss ≡ Fine → (fs′ ss′ : List ℕ) (w : Went) → Gone ls t c fs ss fs′ ss′ w → NextIs ls t c fs ss fs′ ss′ (next.Went w)
+  pub next-went : outputsLinesCheck ls fs ss ≡ Fine → (fs′ ss′ : List ℕ) (w : Went) → Gone ls t c fs ss fs′ ss′ w → NextIs ls t c fs ss fs′ ss′ (next.Went w)
   unfolding nextAnswer nextTests _then_ answerBy pairsLeft leftIn
   next-went e fs′ ss′ w g = record { answers = rw (e, g .is); first-is = rw e (g .first-is); second-is = rw e (g .second-is) }
 
-pub next-clears : (ls : Lines) (fs ss : List ℕ) (r : Refusal) → lentCheck ls fs ss ≡ Refused r → clears (r .number) ≡ false
-unfolding lentCheck outputsCheck lengthsCheck countCheck
+pub next-clears : (ls : Lines) (fs ss : List ℕ) (r : Refusal) → outputsLinesCheck ls fs ss ≡ Refused r → clears (r .number) ≡ false
+unfolding outputsLinesCheck outputsCheck lengthsCheck countCheck
 next-clears ls fs ss r e =
     clearing-then (clearing-unless _ 3 0 (numbers-below 3 (omega arith))) (clearing-then (clearing-unless _ 3 0 (numbers-below 3 (omega arith))) (clearing-unless _ 2 (count ls) (numbers-below 2 (omega arith)))) .says r e

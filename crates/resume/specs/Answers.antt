@@ -11,7 +11,7 @@ use Rattle.seek.specs.Tests.{Pair}
 use Rattle.visit.specs.Batches.{made, handed, firsts, seconds}
 use Rattle.seek.specs.Bookmarks.{testsFrom}
 use Rattle.visit.specs.Entries.{pairsLeft}
-use Rattle.through.specs.Runs.{lentCheck}
+use Rattle.through.specs.Runs.{outputsLinesCheck}
 use Rattle.resume.specs.declared.Cursor.{Cursor}
 use Rattle.resume.specs.declared.Went.{Went}
 use Rattle.resume.specs.declared.StartAnswer.{StartAnswer}
@@ -26,7 +26,7 @@ startAnswer ls g t b = answerBy start.Refused (λ rest. start.At (cursorOf t res
 
 -- what `next` goes through: the tests that are left, where lines and outputs are not refused
 unfoldable pub nextTests : Lines → Tables → Cursor → List ℕ → List ℕ → Answer (List Pair)
-nextTests ls t c first second = lentCheck ls first second then gives (leftFrom t c)
+nextTests ls t c first second = outputsLinesCheck ls first second then gives (leftFrom t c)
 
 -- of the tests that are left, with room for as many pairs as the outputs are long: how many are made, how many overlap, and the cursor of those
 -- that are left then

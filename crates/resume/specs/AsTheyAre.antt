@@ -7,7 +7,7 @@ use lib.ListN.{length, take}
 use lib.Dec.{leb}
 use Rattle.tables.specs.Tables.{Tables, cells}
 use Rattle.tables.specs.Fit.{increases}
-use Rattle.through.specs.Lists.{listIf, listBy}
+use Rattle.listed.specs.Lists.{listIf, listBy}
 
 -- how many cells are looked at: those of the grid that the offsets tell of, and no more than a fit grid can have
 unfoldable pub cellsLookedAt : ℕ → ℕ → ℕ

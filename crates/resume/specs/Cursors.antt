@@ -10,7 +10,7 @@ use Rattle.seek.specs.declared.Place.{Place}
 use Rattle.seek.specs.declared.Place.the-variants.{Cell, Global}
 use Rattle.seek.specs.Tests.{Pair}
 use Rattle.seek.specs.Cursors.{globalsRest}
-use Rattle.through.specs.Lists.{cellsFrom}
+use Rattle.listed.specs.Lists.{cellsFrom}
 use Rattle.resume.specs.declared.Cursor.{Cursor}
 use Rattle.resume.specs.AsTheyAre.{cellsToLook, listAs, globalsAs}
 

@@ -17,8 +17,9 @@ use Rattle.seek.specs.Inside.{numbers}
 use Rattle.seek.specs.Cursors.{LineFits}
 use Rattle.visit.specs.Inside.{TestsMoved, GlobalAsks, GlobalIs}
 use Rattle.visit.specs.Batches.{made, handed, firsts, seconds}
-use Rattle.through.specs.Lists.{listBy, cellsFrom}
-use Rattle.through.specs.Runs.{lentCheck, LeftAt}
+use Rattle.listed.specs.Lists.{listBy, cellsFrom}
+use Rattle.listed.specs.Places.{LeftAt}
+use Rattle.through.specs.Runs.{outputsLinesCheck}
 use Rattle.through.specs.Inside.{Goes, Lent}
 use Rattle.resume.specs.declared.settle.GlobalAt.{GlobalAt}
 use Rattle.resume.specs.declared.settle.GlobalAt.the-variants as globalat
@@ -88,7 +89,7 @@ pub record SettleAsks (t : Tables) (m : ℕ) (globals : List ℕ) (p q k : ℕ) 
 
 -- lines and outputs that `next` does not refuse
 pub record GoAsks (ls : Lines) (fs ss : List ℕ) : Type 0 where
-  pub fine : lentCheck ls fs ss ≡ Fine
+  pub fine : outputsLinesCheck ls fs ss ≡ Fine
   pub alike : Alike ls
   pub few : count ls ≤ 65536
   pub same : length ss ≡ length fs

@@ -3,11 +3,12 @@ use grid::Box;
 ghost use mathlib.Core.Path.{_≡_};
 ghost use Rattle.grid.specs.Domain.{lines, segmentAt};
 ghost use Rattle.grid.specs.Boxes.{boxOf};
-ghost use Rattle.through.specs.Inside.{LineAsks, markOf};
+ghost use Rattle.listed.specs.Bytes.{byteOf};
+ghost use Rattle.through.specs.Inside.{LineAsks};
 ghost use Rattle.resume.specs.Inside.{LinesAsk, LinesScanned};
 
 fn one_if(b: bool) -> usize
-    ensures { λ r. ⌜ r ≡ markOf b ⌝ }
+    ensures { λ r. ⌜ r ≡ byteOf b ⌝ }
 {
     if b {
         return 1;
@@ -20,7 +21,7 @@ fn box_at(start_x: &[f64], start_y: &[f64], end_x: &[f64], end_y: &[f64], line: 
     ensures { λ r. let ls = lines (now («start_x» .entry)) (now («start_y» .entry)) (now («end_x» .entry)) (now («end_y» .entry)) in ⌜ r ≡ boxOf (segmentAt ls line) ⌝ }
 {
     let i = line as usize;
-    through::boxes::box_of(start_x[i], start_y[i], end_x[i], end_y[i])
+    listed::boxes::box_of(start_x[i], start_y[i], end_x[i], end_y[i])
 }
 
 // The pairs of a line with each of `many` lines from `from` on, for which there is room.

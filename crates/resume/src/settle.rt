@@ -2,7 +2,7 @@
 use crate::Cursor;
 use crate::lists;
 use grid::Grid;
-use through::CellAt;
+use listed::CellAt;
 ghost use mathlib.Core.Path.{_≡_};
 ghost use mathlib.Core.List.{List, _++_};
 ghost use lib.ListN.{length};
@@ -10,7 +10,7 @@ ghost use Rattle.tables.specs.Tables.{tables};
 ghost use Rattle.seek.specs.Inside.{stopOf};
 ghost use Rattle.seek.specs.Tests.{Pair};
 ghost use Rattle.visit.specs.Inside.{StopAsks, GlobalAsks};
-ghost use Rattle.through.specs.Runs.{LeftAt};
+ghost use Rattle.listed.specs.Places.{LeftAt};
 ghost use Rattle.resume.specs.Cursors.{globalsFrom, cursorOf};
 ghost use Rattle.resume.specs.Inside.{GlobalFound, SettleAsks};
 

@@ -45,7 +45,7 @@ fn spot_of(
     match place {
         Place::Cell { row, col } => {
             let cell = wide(row) * wide(grid.cols) + wide(col);
-            let list = through::lists::list_of(lines, offsets, items, cell);
+            let list = listed::lists::list_of(lines, offsets, items, cell);
             let i = index_in(list, first);
             let j = index_in(list, second);
             Cursor { place: cell, i, j }

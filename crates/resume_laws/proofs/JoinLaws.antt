@@ -31,16 +31,16 @@ use Rattle.visit.specs.Entries.{outputsCheck, batchTests, pairsLeft, tallyOf}
 use Rattle.visit.specs.Batches.{made, firsts, seconds}
 use Rattle.seek.proofs.Standing.{stands, cells-few}
 use Rattle.seek.proofs.GlobalRests.{globals-begin, globals-done}
-use Rattle.through.specs.Lists.{listIf, listBy, listFrom, cellsOf, cellsFrom}
-use Rattle.through.specs.Runs.{lentCheck}
+use Rattle.listed.specs.Lists.{listIf, listBy, listFrom, testsOfCells, cellsFrom}
+use Rattle.through.specs.Runs.{outputsLinesCheck}
 use Rattle.resume.specs.Answers.{nextTests, NextIs}
 use Rattle.resume.specs.declared.NextAnswer.{NextAnswer}
 use Rattle.resume.specs.declared.Cursor.{Cursor}
 use Rattle.resume.specs.AsTheyAre.{cellsLookedAt, cellsToLook, listAs, globalsBy, globalsAs}
 use Rattle.resume.specs.Cursors.{cursor, globalsFrom, leftFrom, spotOf, cursorOf}
 use Rattle.resume_laws.specs.Words.{cursorAt}
-use Rattle.through.proofs.ListLaws.{from-later}
-use Rattle.through.proofs.CellTurns.{of-zero, of-suc, from-at, from-done}
+use Rattle.listed.proofs.ListLaws.{from-later}
+use Rattle.listed.proofs.CellLaws.{of-zero, of-suc, from-at, from-done}
 use Rattle.resume.proofs.CursorLaws.{settled-cell, cursor-global, cursor-end}
 
 -- ---- tables that fit are all looked at, as they stand
@@ -68,7 +68,7 @@ module _ (t : Tables) (f : TablesFit t) where
   unfolding cellsLookedAt
   reach-same h = omega (arith, f .long)
 
-  cells-same : (left c : ℕ) → c + left ≤ cells t → cellTests (t .cols) (t .offsets) (t .items) left c ≡ cellsOf (t .cols) (listAs t) left c
+  cells-same : (left c : ℕ) → c + left ≤ cells t → cellTests (t .cols) (t .offsets) (t .items) left c ≡ testsOfCells (t .cols) (listAs t) left c
   cells-same zero c h = cells-zero (t .cols) (t .offsets) (t .items) c ∙ sym (of-zero (t .cols) (listAs t) c)
   cells-same (suc left) c h =
       cells-suc (t .cols) (t .offsets) (t .items) left c
@@ -128,17 +128,17 @@ pub record CellSpot (cols m : ℕ) (L : ℕ → List ℕ) (rest : List Pair) : T
   pub inside : j < length (L c)
   pub is : rest ≡ cellsFrom cols L (m - c) c i j
 
-pub spot-in-cells : (cols m : ℕ) (L : ℕ → List ℕ) (left c b : ℕ) → c + left ≡ m → b < length (cellsOf cols L left c) → CellSpot cols m L (drop b (cellsOf cols L left c))
+pub spot-in-cells : (cols m : ℕ) (L : ℕ → List ℕ) (left c b : ℕ) → c + left ≡ m → b < length (testsOfCells cols L left c) → CellSpot cols m L (drop b (testsOfCells cols L left c))
 spot-in-cells cols m L zero c b e h = absurd (omega (arith, ap length (of-zero cols L c)))
 spot-in-cells cols m L (suc left) c b e h =
     go (decLt b (length (pairs (placeOf cols c) (L c))))
-    (λ k. spot-in-cells cols m L left (suc c) (b - length (pairs (placeOf cols c) (L c))) (omega arith) (omega (arith, ap length (of-suc cols L left c), length-append (pairs (placeOf cols c) (L c)) (cellsOf cols L left (suc c)))))
+    (λ k. spot-in-cells cols m L left (suc c) (b - length (pairs (placeOf cols c) (L c))) (omega arith) (omega (arith, ap length (of-suc cols L left c), length-append (pairs (placeOf cols c) (L c)) (testsOfCells cols L left (suc c)))))
   where
-    go : Dec (b < length (pairs (placeOf cols c) (L c))) → ((b < length (pairs (placeOf cols c) (L c)) → ⊥) → CellSpot cols m L (drop (b - length (pairs (placeOf cols c) (L c))) (cellsOf cols L left (suc c))))
-        → CellSpot cols m L (drop b (cellsOf cols L (suc left) c))
+    go : Dec (b < length (pairs (placeOf cols c) (L c))) → ((b < length (pairs (placeOf cols c) (L c)) → ⊥) → CellSpot cols m L (drop (b - length (pairs (placeOf cols c) (L c))) (testsOfCells cols L left (suc c))))
+        → CellSpot cols m L (drop b (testsOfCells cols L (suc left) c))
     go (yes k) later = here (spot-in-list (placeOf cols c) (L c) b k)
       where
-        here : Spot (placeOf cols c) (L c) (drop b (pairs (placeOf cols c) (L c))) → CellSpot cols m L (drop b (cellsOf cols L (suc left) c))
+        here : Spot (placeOf cols c) (L c) (drop b (pairs (placeOf cols c) (L c))) → CellSpot cols m L (drop b (testsOfCells cols L (suc left) c))
         here s =
             let z : m - suc c ≡ left = omega arith in
             record {
@@ -148,13 +148,13 @@ spot-in-cells cols m L (suc left) c b e h =
               cell = omega arith;
               later = s .later;
               inside = s .inside;
-              is = ap (drop b) (of-suc cols L left c) ∙ drop-append-le b (pairs (placeOf cols c) (L c)) (cellsOf cols L left (suc c)) (omega arith)
-                  ∙ ap (λ (l : List Pair). l ++ cellsOf cols L left (suc c)) (s .is ∙ sym (from-later (placeOf cols c) (L c) (s .i) (s .j) (s .later)))
-                  ∙ sym (from-at cols L m c (omega arith) (s .i) (s .j) ∙ ap (λ (n : ℕ). listFrom (placeOf cols c) (L c) (s .i) (s .j) ++ cellsOf cols L n (suc c)) z);
+              is = ap (drop b) (of-suc cols L left c) ∙ drop-append-le b (pairs (placeOf cols c) (L c)) (testsOfCells cols L left (suc c)) (omega arith)
+                  ∙ ap (λ (l : List Pair). l ++ testsOfCells cols L left (suc c)) (s .is ∙ sym (from-later (placeOf cols c) (L c) (s .i) (s .j) (s .later)))
+                  ∙ sym (from-at cols L m c (omega arith) (s .i) (s .j) ∙ ap (λ (n : ℕ). listFrom (placeOf cols c) (L c) (s .i) (s .j) ++ testsOfCells cols L n (suc c)) z);
             }
     go (no k) later = further (later k)
       where
-        further : CellSpot cols m L (drop (b - length (pairs (placeOf cols c) (L c))) (cellsOf cols L left (suc c))) → CellSpot cols m L (drop b (cellsOf cols L (suc left) c))
+        further : CellSpot cols m L (drop (b - length (pairs (placeOf cols c) (L c))) (testsOfCells cols L left (suc c))) → CellSpot cols m L (drop b (testsOfCells cols L (suc left) c))
         further s =
             record {
               c = s .c;
@@ -163,7 +163,7 @@ spot-in-cells cols m L (suc left) c b e h =
               cell = s .cell;
               later = s .later;
               inside = s .inside;
-              is = ap (drop b) (of-suc cols L left c) ∙ drop-past b (length (pairs (placeOf cols c) (L c))) (pairs (placeOf cols c) (L c)) (cellsOf cols L left (suc c)) refl (omega arith) ∙ s .is;
+              is = ap (drop b) (of-suc cols L left c) ∙ drop-past b (length (pairs (placeOf cols c) (L c))) (pairs (placeOf cols c) (L c)) (testsOfCells cols L left (suc c)) refl (omega arith) ∙ s .is;
             }
 
 -- ---- where a test of the globals stands
@@ -267,7 +267,7 @@ module _ (t : Tables) where
 
 module _ (t : Tables) (f : TablesFit t) (few : cells t ≤ 1002001) where
   C : List Pair
-  C = cellsOf (t .cols) (listAs t) (cellsToLook t) 0
+  C = testsOfCells (t .cols) (listAs t) (cellsToLook t) 0
 
   G : List Pair
   G = globalTests (t .lines) (globalsAs t) (length (globalsAs t)) 0
@@ -278,23 +278,23 @@ module _ (t : Tables) (f : TablesFit t) (few : cells t ≤ 1002001) where
   tests-same : testsOf t ≡ C ++ G
   unfolding testsOf C G
   tests-same =
-      let a : cellTests (t .cols) (t .offsets) (t .items) (cells t) 0 ≡ cellsOf (t .cols) (listAs t) (cellsToLook t) 0 =
-      cells-same t f (cells t) 0 (omega arith) ∙ ap (λ (x : ℕ). cellsOf (t .cols) (listAs t) x 0) (sym (reach-same t f few)) in
+      let a : cellTests (t .cols) (t .offsets) (t .items) (cells t) 0 ≡ testsOfCells (t .cols) (listAs t) (cellsToLook t) 0 =
+      cells-same t f (cells t) 0 (omega arith) ∙ ap (λ (x : ℕ). testsOfCells (t .cols) (listAs t) x 0) (sym (reach-same t f few)) in
       let b : globalTests (t .lines) (t .globals) (t .«global_count») 0 ≡ globalTests (t .lines) (globalsAs t) (length (globalsAs t)) 0 =
       tests-take (t .lines) (t .«global_count») (t .globals) (t .«global_count») 0 (omega arith)
       ∙ ap (λ (l : List ℕ). globalTests (t .lines) l (t .«global_count») 0) (sym (globals-same t f))
       ∙ ap (λ (x : ℕ). globalTests (t .lines) (globalsAs t) x 0) (sym count-same) in
-      ap (λ (l : List Pair). l ++ globalTests (t .lines) (t .globals) (t .«global_count») 0) a ∙ ap (λ (l : List Pair). cellsOf (t .cols) (listAs t) (cellsToLook t) 0 ++ l) b
+      ap (λ (l : List Pair). l ++ globalTests (t .lines) (t .globals) (t .«global_count») 0) a ∙ ap (λ (l : List Pair). testsOfCells (t .cols) (listAs t) (cellsToLook t) 0 ++ l) b
 
   in-cells : (b : ℕ) → b < length C → leftFrom t (cursorOf t (drop b (C ++ G))) ≡ drop b (C ++ G)
   unfolding C G
   in-cells b h = go (spot-in-cells (t .cols) (cellsToLook t) (listAs t) (cellsToLook t) 0 b (omega arith) h)
     where
-      go : CellSpot (t .cols) (cellsToLook t) (listAs t) (drop b (cellsOf (t .cols) (listAs t) (cellsToLook t) 0)) → leftFrom t (cursorOf t (drop b (C ++ G))) ≡ drop b (C ++ G)
+      go : CellSpot (t .cols) (cellsToLook t) (listAs t) (drop b (testsOfCells (t .cols) (listAs t) (cellsToLook t) 0)) → leftFrom t (cursorOf t (drop b (C ++ G))) ≡ drop b (C ++ G)
       go s =
-          let e : drop b (cellsOf (t .cols) (listAs t) (cellsToLook t) 0 ++ globalTests (t .lines) (globalsAs t) (length (globalsAs t)) 0)
+          let e : drop b (testsOfCells (t .cols) (listAs t) (cellsToLook t) 0 ++ globalTests (t .lines) (globalsAs t) (length (globalsAs t)) 0)
           ≡ cellsFrom (t .cols) (listAs t) (cellsToLook t - s .c) (s .c) (s .i) (s .j) ++ globalTests (t .lines) (globalsAs t) (length (globalsAs t)) 0 =
-          drop-append-le b (cellsOf (t .cols) (listAs t) (cellsToLook t) 0) (globalTests (t .lines) (globalsAs t) (length (globalsAs t)) 0) (omega arith) ∙ ap (λ (l : List Pair). l ++ globalTests (t .lines) (globalsAs t) (length (globalsAs t)) 0) (s .is) in
+          drop-append-le b (testsOfCells (t .cols) (listAs t) (cellsToLook t) 0) (globalTests (t .lines) (globalsAs t) (length (globalsAs t)) 0) (omega arith) ∙ ap (λ (l : List Pair). l ++ globalTests (t .lines) (globalsAs t) (length (globalsAs t)) 0) (s .is) in
           let k : cursor (s .c) (s .i) (s .j) ≡ cursorOf t (cellsFrom (t .cols) (listAs t) (cellsToLook t - s .c) (s .c) (s .i) (s .j) ++ globalTests (t .lines) (globalsAs t) (length (globalsAs t)) 0) =
           settled-cell t (cellsToLook t) refl (cellsFrom (t .cols) (listAs t) (cellsToLook t - s .c) (s .c) (s .i) (s .j)) (s .c) (s .i) (s .j) (record { inside = s .cell; later = s .later; among = s .inside; is = refl }) (globalTests (t .lines) (globalsAs t) (length (globalsAs t)) 0) in
           ap (leftFrom t) (ap (cursorOf t) e ∙ sym k) ∙ left-inside t (s .c) (s .i) (s .j) (s .cell) ∙ sym e
@@ -354,7 +354,7 @@ module _ (ls : Lines) (g : Grid) (t : Tables) (b : ℕ) (same : cells t ≡ g .r
 
   -- THE TESTS of `next` from the cursor of a bookmark are those of a batch from the bookmark. The answer and both outputs of each are one function of them.
   pub join : nextTests ls t (cursorAt t b) first second ≡ batchTests ls g t b first second
-  unfolding nextTests lentCheck batchTests testsFrom
+  unfolding nextTests outputsLinesCheck batchTests testsFrom
   join =
       let e : gives (leftFrom t (cursorAt t b)) ≡ (visitCheck ls g t then bookmarkCheck t b then gives (drop b (testsOf t))) =
       ap gives rest-is ∙ sym (passed-all (visitCheck ls g t) (bookmarkCheck t b) (gives (drop b (testsOf t))) fine bookmark-passes) in

@@ -12,9 +12,9 @@ use Rattle.seek.specs.Inside.{tri}
 use Rattle.seek.specs.Cursors.{restIn}
 use Rattle.seek.proofs.Clauses.{length-with}
 use Rattle.seek.proofs.Lengths.{tri-twice, tri-mono, length-pairs, length-increasing}
-use Rattle.through.specs.Lists.{listBy, listFrom, cellsOf, cellsFrom}
-use Rattle.through.proofs.AsIs.{list-increases}
-use Rattle.through.proofs.CellTurns.{of-zero, of-suc, from-zero, from-suc}
+use Rattle.listed.specs.Lists.{listBy, listFrom, testsOfCells, cellsFrom}
+use Rattle.listed.proofs.AsIs.{list-increases}
+use Rattle.listed.proofs.CellLaws.{of-zero, of-suc, from-zero, from-suc}
 
 tri-most : (k : ℕ) → k ≤ 65536 → tri k ≤ 2147450880
 tri-most k h = omega (arith, tri-mono k 65536 h, tri-twice 65536)
@@ -36,13 +36,13 @@ module _ (n : ℕ) (few : n ≤ 65536) (offsets items : List ℕ) (cols : ℕ) w
   short : (c : ℕ) → length (listBy n offsets items c) ≤ 65536
   short c = omega (arith, length-increasing n (listBy n offsets items c) (list-increases n offsets items c))
 
-  of-most : (left c : ℕ) → length (cellsOf cols (listBy n offsets items) left c) ≤ left * 4294967296
+  of-most : (left c : ℕ) → length (testsOfCells cols (listBy n offsets items) left c) ≤ left * 4294967296
   of-most zero c = omega (arith, ap length (of-zero cols (listBy n offsets items) c))
   of-most (suc left) c =
       omega (
         arith,
         ap length (of-suc cols (listBy n offsets items) left c),
-        length-append (pairs (placeOf cols c) (listBy n offsets items c)) (cellsOf cols (listBy n offsets items) left (suc c)),
+        length-append (pairs (placeOf cols c) (listBy n offsets items c)) (testsOfCells cols (listBy n offsets items) left (suc c)),
         pairs-most (placeOf cols c) (listBy n offsets items c) (short c),
         of-most left (suc c),
       )
@@ -53,7 +53,7 @@ module _ (n : ℕ) (few : n ≤ 65536) (offsets items : List ℕ) (cols : ℕ) w
       omega (
         arith,
         ap length (from-suc cols (listBy n offsets items) left c i j),
-        length-append (listFrom (placeOf cols c) (listBy n offsets items c) i j) (cellsOf cols (listBy n offsets items) left (suc c)),
+        length-append (listFrom (placeOf cols c) (listBy n offsets items c) i j) (testsOfCells cols (listBy n offsets items) left (suc c)),
         from-most (placeOf cols c) (listBy n offsets items c) i j (short c),
         of-most left (suc c),
       )

@@ -1,24 +1,23 @@
--- The box of a line as the code makes it, the turns of the gathering, and the box within all that are gathered. Assumes nothing.
+-- The turns of the gathering, and the box within all that are gathered. Assumes nothing.
 use mathlib.Core.Path.{_≡_, refl, sym, ap, _∙_}
-use mathlib.Core.Bool.{Bool, true, false, cond, _&&_, true≢false}
+use mathlib.Core.Bool.{Bool, true, false, _&&_, true≢false}
 use mathlib.Core.List.{List, [], _∷_}
 use Prim.Native.Nat.{ℕ, zero, suc, _+_, _-_, _*_, _≤_, _<_, min}
 use native.Mathlib.Decide.{ℕ-discrete}
 use native.Mathlib.Omega.{arith}
 use lib.ListN.{length, getD, take, drop, set, length-set}
 use lib.Seq.{getD-set-same, getD-set-other}
-use lib.Dec.{T}
-use lib.Ieee.{Float, nan, inf, fin, isNan, eq, lt, le}
+use lib.Dec.{T, leb}
+use lib.Ieee.{Float, nan, le}
 use lib.Ieee.Fits.{and-l, and-r, and-i}
-use Rattle.numbers.specs.Order.{leastOf, greatestOf}
 use Rattle.numbers.proofs.FloatOrder.{float-le-trans}
 use Rattle.slices.specs.Lists.{Below}
 use Rattle.slices.proofs.Members.{below-at}
-use Rattle.grid.proofs.Bools.{and-left, and-right}
 use Rattle.grid.specs.declared.Box.{Box}
-use Rattle.grid.specs.Domain.{Lines, count, Alike, segmentAt, segmentBy}
+use Rattle.grid.specs.Domain.{Lines, count, Alike, segmentAt}
 use Rattle.grid.specs.Boxes.{boxOf, overlaps}
-use Rattle.through.specs.Inside.{LineAsks, boxIn, withBox, flatIn, FlatAsks, FlatFilled, Room, GatherAsks, Filled, Gathered, nowhere, Inner}
+use Rattle.listed.specs.Rooms.{BoxRoom, boxIn, nowhere, isWithin, withinAll, innerOf}
+use Rattle.through.specs.Inside.{LineAsks, withBox, flatIn, FlatAsks, FlatFilled, GatherAsks, BoxesIn, Gathered, Inner}
 
 module _ (ls : Lines) (i : ℕ) (h : LineAsks ls i) where
   pub in-start-y : i < length (ls .«start_y»)
@@ -29,43 +28,6 @@ module _ (ls : Lines) (i : ℕ) (h : LineAsks ls i) where
 
   pub in-end-y : i < length (ls .«end_y»)
   in-end-y = rw (h .alike .«end-y») (h .one)
-
-pub box-is : (x0 y0 x1 y1 a b d e : Float) → a ≡ leastOf x0 x1 → b ≡ leastOf y0 y1 → d ≡ greatestOf x0 x1 → e ≡ greatestOf y0 y1
-    → _≡_ {A = Box} (record { «min_x» = a; «min_y» = b; «max_x» = d; «max_y» = e }) (boxOf (segmentBy x0 y0 x1 y1))
-unfolding boxOf
-box-is x0 y0 x1 y1 a b d e p q s t = rw (p, q, s, t)
-
--- only a NaN is not equal to itself
-number : (a : Float) → eq a a ≡ true → isNan a ≡ false
-unfolding eq isNan
-number nan h = sym h
-number (inf s) h = refl
-number (fin s m e) h = refl
-
-plain-least : (a b : Float) → eq a a ≡ true → cond (lt b a) b a ≡ leastOf a b
-unfolding leastOf
-plain-least a b h = rw (number a h)
-
-plain-greatest : (a b : Float) → eq a a ≡ true → cond (lt a b) b a ≡ greatestOf a b
-unfolding greatestOf
-plain-greatest a b h = rw (number a h)
-
--- the same where no start is a NaN
-pub box-plain : (x0 y0 x1 y1 a b d e : Float) → (eq x0 x0 && eq y0 y0) ≡ true
-    → a ≡ cond (lt x1 x0) x1 x0 → b ≡ cond (lt y1 y0) y1 y0 → d ≡ cond (lt x0 x1) x1 x0 → e ≡ cond (lt y0 y1) y1 y0
-    → _≡_ {A = Box} (record { «min_x» = a; «min_y» = b; «max_x» = d; «max_y» = e }) (boxOf (segmentBy x0 y0 x1 y1))
-box-plain x0 y0 x1 y1 a b d e h p q s t =
-    let x = and-left (eq x0 x0) (eq y0 y0) h in
-    let y = and-right (eq x0 x0) (eq y0 y0) h in
-    box-is x0 y0 x1 y1 a b d e (p ∙ plain-least x0 x1 x) (q ∙ plain-least y0 y1 y) (s ∙ plain-greatest x0 x1 x) (t ∙ plain-greatest y0 y1 y)
-
--- near ends and then far ends, for axis and then axis
-pub both-axes : (p q r s : Bool) → ((p && r) && (q && s)) ≡ (p && (q && (r && s)))
-both-axes false q r s = refl
-both-axes true true true s = refl
-both-axes true true false s = refl
-both-axes true false true s = refl
-both-axes true false false s = refl
 
 -- ---- a box in a room
 
@@ -135,20 +97,20 @@ module _ (bs : List Float) (u : ℕ) (b : Box) where
 pub record Gathering (ls : Lines) (xs : List ℕ) (bs : List Float) (u : ℕ) (bs′ : List Float) : Type 0 where
   pub asks : GatherAsks ls xs bs
   pub to : u ≤ length xs
-  pub done : Filled ls xs u bs bs′
+  pub done : BoxesIn ls xs u bs bs′
 
 pub gather-start : (ls : Lines) (xs : List ℕ) (bs : List Float) → GatherAsks ls xs bs → Gathering ls xs bs 0 bs
 gather-start ls xs bs a = record { asks = a; to = omega arith; done = record { each = λ u h. absurd (omega arith); long = refl } }
 
 module _ (ls : Lines) (xs : List ℕ) (bs : List Float) (u : ℕ) (bs′ : List Float) (g : Gathering ls xs bs u bs′) where
-  pub gather-end : length xs ≤ u → Filled ls xs (length xs) bs bs′
+  pub gather-end : length xs ≤ u → BoxesIn ls xs (length xs) bs bs′
   gather-end h = let e : u ≡ length xs = omega (arith, g .to) in rw e at (g .done)
 
   module _ (h : u < length xs) where
     pub gather-asks : LineAsks ls (getD xs u 0)
     gather-asks = record { alike = g .asks .alike; one = below-at (count ls) xs u (g .asks .below) h }
 
-    pub gather-room : Room (u + 1) bs′
+    pub gather-room : BoxRoom (u + 1) bs′
     gather-room = record { few = omega (arith, g .asks .most); long = omega (arith, g .asks .room .long, g .done .long) }
 
     module _ (b : Box) (e : b ≡ boxOf (segmentAt ls (getD xs u 0))) (bs″ : List Float) (k : bs″ ≡ withBox bs′ u b) where
@@ -285,7 +247,7 @@ each-of a b d e a′ b′ d′ e′ p q s t h =
     (and-i a′ (b′ && (d′ && e′)) (p (and-l a (b && (d && e)) k))
     (and-i b′ (d′ && e′) (q (and-l b (d && e) l)) (and-i d′ e′ (s (and-l d e m)) (t (and-r d e m)))))
 
-pub within-one : (b inner other : Box)
+within-one : (b inner other : Box)
     → (le (other .«min_x») (inner .«min_x») && (le (inner .«max_x») (other .«max_x») && (le (other .«min_y») (inner .«min_y») && le (inner .«max_y») (other .«max_y»)))) ≡ true
     → overlaps b inner ≡ true → overlaps b other ≡ true
 unfolding overlaps
@@ -304,58 +266,45 @@ within-one b inner other h =
     (λ t. float-le-trans (other .«min_y») (inner .«min_y») (b .«max_y») (and-l z w m) t)
     (λ t. float-le-trans (b .«min_y») (inner .«max_y») (other .«max_y») t (and-r z w m))
 
-pub inner-none : (m : ℕ) (bs : List Float) (r : Box) → r ≡ nowhere → Inner m bs r
+inner-none : (m : ℕ) (bs : List Float) (r : Box) → r ≡ nowhere → Inner m bs r
 unfolding overlaps le
 inner-none m bs r e = rw e (record { each = λ u h b k. absurd (true≢false (sym k)) })
 
-pub record Narrowing (inner : Box) (many : ℕ) (bs : List Float) (ax ay bx by : Float) (all : Bool) (u : ℕ) : Type 0 where
-  pub room : Room many bs
-  pub ax-is : ax ≡ inner .«min_x»
-  pub ay-is : ay ≡ inner .«min_y»
-  pub bx-is : bx ≡ inner .«max_x»
-  pub by-is : by ≡ inner .«max_y»
-  pub to : u ≤ many
-  pub so-far : all ≡ true → Inner u bs inner
+within-each : (b : Box) (bs : List Float) (m u : ℕ) → withinAll b bs m ≡ true → u < m → Dec (u ≡ m - 1) → isWithin b (boxIn bs u) ≡ true
+unfolding withinAll
+within-each b bs zero u e h d = absurd (omega arith)
+within-each b bs (suc m) u e h (yes q) = let k : u ≡ m = omega arith in rw k (said (isWithin b (boxIn bs m)) (and-r (withinAll b bs m) (isWithin b (boxIn bs m)) (so (withinAll b bs m && isWithin b (boxIn bs m)) e)))
+within-each b bs (suc m) u e h (no q) =
+    within-each b bs m u (said (withinAll b bs m) (and-l (withinAll b bs m) (isWithin b (boxIn bs m)) (so (withinAll b bs m && isWithin b (boxIn bs m)) e))) (omega arith) (ℕ-discrete u (m - 1))
 
-pub inner-start : (inner : Box) (many : ℕ) (bs : List Float) → Room many bs
-    → Narrowing inner many bs (inner .«min_x») (inner .«min_y») (inner .«max_x») (inner .«max_y») true 0
-inner-start inner many bs r =
-    record { room = r; ax-is = refl; ay-is = refl; bx-is = refl; by-is = refl; to = omega arith; so-far = λ e. record { each = λ u h. absurd (omega arith) } }
+-- what overlaps the box that was found overlaps each
+pub inner-says : (ends : Box) (m : ℕ) (bs : List Float) (r : Box) → r ≡ innerOf ends m bs → Inner m bs r
+unfolding innerOf isWithin
+inner-says ends m bs r e = go (leb 8 m && (leb m 513 && (leb 2052 (length bs) && withinAll ends bs m))) refl
+  where
+    all-true : (leb 8 m && (leb m 513 && (leb 2052 (length bs) && withinAll ends bs m))) ≡ true → withinAll ends bs m ≡ true
+    all-true h =
+        said (withinAll ends bs m)
+        (and-r (leb 2052 (length bs)) (withinAll ends bs m)
+        (and-r (leb m 513) (leb 2052 (length bs) && withinAll ends bs m)
+        (and-r (leb 8 m) (leb m 513 && (leb 2052 (length bs) && withinAll ends bs m)) (so (leb 8 m && (leb m 513 && (leb 2052 (length bs) && withinAll ends bs m))) h))))
 
-module _ (inner : Box) (many : ℕ) (bs : List Float) (ax ay bx by : Float) (all : Bool) (u : ℕ) (n : Narrowing inner many bs ax ay bx by all u) where
-  pub inner-end : many ≤ u → all ≡ true → Inner many bs inner
-  inner-end h e = let q : u ≡ many = omega (arith, n .to) in rw q at (n .so-far e)
-
-  pub inner-more : u < many
-      → Narrowing inner many bs ax ay bx by (all && (le (getD bs u nan) ax && (le bx (getD bs (1026 + u) nan) && (le (getD bs (513 + u) nan) ay && le by (getD bs (1539 + u) nan))))) (u + 1)
-  inner-more h =
-      record {
-        room = n .room;
-        ax-is = n .ax-is;
-        ay-is = n .ay-is;
-        bx-is = n .bx-is;
-        by-is = n .by-is;
-        to = omega arith;
-        so-far = λ e. record { each = λ t q. go e t q (ℕ-discrete t u) };
-      }
-    where
-      here : Bool
-      here = le (getD bs u nan) ax && (le bx (getD bs (1026 + u) nan) && (le (getD bs (513 + u) nan) ay && le by (getD bs (1539 + u) nan)))
-
-      go : (all && here) ≡ true → (t : ℕ) → t < u + 1 → Dec (t ≡ u) → (b : Box) → overlaps b inner ≡ true → overlaps b (boxIn bs t) ≡ true
-      go e t q (yes r) = rw r (λ b. within-one b inner (boxIn bs u) (rw (n .ax-is, n .ay-is, n .bx-is, n .by-is) at (said here (and-r all here (so (all && here) e)))))
-      go e t q (no r) = n .so-far (said all (and-l all here (so (all && here) e))) .each t (omega arith)
+    go : (b : Bool) → (leb 8 m && (leb m 513 && (leb 2052 (length bs) && withinAll ends bs m))) ≡ b → Inner m bs r
+    go true h =
+        let q : r ≡ ends = e ∙ rw h in
+        rw q (record { each = λ u k b. within-one b ends (boxIn bs u) (within-each ends bs m u (all-true h) k (ℕ-discrete u (m - 1))) })
+    go false h = inner-none m bs r (e ∙ rw h)
 
 -- ---- entry 512
 
-module _ (ls : Lines) (xs : List ℕ) (bs bs′ : List Float) (a : GatherAsks ls xs bs) (f : Filled ls xs (length xs) bs bs′) where
-  pub gathered-room : Room (length xs) bs′
+module _ (ls : Lines) (xs : List ℕ) (bs bs′ : List Float) (a : GatherAsks ls xs bs) (f : BoxesIn ls xs (length xs) bs bs′) where
+  pub gathered-room : BoxRoom (length xs) bs′
   gathered-room = record { few = omega (arith, a .most); long = omega (arith, f .long, a .room .long) }
 
-  pub last-room : Room 513 bs′
+  pub last-room : BoxRoom 513 bs′
   last-room = record { few = omega arith; long = omega (arith, f .long, a .room .long) }
 
-  module _ (b : Box) (n : Inner (length xs) bs′ b) (bs″ : List Float) (k : bs″ ≡ withBox bs′ 512 b) where
+  module _ (ends b : Box) (n : b ≡ innerOf ends (length xs) bs′) (bs″ : List Float) (k : bs″ ≡ withBox bs′ 512 b) where
     last-is : boxIn (withBox bs′ 512 b) 512 ≡ b
     last-is = with-same bs′ 512 b (omega arith) (last-room .long)
 
@@ -368,5 +317,5 @@ module _ (ls : Lines) (xs : List ℕ) (bs bs′ : List Float) (a : GatherAsks ls
         (record {
           each = λ t h. others-are t h ∙ f .each t h;
           long = with-long bs′ 512 b ∙ f .long;
-          says = record { each = λ t h o j. ap (overlaps o) (others-are t h) ∙ n .each t h o (sym (ap (overlaps o) last-is) ∙ j) };
+          says = record { each = λ t h o j. ap (overlaps o) (others-are t h) ∙ inner-says ends (length xs) bs′ b n .each t h o (sym (ap (overlaps o) last-is) ∙ j) };
         })

@@ -1,5 +1,6 @@
 -- A short list that is run through at once: the turns of a row of it, and of its rows. Assumes nothing.
 use mathlib.Core.Path.{_≡_, refl, sym, ap, _∙_}
+use mathlib.Core.Bool.{Bool, true, _&&_}
 use mathlib.Core.List.{List, [], _∷_, _++_, append-assoc}
 use Prim.Native.Nat.{ℕ, zero, suc, _+_, _-_, _*_, _≤_, _<_, _^_}
 use native.Mathlib.Nat.{add-zero, mul-le-mul-right}
@@ -7,8 +8,11 @@ use native.Mathlib.Numerals.{add-one}
 use native.Mathlib.Omega.{arith}
 use lib.ListN.{length, getD, take, drop, set, length-drop, drop-of-length-le}
 use lib.Seq.{drop-cons, getD-drop, take-all}
+use lib.Dec.{eqb, leb}
 use lib.Ieee.{Float}
+use borrow.Author.Tests.{eqb-true, leb-true}
 use Rattle.slices.specs.Lists.{Below}
+use Rattle.grid.proofs.Bools.{and-left, and-right}
 use Rattle.grid.specs.declared.Box.{Box}
 use Rattle.grid.specs.Domain.{Lines, segmentAt}
 use Rattle.grid.specs.Boxes.{boxOf, overlaps}
@@ -19,16 +23,14 @@ use Rattle.seek.proofs.Clauses.{with-nil, pairs-nil, pairs-cons}
 use Rattle.visit.specs.Overlap.{overlap}
 use Rattle.visit.specs.Inside.{TestsMoved}
 use Rattle.through.specs.declared.rows.ListRan.{ListRan}
-use Rattle.through.specs.Lists.{listFrom}
-use Rattle.through.specs.Inside.{flatIn, FlatAsks, FlatFilled, markOf, PutAsks, Answers, Put, FewAsks, answersIn, Goes, Brief, BriefAsks, ListAsks, ListRanIs, SameScratch}
-use Rattle.through.proofs.ScanTurns.{mark-most, Putting, put-start, put-more, put-end}
+use Rattle.listed.specs.Lists.{listFrom}
+use Rattle.listed.specs.Places.{isBrief}
+use Rattle.listed.specs.Bytes.{byteOf}
+use Rattle.listed.proofs.ByteLaws.{byte-most}
+use Rattle.through.specs.Inside.{flatIn, FlatAsks, FlatFilled, PutAsks, AnswersOf, PairsPut, FewAsks, answersIn, Goes, Brief, BriefAsks, ListAsks, ListRanIs, SameScratch}
+use Rattle.through.proofs.ScanTurns.{Putting, put-start, put-more, put-end}
 use Rattle.through.proofs.Goings.{goes-none, goes-then, goes-row}
-use Rattle.through.proofs.ListLaws.{from-begin, row-past}
-
--- ---- how many pairs
-
-pub square-few : (n : ℕ) → n ≤ 32 → n * n ≤ 1024
-square-few n h = let k : n * n ≤ 32 * n = mul-le-mul-right n h in omega (arith, k, h)
+use Rattle.listed.proofs.ListLaws.{from-begin, row-past}
 
 -- ---- the answers of a row
 
@@ -37,13 +39,13 @@ unfolding answersIn
 answers-long b flat at zero = refl
 answers-long b flat at (suc n) = ap suc (answers-long b flat (suc at) n)
 
-answers-at : (b : Box) (flat : List Float) (at n u : ℕ) → u < n → getD (answersIn b flat at n) u 0 ≡ markOf (overlaps b (flatIn flat (at + u)))
+answers-at : (b : Box) (flat : List Float) (at n u : ℕ) → u < n → getD (answersIn b flat at n) u 0 ≡ byteOf (overlaps b (flatIn flat (at + u)))
 unfolding answersIn
 answers-at b flat at zero u h = absurd (omega arith)
-answers-at b flat at (suc n) zero h = let e : at ≡ at + 0 = omega arith in ap (λ (k : ℕ). markOf (overlaps b (flatIn flat k))) e
+answers-at b flat at (suc n) zero h = let e : at ≡ at + 0 = omega arith in ap (λ (k : ℕ). byteOf (overlaps b (flatIn flat k))) e
 answers-at b flat at (suc n) (suc u) h =
     let e : suc at + u ≡ at + suc u = omega arith in
-    answers-at b flat (suc at) n u (omega arith) ∙ ap (λ (k : ℕ). markOf (overlaps b (flatIn flat k))) e
+    answers-at b flat (suc at) n u (omega arith) ∙ ap (λ (k : ℕ). byteOf (overlaps b (flatIn flat k))) e
 
 -- the entries before u are done
 pub record FewTurn (line : ℕ) (b : Box) (xs : List ℕ) (flat : List Float) (at : ℕ) (fs ss : List ℕ) (hits : ℕ) (fs′ ss′ : List ℕ) (hits′ u : ℕ) : Type 0 where
@@ -58,7 +60,7 @@ few-start line b xs flat at fs ss hits a =
       turn = put-start line xs (answersIn b flat at (length xs)) fs ss hits
           (record {
             in-marks = omega (arith, answers-long b flat at (length xs));
-            bits = λ u h. rw (answers-at b flat at (length xs) u h) (mark-most (overlaps b (flatIn flat (at + u))));
+            bits = λ u h. rw (answers-at b flat at (length xs) u h) (byte-most (overlaps b (flatIn flat (at + u))));
             room = a .room;
           });
     }
@@ -71,7 +73,7 @@ module _ (line : ℕ) (b : Box) (xs : List ℕ) (flat : List Float) (at : ℕ) (
   pub few-second-long : length ss′ ≡ length ss
   few-second-long = p .turn .put .second-long
 
-  pub few-end : length xs ≤ u → Put line xs (answersIn b flat at (length xs)) (length xs) fs ss hits fs′ ss′ hits′
+  pub few-end : length xs ≤ u → PairsPut line xs (answersIn b flat at (length xs)) (length xs) fs ss hits fs′ ss′ hits′
   few-end = put-end line xs (answersIn b flat at (length xs)) fs ss hits fs′ ss′ hits′ u (p .turn)
 
   module _ (l : u < length xs) where
@@ -84,7 +86,7 @@ module _ (line : ℕ) (b : Box) (xs : List ℕ) (flat : List Float) (at : ℕ) (
     pub few-in-second : hits′ < length ss′
     few-in-second = omega (arith, p .turn .put .most, p .asks .room .room, p .asks .room .same, p .turn .put .second-long)
 
-    pub few-more : (m : ℕ) → m ≡ markOf (overlaps b (flatIn flat (at + u)))
+    pub few-more : (m : ℕ) → m ≡ byteOf (overlaps b (flatIn flat (at + u)))
         → FewTurn line b xs flat at fs ss hits (set fs′ hits′ line) (set ss′ hits′ (getD xs u 0)) (hits′ + m) (u + 1)
     few-more m e =
         record {
@@ -132,14 +134,14 @@ module _ (ls : Lines) (xs : List ℕ) (flat : List Float) (fs ss : List ℕ) (hi
   pub brief-second-long : length ss′ ≡ length ss
   brief-second-long = s .goes (Global 0) [] .moved .second-long
 
-  pub brief-end : length xs ≤ i → ListRanIs ls xs 0 1 fs ss hits₀ fs′ ss′ (record { i = i; j = i + 1; tests = tests; hits = hits })
+  pub brief-end : length xs ≤ i → ListRanIs ls xs 0 1 fs ss hits₀ fs′ ss′ (record { i = i; j = i; tests = tests; hits = hits })
   brief-end h =
       record {
         goes = λ pl later.
-            let e = row-past (length xs) i (i + 1) h pl xs refl in
+            let e = row-past (length xs) i i h pl xs refl in
             let d = drop-of-length-le xs {i = i} h in
             rw (sym (from-begin pl xs), e) (rw (d, pairs-nil pl) at (s .goes pl later));
-        ends = λ l pl. row-past (length xs) i (i + 1) h pl xs refl;
+        ends = λ l pl. row-past (length xs) i i h pl xs refl;
       }
 
   module _ (l : i < length xs) where
@@ -176,15 +178,15 @@ module _ (ls : Lines) (xs : List ℕ) (flat : List Float) (fs ss : List ℕ) (hi
     brief-small = omega (arith, s .few, s .short)
 
     module _ (b : Box) (e : b ≡ flatIn flat i) (fs″ ss″ : List ℕ) (hits″ : ℕ)
-        (p : Put (getD xs i 0) (drop (i + 1) xs) (answersIn b flat (i + 1) (length (drop (i + 1) xs))) (length (drop (i + 1) xs)) fs′ ss′ hits fs″ ss″ hits″) where
-      answers : Answers ls (getD xs i 0) (drop (i + 1) xs) (answersIn b flat (i + 1) (length (drop (i + 1) xs)))
+        (p : PairsPut (getD xs i 0) (drop (i + 1) xs) (answersIn b flat (i + 1) (length (drop (i + 1) xs))) (length (drop (i + 1) xs)) fs′ ss′ hits fs″ ss″ hits″) where
+      answers : AnswersOf ls (getD xs i 0) (drop (i + 1) xs) (answersIn b flat (i + 1) (length (drop (i + 1) xs)))
       unfolding overlap
       answers =
           record {
             each = λ u h.
                 let r = rest-long in
                 answers-at b flat (i + 1) (length (drop (i + 1) xs)) u h
-                ∙ ap markOf (rw (e, s .each i l, s .each (i + 1 + u) (omega (arith, r, h)), getD-drop (i + 1) xs u 0) refl);
+                ∙ ap byteOf (rw (e, s .each i l, s .each (i + 1 + u) (omega (arith, r, h)), getD-drop (i + 1) xs u 0) refl);
           }
 
       step : (pl : Place) (later : List Pair) → Goes ls (pairs pl (drop i xs) ++ later) (pairs pl (drop (i + 1) xs) ++ later) (length (drop (i + 1) xs)) (length fs) fs′ ss′ hits fs″ ss″ hits″
@@ -215,12 +217,25 @@ module _ (ls : Lines) (xs : List ℕ) (flat : List Float) (fs ss : List ℕ) (hi
           }
 
     pub brief-turn-part : (b : Box) → b ≡ flatIn flat i → (fs″ ss″ : List ℕ) (hits″ : ℕ)
-        → Put (getD xs i 0) (take (length xs - (i + 1)) (drop (i + 1) xs)) (answersIn b flat (i + 1) (length (take (length xs - (i + 1)) (drop (i + 1) xs))))
+        → PairsPut (getD xs i 0) (take (length xs - (i + 1)) (drop (i + 1) xs)) (answersIn b flat (i + 1) (length (take (length xs - (i + 1)) (drop (i + 1) xs))))
         (length (take (length xs - (i + 1)) (drop (i + 1) xs))) fs′ ss′ hits fs″ ss″ hits″
         → BriefRun ls xs flat fs ss hits₀ fs″ ss″ (i + 1) (tests + (length xs - (i + 1))) hits″
     brief-turn-part b e fs″ ss″ hits″ p = brief-turn b e fs″ ss″ hits″ (rw rest-all at p)
 
 -- ---- a list that is short
+
+pub brief-says : (len i j room : ℕ) (r : Bool) → r ≡ isBrief len i j room → r ≡ true → Brief len i j room
+unfolding isBrief
+brief-says len i j room r e t =
+    let h = sym e ∙ t in
+    let k = and-right (eqb i 0) (eqb j 1 && (leb len 32 && leb (len * len) room)) h in
+    let l = and-right (eqb j 1) (leb len 32 && leb (len * len) room) k in
+    record {
+      first = eqb-true i 0 (and-left (eqb i 0) (eqb j 1 && (leb len 32 && leb (len * len) room)) h);
+      second = eqb-true j 1 (and-left (eqb j 1) (leb len 32 && leb (len * len) room) k);
+      few = leb-true len 32 (and-left (leb len 32) (leb (len * len) room) l);
+      fits = leb-true (len * len) room (and-right (leb len 32) (leb (len * len) room) l);
+    }
 
 pub brief-asks : (ls : Lines) (xs : List ℕ) (i j : ℕ) (bs : List Float) (marks fs ss : List ℕ) (hits : ℕ) → Brief (length xs) i j (length fs - hits)
     → ListAsks ls xs i j bs marks fs ss hits → BriefAsks ls xs bs fs ss hits

@@ -2,10 +2,8 @@
 pub mod BoxTurns
 pub mod BriefTurns
 pub mod ScanTurns
-pub mod ListLaws
 pub mod Goings
 pub mod RowTurns
-pub mod AsIs
 pub mod CellTurns
 pub mod Bounds
 pub mod RunLaws

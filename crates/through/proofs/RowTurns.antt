@@ -15,14 +15,13 @@ use Rattle.seek.specs.declared.Place.the-variants.{Global}
 use Rattle.seek.specs.Tests.{Pair, withEach}
 use Rattle.visit.specs.Inside.{TestsMoved}
 use Rattle.through.specs.declared.boxes.Window.{Window}
-use Rattle.through.specs.declared.settle.RowAt.{RowAt}
-use Rattle.through.specs.declared.settle.RowAt.the-variants as rowat
 use Rattle.through.specs.declared.rows.PartRan.{PartRan}
 use Rattle.through.specs.declared.rows.ListRan.{ListRan}
-use Rattle.through.specs.Lists.{listFrom}
-use Rattle.through.specs.Inside.{boxIn, Room, GatherAsks, Gathered, Holds, WindowAsks, WindowIs, RoomFor, ScanAsks, Scanned, Goes, Lent, Scratch, SameScratch, RowIs, RowFound, PartAsks, PartIs, ListAsks, ListRanIs}
+use Rattle.listed.specs.Lists.{listFrom}
+use Rattle.listed.specs.Rooms.{boxIn, BoxRoom}
+use Rattle.through.specs.Inside.{GatherAsks, Gathered, Holds, WindowAsks, ReadyIs, RoomFor, ScanAsks, Scanned, Goes, Lent, Scratch, SameScratch, PartAsks, PartIs, ListAsks, ListRanIs}
 use Rattle.through.proofs.Goings.{goes-none, goes-then, goes-row}
-use Rattle.through.proofs.ListLaws.{row-part}
+use Rattle.listed.proofs.ListLaws.{RowIs, row-part}
 
 -- a part of a list
 pub part-at : (xs : List ℕ) (b many u : ℕ) → u < many → getD (take many (drop b xs)) u 0 ≡ getD xs (b + u) 0
@@ -47,7 +46,7 @@ part-below n xs b many w = below-take n (drop b xs) many (below-drop n xs b w)
 -- ---- the window
 
 module _ (ls : Lines) (xs : List ℕ) (at from held : ℕ) (bs : List Float) (a : WindowAsks ls xs at from held bs) where
-  pub window-stays : from ≤ at → at < from + held → WindowIs ls xs at bs bs (record { from = from; held = held })
+  pub window-stays : from ≤ at → at < from + held → ReadyIs ls xs at bs bs (record { from = from; held = held })
   window-stays p q = record { holds = a .holds; from = p; to = q; long = refl }
 
   module _ (many : ℕ) (e : many ≡ min (length xs - at) 512) where
@@ -68,13 +67,14 @@ module _ (ls : Lines) (xs : List ℕ) (at from held : ℕ) (bs : List Float) (a 
         }
 
     pub window-moves : (bs′ : List Float) → Gathered ls (take many (drop at xs)) (length (take many (drop at xs))) bs bs′
-        → WindowIs ls xs at bs bs′ (record { from = at; held = many })
+        → ReadyIs ls xs at bs bs′ (record { from = at; held = many })
     window-moves bs′ g =
         let l = part-long xs at many inside in
         record {
           holds = record {
             each = λ u h. g .each u (omega arith) ∙ ap (λ (v : ℕ). boxOf (segmentAt ls v)) (part-at xs at many u h);
             within = inside;
+            most = most;
             room = record { few = omega (arith, most); long = omega (arith, g .long, a .room .long) };
             says = record { each = λ u h. g .says .each u (omega arith) };
           };
@@ -88,17 +88,8 @@ module _ (ls : Lines) (xs : List ℕ) (at from held : ℕ) (bs : List Float) (a 
       window-gathers-part = rw z window-gathers
 
       pub window-moves-part : (bs′ : List Float) → Gathered ls (take (at + many - at) (drop at xs)) (length (take (at + many - at) (drop at xs))) bs bs′
-          → WindowIs ls xs at bs bs′ (record { from = at; held = many })
+          → ReadyIs ls xs at bs bs′ (record { from = at; held = many })
       window-moves-part bs′ g = window-moves bs′ (rw z at g)
-
--- ---- what a search of a list found, taken apart
-
-module _ (len i j : ℕ) (r : RowAt) (f : RowFound len i j r) where
-  pub row-at-is : (a b : ℕ) → r ≡ rowat.At a b → RowIs len i j a b
-  row-at-is a b e = subst (RowFound len i j) e f
-
-  pub row-at-past : r ≡ rowat.Past → (pl : Place) (xs : List ℕ) → length xs ≡ len → listFrom pl xs i j ≡ []
-  row-at-past e = subst (RowFound len i j) e f
 
 -- ---- the run through a list
 
@@ -115,7 +106,7 @@ list-run ls xs i j bs marks fs ss hits a =
     record {
       asks = a;
       goes = λ pl later. goes-none ls (length fs) (listFrom pl xs i j ++ later) fs ss hits (a .lent .in-room);
-      holds = record { each = λ u h. absurd (omega arith); within = omega arith; room = record { few = omega arith; long = a .scratch .boxes .long }; says = record { each = λ u h. absurd (omega arith) } };
+      holds = record { each = λ u h. absurd (omega arith); within = omega arith; most = omega arith; room = record { few = omega arith; long = a .scratch .boxes .long }; says = record { each = λ u h. absurd (omega arith) } };
       same = record { boxes = refl; bytes = refl };
     }
 
@@ -171,7 +162,7 @@ module _ (ls : Lines) (xs : List ℕ) (i₀ j₀ : ℕ) (bs : List Float) (marks
       step-counts : r .many + length (listFrom (Global 0) xs a (b + r .many)) ≡ length (listFrom (Global 0) xs i j)
       step-counts = rw (append-nil, append-nil) at (step (Global 0) [] .moved .counts)
 
-      pub list-turn : ListRun ls xs i₀ j₀ bs marks fs ss hits₀ bs″ marks″ fs″ ss″ a (b + r .many) (r .from) (r .held) (tests + r .many) (r .hits)
+      pub list-turn : ListRun ls xs i₀ j₀ bs marks fs ss hits₀ bs″ marks″ fs″ ss″ a (b + r .many) (r .window .from) (r .window .held) (tests + r .many) (r .hits)
       list-turn =
           record {
             asks = s .asks;
@@ -192,9 +183,9 @@ module _ (ls : Lines) (xs : List ℕ) (i₀ j₀ : ℕ) (bs : List Float) (marks
 -- ---- a part of a row
 
 module _ (ls : Lines) (xs : List ℕ) (i j from held : ℕ) (bs : List Float) (marks fs ss : List ℕ) (hits : ℕ) (a : PartAsks ls xs i j from held bs marks fs ss hits)
-    (bs′ : List Float) (r : Window) (w : WindowIs ls xs j bs bs′ r) (ready many : ℕ) (er : ready ≡ min (r .from + r .held - j) (length fs - hits)) (em : many ≡ min ready (length marks)) where
+    (bs′ : List Float) (r : Window) (w : ReadyIs ls xs j bs bs′ r) (many : ℕ) (em : many ≡ min (r .from + r .held - j) (length fs - hits)) where
   pub part-some : 0 < many
-  part-some = omega (arith, w .to, a .bytes, a .room)
+  part-some = omega (arith, w .to, a .room)
 
   pub part-inside : j + many ≤ length xs
   part-inside = omega (arith, w .holds .within, w .to)
@@ -218,12 +209,12 @@ module _ (ls : Lines) (xs : List ℕ) (i j from held : ℕ) (bs : List Float) (m
         held = record { few = omega (arith, w .holds .room .few); long = w .holds .room .long };
         inner = record { few = omega arith; long = omega (arith, w .long, a .window .room .long) };
         says = λ u v. let v₁ : u < many = omega arith in w .holds .says .each ((j - r .from) + u) (omega arith);
-        in-marks = omega arith;
+        in-marks = omega (arith, w .holds .most, a .bytes);
         room = record { same = a .same; room = omega arith };
       }
 
   pub part-is : (marks′ fs′ ss′ : List ℕ) (hits′ : ℕ) → Scanned ls (getD xs i 0) (take many (drop j xs)) marks fs ss hits marks′ fs′ ss′ hits′
-      → PartIs ls xs i j fs ss hits bs′ fs′ ss′ (record { many = many; hits = hits′; from = r .from; held = r .held })
+      → PartIs ls xs i j fs ss hits bs′ fs′ ss′ (record { many = many; hits = hits′; window = r })
   part-is marks′ fs′ ss′ hits′ v =
       let l = part-long xs j many part-inside in
       record { some = part-some; inside = part-inside; moved = λ pl later. rw l at (v .moved pl later); holds = w .holds }
@@ -236,7 +227,7 @@ module _ (ls : Lines) (xs : List ℕ) (i j from held : ℕ) (bs : List Float) (m
     part-scan-part = rw z part-scan
 
     pub part-is-part : (marks′ fs′ ss′ : List ℕ) (hits′ : ℕ) → Scanned ls (getD xs i 0) (take (j + many - j) (drop j xs)) marks fs ss hits marks′ fs′ ss′ hits′
-        → PartIs ls xs i j fs ss hits bs′ fs′ ss′ (record { many = many; hits = hits′; from = r .from; held = r .held })
+        → PartIs ls xs i j fs ss hits bs′ fs′ ss′ (record { many = many; hits = hits′; window = r })
     part-is-part marks′ fs′ ss′ hits′ v = part-is marks′ fs′ ss′ hits′ (rw z at v)
 
     pub part-same-part : (marks′ fs′ ss′ : List ℕ) (hits′ : ℕ) → Scanned ls (getD xs i 0) (take (j + many - j) (drop j xs)) marks fs ss hits marks′ fs′ ss′ hits′ → SameScratch bs marks bs′ marks′

@@ -7,6 +7,7 @@ use native.Mathlib.Nat.{sub-zero}
 use native.Mathlib.Omega.{arith}
 use lib.ListN.{length, take, drop, length-map}
 use lib.Seq.{length-take-le}
+use lib.Ieee.{Float}
 use lib.Dec.{eqb, ltb, leb}
 use borrow.Author.Tests.{eqb-true, leb-true, lt-ltb, le-ltb}
 use Rattle.refusals.specs.declared.Refusal.{Refusal}
@@ -22,33 +23,34 @@ use Rattle.visit.specs.Batches.{made, handed, firsts, seconds}
 use Rattle.visit.specs.Entries.{outputsCheck}
 use Rattle.visit.proofs.Clauses.{made-none, handed-none}
 use Rattle.visit.proofs.Moves.{none-made, none-handed}
-use Rattle.through.specs.declared.CellAt.{CellAt}
-use Rattle.through.specs.declared.CellAt.the-variants as cellat
+use Rattle.listed.specs.declared.CellAt.{CellAt}
+use Rattle.listed.specs.declared.CellAt.the-variants as cellat
 use Rattle.through.specs.declared.CellsMade.{CellsMade}
 use Rattle.through.specs.declared.rows.CellsRan.{CellsRan}
-use Rattle.through.specs.Lists.{listBy, cellsFrom}
-use Rattle.through.specs.Runs.{lentCheck, withinFit, alsoIf, runs, runTests, LeftAt, RanIs, CellsMadeIs}
-use Rattle.through.specs.Inside.{Goes, CellFound, CellsRanIs, FromAsks, GoAsks, GoneIs}
+use Rattle.listed.specs.Lists.{listBy, cellsFrom}
+use Rattle.listed.specs.Places.{LeftAt}
+use Rattle.through.specs.Runs.{outputsLinesCheck, withinFit, alsoIf, runs, runTests, RanIs, CellsMadeIs}
+use Rattle.through.specs.Inside.{Goes, CellsAsk, CellsRanIs, GoAsks, GoneIs}
 use Rattle.through.proofs.Bounds.{cells-few}
 
 -- ---- the check
 
 module _ (ls : Lines) (first second : List ℕ) where
-  pub lent-outputs : (r : Refusal) → unless (eqb (length first) (length second)) 3 0 ≡ Refused r → Refused r ≡ lentCheck ls first second
-  unfolding lentCheck outputsCheck
+  pub lent-outputs : (r : Refusal) → unless (eqb (length first) (length second)) 3 0 ≡ Refused r → Refused r ≡ outputsLinesCheck ls first second
+  unfolding outputsLinesCheck outputsCheck
   lent-outputs r e = sym (andThen-refused _ _ r e)
 
   module _ (a : unless (eqb (length first) (length second)) 3 0 ≡ Fine) where
-    pub lent-lengths : (r : Refusal) → lengthsCheck ls ≡ Refused r → Refused r ≡ lentCheck ls first second
-    unfolding lentCheck outputsCheck
+    pub lent-lengths : (r : Refusal) → lengthsCheck ls ≡ Refused r → Refused r ≡ outputsLinesCheck ls first second
+    unfolding outputsLinesCheck outputsCheck
     lent-lengths r e = sym (andThen-fine _ _ a ∙ andThen-refused _ _ r e)
 
-    pub lent-count : lengthsCheck ls ≡ Fine → countCheck (count ls) ≡ lentCheck ls first second
-    unfolding lentCheck outputsCheck
+    pub lent-count : lengthsCheck ls ≡ Fine → countCheck (count ls) ≡ outputsLinesCheck ls first second
+    unfolding outputsLinesCheck outputsCheck
     lent-count e = sym (andThen-fine _ _ a ∙ andThen-fine _ _ e)
 
-  pub lent-fine : lentCheck ls first second ≡ Fine → (m : ℕ) → m ≤ 1002001 → GoAsks ls m first second
-  unfolding lentCheck outputsCheck countCheck
+  pub lent-fine : outputsLinesCheck ls first second ≡ Fine → (m : ℕ) → m ≤ 1002001 → GoAsks ls m first second
+  unfolding outputsLinesCheck outputsCheck countCheck
   lent-fine h m most =
       let o = andThen-left _ _ h in
       let b = andThen-right _ _ h in
@@ -83,18 +85,14 @@ cleared : (xs ys out : List ℕ) (n hits : ℕ) → ys ≡ clearedFrom hits xs �
 unfolding clearedFrom zeroBeyond
 cleared xs ys out n hits e p l h = e ∙ rw (p, l, h)
 
-left-at : (cols n m : ℕ) (offsets items : List ℕ) (rest : List Pair) (cell i j : ℕ) (at : CellAt) → rest ≡ cellsFrom cols (listBy n offsets items) (m - cell) cell i j
-    → CellFound n m offsets items cell i j at → LeftAt cols n m offsets items rest at
-left-at cols n m offsets items rest cell i j (cellat.At c a b) e f = record { inside = f .inside; later = f .later; among = f .within; is = e ∙ f .same cols }
-left-at cols n m offsets items rest cell i j cellat.Past e f = e ∙ f cols
-
--- ---- with room of its own
+-- ---- with room for boxes and bytes
 
 module _ (ls : Lines) (cols m : ℕ) (offsets items : List ℕ) (cell i j : ℕ) (fs ss : List ℕ) (a : GoAsks ls m fs ss) where
-  pub go-from : FromAsks ls cols m offsets items cell i j fs ss
-  go-from =
+  pub go-cells : (bs : List Float) (marks : List ℕ) → 2052 ≤ length bs → 512 ≤ length marks → CellsAsk ls cols m offsets items cell i j bs marks fs ss
+  go-cells bs marks h k =
       record {
         lent = record { alike = a .alike; same = a .same; in-room = omega arith };
+        scratch = record { boxes = record { few = omega arith; long = h }; bytes = k };
         small = omega (arith, cells-few (count ls) (a .few) offsets items cols m cell i j (a .most));
       }
 
@@ -119,7 +117,8 @@ module _ (ls : Lines) (cols m : ℕ) (offsets items : List ℕ) (cell i j : ℕ)
     pub go-second-long : length ss₁ ≡ length ss
     go-second-long = goes .moved .second-long
 
-    pub go-is : (fs₂ ss₂ : List ℕ) (n : ℕ) (at : CellAt) → fs₂ ≡ clearedFrom (r .hits) fs₁ → ss₂ ≡ clearedFrom (r .hits) ss₁ → n ≡ count ls → CellFound n m offsets items (r .cell) (r .i) (r .j) at
+    pub go-is : (fs₂ ss₂ : List ℕ) (n : ℕ) (at : CellAt) → fs₂ ≡ clearedFrom (r .hits) fs₁ → ss₂ ≡ clearedFrom (r .hits) ss₁ → n ≡ count ls
+        → ((cs : ℕ) → LeftAt cs n m offsets items (cellsFrom cs (listBy n offsets items) (m - r .cell) (r .cell) (r .i) (r .j)) at)
         → GoneIs ls cols m offsets items cell i j fs ss fs₂ ss₂ (record { tests = r .tests; overlaps = r .hits; at = at })
     unfolding C C′
     go-is fs₂ ss₂ n at ef es en f =
@@ -127,7 +126,7 @@ module _ (ls : Lines) (cols m : ℕ) (offsets items : List ℕ) (cell i j : ℕ)
         record {
           tests = all-tests ls C C′ (r .tests) fs ss fs₁ ss₁ (r .hits) goes ends;
           overlaps = hits;
-          at = left-at cols (count ls) m offsets items (drop (r .tests) C) (r .cell) (r .i) (r .j) at (sym (goes .left)) (rw en at f);
+          at = rw (sym (goes .left)) (rw en at (f cols));
           first-is = cleared fs₁ fs₂ (firsts (handed ls C (length fs))) (length fs) (r .hits) ef (all-firsts ls C C′ (r .tests) fs ss fs₁ ss₁ (r .hits) goes ends) go-first-long
               (length-map (handed ls C (length fs)) (λ (p : Pair). p .first) ∙ sym hits);
           second-is = cleared ss₁ ss₂ (seconds (handed ls C (length fs))) (length ss) (r .hits) es (all-seconds ls C C′ (r .tests) fs ss fs₁ ss₁ (r .hits) goes ends) go-second-long
@@ -144,13 +143,13 @@ also-none (Refused r) = refl
 module _ (ls : Lines) (cols m : ℕ) (offsets items : List ℕ) (cell i j : ℕ) (fs ss : List ℕ) where
   pub runs-beyond : withinFit m ≤ cell → runs ls m cell fs ss ≡ false
   unfolding runs
-  runs-beyond h = rw (le-ltb cell (withinFit m) h) (also-none (lentCheck ls fs ss))
+  runs-beyond h = rw (le-ltb cell (withinFit m) h) (also-none (outputsLinesCheck ls fs ss))
 
-  pub runs-refused : (r : Refusal) → lentCheck ls fs ss ≡ Refused r → runs ls m cell fs ss ≡ false
+  pub runs-refused : (r : Refusal) → outputsLinesCheck ls fs ss ≡ Refused r → runs ls m cell fs ss ≡ false
   unfolding runs alsoIf
   runs-refused r e = rw e
 
-  pub runs-fine : lentCheck ls fs ss ≡ Fine → cell < withinFit m → runs ls m cell fs ss ≡ true
+  pub runs-fine : outputsLinesCheck ls fs ss ≡ Fine → cell < withinFit m → runs ls m cell fs ss ≡ true
   unfolding runs alsoIf
   runs-fine e h = rw (e, lt-ltb cell (withinFit m) h)
 
@@ -168,10 +167,10 @@ module _ (ls : Lines) (cols m : ℕ) (offsets items : List ℕ) (cell i j : ℕ)
   pub none-beyond : (most : ℕ) → most ≡ min m 1002001 → most ≤ cell → CellsMadeIs ls cols m offsets items cell i j fs ss fs ss (record { tests = 0; overlaps = 0; at = cellat.Past })
   none-beyond most e h = none-is (runs-beyond (omega arith))
 
-  pub none-refused : (r : Refusal) → lentCheck ls fs ss ≡ Refused r → CellsMadeIs ls cols m offsets items cell i j fs ss fs ss (record { tests = 0; overlaps = 0; at = cellat.Past })
+  pub none-refused : (r : Refusal) → outputsLinesCheck ls fs ss ≡ Refused r → CellsMadeIs ls cols m offsets items cell i j fs ss fs ss (record { tests = 0; overlaps = 0; at = cellat.Past })
   none-refused r e = none-is (runs-refused r e)
 
-  pub run-gone : lentCheck ls fs ss ≡ Fine → (most : ℕ) → most ≡ min m 1002001 → cell < most → (fs′ ss′ : List ℕ) (r : CellsMade) → GoneIs ls cols most offsets items cell i j fs ss fs′ ss′ r
+  pub run-gone : outputsLinesCheck ls fs ss ≡ Fine → (most : ℕ) → most ≡ min m 1002001 → cell < most → (fs′ ss′ : List ℕ) (r : CellsMade) → GoneIs ls cols most offsets items cell i j fs ss fs′ ss′ r
       → CellsMadeIs ls cols m offsets items cell i j fs ss fs′ ss′ r
   unfolding runTests
   run-gone k most e h fs′ ss′ r g =

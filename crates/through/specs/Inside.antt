@@ -13,10 +13,6 @@ use Rattle.seek.specs.declared.Place.{Place}
 use Rattle.seek.specs.Tests.{Pair, withEach}
 use Rattle.visit.specs.Overlap.{overlap}
 use Rattle.visit.specs.Inside.{TestsMoved}
-use Rattle.through.specs.declared.settle.RowAt.{RowAt}
-use Rattle.through.specs.declared.settle.RowAt.the-variants as rowat
-use Rattle.through.specs.declared.CellAt.{CellAt}
-use Rattle.through.specs.declared.CellAt.the-variants as cellat
 use Rattle.through.specs.declared.boxes.Window.{Window}
 use Rattle.through.specs.declared.rows.PartRan.{PartRan}
 use Rattle.through.specs.declared.rows.ListRan.{ListRan}
@@ -24,8 +20,10 @@ use Rattle.through.specs.declared.rows.CellsRan.{CellsRan}
 use Rattle.refusals.specs.Refusals.{zeroBeyond}
 use Rattle.visit.specs.Batches.{made, handed, firsts, seconds}
 use Rattle.through.specs.declared.CellsMade.{CellsMade}
-use Rattle.through.specs.Lists.{listBy, listFrom, cellsFrom}
-use Rattle.through.specs.Runs.{LeftAt}
+use Rattle.listed.specs.Lists.{listBy, listFrom, cellsFrom}
+use Rattle.listed.specs.Places.{LeftAt}
+use Rattle.listed.specs.Bytes.{byteOf}
+use Rattle.listed.specs.Rooms.{BoxRoom, boxIn}
 
 -- ---- lines and boxes
 
@@ -34,36 +32,22 @@ pub record LineAsks (ls : Lines) (i : ℕ) : Type 0 where
   pub alike : Alike ls
   pub one : i < count ls
 
--- the box at entry u of a room: a part of 513 numbers for each of its four
-abbrev pub boxIn : List Float → ℕ → Box
-boxIn bs u =
-    record { «min_x» = getD bs u nan; «min_y» = getD bs (513 + u) nan; «max_x» = getD bs (1026 + u) nan; «max_y» = getD bs (1539 + u) nan }
-
 -- the room with another box at entry u
 unfoldable pub withBox : List Float → ℕ → Box → List Float
 withBox bs u b = set (set (set (set bs u (b .«min_x»)) (513 + u) (b .«min_y»)) (1026 + u) (b .«max_x»)) (1539 + u) (b .«max_y»)
-
--- a room that m boxes fit in
-pub record Room (m : ℕ) (bs : List Float) : Type 0 where
-  pub few : m ≤ 513
-  pub long : 2052 ≤ length bs
 
 pub record GatherAsks (ls : Lines) (xs : List ℕ) (bs : List Float) : Type 0 where
   pub alike : Alike ls
   pub below : Below (count ls) xs
   pub most : length xs ≤ 512
-  pub room : Room 513 bs
-
--- the box that no box overlaps
-abbrev pub nowhere : Box
-nowhere = record { «min_x» = nan; «min_y» = nan; «max_x» = nan; «max_y» = nan }
+  pub room : BoxRoom 513 bs
 
 -- what overlaps `inner` overlaps each of the first m boxes
 pub record Inner (m : ℕ) (bs : List Float) (inner : Box) : Type 0 where
   pub each : (u : ℕ) → u < m → (b : Box) → overlaps b inner ≡ true → overlaps b (boxIn bs u) ≡ true
 
 -- the boxes of the first m entries
-pub record Filled (ls : Lines) (xs : List ℕ) (m : ℕ) (bs bs′ : List Float) : Type 0 where
+pub record BoxesIn (ls : Lines) (xs : List ℕ) (m : ℕ) (bs bs′ : List Float) : Type 0 where
   pub each : (u : ℕ) → u < m → boxIn bs′ u ≡ boxOf (segmentAt ls (getD xs u 0))
   pub long : length bs′ ≡ length bs
 
@@ -92,17 +76,18 @@ pub record FlatFilled (ls : Lines) (xs : List ℕ) (m : ℕ) (flat flat′ : Lis
 pub record Holds (ls : Lines) (xs : List ℕ) (from held : ℕ) (bs : List Float) : Type 0 where
   pub each : (u : ℕ) → u < held → boxIn bs u ≡ boxOf (segmentAt ls (getD xs (from + u) 0))
   pub within : from + held ≤ length xs
-  pub room : Room held bs
+  pub most : held ≤ 512
+  pub room : BoxRoom held bs
   pub says : Inner held bs (boxIn bs 512)
 
 pub record WindowAsks (ls : Lines) (xs : List ℕ) (at from held : ℕ) (bs : List Float) : Type 0 where
   pub alike : Alike ls
   pub below : Below (count ls) xs
   pub inside : at < length xs
-  pub room : Room 513 bs
+  pub room : BoxRoom 513 bs
   pub holds : Holds ls xs from held bs
 
-pub record WindowIs (ls : Lines) (xs : List ℕ) (at : ℕ) (bs bs′ : List Float) (r : Window) : Type 0 where
+pub record ReadyIs (ls : Lines) (xs : List ℕ) (at : ℕ) (bs bs′ : List Float) (r : Window) : Type 0 where
   pub holds : Holds ls xs (r .from) (r .held) bs′
   pub from : r .from ≤ at
   pub to : at < r .from + r .held
@@ -110,22 +95,31 @@ pub record WindowIs (ls : Lines) (xs : List ℕ) (at : ℕ) (bs bs′ : List Flo
 
 -- ---- one line with each of a list
 
-unfoldable pub markOf : Bool → ℕ
-markOf true = 1
-markOf false = 0
-
 pub record MarkAsks (bs : List Float) (at many : ℕ) (marks : List ℕ) : Type 0 where
-  pub room : Room (at + many) bs
+  pub room : BoxRoom (at + many) bs
   pub in-marks : many ≤ length marks
 
 -- byte u is the answer of a box with that at entry at + u, for the first m
-pub record Marked (bounds : Box) (bs : List Float) (at m : ℕ) (marks marks′ : List ℕ) : Type 0 where
-  pub each : (u : ℕ) → u < m → getD marks′ u 0 ≡ markOf (overlaps bounds (boxIn bs (at + u)))
+pub record BytesOf (bounds : Box) (bs : List Float) (at m : ℕ) (marks marks′ : List ℕ) : Type 0 where
+  pub each : (u : ℕ) → u < m → getD marks′ u 0 ≡ byteOf (overlaps bounds (boxIn bs (at + u)))
   pub long : length marks′ ≡ length marks
 
 -- the first m bytes are 1
 pub record Whole (m : ℕ) (marks : List ℕ) : Type 0 where
   pub each : (u : ℕ) → u < m → getD marks u 0 ≡ 1
+
+-- boxes from `at` on, and one where what overlaps it overlaps each of them
+pub record AskAsks (bs : List Float) (at many : ℕ) (marks : List ℕ) : Type 0 where
+  pub held : BoxRoom (at + many) bs
+  pub inner : BoxRoom 513 bs
+  pub says : (u : ℕ) → u < many → (b : Box) → overlaps b (boxIn bs 512) ≡ true → overlaps b (boxIn bs (at + u)) ≡ true
+  pub in-marks : many ≤ length marks
+
+-- each of them is overlapped, or the bytes are the answers
+pub record Asked (bounds : Box) (bs : List Float) (at many : ℕ) (marks marks′ : List ℕ) (r : Bool) : Type 0 where
+  pub all : r ≡ true → (u : ℕ) → u < many → overlaps bounds (boxIn bs (at + u)) ≡ true
+  pub each : r ≡ false → BytesOf bounds bs at many marks marks′
+  pub long : length marks′ ≡ length marks
 
 -- room for every pair
 pub record RoomFor (xs fs ss : List ℕ) (hits : ℕ) : Type 0 where
@@ -139,12 +133,12 @@ pub record PutAsks (xs marks fs ss : List ℕ) (hits : ℕ) : Type 0 where
   pub room : RoomFor xs fs ss hits
 
 -- the bytes are the answers of a line with each entry
-pub record Answers (ls : Lines) (line : ℕ) (xs marks : List ℕ) : Type 0 where
-  pub each : (u : ℕ) → u < length xs → getD marks u 0 ≡ markOf (overlap ls line (getD xs u 0))
+pub record AnswersOf (ls : Lines) (line : ℕ) (xs marks : List ℕ) : Type 0 where
+  pub each : (u : ℕ) → u < length xs → getD marks u 0 ≡ byteOf (overlap ls line (getD xs u 0))
 
 -- the first m entries are done, by the bytes
-pub record Put (line : ℕ) (xs marks : List ℕ) (m : ℕ) (fs ss : List ℕ) (hits : ℕ) (fs′ ss′ : List ℕ) (hits′ : ℕ) : Type 0 where
-  pub moved : (ls : Lines) (pl : Place) (later : List Pair) → Answers ls line xs marks
+pub record PairsPut (line : ℕ) (xs marks : List ℕ) (m : ℕ) (fs ss : List ℕ) (hits : ℕ) (fs′ ss′ : List ℕ) (hits′ : ℕ) : Type 0 where
+  pub moved : (ls : Lines) (pl : Place) (later : List Pair) → AnswersOf ls line xs marks
       → TestsMoved ls (withEach pl line xs ++ later) (withEach pl line (drop m xs) ++ later) m (length fs) fs ss hits fs′ ss′ hits′
   pub most : hits′ ≤ hits + m
   pub first-long : length fs′ ≡ length fs
@@ -152,7 +146,7 @@ pub record Put (line : ℕ) (xs marks : List ℕ) (m : ℕ) (fs ss : List ℕ) (
 
 -- the same where all the bytes are 1
 pub record PutWhole (line : ℕ) (xs : List ℕ) (m : ℕ) (fs ss : List ℕ) (hits : ℕ) (fs′ ss′ : List ℕ) (hits′ : ℕ) : Type 0 where
-  pub put : (marks : List ℕ) → Whole (length xs) marks → Put line xs marks m fs ss hits fs′ ss′ hits′
+  pub put : (marks : List ℕ) → Whole (length xs) marks → PairsPut line xs marks m fs ss hits fs′ ss′ hits′
   pub most : hits′ ≤ hits + m
   pub first-long : length fs′ ≡ length fs
   pub second-long : length ss′ ≡ length ss
@@ -161,8 +155,8 @@ pub record ScanAsks (ls : Lines) (line : ℕ) (xs : List ℕ) (bs : List Float) 
   pub alike : Alike ls
   pub one : line < count ls
   pub boxes : (u : ℕ) → u < length xs → boxIn bs (at + u) ≡ boxOf (segmentAt ls (getD xs u 0))
-  pub held : Room (at + length xs) bs
-  pub inner : Room 513 bs
+  pub held : BoxRoom (at + length xs) bs
+  pub inner : BoxRoom 513 bs
   pub says : (u : ℕ) → u < length xs → (b : Box) → overlaps b (boxIn bs 512) ≡ true → overlaps b (boxIn bs (at + u)) ≡ true
   pub in-marks : length xs ≤ length marks
   pub room : RoomFor xs fs ss hits
@@ -178,7 +172,7 @@ pub record Scanned (ls : Lines) (line : ℕ) (xs marks fs ss : List ℕ) (hits :
 -- the answers of a box with n boxes from entry `at` on
 unfoldable pub answersIn : Box → List Float → ℕ → ℕ → List ℕ
 answersIn b flat at zero = []
-answersIn b flat at (suc n) = markOf (overlaps b (flatIn flat at)) ∷ answersIn b flat (suc at) n
+answersIn b flat at (suc n) = byteOf (overlaps b (flatIn flat at)) ∷ answersIn b flat (suc at) n
 
 pub record FewAsks (xs : List ℕ) (flat : List Float) (at : ℕ) (fs ss : List ℕ) (hits : ℕ) : Type 0 where
   pub held : 4 * (at + length xs) ≤ length flat
@@ -198,7 +192,7 @@ pub record Lent (ls : Lines) (fs ss : List ℕ) (hits : ℕ) : Type 0 where
 
 -- and the room for boxes and bytes
 pub record Scratch (bs : List Float) (marks : List ℕ) : Type 0 where
-  pub boxes : Room 513 bs
+  pub boxes : BoxRoom 513 bs
   pub bytes : 512 ≤ length marks
 
 pub record SameScratch (bs : List Float) (marks : List ℕ) (bs′ : List Float) (marks′ : List ℕ) : Type 0 where
@@ -206,16 +200,6 @@ pub record SameScratch (bs : List Float) (marks : List ℕ) (bs′ : List Float)
   pub bytes : length marks′ ≡ length marks
 
 -- ---- a list
-
--- the first test at or after a place in a list of `len` entries
-pub record RowIs (len i j a b : ℕ) : Type 0 where
-  pub later : a < b
-  pub inside : b < len
-  pub same : (pl : Place) (xs : List ℕ) → length xs ≡ len → listFrom pl xs i j ≡ listFrom pl xs a b
-
-abbrev pub RowFound : ℕ → ℕ → ℕ → RowAt → Type 0
-RowFound len i j (rowat.At a b) = RowIs len i j a b
-RowFound len i j rowat.Past = (pl : Place) (xs : List ℕ) → length xs ≡ len → listFrom pl xs i j ≡ []
 
 -- a part of row i, from entry j on
 pub record PartAsks (ls : Lines) (xs : List ℕ) (i j from held : ℕ) (bs : List Float) (marks fs ss : List ℕ) (hits : ℕ) : Type 0 where
@@ -230,7 +214,7 @@ pub record PartIs (ls : Lines) (xs : List ℕ) (i j : ℕ) (fs ss : List ℕ) (h
   pub inside : j + r .many ≤ length xs
   pub moved : (pl : Place) (later : List Pair)
       → TestsMoved ls (withEach pl (getD xs i 0) (take (r .many) (drop j xs)) ++ later) later (r .many) (length fs) fs ss hits fs′ ss′ (r .hits)
-  pub holds : Holds ls xs (r .from) (r .held) bs
+  pub holds : Holds ls xs (r .window .from) (r .window .held) bs
 
 pub record ListAsks (ls : Lines) (xs : List ℕ) (i j : ℕ) (bs : List Float) (marks fs ss : List ℕ) (hits : ℕ) : Type 0 where
   pub lent : Lent ls fs ss hits
@@ -259,21 +243,6 @@ pub record ListRanIs (ls : Lines) (xs : List ℕ) (i j : ℕ) (fs ss : List ℕ)
 
 -- ---- the cells
 
--- from the start of a cell to that of a later one no test is passed over
-pub record CellsPassed (m : ℕ) (offsets : List ℕ) (cell c : ℕ) : Type 0 where
-  pub onward : cell ≤ c
-  pub same : (cols n : ℕ) (items : List ℕ) → cellsFrom cols (listBy n offsets items) (m - cell) cell 0 1 ≡ cellsFrom cols (listBy n offsets items) (m - c) c 0 1
-
-pub record CellIs (n m : ℕ) (offsets items : List ℕ) (cell i j c a b : ℕ) : Type 0 where
-  pub inside : c < m
-  pub later : a < b
-  pub within : b < length (listBy n offsets items c)
-  pub same : (cols : ℕ) → cellsFrom cols (listBy n offsets items) (m - cell) cell i j ≡ cellsFrom cols (listBy n offsets items) (m - c) c a b
-
-abbrev pub CellFound : ℕ → ℕ → List ℕ → List ℕ → ℕ → ℕ → ℕ → CellAt → Type 0
-CellFound n m offsets items cell i j (cellat.At c a b) = CellIs n m offsets items cell i j c a b
-CellFound n m offsets items cell i j cellat.Past = (cols : ℕ) → cellsFrom cols (listBy n offsets items) (m - cell) cell i j ≡ []
-
 pub record CellsAsk (ls : Lines) (cols m : ℕ) (offsets items : List ℕ) (cell i j : ℕ) (bs : List Float) (marks fs ss : List ℕ) : Type 0 where
   pub lent : Lent ls fs ss 0
   pub scratch : Scratch bs marks
@@ -286,11 +255,6 @@ pub record CellsRanIs (ls : Lines) (cols m : ℕ) (offsets items : List ℕ) (ce
   pub ends : r .hits < length fs → cellsFrom cols (listBy (count ls) offsets items) (m - r .cell) (r .cell) (r .i) (r .j) ≡ []
 
 -- ---- the run as it is called
-
--- with room of its own
-pub record FromAsks (ls : Lines) (cols m : ℕ) (offsets items : List ℕ) (cell i j : ℕ) (fs ss : List ℕ) : Type 0 where
-  pub lent : Lent ls fs ss 0
-  pub small : length (cellsFrom cols (listBy (count ls) offsets items) (m - cell) cell i j) < 2 ^ 64
 
 -- lines and outputs that pass the check, and no more cells than are looked at
 pub record GoAsks (ls : Lines) (m : ℕ) (fs ss : List ℕ) : Type 0 where

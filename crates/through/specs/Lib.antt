@@ -1,4 +1,3 @@
--- `Lists` and `Runs` are what the public promises cite; `Inside` is what the private functions promise.
-pub mod Lists
+-- `Runs` is what the public promises cite; `Inside` is what the private functions promise.
 pub mod Runs
 pub mod Inside

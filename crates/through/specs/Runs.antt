@@ -1,5 +1,5 @@
 -- What a run through the cells does. Definitions only.
-use Prim.Native.Nat.{ℕ, _-_, _<_, min}
+use Prim.Native.Nat.{ℕ, _-_, min}
 use mathlib.Core.Path.{_≡_}
 use mathlib.Core.Bool.{Bool, false, cond}
 use mathlib.Core.List.{List, []}
@@ -12,14 +12,13 @@ use Rattle.grid.specs.Domain.{Lines, count, lengthsCheck, countCheck}
 use Rattle.seek.specs.Tests.{Pair}
 use Rattle.visit.specs.Batches.{made, handed, firsts, seconds}
 use Rattle.visit.specs.Entries.{outputsCheck}
-use Rattle.through.specs.declared.CellAt.{CellAt}
-use Rattle.through.specs.declared.CellAt.the-variants as cellat
 use Rattle.through.specs.declared.CellsMade.{CellsMade}
-use Rattle.through.specs.Lists.{listBy, cellsFrom}
+use Rattle.listed.specs.Lists.{listBy, cellsFrom}
+use Rattle.listed.specs.Places.{LeftAt}
 
 -- 3 of the outputs, 3 and 2 of the lines
-unfoldable pub lentCheck : Lines → List ℕ → List ℕ → Check
-lentCheck ls first second = andThen (outputsCheck first second) (andThen (lengthsCheck ls) (countCheck (count ls)))
+unfoldable pub outputsLinesCheck : Lines → List ℕ → List ℕ → Check
+outputsLinesCheck ls first second = andThen (outputsCheck first second) (andThen (lengthsCheck ls) (countCheck (count ls)))
 
 -- ---- whether a run is made, and its tests
 
@@ -34,26 +33,14 @@ alsoIf (Refused r) b = false
 
 -- a run is made where what is lent passes the check, and the cell is among those that are looked at
 unfoldable pub runs : Lines → ℕ → ℕ → List ℕ → List ℕ → Bool
-runs ls m cell first second = alsoIf (lentCheck ls first second) (ltb cell (withinFit m))
+runs ls m cell first second = alsoIf (outputsLinesCheck ls first second) (ltb cell (withinFit m))
 
 -- the tests that are left of the first m cells; where no run is made, none
 unfoldable pub runTests : Lines → ℕ → ℕ → List ℕ → List ℕ → ℕ → ℕ → ℕ → List ℕ → List ℕ → List Pair
 runTests ls cols m offsets items cell i j first second =
     cond (runs ls m cell first second) (cellsFrom cols (listBy (count ls) offsets items) (withinFit m - cell) cell i j) []
 
--- ---- where it stops
-
--- some tests are those that are left from entries a and b of the list of cell c, and there the first of them stands
-pub record FirstAt (cols n m : ℕ) (offsets items : List ℕ) (rest : List Pair) (c a b : ℕ) : Type 0 where
-  pub inside : c < m
-  pub later : a < b
-  pub among : b < length (listBy n offsets items c)
-  pub is : rest ≡ cellsFrom cols (listBy n offsets items) (m - c) c a b
-
--- where the first of some tests stands, or that there is none
-abbrev pub LeftAt : ℕ → ℕ → ℕ → List ℕ → List ℕ → List Pair → CellAt → Type 0
-LeftAt cols n m offsets items rest (cellat.At c a b) = FirstAt cols n m offsets items rest c a b
-LeftAt cols n m offsets items rest cellat.Past = rest ≡ []
+-- ---- what it does
 
 -- THE RUN: the answer r, and the two outputs before and after. Of the tests `rest` as many are made as a batch makes; the pairs that overlap stand in
 -- the outputs, with zero beyond, and where no run is made the outputs stay as they were

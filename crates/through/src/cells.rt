@@ -1,15 +1,14 @@
 // The run through the cells, of any lines, lists and outputs.
-use crate::CellAt;
 use crate::CellsMade;
 use crate::rows;
-use crate::rows::CellsRan;
-use crate::settle;
+use listed::CellAt;
+use listed::settle;
 use refusals::Check;
 use slices::least;
 ghost use mathlib.Core.Path.{_≡_};
 ghost use Rattle.grid.specs.Domain.{lines};
-ghost use Rattle.through.specs.Runs.{lentCheck, CellsMadeIs};
-ghost use Rattle.through.specs.Inside.{FromAsks, CellsRanIs, GoAsks, GoneIs};
+ghost use Rattle.through.specs.Runs.{outputsLinesCheck, CellsMadeIs};
+ghost use Rattle.through.specs.Inside.{GoAsks, GoneIs};
 
 // Refusals 3, of the outputs and of the lines, and 2.
 pub fn check_lent(
@@ -21,62 +20,20 @@ pub fn check_lent(
     second: &[u32],
 ) -> Check
     ensures { λ r. let ls = lines (now («start_x» .entry)) (now («start_y» .entry)) (now («end_x» .entry)) (now («end_y» .entry)) in
-        ⌜ r ≡ lentCheck ls (now (first .entry)) (now (second .entry)) ⌝ }
+        ⌜ r ≡ outputsLinesCheck ls (now (first .entry)) (now (second .entry)) ⌝ }
 {
     let lent = refusals::refuse_unless(first.len() == second.len(), 3, 0);
-    if let Check::Refused(r) = lent {
-        return Check::Refused(r);
+    if let Check::Refused(_) = lent {
+        return lent;
     }
     let alike = grid::checks::check_lengths(start_x, start_y, end_x, end_y);
-    if let Check::Refused(r) = alike {
-        return Check::Refused(r);
+    if let Check::Refused(_) = alike {
+        return alike;
     }
     grid::checks::check_count(start_x.len())
 }
 
-// With room of its own for boxes and bytes.
-fn cells_from(
-    cols: u32,
-    reach: usize,
-    offsets: &[u32],
-    items: &[u32],
-    cell: usize,
-    i: usize,
-    j: usize,
-    start_x: &[f64],
-    start_y: &[f64],
-    end_x: &[f64],
-    end_y: &[f64],
-    first: &mut [u32],
-    second: &mut [u32],
-) -> CellsRan
-    requires { ⌜ FromAsks (lines (now «start_x») (now «start_y») (now «end_x») (now «end_y»)) cols reach (now offsets) (now items) cell i j (now first) (now second) ⌝ }
-    ensures { λ r. let ls = lines (now («start_x» .entry)) (now («start_y» .entry)) (now («end_x» .entry)) (now («end_y» .entry)) in
-        ⌜ CellsRanIs ls cols reach (now (offsets .entry)) (now (items .entry)) cell i j (now (first .entry)) (now (second .entry))
-        (now (first .exit)) (now (second .exit)) r ⌝ }
-{
-    let mut room = [0.0; 2052];
-    let mut marks = [0u8; 512];
-    rows::run_cells(
-        cols,
-        reach,
-        offsets,
-        items,
-        cell,
-        i,
-        j,
-        start_x,
-        start_y,
-        end_x,
-        end_y,
-        &mut room,
-        &mut marks,
-        first,
-        second,
-    )
-}
-
-// The run, zero beyond its pairs, and where the first test that is left stands.
+// The run with room of its own for boxes and bytes, zero beyond its pairs, and where the first test that is left stands.
 fn go(
     cols: u32,
     reach: usize,
@@ -97,7 +54,9 @@ fn go(
         ⌜ GoneIs ls cols reach (now (offsets .entry)) (now (items .entry)) cell i j (now (first .entry)) (now (second .entry))
         (now (first .exit)) (now (second .exit)) r ⌝ }
 {
-    let ran = cells_from(
+    let mut room = [0.0; 2052];
+    let mut marks = [0u8; 512];
+    let ran = rows::run_cells(
         cols,
         reach,
         offsets,
@@ -109,6 +68,8 @@ fn go(
         start_y,
         end_x,
         end_y,
+        &mut room,
+        &mut marks,
         first,
         second,
     );

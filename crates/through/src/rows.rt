@@ -1,15 +1,15 @@
 // From row to row through a list, and from list to list through the cells, until the outputs are full or no test is left.
 use crate::boxes;
-use crate::lists;
+use crate::boxes::Window;
 use crate::scan;
-use crate::settle;
-use crate::settle::RowAt;
+use listed::lists;
+use listed::settle;
+use listed::settle::RowAt;
 use slices::least;
 ghost use mathlib.Core.Path.{_≡_};
-ghost use mathlib.Core.Bool.{true};
 ghost use lib.ListN.{length};
 ghost use Rattle.grid.specs.Domain.{lines};
-ghost use Rattle.through.specs.Inside.{Brief, BriefAsks, SameScratch, PartAsks, PartIs, ListAsks, ListRanIs, CellsAsk, CellsRanIs};
+ghost use Rattle.through.specs.Inside.{BriefAsks, SameScratch, PartAsks, PartIs, ListAsks, ListRanIs, CellsAsk, CellsRanIs};
 
 pub(crate) struct ListRan {
     pub i: usize,
@@ -30,17 +30,15 @@ pub(crate) struct CellsRan {
 struct PartRan {
     many: usize,
     hits: usize,
-    from: usize,
-    held: usize,
+    window: Window,
 }
 
-// Entry i of a list with those from j on, as many as the boxes, the outputs and the bytes have room for.
+// Entry i of a list with those from j on, as many as stand ready and the outputs have room for.
 fn scan_part(
     list: &[u32],
     i: usize,
     j: usize,
-    from: usize,
-    held: usize,
+    window: Window,
     start_x: &[f64],
     start_y: &[f64],
     end_x: &[f64],
@@ -52,14 +50,14 @@ fn scan_part(
     hits: usize,
 ) -> PartRan
     requires { let ls = lines (now «start_x») (now «start_y») (now «end_x») (now «end_y») in
-        ⌜ PartAsks ls (now list) i j from held (now room) (now marks) (now first) (now second) hits ⌝ }
+        ⌜ PartAsks ls (now list) i j (window .from) (window .held) (now room) (now marks) (now first) (now second) hits ⌝ }
     ensures { λ r. let ls = lines (now («start_x» .entry)) (now («start_y» .entry)) (now («end_x» .entry)) (now («end_y» .entry)) in
         ⌜ PartIs ls (now (list .entry)) i j (now (first .entry)) (now (second .entry)) hits (now (room .exit)) (now (first .exit)) (now (second .exit)) r ⌝
         ∗ ⌜ SameScratch (now (room .entry)) (now (marks .entry)) (now (room .exit)) (now (marks .exit)) ⌝ }
 {
-    let window = boxes::window_at(list, j, from, held, start_x, start_y, end_x, end_y, room);
+    let window = boxes::window_at(list, j, window, start_x, start_y, end_x, end_y, room);
     let ready = window.from + window.held - j;
-    let many = least(least(ready, first.len() - hits), marks.len());
+    let many = least(ready, first.len() - hits);
     let found = scan::scan(
         list[i],
         &list[j..j + many],
@@ -77,81 +75,8 @@ fn scan_part(
     PartRan {
         many,
         hits: found,
-        from: window.from,
-        held: window.held,
+        window,
     }
-}
-
-// A row is made in parts that there is room for.
-fn run_rows(
-    list: &[u32],
-    i: usize,
-    j: usize,
-    start_x: &[f64],
-    start_y: &[f64],
-    end_x: &[f64],
-    end_y: &[f64],
-    room: &mut [f64],
-    marks: &mut [u8],
-    first: &mut [u32],
-    second: &mut [u32],
-    hits: usize,
-) -> ListRan
-    requires { ⌜ ListAsks (lines (now «start_x») (now «start_y») (now «end_x») (now «end_y»)) (now list) i j (now room) (now marks) (now first) (now second) hits ⌝ }
-    ensures { λ r. let ls = lines (now («start_x» .entry)) (now («start_y» .entry)) (now («end_x» .entry)) (now («end_y» .entry)) in
-        ⌜ ListRanIs ls (now (list .entry)) i j (now (first .entry)) (now (second .entry)) hits (now (first .exit)) (now (second .exit)) r ⌝
-        ∗ ⌜ SameScratch (now (room .entry)) (now (marks .entry)) (now (room .exit)) (now (marks .exit)) ⌝ }
-{
-    let mut i = i;
-    let mut j = j;
-    let mut from = 0;
-    let mut held = 0;
-    let mut tests: u64 = 0;
-    let mut hits = hits;
-    while hits < first.len() {
-        let RowAt::At { i: a, j: b } = settle::row_at(list.len(), i, j) else {
-            break;
-        };
-        let part = scan_part(
-            list,
-            a,
-            b,
-            from,
-            held,
-            start_x,
-            start_y,
-            end_x,
-            end_y,
-            room,
-            marks,
-            first,
-            second,
-            hits,
-        );
-        from = part.from;
-        held = part.held;
-        hits = part.hits;
-        tests = tests + (part.many as u64);
-        i = a;
-        j = b + part.many;
-    }
-    ListRan { i, j, tests, hits }
-}
-
-// Whether a list is short and begun at its start, and there is room for all its pairs.
-fn is_brief(len: usize, i: usize, j: usize, room: usize) -> bool
-    ensures { λ r. ⌜ (r ≡ true → Brief len i j room) ⌝ }
-{
-    if i != 0 {
-        return false;
-    }
-    if j != 1 {
-        return false;
-    }
-    if 32 < len {
-        return false;
-    }
-    len * len <= room
 }
 
 // All rows of a short list, with no part of a row and no window.
@@ -184,13 +109,13 @@ fn run_brief(
     }
     ListRan {
         i,
-        j: i + 1,
+        j: i,
         tests,
         hits,
     }
 }
 
-// A short list at once, any other row by row.
+// A short list at once, any other row by row: a row is made in parts that there is room for.
 fn run_list(
     list: &[u32],
     i: usize,
@@ -210,7 +135,7 @@ fn run_list(
         ⌜ ListRanIs ls (now (list .entry)) i j (now (first .entry)) (now (second .entry)) hits (now (first .exit)) (now (second .exit)) r ⌝
         ∗ ⌜ SameScratch (now (room .entry)) (now (marks .entry)) (now (room .exit)) (now (marks .exit)) ⌝ }
 {
-    if is_brief(list.len(), i, j, first.len() - hits) {
+    if lists::is_brief(list.len(), i, j, first.len() - hits) {
         return run_brief(
             list,
             start_x,
@@ -223,20 +148,37 @@ fn run_list(
             hits,
         );
     }
-    run_rows(
-        list,
-        i,
-        j,
-        start_x,
-        start_y,
-        end_x,
-        end_y,
-        room,
-        marks,
-        first,
-        second,
-        hits,
-    )
+    let mut i = i;
+    let mut j = j;
+    let mut window = Window { from: 0, held: 0 };
+    let mut tests: u64 = 0;
+    let mut hits = hits;
+    while hits < first.len() {
+        let RowAt::At { i: a, j: b } = settle::row_at(list.len(), i, j) else {
+            break;
+        };
+        let part = scan_part(
+            list,
+            a,
+            b,
+            window,
+            start_x,
+            start_y,
+            end_x,
+            end_y,
+            room,
+            marks,
+            first,
+            second,
+            hits,
+        );
+        window = part.window;
+        hits = part.hits;
+        tests = tests + (part.many as u64);
+        i = a;
+        j = b + part.many;
+    }
+    ListRan { i, j, tests, hits }
 }
 
 // Each list is looked at once, before its first test.

@@ -2,33 +2,19 @@
 // bytes.
 use crate::boxes;
 use grid::Box;
+use listed::boxes::meets;
+use listed::bytes::byte_of;
 ghost use mathlib.Core.Path.{_≡_};
 ghost use mathlib.Core.Bool.{true};
 ghost use Prim.Native.Nat.{_≤_};
 ghost use lib.ListN.{length};
 ghost use Rattle.grid.specs.Domain.{lines};
-ghost use Rattle.grid.specs.Boxes.{overlaps};
-ghost use Rattle.through.specs.Inside.{markOf, MarkAsks, Marked, Whole, RoomFor, PutAsks, Put, PutWhole, ScanAsks, Scanned, FewAsks, answersIn};
-
-fn mark_of(b: bool) -> u8
-    ensures { λ r. ⌜ r ≡ markOf b ⌝ }
-{
-    if b {
-        return 1;
-    }
-    0
-}
-
-fn wide8(x: u8) -> usize
-    ensures { λ r. ⌜ r ≡ x ⌝ }
-{
-    x as usize
-}
+ghost use Rattle.through.specs.Inside.{MarkAsks, BytesOf, Whole, AskAsks, Asked, RoomFor, PutAsks, PairsPut, PutWhole, ScanAsks, Scanned, FewAsks, answersIn};
 
 // Byte u becomes the answer of a box with that at entry at + u. None of the comparisons is a branch.
 fn mark(bounds: Box, room: &[f64], at: usize, many: usize, marks: &mut [u8])
     requires { ⌜ MarkAsks (now room) at many (now marks) ⌝ }
-    ensures { λ _. ⌜ Marked bounds (now (room .entry)) at many (now (marks .entry)) (now (marks .exit)) ⌝ }
+    ensures { λ _. ⌜ BytesOf bounds (now (room .entry)) at many (now (marks .entry)) (now (marks .exit)) ⌝ }
 {
     let ax = bounds.min_x;
     let ay = bounds.min_y;
@@ -39,7 +25,7 @@ fn mark(bounds: Box, room: &[f64], at: usize, many: usize, marks: &mut [u8])
         let k = at + u;
         let hit = (room[k] <= bx)
             & ((ax <= room[1026 + k]) & ((room[513 + k] <= by) & (ay <= room[1539 + k])));
-        marks[u] = mark_of(hit);
+        marks[u] = byte_of(hit);
         u = u + 1;
     }
 }
@@ -61,6 +47,20 @@ fn whole(many: usize, marks: &[u8]) -> bool
     all
 }
 
+// Whether a box overlaps each of the boxes from `at` on. One that overlaps the box within all of them does: then no other is asked. Else the
+// bytes are the answers.
+fn ask(bounds: Box, room: &[f64], at: usize, many: usize, marks: &mut [u8]) -> bool
+    requires { ⌜ AskAsks (now room) at many (now marks) ⌝ }
+    ensures { λ r. ⌜ Asked bounds (now (room .entry)) at many (now (marks .entry)) (now (marks .exit)) r ⌝ }
+{
+    let inner = boxes::inner_in(room);
+    if bounds.overlaps_with(inner) {
+        return true;
+    }
+    mark(bounds, room, at, many, marks);
+    whole(many, marks)
+}
+
 // Each pair is written; one that does not overlap is written over.
 fn put_some(
     line: u32,
@@ -71,14 +71,14 @@ fn put_some(
     hits: usize,
 ) -> usize
     requires { ⌜ PutAsks (now list) (now marks) (now first) (now second) hits ⌝ }
-    ensures { λ r. ⌜ Put line (now (list .entry)) (now (marks .entry)) (length (now (list .entry))) (now (first .entry)) (now (second .entry)) hits (now (first .exit)) (now (second .exit)) r ⌝ }
+    ensures { λ r. ⌜ PairsPut line (now (list .entry)) (now (marks .entry)) (length (now (list .entry))) (now (first .entry)) (now (second .entry)) hits (now (first .exit)) (now (second .exit)) r ⌝ }
 {
     let mut hits = hits;
     let mut u = 0;
     while u < list.len() {
         first[hits] = line;
         second[hits] = list[u];
-        hits = hits + wide8(marks[u]);
+        hits = hits + (marks[u] as usize);
         u = u + 1;
     }
     hits
@@ -100,30 +100,6 @@ fn put_whole(line: u32, list: &[u32], first: &mut [u32], second: &mut [u32], hit
     hits
 }
 
-fn put(
-    line: u32,
-    list: &[u32],
-    marks: &[u8],
-    first: &mut [u32],
-    second: &mut [u32],
-    hits: usize,
-) -> usize
-    requires { ⌜ PutAsks (now list) (now marks) (now first) (now second) hits ⌝ }
-    ensures { λ r. ⌜ Put line (now (list .entry)) (now (marks .entry)) (length (now (list .entry))) (now (first .entry)) (now (second .entry)) hits (now (first .exit)) (now (second .exit)) r ⌝ }
-{
-    if whole(list.len(), marks) {
-        return put_whole(line, list, first, second, hits);
-    }
-    put_some(line, list, marks, first, second, hits)
-}
-
-// Whether two boxes overlap, by the near ends and then by the far ones: each time both axes are asked at once.
-fn meets(a: Box, b: Box) -> bool
-    ensures { λ r. ⌜ r ≡ overlaps a b ⌝ }
-{
-    ((b.min_x <= a.max_x) & (b.min_y <= a.max_y)) & ((a.min_x <= b.max_x) & (a.min_y <= b.max_y))
-}
-
 // The pairs of a line, whose box is lent, with each of a short list. A byte for each answer would cost more than it saves.
 pub(crate) fn scan_few(
     line: u32,
@@ -137,13 +113,13 @@ pub(crate) fn scan_few(
 ) -> usize
     requires { ⌜ FewAsks (now list) (now flat) at (now first) (now second) hits ⌝ }
     ensures { λ r. let marks = answersIn bounds (now (flat .entry)) at (length (now (list .entry))) in
-        ⌜ Put line (now (list .entry)) marks (length (now (list .entry))) (now (first .entry)) (now (second .entry)) hits (now (first .exit)) (now (second .exit)) r ⌝ }
+        ⌜ PairsPut line (now (list .entry)) marks (length (now (list .entry))) (now (first .entry)) (now (second .entry)) hits (now (first .exit)) (now (second .exit)) r ⌝ }
 {
     let mut hits = hits;
     let mut u = 0;
     while u < list.len() {
         let other = boxes::flat_at(flat, at + u);
-        let hit = wide8(mark_of(meets(bounds, other)));
+        let hit = byte_of(meets(bounds, other)) as usize;
         first[hits] = line;
         second[hits] = list[u];
         hits = hits + hit;
@@ -152,8 +128,7 @@ pub(crate) fn scan_few(
     hits
 }
 
-// The pairs of a line with each of a list, whose boxes stand ready from `at` on, and for which there is room. A line
-// that overlaps the box within all of them overlaps each: then no other is asked.
+// The pairs of a line with each of a list, whose boxes stand ready from `at` on, and for which there is room.
 pub(crate) fn scan(
     line: u32,
     list: &[u32],
@@ -174,10 +149,8 @@ pub(crate) fn scan(
         ⌜ Scanned ls line (now (list .entry)) (now (marks .entry)) (now (first .entry)) (now (second .entry)) hits (now (marks .exit)) (now (first .exit)) (now (second .exit)) r ⌝ }
 {
     let bounds = boxes::box_at(start_x, start_y, end_x, end_y, line);
-    let inner = boxes::inner_in(room);
-    if bounds.overlaps_with(inner) {
+    if ask(bounds, room, at, list.len(), marks) {
         return put_whole(line, list, first, second, hits);
     }
-    mark(bounds, room, at, list.len(), marks);
-    put(line, list, marks, first, second, hits)
+    put_some(line, list, marks, first, second, hits)
 }

@@ -5,7 +5,7 @@ use Prim.Native.Nat.{ℕ, _+_, _-_, _≤_}
 use borrow.Author.Needs.{needs}
 use lib.ListN.{length, getD}
 use Rattle.grid.specs.Domain.{lines}
-use Rattle.through.proofs.ScanTurns.{mark-most}
+use Rattle.listed.proofs.ByteLaws.{byte-most}
 use Rattle.resume.proofs.LineTurns.{LinesTurn, lines-start, lines-asks, lines-more, lines-end, lines-in-first, lines-in-second}
 use Rattle.resume.proofs.lines.scan_lines.Statement.{statement}
 use Rattle.resume.proofs.lines.scan_lines.Tie as tie
@@ -59,7 +59,7 @@ one-if-requires c κs = search needs
 add-hits : tie.Need-add-hits Inv-loop μ-loop
 add-hits c =
     let h = lines-in-first _ _ _ _ _ _ _ _ _ _ _ _ (c .before .before .before .before .loop .inv) (c .before .before .before .loop-test .taken) in
-    let o = mark-most (c .before .overlaps-with .result) in
+    let o = byte-most (c .before .overlaps-with .result) in
     let q : c .one-if .result ≤ 1 = rw (c .one-if .ensures) o in
     omega (arith, h, q, c .before .before .before .before .before .before .before .before .before .before .before .before)
 

@@ -12,7 +12,7 @@ use Rattle.resume.proofs.starts.spot_of.Statement.{statement}
 use Rattle.resume.proofs.starts.spot_of.Tie as tie
 use Rattle.resume.proofs.starts.spot_of.Reads as reads
 use Rattle.resume.proofs.starts.spot_of.Lts as lts
-use Rattle.through.proofs.lists.list_of.Reads as list-of-reads
+use Rattle.listed.proofs.lists.list_of.Reads as list-of-reads
 use Rattle.resume.proofs.lists.reach.Reads as reach-reads
 use Rattle.resume.proofs.lists.wide.Reads as wide-reads
 use Rattle.resume.proofs.starts.index_in.Reads as index-in-reads

@@ -37,13 +37,13 @@ part-gather-end : tie.Need-part-gather-end
 part-gather-end c = search needs
 
 gather-requires : tie.Need-gather-requires
-gather-requires c κs = window-gathers-part _ _ _ _ _ _ (c .before .before .before .before .before .before .before .before .before .before .pre) _ (c .before .before .least .ensures) (omega arith)
+gather-requires c κs = window-gathers-part _ _ _ _ _ _ (c .before .before .before .before .before .before .before .before .before .before .before .pre) _ (c .before .before .least .ensures) (omega arith)
 
 same-length : tie.Need-same-length
 same-length c = search needs
 
 returns-2 : tie.Need-returns-2
-returns-2 c = window-moves-part _ _ _ _ _ _ (c .before .before .before .before .before .before .before .before .before .before .before .before .before .pre) _ (c .before .before .before .before .before .least .ensures) (omega arith) _ (c .before .before .gather .ensures)
+returns-2 c = window-moves-part _ _ _ _ _ _ (c .before .before .before .before .before .before .before .before .before .before .before .before .before .before .pre) _ (c .before .before .before .before .before .least .ensures) (omega arith) _ (c .before .before .gather .ensures)
 
 pub window-at-spec : {M : Type 1} → statement M
 window-at-spec =

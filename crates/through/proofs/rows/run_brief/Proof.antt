@@ -66,9 +66,6 @@ loop-less c = omega arith
 loop-again : tie.Need-loop-again Inv-loop μ-loop
 loop-again c = brief-turn-part _ _ _ _ _ _ _ _ _ _ _ (c .before .before .before .before .before .before .before .before .before .before .before .before .before .loop .inv) (c .before .before .before .before .before .before .before .before .before .before .before .before .loop-test .taken) _ (c .before .before .before .before .before .before .before .before .before .flat-at .ensures) _ _ _ (c .before .before .before .before .scan-few .ensures)
 
-add-t35 : tie.Need-add-t35 Inv-loop μ-loop
-add-t35 c = omega (arith, c .before .loop .inv .to, c .before .loop .inv .short)
-
 same-length : tie.Need-same-length Inv-loop μ-loop
 same-length c = search needs
 
@@ -102,7 +99,6 @@ run-brief-spec =
     scan-few-requires
     loop-less
     loop-again
-    add-t35
     same-length
     same-length-2
     same-length-3

@@ -5,13 +5,14 @@ use Prim.Native.Nat.{ℕ, _+_, _-_, _*_, _≤_, _<_}
 use borrow.Author.Needs.{needs}
 use lib.ListN.{length, getD}
 use Rattle.grid.specs.Domain.{lines}
+use Rattle.listed.proofs.CellLaws.{next-passed}
 use Rattle.through.proofs.CellTurns.{CellsRun, cells-run, cells-list, cells-small, cells-full, cells-turn, cells-passed, cells-over, cells-kept, cells-first-kept, cells-second-kept, cells-first-long, cells-second-long}
 use Rattle.through.proofs.rows.run_cells.Statement.{statement}
 use Rattle.through.proofs.rows.run_cells.Tie as tie
 use Rattle.through.proofs.rows.run_cells.Reads as reads
 use Rattle.through.proofs.rows.run_cells.Lts as lts
-use Rattle.through.proofs.lists.list_of.Reads as list-of-reads
-use Rattle.through.proofs.lists.next_cell.Reads as next-cell-reads
+use Rattle.listed.proofs.lists.list_of.Reads as list-of-reads
+use Rattle.listed.proofs.lists.next_cell.Reads as next-cell-reads
 use Rattle.through.proofs.rows.run_list.Reads as run-list-reads
 
 abbrev Inv-loop : tie.InvT-loop
@@ -62,7 +63,7 @@ loop-again : tie.Need-loop-again Inv-loop μ-loop
 loop-again c =
     cells-passed _ _ _ _ _ _ _ _ _ _ _ _ _ _ _ _ _ _ _ _
     (cells-turn _ _ _ _ _ _ _ _ _ _ _ _ _ _ _ _ _ _ _ _ _ (c .before .before .before .before .before .before .before .before .before .before .before .before .before .before .before .before .before .before .loop .inv) (c .before .before .before .before .before .before .before .before .before .before .before .before .before .before .before .before .before .loop-test .taken) _ (c .before .before .before .before .before .before .before .before .before .before .before .before .before .before .before .before .list-of .ensures) _ _ _ _ _ (c .before .before .before .before .before .before .before .before .before .before .before .run-list .ensures .0) (c .before .before .before .before .before .before .before .before .before .before .before .run-list .ensures .1) (c .before .if1 .left))
-    (c .next-cell .ensures)
+    (next-passed _ _ _ _ (c .next-cell .ensures))
 
 same-length-5 : tie.Need-same-length-5 Inv-loop μ-loop
 same-length-5 c = c .before .loop .inv .same .boxes

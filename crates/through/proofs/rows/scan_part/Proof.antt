@@ -29,20 +29,17 @@ sub-least c = search needs
 least-requires : tie.Need-least-requires
 least-requires c κs = search needs
 
-least-requires-2 : tie.Need-least-requires-2
-least-requires-2 c κs = search needs
-
 mul-scan : tie.Need-mul-scan
-mul-scan c = omega (arith, c .before .before .before .before .before .before .before .before .before .before .before .before .before .before .before .before .pre .later, c .before .before .before .before .before .before .before .before .before .before .before .before .before .before .before .before .pre .window .inside, c .before .before .before .before .before .before .before .before .before .before .before .before .before .before .before .before)
+mul-scan c = omega (arith, c .before .before .before .before .before .before .before .before .before .before .before .before .before .before .before .pre .later, c .before .before .before .before .before .before .before .before .before .before .before .before .before .before .before .pre .window .inside, c .before .before .before .before .before .before .before .before .before .before .before .before .before .before .before)
 
 shared-slice-read-scan : tie.Need-shared-slice-read-scan
 shared-slice-read-scan c = search needs
 
 add-scan : tie.Need-add-scan
-add-scan c = omega (arith, part-inside _ _ _ _ _ _ _ _ _ _ _ (c .before .before .before .before .before .before .before .before .before .before .before .before .before .before .before .before .before .pre) _ _ (c .before .before .before .before .before .before .window-at .ensures) _ _ (c .before .before .least .ensures) (c .before .least2 .ensures), c .before .before .before .before .before .before .before .before .before .before .before .before .before .before .before .before .before)
+add-scan c = omega (arith, part-inside _ _ _ _ _ _ _ _ _ _ _ (c .before .before .before .before .before .before .before .before .before .before .before .before .before .before .before .before .pre) _ _ (c .before .before .before .before .before .window-at .ensures) _ (c .before .least .ensures), c .before .before .before .before .before .before .before .before .before .before .before .before .before .before .before .before)
 
 mul-scan-2 : tie.Need-mul-scan-2
-mul-scan-2 c = omega (arith, c .before .before .before .before .before .before .before .before .before .before .before .before .before .before .before .before .before .pre .window .inside, c .before .before .before .before .before .before .before .before .before .before .before .before .before .before .before .before .before)
+mul-scan-2 c = omega (arith, c .before .before .before .before .before .before .before .before .before .before .before .before .before .before .before .before .pre .window .inside, c .before .before .before .before .before .before .before .before .before .before .before .before .before .before .before .before)
 
 sub-scan : tie.Need-sub-scan
 sub-scan c = search needs
@@ -57,7 +54,7 @@ sub-scan-2 : tie.Need-sub-scan-2
 sub-scan-2 c = search needs
 
 scan-requires : tie.Need-scan-requires
-scan-requires c κs = part-scan-part _ _ _ _ _ _ _ _ _ _ _ (c .before .before .before .before .before .before .before .before .before .before .before .before .before .before .before .before .before .before .before .before .before .before .before .pre) _ _ (c .before .before .before .before .before .before .before .before .before .before .before .before .window-at .ensures) _ _ (c .before .before .before .before .before .before .before .before .least .ensures) (c .before .before .before .before .before .before .before .least2 .ensures) (omega arith)
+scan-requires c κs = part-scan-part _ _ _ _ _ _ _ _ _ _ _ (c .before .before .before .before .before .before .before .before .before .before .before .before .before .before .before .before .before .before .before .before .before .before .pre) _ _ (c .before .before .before .before .before .before .before .before .before .before .before .window-at .ensures) _ (c .before .before .before .before .before .before .before .least .ensures) (omega arith)
 
 same-length : tie.Need-same-length
 same-length c = search needs
@@ -73,8 +70,8 @@ same-length-4 c = search needs
 
 returns : tie.Need-returns
 returns c = (
-  part-is-part _ _ _ _ _ _ _ _ _ _ _ (c .before .before .before .before .before .before .before .before .before .before .before .before .before .before .before .before .before .before .before .before .before .before .before .before .before .before .before .before .before .before .pre) _ _ (c .before .before .before .before .before .before .before .before .before .before .before .before .before .before .before .before .before .before .before .window-at .ensures) _ _ (c .before .before .before .before .before .before .before .before .before .before .before .before .before .before .before .least .ensures) (c .before .before .before .before .before .before .before .before .before .before .before .before .before .before .least2 .ensures) (omega arith) _ _ _ _ (c .before .before .before .before .before .before .scan .ensures),
-  part-same-part _ _ _ _ _ _ _ _ _ _ _ (c .before .before .before .before .before .before .before .before .before .before .before .before .before .before .before .before .before .before .before .before .before .before .before .before .before .before .before .before .before .before .pre) _ _ (c .before .before .before .before .before .before .before .before .before .before .before .before .before .before .before .before .before .before .before .window-at .ensures) _ _ (c .before .before .before .before .before .before .before .before .before .before .before .before .before .before .before .least .ensures) (c .before .before .before .before .before .before .before .before .before .before .before .before .before .before .least2 .ensures) (omega arith) _ _ _ _ (c .before .before .before .before .before .before .scan .ensures),
+  part-is-part _ _ _ _ _ _ _ _ _ _ _ (c .before .before .before .before .before .before .before .before .before .before .before .before .before .before .before .before .before .before .before .before .before .before .before .before .before .before .before .before .before .pre) _ _ (c .before .before .before .before .before .before .before .before .before .before .before .before .before .before .before .before .before .before .window-at .ensures) _ (c .before .before .before .before .before .before .before .before .before .before .before .before .before .before .least .ensures) (omega arith) _ _ _ _ (c .before .before .before .before .before .before .scan .ensures),
+  part-same-part _ _ _ _ _ _ _ _ _ _ _ (c .before .before .before .before .before .before .before .before .before .before .before .before .before .before .before .before .before .before .before .before .before .before .before .before .before .before .before .before .before .pre) _ _ (c .before .before .before .before .before .before .before .before .before .before .before .before .before .before .before .before .before .before .window-at .ensures) _ (c .before .before .before .before .before .before .before .before .before .before .before .before .before .before .least .ensures) (omega arith) _ _ _ _ (c .before .before .before .before .before .before .scan .ensures),
 )
 
 pub scan-part-spec : {M : Type 1} → statement M
@@ -86,7 +83,6 @@ scan-part-spec =
     sub-ready
     sub-least
     least-requires
-    least-requires-2
     mul-scan
     shared-slice-read-scan
     add-scan

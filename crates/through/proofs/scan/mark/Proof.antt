@@ -10,7 +10,7 @@ use Rattle.through.proofs.scan.mark.Statement.{statement}
 use Rattle.through.proofs.scan.mark.Tie as tie
 use Rattle.through.proofs.scan.mark.Reads as reads
 use Rattle.through.proofs.scan.mark.Lts as lts
-use Rattle.through.proofs.scan.mark_of.Reads as mark-of-reads
+use Rattle.listed.proofs.bytes.byte_of.Reads as byte-of-reads
 
 abbrev Inv-loop : tie.InvT-loop
 Inv-loop room at many marks₀ ax ay bx by u₀ marks u =
@@ -58,8 +58,8 @@ mul-hit-4 c = omega arith
 shared-slice-read-hit-4 : tie.Need-shared-slice-read-hit-4 Inv-loop μ-loop
 shared-slice-read-hit-4 c = omega arith
 
-mark-of-requires : tie.Need-mark-of-requires Inv-loop μ-loop
-mark-of-requires c κs = search needs
+byte-of-requires : tie.Need-byte-of-requires Inv-loop μ-loop
+byte-of-requires c κs = search needs
 
 slice-write-marks : tie.Need-slice-write-marks Inv-loop μ-loop
 slice-write-marks c = omega arith
@@ -71,7 +71,7 @@ loop-less : tie.Need-loop-less Inv-loop μ-loop
 loop-less c = omega arith
 
 loop-again : tie.Need-loop-again Inv-loop μ-loop
-loop-again c = mark-more _ _ _ _ _ _ _ _ _ _ _ (c .before .before .before .before .before .before .loop .inv) (c .before .before .before .before .before .loop-test .taken) _ (c .mark-of .ensures)
+loop-again c = mark-more _ _ _ _ _ _ _ _ _ _ _ (c .before .before .before .before .before .before .loop .inv) (c .before .before .before .before .before .loop-test .taken) _ (c .byte-of .ensures)
 
 same-length : tie.Need-same-length Inv-loop μ-loop
 same-length c = omega arith
@@ -98,7 +98,7 @@ mark-spec =
     add-hit-3
     mul-hit-4
     shared-slice-read-hit-4
-    mark-of-requires
+    byte-of-requires
     slice-write-marks
     add-u
     loop-less

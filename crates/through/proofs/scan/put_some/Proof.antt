@@ -10,7 +10,6 @@ use Rattle.through.proofs.scan.put_some.Statement.{statement}
 use Rattle.through.proofs.scan.put_some.Tie as tie
 use Rattle.through.proofs.scan.put_some.Reads as reads
 use Rattle.through.proofs.scan.put_some.Lts as lts
-use Rattle.through.proofs.scan.wide8.Reads as wide8-reads
 
 abbrev Inv-loop : tie.InvT-loop
 Inv-loop line list marks first₀ second₀ hits hits₀ u₀ first second hits' u = Putting line list marks first₀ second₀ hits first second hits' u
@@ -19,7 +18,7 @@ abbrev μ-loop : tie.MeasureT-loop
 μ-loop line list marks first₀ second₀ hits hits₀ u₀ first second hits' u = length list - u
 
 loop-holds : tie.Need-loop-holds Inv-loop μ-loop
-loop-holds c = put-start _ _ _ _ _ _ (c .before .before .before .before .pre)
+loop-holds c = put-start _ _ _ _ _ _ (c .pre)
 
 mul-first : tie.Need-mul-first Inv-loop μ-loop
 mul-first c = omega arith
@@ -39,14 +38,14 @@ mul-second-2 c = omega arith
 slice-write-second : tie.Need-slice-write-second Inv-loop μ-loop
 slice-write-second c = omega arith
 
-shared-slice-read-wide8 : tie.Need-shared-slice-read-wide8 Inv-loop μ-loop
-shared-slice-read-wide8 c = omega arith
+shared-slice-read-hits : tie.Need-shared-slice-read-hits Inv-loop μ-loop
+shared-slice-read-hits c = omega arith
 
-wide8-requires : tie.Need-wide8-requires Inv-loop μ-loop
-wide8-requires c κs = search needs
+cast-hits : tie.Need-cast-hits Inv-loop μ-loop
+cast-hits c = omega (arith, put-bit _ _ _ _ _ _ _ _ _ _ (c .before .before .before .loop .inv) (c .before .before .loop-test .taken))
 
 add-hits : tie.Need-add-hits Inv-loop μ-loop
-add-hits c = let l = c .before .before .before .before .loop in omega (arith, c .wide8 .ensures, put-bit _ _ _ _ _ _ _ _ _ _ (l .inv) (c .before .before .before .loop-test .taken), put-in-first _ _ _ _ _ _ _ _ _ _ (l .inv) (c .before .before .before .loop-test .taken))
+add-hits c = let l = c .before .before .before .loop in omega (arith, put-bit _ _ _ _ _ _ _ _ _ _ (l .inv) (c .before .before .loop-test .taken), put-in-first _ _ _ _ _ _ _ _ _ _ (l .inv) (c .before .before .loop-test .taken))
 
 add-u : tie.Need-add-u Inv-loop μ-loop
 add-u c = omega arith
@@ -55,7 +54,7 @@ loop-less : tie.Need-loop-less Inv-loop μ-loop
 loop-less c = omega arith
 
 loop-again : tie.Need-loop-again Inv-loop μ-loop
-loop-again c = put-more _ _ _ _ _ _ _ _ _ _ (c .before .before .before .before .loop .inv) (c .before .before .before .loop-test .taken) _ (c .wide8 .ensures)
+loop-again c = put-more _ _ _ _ _ _ _ _ _ _ (c .before .before .before .loop .inv) (c .before .before .loop-test .taken) _ refl
 
 same-length : tie.Need-same-length Inv-loop μ-loop
 same-length c = omega arith
@@ -79,8 +78,8 @@ put-some-spec =
     shared-slice-read-second
     mul-second-2
     slice-write-second
-    shared-slice-read-wide8
-    wide8-requires
+    shared-slice-read-hits
+    cast-hits
     add-hits
     add-u
     loop-less

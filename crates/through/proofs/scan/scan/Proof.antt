@@ -1,26 +1,20 @@
 -- `through::scan::scan` meets its contract. Assumes nothing.
-use mathlib.Core.Path.{_≡_, refl, sym, ap, _∙_}
-use Prim.Native.Nat.{ℕ, _+_, _-_, _*_, _≤_, _<_}
 use borrow.Author.Needs.{needs}
-use lib.ListN.{length, getD}
-use Rattle.grid.specs.Domain.{lines}
-use Rattle.through.proofs.ScanTurns.{scan-puts, scanned, scanned-whole}
+use Rattle.through.proofs.ScanTurns.{scan-asks, scan-puts, scanned, scanned-whole}
 use Rattle.through.proofs.scan.scan.Statement.{statement}
 use Rattle.through.proofs.scan.scan.Tie as tie
 use Rattle.through.proofs.scan.scan.Reads as reads
 use Rattle.through.proofs.scan.scan.Lts as lts
 use Rattle.through.proofs.boxes.box_at.Reads as box-at-reads
-use Rattle.through.proofs.scan.mark.Reads as mark-reads
-use Rattle.through.proofs.scan.put.Reads as put-reads
+use Rattle.through.proofs.scan.ask.Reads as ask-reads
+use Rattle.through.proofs.scan.put_some.Reads as put-some-reads
+use Rattle.through.proofs.scan.put_whole.Reads as put-whole-reads
 
 box-at-requires : tie.Need-box-at-requires
 box-at-requires c κs = search needs
 
-inner-in-requires : tie.Need-inner-in-requires
-inner-in-requires c κs = search needs
-
-overlaps-with-requires : tie.Need-overlaps-with-requires
-overlaps-with-requires c κs = search needs
+ask-requires : tie.Need-ask-requires
+ask-requires c κs = search needs
 
 put-whole-requires : tie.Need-put-whole-requires
 put-whole-requires c κs = search needs
@@ -31,17 +25,14 @@ same-length c = search needs
 same-length-2 : tie.Need-same-length-2
 same-length-2 c = search needs
 
-returns : tie.Need-returns
-returns c = scanned-whole _ _ _ _ _ _ _ _ _ (c .before .before .before .before .before .before .before .before .before .before .before .before .before .before .before .before .before .before .before .before .pre) _ (c .before .before .before .before .before .before .before .before .before .before .box-at .ensures) _ (c .before .before .before .before .before .before .before .before .before .inner-in .ensures) (sym (c .before .before .before .before .before .before .before .before .overlaps-with .ensures) ∙ c .before .before .before .before .before .before .before .if1 .taken) _ _ _ (c .before .before .before .before .put-whole .ensures)
-
-mark-requires : tie.Need-mark-requires
-mark-requires c κs = search needs
-
-put-requires : tie.Need-put-requires
-put-requires c κs = scan-puts _ _ _ _ _ _ _ _ _ (c .before .before .before .before .before .before .before .before .before .before .before .before .before .before .before .before .before .before .before .before .pre) _ (c .before .before .before .before .before .before .before .before .before .before .box-at .ensures) _ (c .before .before .before .before .before .mark .ensures)
-
 same-length-3 : tie.Need-same-length-3
 same-length-3 c = search needs
+
+returns : tie.Need-returns
+returns c = scanned-whole _ _ _ _ _ _ _ _ _ (c .before .before .before .before .before .before .before .before .before .before .before .before .before .before .before .before .before .before .before .before .before .before .pre) _ (c .before .before .before .before .before .before .before .before .before .before .before .before .box-at .ensures) _ _ (c .before .before .before .before .before .before .before .before .before .before .ask .ensures) (c .before .before .before .before .before .before .before .if1 .taken) _ _ _ (c .before .before .before .before .put-whole .ensures)
+
+put-some-requires : tie.Need-put-some-requires
+put-some-requires c κs = scan-puts _ _ _ _ _ _ _ _ _ (c .before .before .before .before .before .before .before .before .before .before .before .before .before .before .before .before .before .before .pre) _ (c .before .before .before .before .before .before .before .before .box-at .ensures) _ _ (c .before .before .before .before .before .before .ask .ensures) (c .before .before .before .if1 .left)
 
 same-length-4 : tie.Need-same-length-4
 same-length-4 c = search needs
@@ -49,23 +40,25 @@ same-length-4 c = search needs
 same-length-5 : tie.Need-same-length-5
 same-length-5 c = search needs
 
+same-length-6 : tie.Need-same-length-6
+same-length-6 c = search needs
+
 returns-2 : tie.Need-returns-2
-returns-2 c = scanned _ _ _ _ _ _ _ _ _ (c .before .before .before .before .before .before .before .before .before .before .before .before .before .before .before .before .before .before .before .before .before .before .before .before .before .pre) _ (c .before .before .before .before .before .before .before .before .before .before .before .before .before .before .before .box-at .ensures) _ (c .before .before .before .before .before .before .before .before .before .before .mark .ensures) _ _ _ (c .before .before .before .before .put .ensures)
+returns-2 c = scanned _ _ _ _ _ _ _ _ _ (c .before .before .before .before .before .before .before .before .before .before .before .before .before .before .before .before .before .before .before .before .before .before .before .pre) _ (c .before .before .before .before .before .before .before .before .before .before .before .before .before .box-at .ensures) _ _ (c .before .before .before .before .before .before .before .before .before .before .before .ask .ensures) (c .before .before .before .before .before .before .before .before .if1 .left) _ _ _ (c .before .before .before .before .put-some .ensures)
 
 pub scan-spec : {M : Type 1} → statement M
 scan-spec =
     tie.close
     (tie.spec
     box-at-requires
-    inner-in-requires
-    overlaps-with-requires
+    ask-requires
     put-whole-requires
     same-length
     same-length-2
-    returns
-    mark-requires
-    put-requires
     same-length-3
+    returns
+    put-some-requires
     same-length-4
     same-length-5
+    same-length-6
     returns-2)

@@ -4,18 +4,17 @@ use mathlib.Core.Path.{_≡_, refl, sym, ap, _∙_}
 use Prim.Native.Nat.{ℕ, _+_, _-_, _≤_}
 use borrow.Author.Needs.{needs}
 use lib.ListN.{length, getD}
-use Rattle.through.specs.Inside.{markOf}
+use Rattle.listed.specs.Bytes.{byteOf}
 use Rattle.grid.specs.Boxes.{overlaps}
-use Rattle.through.proofs.ScanTurns.{mark-most}
+use Rattle.listed.proofs.ByteLaws.{byte-most}
 use Rattle.through.proofs.BriefTurns.{FewTurn, few-start, few-first-long, few-second-long, few-end, few-box, few-in-first, few-in-second, few-more}
 use Rattle.through.proofs.scan.scan_few.Statement.{statement}
 use Rattle.through.proofs.scan.scan_few.Tie as tie
 use Rattle.through.proofs.scan.scan_few.Reads as reads
 use Rattle.through.proofs.scan.scan_few.Lts as lts
 use Rattle.through.proofs.boxes.flat_at.Reads as flat-at-reads
-use Rattle.through.proofs.scan.mark_of.Reads as mark-of-reads
-use Rattle.through.proofs.scan.meets.Reads as meets-reads
-use Rattle.through.proofs.scan.wide8.Reads as wide8-reads
+use Rattle.listed.proofs.bytes.byte_of.Reads as byte-of-reads
+use Rattle.listed.proofs.boxes.meets.Reads as meets-reads
 
 abbrev Inv-loop : tie.InvT-loop
 Inv-loop line bounds list flat at first₀ second₀ hits hits₀ u₀ first second hits' u =
@@ -36,17 +35,17 @@ flat-at-requires c κs = few-box _ _ _ _ _ _ _ _ _ _ _ _ (c .before .loop .inv) 
 meets-requires : tie.Need-meets-requires Inv-loop μ-loop
 meets-requires c κs = search needs
 
-mark-of-requires : tie.Need-mark-of-requires Inv-loop μ-loop
-mark-of-requires c κs = search needs
+byte-of-requires : tie.Need-byte-of-requires Inv-loop μ-loop
+byte-of-requires c κs = search needs
 
-wide8-requires : tie.Need-wide8-requires Inv-loop μ-loop
-wide8-requires c κs = search needs
+cast-hit : tie.Need-cast-hit Inv-loop μ-loop
+cast-hit c = omega (arith, c .byte-of .ensures, byte-most (c .before .meets .result))
 
 mul-first : tie.Need-mul-first Inv-loop μ-loop
-mul-first c = omega (arith, few-in-first _ _ _ _ _ _ _ _ _ _ _ _ (c .before .before .before .before .before .loop .inv) (c .before .before .before .before .loop-test .taken), few-in-second _ _ _ _ _ _ _ _ _ _ _ _ (c .before .before .before .before .before .loop .inv) (c .before .before .before .before .loop-test .taken), c .before, c .before .before, c .before .before .before, c .before .before .before .before, c .before .before .before .before .before, c .before .before .before .before .before .before, c .before .before .before .before .before .before .before, c .before .before .before .before .before .before .before .before, c .before .before .before .before .before .before .before .before .before)
+mul-first c = omega (arith, few-in-first _ _ _ _ _ _ _ _ _ _ _ _ (c .before .before .before .before .loop .inv) (c .before .before .before .loop-test .taken), few-in-second _ _ _ _ _ _ _ _ _ _ _ _ (c .before .before .before .before .loop .inv) (c .before .before .before .loop-test .taken), c, c .before, c .before .before, c .before .before .before, c .before .before .before .before, c .before .before .before .before .before, c .before .before .before .before .before .before, c .before .before .before .before .before .before .before, c .before .before .before .before .before .before .before .before)
 
 slice-write-first : tie.Need-slice-write-first Inv-loop μ-loop
-slice-write-first c = omega (arith, few-in-first _ _ _ _ _ _ _ _ _ _ _ _ (c .before .before .before .before .before .loop .inv) (c .before .before .before .before .loop-test .taken), few-in-second _ _ _ _ _ _ _ _ _ _ _ _ (c .before .before .before .before .before .loop .inv) (c .before .before .before .before .loop-test .taken), c .before .before .before .before .before .before, c .before .before .before .before .before .before .before, c .before .before .before .before .before .before .before .before, c .before .before .before .before .before .before .before .before .before, c .before .before .before .before .before .before .before .before .before .before)
+slice-write-first c = omega (arith, few-in-first _ _ _ _ _ _ _ _ _ _ _ _ (c .before .before .before .before .loop .inv) (c .before .before .before .loop-test .taken), few-in-second _ _ _ _ _ _ _ _ _ _ _ _ (c .before .before .before .before .loop .inv) (c .before .before .before .loop-test .taken), c .before .before .before .before .before, c .before .before .before .before .before .before, c .before .before .before .before .before .before .before, c .before .before .before .before .before .before .before .before, c .before .before .before .before .before .before .before .before .before)
 
 mul-second : tie.Need-mul-second Inv-loop μ-loop
 mul-second c = omega arith
@@ -55,17 +54,17 @@ shared-slice-read-second : tie.Need-shared-slice-read-second Inv-loop μ-loop
 shared-slice-read-second c = omega arith
 
 mul-second-2 : tie.Need-mul-second-2 Inv-loop μ-loop
-mul-second-2 c = omega (arith, few-in-first _ _ _ _ _ _ _ _ _ _ _ _ (c .before .before .before .before .before .before .loop .inv) (c .before .before .before .before .before .loop-test .taken), few-in-second _ _ _ _ _ _ _ _ _ _ _ _ (c .before .before .before .before .before .before .loop .inv) (c .before .before .before .before .before .loop-test .taken), c .before .before .before .before .before .before, c .before .before .before .before .before .before .before, c .before .before .before .before .before .before .before .before, c .before .before .before .before .before .before .before .before .before, c .before .before .before .before .before .before .before .before .before .before)
+mul-second-2 c = omega (arith, few-in-first _ _ _ _ _ _ _ _ _ _ _ _ (c .before .before .before .before .before .loop .inv) (c .before .before .before .before .loop-test .taken), few-in-second _ _ _ _ _ _ _ _ _ _ _ _ (c .before .before .before .before .before .loop .inv) (c .before .before .before .before .loop-test .taken), c .before .before .before .before .before, c .before .before .before .before .before .before, c .before .before .before .before .before .before .before, c .before .before .before .before .before .before .before .before, c .before .before .before .before .before .before .before .before .before)
 
 slice-write-second : tie.Need-slice-write-second Inv-loop μ-loop
-slice-write-second c = omega (arith, few-in-first _ _ _ _ _ _ _ _ _ _ _ _ (c .before .before .before .before .before .before .loop .inv) (c .before .before .before .before .before .loop-test .taken), few-in-second _ _ _ _ _ _ _ _ _ _ _ _ (c .before .before .before .before .before .before .loop .inv) (c .before .before .before .before .before .loop-test .taken), c .before .before .before .before .before .before, c .before .before .before .before .before .before .before, c .before .before .before .before .before .before .before .before, c .before .before .before .before .before .before .before .before .before, c .before .before .before .before .before .before .before .before .before .before)
+slice-write-second c = omega (arith, few-in-first _ _ _ _ _ _ _ _ _ _ _ _ (c .before .before .before .before .before .loop .inv) (c .before .before .before .before .loop-test .taken), few-in-second _ _ _ _ _ _ _ _ _ _ _ _ (c .before .before .before .before .before .loop .inv) (c .before .before .before .before .loop-test .taken), c .before .before .before .before .before, c .before .before .before .before .before .before, c .before .before .before .before .before .before .before, c .before .before .before .before .before .before .before .before, c .before .before .before .before .before .before .before .before .before)
 
 add-hits : tie.Need-add-hits Inv-loop μ-loop
 add-hits c =
-    let h = few-in-first _ _ _ _ _ _ _ _ _ _ _ _ (c .before .before .before .before .before .before .loop .inv) (c .before .before .before .before .before .loop-test .taken) in
-    let o = mark-most (c .before .before .before .meets .result) in
-    let q : c .before .wide8 .result ≤ 1 = rw (c .before .wide8 .ensures ∙ c .before .before .mark-of .ensures) o in
-    omega (arith, h, q, c .before .before .before .before .before .before, c .before .before .before .before .before .before .before, c .before .before .before .before .before .before .before .before, c .before .before .before .before .before .before .before .before .before, c .before .before .before .before .before .before .before .before .before .before)
+    let h = few-in-first _ _ _ _ _ _ _ _ _ _ _ _ (c .before .before .before .before .before .loop .inv) (c .before .before .before .before .loop-test .taken) in
+    let o = byte-most (c .before .before .meets .result) in
+    let q : c .before .byte-of .result ≤ 1 = rw (c .before .byte-of .ensures) o in
+    omega (arith, h, q, c .before .before .before .before .before, c .before .before .before .before .before .before, c .before .before .before .before .before .before .before, c .before .before .before .before .before .before .before .before, c .before .before .before .before .before .before .before .before .before)
 
 add-u : tie.Need-add-u Inv-loop μ-loop
 add-u c = omega arith
@@ -75,8 +74,8 @@ loop-less c = omega arith
 
 loop-again : tie.Need-loop-again Inv-loop μ-loop
 loop-again c =
-    few-more _ _ _ _ _ _ _ _ _ _ _ _ (c .before .before .before .before .before .before .loop .inv) (c .before .before .before .before .before .loop-test .taken) _
-    (c .before .wide8 .ensures ∙ c .before .before .mark-of .ensures ∙ ap markOf (c .before .before .before .meets .ensures ∙ ap (overlaps _) (c .before .before .before .before .flat-at .ensures)))
+    few-more _ _ _ _ _ _ _ _ _ _ _ _ (c .before .before .before .before .before .loop .inv) (c .before .before .before .before .loop-test .taken) _
+    (c .before .byte-of .ensures ∙ ap byteOf (c .before .before .meets .ensures ∙ ap (overlaps _) (c .before .before .before .flat-at .ensures)))
 
 same-length : tie.Need-same-length Inv-loop μ-loop
 same-length c = few-first-long _ _ _ _ _ _ _ _ _ _ _ _ (c .before .loop .inv)
@@ -97,8 +96,8 @@ scan-few-spec =
     add-flat-at
     flat-at-requires
     meets-requires
-    mark-of-requires
-    wide8-requires
+    byte-of-requires
+    cast-hit
     mul-first
     slice-write-first
     mul-second

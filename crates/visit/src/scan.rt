@@ -142,21 +142,19 @@ fn test_before(
 fn scan_list(
     list: &[u32],
     row: Row,
-    j: usize,
+    mut j: usize,
     start_x: &[f64],
     start_y: &[f64],
     end_x: &[f64],
     end_y: &[f64],
     first: &mut [u32],
     second: &mut [u32],
-    hits: usize,
+    mut hits: usize,
 ) -> ListEnd
     requires { ⌜ ListAsks (lines (now «start_x») (now «start_y») (now «end_x») (now «end_y»)) row (now list) j (now first) (now second) hits ⌝ }
     ensures { λ r. let ls = lines (now («start_x» .entry)) (now («start_y» .entry)) (now («end_x» .entry)) (now («end_y» .entry)) in
         ⌜ InList ls row (now (list .entry)) j (now (first .entry)) (now (second .entry)) hits (now (first .exit)) (now (second .exit)) r ⌝ }
 {
-    let mut j = j;
-    let mut hits = hits;
     while hits < first.len() {
         let Step::Made(test) = test_in(list, j, row, start_x, start_y, end_x, end_y) else {
             break;
@@ -174,7 +172,7 @@ fn scan_list(
 // The row of a global from line k to before `stop`.
 fn scan_lines(
     row: Row,
-    k: u32,
+    mut k: u32,
     stop: u32,
     start_x: &[f64],
     start_y: &[f64],
@@ -182,14 +180,12 @@ fn scan_lines(
     end_y: &[f64],
     first: &mut [u32],
     second: &mut [u32],
-    hits: usize,
+    mut hits: usize,
 ) -> LinesEnd
     requires { ⌜ LinesAsk (lines (now «start_x») (now «start_y») (now «end_x») (now «end_y»)) row k stop (now first) (now second) hits ⌝ }
     ensures { λ r. let ls = lines (now («start_x» .entry)) (now («start_y» .entry)) (now («end_x» .entry)) (now («end_y» .entry)) in
         ⌜ InLines ls row k stop (now (first .entry)) (now (second .entry)) hits (now (first .exit)) (now (second .exit)) r ⌝ }
 {
-    let mut k = k;
-    let mut hits = hits;
     while hits < first.len() {
         let Step::Made(test) = test_before(stop, k, row, start_x, start_y, end_x, end_y) else {
             break;

@@ -20,11 +20,11 @@ pub count-lent-spec : {M : Type 1} → statement M
 count-lent-spec =
     tie.close
     (tie.spec
-    (λ c κs. search needs)
+    (λ c κs. tt)
     (λ c. search needs)
     returns
     (λ c. search needs)
-    (λ c κs. search needs)
+    (λ c κs. tt)
     count-lines-requires
     (λ c. search needs)
     (λ c. search needs)

@@ -1,5 +1,6 @@
 -- `fill::count_on` meets its contract. Assumes nothing.
 use borrow.Author.Needs.{needs}
+use mathlib.Core.Path.{_∙_}
 use Rattle.fill.proofs.Entries.{count-done, count-refused}
 use Rattle.fill.proofs.count_on.Statement.{statement}
 use Rattle.fill.proofs.count_on.Tie as tie
@@ -16,15 +17,15 @@ pub count-on-spec : {M : Type 1} → statement M
 count-on-spec =
     tie.close
     (tie.spec
-    (λ c κs. search needs)
+    (λ c κs. tt)
     (λ c. search needs)
-    (λ c κs. search needs)
-    (λ c κs. search needs)
-    (λ c. search needs)
-    (λ c. search needs)
+    (λ c κs. tt)
+    (λ c κs. tt)
+    (λ c. c .before .before .before .before .before .before .leave .kept .1 .0 ∙ c .before .before .before .before .before .before .before .before .before .before .before .before .before .before .before .count-lent .kept .1 .1 .1 .1 .1 .1 .0)
+    (λ c. c .before .before .leave2 .kept .1 .0 ∙ c .before .before .before .before .before .before .before .before .before .before .before .before .before .before .before .count-lent .kept .1 .1 .1 .1 .1 .1 .1 .0)
     returns
     (λ c. search needs)
-    (λ c κs. search needs)
-    (λ c. search needs)
-    (λ c. search needs)
+    (λ c κs. tt)
+    (λ c. c .before .before .before .before .before .before .before .before .before .before .count-lent .kept .1 .1 .1 .1 .1 .1 .0)
+    (λ c. c .before .before .clear .kept .0 ∙ c .before .before .before .before .before .before .before .before .before .before .count-lent .kept .1 .1 .1 .1 .1 .1 .1 .0)
     returns-2)

@@ -1,5 +1,6 @@
 -- `fill::filling::plan` meets its contract. Assumes nothing.
 use borrow.Author.Needs.{needs}
+use mathlib.Core.Path.{_∙_}
 use Rattle.fill.proofs.Fills.{sum-asks}
 use Rattle.fill.proofs.Entries.{plan-asks, plan-refused, plan-crowded, plan-five, plan-six, plan-made}
 use Rattle.fill.proofs.filling.plan.Statement.{statement}
@@ -44,24 +45,24 @@ pub plan-spec : {M : Type 1} → statement M
 plan-spec =
     tie.close
     (tie.spec
-    (λ c κs. search needs)
+    (λ c κs. tt)
     (λ c. search needs)
     cell-count-requires
     running-sums-requires
-    (λ c. search needs)
-    (λ c. search needs)
+    (λ c. c .before .before .before .running-sums .kept .0 ∙ c .before .before .before .before .before .before .before .before .before .before .before .before .before .count-lent .kept .1 .1 .1 .1 .1 .1 .0)
+    (λ c. c .before .before .before .before .before .before .before .before .before .before .before .before .before .count-lent .kept .1 .1 .1 .1 .1 .1 .1 .0)
     returns
     (λ c. search needs)
-    (λ c. search needs)
-    (λ c. search needs)
+    (λ c. c .before .before .before .before .before .running-sums .kept .0 ∙ c .before .before .before .before .before .before .before .before .before .before .before .before .before .before .before .count-lent .kept .1 .1 .1 .1 .1 .1 .0)
+    (λ c. c .before .before .before .before .before .before .before .before .before .before .before .before .before .before .before .count-lent .kept .1 .1 .1 .1 .1 .1 .1 .0)
     returns-2
-    (λ c. search needs)
-    (λ c. search needs)
+    (λ c. c .before .before .before .before .before .before .running-sums .kept .0 ∙ c .before .before .before .before .before .before .before .before .before .before .before .before .before .before .before .before .count-lent .kept .1 .1 .1 .1 .1 .1 .0)
+    (λ c. c .before .before .before .before .before .before .before .before .before .before .before .before .before .before .before .before .count-lent .kept .1 .1 .1 .1 .1 .1 .1 .0)
     returns-3
     (λ c. search needs)
-    (λ c. search needs)
-    (λ c. search needs)
+    (λ c. c .before .before .before .before .before .before .running-sums .kept .0 ∙ c .before .before .before .before .before .before .before .before .before .before .before .before .before .before .before .before .count-lent .kept .1 .1 .1 .1 .1 .1 .0)
+    (λ c. c .before .before .before .before .before .before .before .before .before .before .before .before .before .before .before .before .count-lent .kept .1 .1 .1 .1 .1 .1 .1 .0)
     returns-4
-    (λ c. search needs)
-    (λ c. search needs)
+    (λ c. c .before .before .before .before .before .before .before .count-lent .kept .1 .1 .1 .1 .1 .1 .0)
+    (λ c. c .before .before .before .before .before .before .before .count-lent .kept .1 .1 .1 .1 .1 .1 .1 .0)
     returns-5)

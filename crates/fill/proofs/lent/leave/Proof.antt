@@ -14,6 +14,6 @@ leave-spec =
     (tie.spec
     (λ c. sym (left-same 0 _ _ (numbers-below _ (c .if1 .taken))))
     (λ c. sym (left-same 0 _ _ (numbers-above _ (c .if2 .taken))))
-    (λ c κs. search needs)
+    (λ c κs. tt)
     (λ c. search needs)
     returns-3)

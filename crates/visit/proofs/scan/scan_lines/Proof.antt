@@ -13,12 +13,11 @@ use Rattle.visit.proofs.scan.scan_lines.Lts as lts
 use Rattle.visit.proofs.scan.test_before.Reads as test-before-reads
 
 abbrev Inv-loop : tie.InvT-loop
-Inv-loop row k stop start-x start-y end-x end-y first₀ second₀ hits k₀ hits₀ first second k' hits' =
-    LinesScan (lines start-x start-y end-x end-y) row stop k k' first₀ second₀ hits first second hits'
+Inv-loop row k₀ stop start-x start-y end-x end-y first₀ second₀ hits₀ k first second hits =
+    LinesScan (lines start-x start-y end-x end-y) row stop k₀ k first₀ second₀ hits₀ first second hits
 
 abbrev μ-loop : tie.MeasureT-loop
-μ-loop row k stop start-x start-y end-x end-y first₀ second₀ hits k₀ hits₀ first second k' hits' =
-    stop - k'
+μ-loop row k₀ stop start-x start-y end-x end-y first₀ second₀ hits₀ k first second hits = stop - k
 
 loop-holds : tie.Need-loop-holds Inv-loop μ-loop
 loop-holds c =

@@ -13,12 +13,11 @@ use Rattle.visit.proofs.scan.scan_list.Lts as lts
 use Rattle.visit.proofs.scan.test_in.Reads as test-in-reads
 
 abbrev Inv-loop : tie.InvT-loop
-Inv-loop list row j start-x start-y end-x end-y first₀ second₀ hits j₀ hits₀ first second j' hits' =
-    ListScan (lines start-x start-y end-x end-y) row list j j' first₀ second₀ hits first second hits'
+Inv-loop list row j₀ start-x start-y end-x end-y first₀ second₀ hits₀ j first second hits =
+    ListScan (lines start-x start-y end-x end-y) row list j₀ j first₀ second₀ hits₀ first second hits
 
 abbrev μ-loop : tie.MeasureT-loop
-μ-loop list row j start-x start-y end-x end-y first₀ second₀ hits j₀ hits₀ first second j' hits' =
-    length list - j'
+μ-loop list row j₀ start-x start-y end-x end-y first₀ second₀ hits₀ j first second hits = length list - j
 
 loop-holds : tie.Need-loop-holds Inv-loop μ-loop
 loop-holds c =

@@ -12,7 +12,7 @@ box-at-requires : tie.Need-box-at-requires
 box-at-requires c κs = search needs
 
 overlaps-with-requires : tie.Need-overlaps-with-requires
-overlaps-with-requires c κs = search needs
+overlaps-with-requires c κs = tt
 
 returns : tie.Need-returns
 returns c =

@@ -24,7 +24,7 @@ stands : (c : tie.After-pair2)
 stands c = sym (c .pair2 .given .1) ∙ c .before .before .pair-at .ensures
 
 pair-at-requires : tie.Need-pair-at-requires
-pair-at-requires c κs = search needs
+pair-at-requires c κs = tt
 
 enum-known-pair : tie.Need-enum-known-pair
 enum-known-pair c = search needs

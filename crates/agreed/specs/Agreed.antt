@@ -1,10 +1,10 @@
 -- Which records of a file agree: those whose recorded words are the words that the exported function answers. Definitions only.
-use Prim.Native.Nat.{ℕ, _≤_, _<_}
+use Prim.Native.Nat.{ℕ, _+_, _≤_, _<_}
 use mathlib.Core.Path.{_≡_}
 use mathlib.Core.Bool.{Bool, true, false}
 use mathlib.Core.List.{List, [], _∷_}
 use lib.ListN.{length}
-use Rattle.records.specs.Files.{Record, recordsOf, spanOf}
+use Rattle.records.specs.Files.{Record, recordsOf, wordTotal}
 use Rattle.asked.specs.Asked.{AnswersFor}
 use Rattle.agreed.specs.declared.Tally.{Tally}
 
@@ -25,7 +25,13 @@ pub record Tallied (k : ℕ) (w : List ℕ) (t : Tally) : Type 0 where
   pub agreeing : List Record
   pub are : Agreeing k (recordsOf w) agreeing
   pub records : t .records ≡ length agreeing
-  pub words : t .words ≡ spanOf agreeing
+  pub words : t .words ≡ wordTotal agreeing
+
+-- so many words have the records before the first that does not agree
+pub data AgreeTo : List Record → ℕ → Type 0 where
+  end : AgreeTo [] 0
+  apart : {r : Record} {rs : List Record} → (Agrees r → ⊥) → AgreeTo (r ∷ rs) 0
+  past : {r : Record} {rs : List Record} {n : ℕ} → Agrees r → AgreeTo rs n → AgreeTo (r ∷ rs) (wordTotal (r ∷ []) + n)
 
 -- ---- what a private function promises
 

@@ -3,7 +3,8 @@ ghost use mathlib.Core.Path.{_≡_};
 ghost use mathlib.Core.Bool.{cond};
 ghost use Prim.Native.Nat.{_≤_};
 ghost use lib.ListN.{length};
-ghost use Rattle.agreed.specs.Agreed.{Agrees, Tells, Tallied};
+ghost use Rattle.records.specs.Files.{recordsOf};
+ghost use Rattle.agreed.specs.Agreed.{Agrees, Tells, Tallied, AgreeTo};
 use records::files;
 use records::words;
 
@@ -62,4 +63,26 @@ pub fn agreeing(w: &[u64], wanted: u64) -> Tally
         at = to;
     }
     Tally { records, words }
+}
+
+// Where the first record begins that does not agree, of those that stand whole in w, from the first on; where they end, if all agree.
+pub fn agree_to(w: &[u64]) -> usize
+    ensures { λ r. ⌜ AgreeTo (recordsOf (now (w .entry))) r ⌝ }
+{
+    let mut room = [0u64; 32768];
+    let mut at = 0;
+    while at < w.len() {
+        let size = files::size_at(w, at);
+        if size == 0 {
+            return at;
+        }
+        let from = at + 3;
+        let mid = from + w[at + 1] as usize;
+        let to = at + size;
+        if !counts(w[at], w[at], &w[from..mid], &w[mid..to], &mut room) {
+            return at;
+        }
+        at = to;
+    }
+    at
 }

@@ -41,12 +41,12 @@ cleared-at (suc n) (x ∷ xs) (suc p) l =
     rw e (cleared-at n xs p (omega arith))
 
 -- as `placed-none`, where the items are zero beyond the lists
-placed-cleared : {W : ℕ → List ℕ} {n gridCells : ℕ} {o₀ o t : List ℕ} → Walks W n gridCells → Counted (linesAt W n) o₀
-    → ((k : ℕ) → k ≤ gridCells → getD o k 0 ≡ sum (λ k. getD o₀ k 0) k) → ((k : ℕ) → gridCells < k → getD o k 0 ≡ getD o₀ k 0)
-    → ((p : ℕ) → start (linesAt W n) gridCells ≤ p → getD t p 0 ≡ 0) → Placed (linesAt W n) gridCells (linesAt W 0) o t
+placed-cleared : {W : ℕ → List ℕ} {n cells : ℕ} {o₀ o t : List ℕ} → Walks W n cells → Counted (linesAt W n) o₀
+    → ((k : ℕ) → k ≤ cells → getD o k 0 ≡ sum (λ k. getD o₀ k 0) k) → ((k : ℕ) → cells < k → getD o k 0 ≡ getD o₀ k 0)
+    → ((p : ℕ) → start (linesAt W n) cells ≤ p → getD t p 0 ≡ 0) → Placed (linesAt W n) cells (linesAt W 0) o t
 unfolding linesAt
-placed-cleared {W} {n} {gridCells} {o₀} {o} w h low high rest =
-    let z : Placed (linesAt W n) gridCells (linesAt W 0) o [] = placed-none w h low high (λ p. refl) in
+placed-cleared {W} {n} {cells} {o₀} {o} w h low high rest =
+    let z : Placed (linesAt W n) cells (linesAt W 0) o [] = placed-none w h low high (λ p. refl) in
     record { ptr = z .ptr; put = λ c k l. absurd (omega arith); rest = rest }
 
 -- ---- 5, then 6

@@ -2,8 +2,8 @@
 use mathlib.Core.Path.{_≡_}
 use mathlib.Core.Bool.{Bool, true, false, not}
 use mathlib.Core.List.{List, _++_}
-use Prim.Native.Nat.{ℕ, zero, suc, _+_, _-_, _≤_, _<_}
-use lib.ListN.{length, take, getD, set, replicate}
+use Prim.Native.Nat.{ℕ, _+_, _-_, _≤_, _<_}
+use lib.ListN.{length, take, getD, replicate}
 use Rattle.refusals.specs.declared.Refusal.{Refusal}
 use Rattle.refusals.specs.declared.Check.{Check}
 use Rattle.refusals.specs.declared.Check.the-variants.{Fine, Refused}
@@ -136,21 +136,21 @@ pub record AllPlaced (mode : Mode) (g : Grid) (ls : Lines) (o t : List ℕ) (roo
 -- ---- the offsets
 
 -- o is o₀ with the running sums of its first entries in their place, and r is the total
-pub record Summed (o₀ o : List ℕ) (gridCells r : ℕ) : Type 0 where
-  pub total : r ≡ sum (λ k. getD o₀ k 0) gridCells
-  pub sums : (k : ℕ) → k ≤ gridCells → getD o k 0 ≡ sum (λ k. getD o₀ k 0) k
-  pub beyond : (k : ℕ) → gridCells < k → getD o k 0 ≡ getD o₀ k 0
+pub record Summed (o₀ o : List ℕ) (cells r : ℕ) : Type 0 where
+  pub total : r ≡ sum (λ k. getD o₀ k 0) cells
+  pub sums : (k : ℕ) → k ≤ cells → getD o k 0 ≡ sum (λ k. getD o₀ k 0) k
+  pub beyond : (k : ℕ) → cells < k → getD o k 0 ≡ getD o₀ k 0
 
 -- whether some entry is above `most`; where none is, the running sums
-pub record SumsAre (most : ℕ) (o₀ o : List ℕ) (gridCells : ℕ) (r : SumsEnd) : Type 0 where
-  pub crowd : r .crowded ≡ moreThan most (λ c. getD o₀ c 0) gridCells
-  pub sums : r .crowded ≡ false → Summed o₀ o gridCells (r .total)
+pub record SumsAre (most : ℕ) (o₀ o : List ℕ) (cells : ℕ) (r : SumsEnd) : Type 0 where
+  pub crowd : r .crowded ≡ moreThan most (λ c. getD o₀ c 0) cells
+  pub sums : r .crowded ≡ false → Summed o₀ o cells (r .total)
 
 -- o is o₀ with its first entries moved up by one place, and 0 first
-pub record ShiftedBack (o₀ o : List ℕ) (gridCells : ℕ) : Type 0 where
+pub record ShiftedBack (o₀ o : List ℕ) (cells : ℕ) : Type 0 where
   pub first : getD o 0 0 ≡ 0
-  pub moved : (k : ℕ) → k < gridCells → getD o (k + 1) 0 ≡ getD o₀ k 0
-  pub beyond : (k : ℕ) → gridCells < k → getD o k 0 ≡ getD o₀ k 0
+  pub moved : (k : ℕ) → k < cells → getD o (k + 1) 0 ≡ getD o₀ k 0
+  pub beyond : (k : ℕ) → cells < k → getD o k 0 ≡ getD o₀ k 0
 
 -- ---- from the counts to the tables
 

@@ -20,7 +20,7 @@ use Rattle.by_line.specs.First.{firstBy}
 use Rattle.first_tests.specs.Scan.{keepAt, PlaceAsks, RowsDone}
 use Rattle.first_tests.specs.Marked.{MarkedPair, MarkedRows}
 use Rattle.first_tests.proofs.Passing.{marked-far, marked-near}
-use Rattle.short_lists.specs.Short.{readyBox, ready, outputs, shortFits, shortRows}
+use Rattle.short_lists.specs.Short.{readyBox, ready, pairOutputs, shortFits, shortRows}
 use Rattle.once.proofs.Deciding.{short-done}
 use Rattle.once.specs.declared.rows.Row.{Row}
 use Rattle.once.specs.Inside.{rowOf, RowHeld, withReady, BoxesAsk, Boxed}
@@ -148,7 +148,7 @@ module _ {ls : Lines} {xs : List ℕ} {s₀ s : List Float} {u : ℕ} (g : Gathe
 pub boxed-done : {ls : Lines} {xs marks : List ℕ} {s : List Float} {starts listing counts : List ℕ} {hits : ℕ} {fs ss fs′ ss′ : List ℕ} {hits′ long : ℕ} {r : Bool}
     → MarkedRows (count ls) 1 xs marks starts listing counts hits → Boxed ls xs (length xs) s → length s ≡ long
     → r ≡ shortFits (length xs) (length marks) long hits → r ≡ true
-    → outputs fs′ ss′ hits′ ≡ shortRows (ready xs marks s starts listing counts) (outputs fs ss hits)
+    → pairOutputs fs′ ss′ hits′ ≡ shortRows (ready xs marks s starts listing counts) (pairOutputs fs ss hits)
     → RowsDone (overlap ls) (count ls) starts listing counts xs fs ss hits fs′ ss′ hits′
 unfolding overlap
 boxed-done {ls} {xs} {marks} {s} {starts} {listing} {counts} {hits} m b l q y e =

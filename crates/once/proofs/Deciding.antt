@@ -21,7 +21,7 @@ use Rattle.first_tests.specs.Marked.{Says, MarkedPair, MarkedRows}
 use Rattle.first_tests.proofs.Scans.{pair-no, pair-met, pair-first, ListScan, list-begin, list-done, list-over, list-yes, list-no}
 use Rattle.first_tests.proofs.Lists.{Rows, rows-begin, rows-done, row-scan, rows-next}
 use Rattle.first_tests.proofs.Passing.{marked-met, marked-apart}
-use Rattle.short_lists.specs.Short.{readyBox, Ready, ready, decideBy, handsOut, Outputs, outputs, tryPair, tryRow, tryRows, shortFits, shortRows}
+use Rattle.short_lists.specs.Short.{readyBox, ShortReady, ready, decideBy, handsOut, PairOutputs, pairOutputs, tryPair, tryRow, tryRows, shortFits, shortRows}
 use Rattle.short_lists.proofs.Tries.{rows-fit}
 
 -- ---- one test
@@ -55,7 +55,7 @@ module _ {N a b common : ℕ} {starts listing counts : List ℕ} (m : MarkedPair
 module _ (chosen : ℕ → ℕ → Bool) (N : ℕ) (xs marks : List ℕ) (s : List Float) (starts listing counts : List ℕ) (hits₀ : ℕ)
     (m : MarkedRows N 1 xs marks starts listing counts hits₀)
     (near : (i j : ℕ) → i < length xs → j < length xs → overlaps (readyBox s i) (readyBox s j) ≡ chosen (getD xs i 0) (getD xs j 0)) where
-  abbrev w : Ready
+  abbrev w : ShortReady
   w = ready xs marks s starts listing counts
 
   hands : (i j : ℕ) → i < length xs → j < length xs → (h : PlaceAsks N starts listing counts)
@@ -68,10 +68,10 @@ module _ (chosen : ℕ → ℕ → Bool) (N : ℕ) (xs marks : List ℕ) (s : Li
       decided (record { pair = a; says = u }) h chosen (near i j p q)
 
   module _ (fs₀ ss₀ : List ℕ) (h₀ i : ℕ) (l : i < length xs) where
-    abbrev Row : Outputs → ℕ → Type 0
+    abbrev Row : PairOutputs → ℕ → Type 0
     Row o k = ListScan chosen N (getD xs i 0) (drop (i + 1) xs) starts listing counts fs₀ ss₀ h₀ (o .first) (o .second) (o .hits) k
 
-    row-turn : (k : ℕ) (o : Outputs) → k < length (drop (i + 1) xs) → Row o k
+    row-turn : (k : ℕ) (o : PairOutputs) → k < length (drop (i + 1) xs) → Row o k
         → Row (tryPair (handsOut w i ((i + 1) + k)) (getD xs i 0) (getD xs ((i + 1) + k) 0) o) (k + 1)
     unfolding tryPair
     row-turn k o d r = go (handsOut w i ((i + 1) + k)) refl
@@ -86,7 +86,7 @@ module _ (chosen : ℕ → ℕ → Bool) (N : ℕ) (xs marks : List ℕ) (s : Li
         go true e = list-yes r d says e refl (rw at)
         go false e = list-over (list-no r d says e) (getD xs i 0) (getD xs ((i + 1) + k) 0) refl refl
 
-    row-all : (n k : ℕ) (o : Outputs) → k + n ≡ length (drop (i + 1) xs) → Row o k → Row (tryRow w i n ((i + 1) + k) o) (length (drop (i + 1) xs))
+    row-all : (n k : ℕ) (o : PairOutputs) → k + n ≡ length (drop (i + 1) xs) → Row o k → Row (tryRow w i n ((i + 1) + k) o) (length (drop (i + 1) xs))
     unfolding tryRow
     row-all zero k o e r = let z : k ≡ length (drop (i + 1) xs) = omega (arith, e) in rw z at r
     row-all (suc n) k o e r =
@@ -94,10 +94,10 @@ module _ (chosen : ℕ → ℕ → Bool) (N : ℕ) (xs marks : List ℕ) (s : Li
         rw z at (row-all n (k + 1) (tryPair (handsOut w i ((i + 1) + k)) (getD xs i 0) (getD xs ((i + 1) + k) 0) o) (omega (arith, e)) (row-turn k o (omega (arith, e)) r))
 
   module _ (fs₀ ss₀ : List ℕ) where
-    abbrev All : Outputs → ℕ → Type 0
+    abbrev All : PairOutputs → ℕ → Type 0
     All o i = Rows chosen N xs starts listing counts fs₀ ss₀ hits₀ (o .first) (o .second) (o .hits) i
 
-    rows-turn : (n i : ℕ) (o : Outputs) → i + suc n ≡ length xs → All o i → All (tryRow w i n (suc i) o) (i + 1)
+    rows-turn : (n i : ℕ) (o : PairOutputs) → i + suc n ≡ length xs → All o i → All (tryRow w i n (suc i) o) (i + 1)
     rows-turn n i o e r =
         let l : i < length xs = omega (arith, e) in
         let z : (i + 1) + 0 ≡ suc i = omega arith in
@@ -105,16 +105,16 @@ module _ (chosen : ℕ → ℕ → Bool) (N : ℕ) (xs marks : List ℕ) (s : Li
         let q = rw z at (row-all (o .first) (o .second) (o .hits) i l n 0 o (sym d) (list-begin (row-scan r l refl refl))) in
         rows-next r l refl refl (list-done q (omega arith)) (q .scan .first-long) (q .scan .second-long)
 
-    rows-all : (n i : ℕ) (o : Outputs) → i + n ≡ length xs → All o i → All (tryRows w n i o) (length xs)
+    rows-all : (n i : ℕ) (o : PairOutputs) → i + n ≡ length xs → All o i → All (tryRows w n i o) (length xs)
     unfolding tryRows
     rows-all zero i o e r = let z : i ≡ length xs = omega (arith, e) in rw z at r
     rows-all (suc n) i o e r = rows-all n (suc i) (tryRow w i n (suc i) o) (omega (arith, e)) (rw (add-one i) at (rows-turn n i o e r))
 
   -- THE ROWS OF A SHORT LIST
   pub short-done : {fs ss fs′ ss′ : List ℕ} {hits′ : ℕ} → shortFits (length xs) (length marks) (length s) hits₀ ≡ true
-      → outputs fs′ ss′ hits′ ≡ shortRows w (outputs fs ss hits₀) → RowsDone chosen N starts listing counts xs fs ss hits₀ fs′ ss′ hits′
+      → pairOutputs fs′ ss′ hits′ ≡ shortRows w (pairOutputs fs ss hits₀) → RowsDone chosen N starts listing counts xs fs ss hits₀ fs′ ss′ hits′
   short-done {fs} {ss} {fs′} {ss′} {hits′} f e =
-      let e₁ : outputs fs′ ss′ hits′ ≡ tryRows w (length xs) 0 (outputs fs ss hits₀) = e ∙ sym (rows-fit w (outputs fs ss hits₀) f) in
-      let a : All fs ss (outputs fs′ ss′ hits′) (length xs) =
-      subst (λ (o : Outputs). All fs ss o (length xs)) (sym e₁) (rows-all fs ss (length xs) 0 (outputs fs ss hits₀) (zero-add (length xs)) (rows-begin (m .rows))) in
+      let e₁ : pairOutputs fs′ ss′ hits′ ≡ tryRows w (length xs) 0 (pairOutputs fs ss hits₀) = e ∙ sym (rows-fit w (pairOutputs fs ss hits₀) f) in
+      let a : All fs ss (pairOutputs fs′ ss′ hits′) (length xs) =
+      subst (λ (o : PairOutputs). All fs ss o (length xs)) (sym e₁) (rows-all fs ss (length xs) 0 (pairOutputs fs ss hits₀) (zero-add (length xs)) (rows-begin (m .rows))) in
       rows-done a (omega arith)

@@ -26,9 +26,9 @@ unfoldable pub recordsOf : List ℕ → List Record
 recordsOf w = recordsFrom 0 w
 
 -- how many words records have
-unfoldable pub spanOf : List Record → ℕ
-spanOf [] = 0
-spanOf (r ∷ rs) = 3 + (length (r .question) + length (r .answer)) + spanOf rs
+unfoldable pub wordTotal : List Record → ℕ
+wordTotal [] = 0
+wordTotal (r ∷ rs) = 3 + (length (r .question) + length (r .answer)) + wordTotal rs
 
 -- how many words the record has that w begins with; 0 where none stands whole there
 unfoldable pub sizeOf : List ℕ → ℕ

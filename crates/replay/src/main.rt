@@ -1,5 +1,5 @@
 // The program: recorded questions and answers of the Rust from standard input; how many of each kind the port answers alike, to standard output.
-// The last line is `all agree`, or says how many of the words are those of records that agree.
+// The last line is `all agree`, or says at which word the first record begins that does not.
 ghost use mathlib.Core.Path.{_≡_};
 ghost use Prim.Native.Nat.{_≤_};
 ghost use lib.ListN.{length};
@@ -66,7 +66,7 @@ fn replay(file: &[u64])
         io::write_all(STDOUT_FILENO, b"all agree\n");
         return;
     }
-    say(b"words of records that agree", agree);
+    say(b"differs at word", agreed::agree_to(file));
 }
 
 fn room_for_bytes() -> [u8; 1572864]

@@ -13,7 +13,7 @@ use lib.ListN.{length, getD, set, length-set}
 use Rattle.grid.specs.declared.Box.{Box}
 use Rattle.grid.specs.Boxes.{overlaps}
 use Rattle.by_line.specs.First.{meetBefore}
-use Rattle.short_lists.specs.Short.{readyBox, Ready, decideBy, handsOut, Outputs, outputs, tryPair, tryRow, tryRows, shortFits, shortRows, ShortRowAsks}
+use Rattle.short_lists.specs.Short.{readyBox, ShortReady, decideBy, handsOut, PairOutputs, pairOutputs, tryPair, tryRow, tryRows, shortFits, shortRows, ShortRowAsks}
 
 -- ---- room
 
@@ -74,12 +74,12 @@ fits-room {list} {marks} {room} {hits} q y =
       small = leb-says hits (2 ^ 62) (and-right d f e₂);
     }
 
-pub rows-fit : (w : Ready) (o : Outputs) → shortFits (length (w .list)) (length (w .marks)) (length (w .boxes)) (o .hits) ≡ true
+pub rows-fit : (w : ShortReady) (o : PairOutputs) → shortFits (length (w .list)) (length (w .marks)) (length (w .boxes)) (o .hits) ≡ true
     → tryRows w (length (w .list)) 0 o ≡ shortRows w o
 unfolding shortRows
 rows-fit w o e = rw e
 
-pub rows-none : (w : Ready) (o : Outputs) → shortFits (length (w .list)) (length (w .marks)) (length (w .boxes)) (o .hits) ≡ false → o ≡ shortRows w o
+pub rows-none : (w : ShortReady) (o : PairOutputs) → shortFits (length (w .list)) (length (w .marks)) (length (w .boxes)) (o .hits) ≡ false → o ≡ shortRows w o
 unfolding shortRows
 rows-none w o e = rw e
 
@@ -105,24 +105,24 @@ module _ (near : Bool) (common a b : ℕ) (starts listing counts : List ℕ) whe
 
 -- ---- a row
 
-row-more : (w : Ready) (i j : ℕ) (o : Outputs) → j < length (w .list)
+row-more : (w : ShortReady) (i j : ℕ) (o : PairOutputs) → j < length (w .list)
     → tryRow w i (length (w .list) - j) j o ≡ tryRow w i (length (w .list) - (j + 1)) (j + 1) (tryPair (handsOut w i j) (getD (w .list) i 0) (getD (w .list) j 0) o)
 unfolding tryRow
 row-more w i j o l = let e : length (w .list) - j ≡ suc (length (w .list) - (j + 1)) = omega arith in rw (e, add-one)
 
-pub record RowTried (w : Ready) (i : ℕ) (fs₀ ss₀ : List ℕ) (hits₀ : ℕ) (fs ss : List ℕ) (hits j : ℕ) : Type 0 where
+pub record RowTried (w : ShortReady) (i : ℕ) (fs₀ ss₀ : List ℕ) (hits₀ : ℕ) (fs ss : List ℕ) (hits j : ℕ) : Type 0 where
   pub asks : ShortRowAsks w i hits₀
   pub at : j ≤ length (w .list)
-  pub left : tryRow w i (length (w .list) - j) j (outputs fs ss hits) ≡ tryRow w i (length (w .list) - (i + 1)) (i + 1) (outputs fs₀ ss₀ hits₀)
+  pub left : tryRow w i (length (w .list) - j) j (pairOutputs fs ss hits) ≡ tryRow w i (length (w .list) - (i + 1)) (i + 1) (pairOutputs fs₀ ss₀ hits₀)
   pub few : hits ≤ hits₀ + j
   pub first-long : length fs ≡ length fs₀
   pub second-long : length ss ≡ length ss₀
 
-pub row-begin : {w : Ready} {i : ℕ} {fs ss : List ℕ} {hits : ℕ} → ShortRowAsks w i hits → RowTried w i fs ss hits fs ss hits (i + 1)
+pub row-begin : {w : ShortReady} {i : ℕ} {fs ss : List ℕ} {hits : ℕ} → ShortRowAsks w i hits → RowTried w i fs ss hits fs ss hits (i + 1)
 row-begin a = record { asks = a; at = omega (arith, a .inside); left = refl; few = omega arith; first-long = refl; second-long = refl }
 
-module _ {w : Ready} {i : ℕ} {fs₀ ss₀ : List ℕ} {hits₀ : ℕ} {fs ss : List ℕ} {hits j : ℕ} (t : RowTried w i fs₀ ss₀ hits₀ fs ss hits j) where
-  pub row-done : length (w .list) ≤ j → outputs fs ss hits ≡ tryRow w i (length (w .list) - (i + 1)) (i + 1) (outputs fs₀ ss₀ hits₀)
+module _ {w : ShortReady} {i : ℕ} {fs₀ ss₀ : List ℕ} {hits₀ : ℕ} {fs ss : List ℕ} {hits j : ℕ} (t : RowTried w i fs₀ ss₀ hits₀ fs ss hits j) where
+  pub row-done : length (w .list) ≤ j → pairOutputs fs ss hits ≡ tryRow w i (length (w .list) - (i + 1)) (i + 1) (pairOutputs fs₀ ss₀ hits₀)
   unfolding tryRow
   row-done l = let e : length (w .list) - j ≡ 0 = omega arith in rw e at (t .left)
 
@@ -139,11 +139,11 @@ module _ {w : Ready} {i : ℕ} {fs₀ ss₀ : List ℕ} {hits₀ : ℕ} {fs ss :
       next : {hits′ : ℕ} → hits′ ≡ cond r (hits + 1) hits → hits′ ≤ hits + 1 → RowTried w i fs₀ ss₀ hits₀ fs′ ss′ hits′ (j + 1)
       unfolding tryPair
       next {hits′} h k =
-          let o : outputs fs′ ss′ hits′ ≡ tryPair (handsOut w i j) (getD (w .list) i 0) (getD (w .list) j 0) (outputs fs ss hits) = rw (f, g, h, is) in
+          let o : pairOutputs fs′ ss′ hits′ ≡ tryPair (handsOut w i j) (getD (w .list) i 0) (getD (w .list) j 0) (pairOutputs fs ss hits) = rw (f, g, h, is) in
           record {
             asks = t .asks;
             at = omega (arith, l);
-            left = rw o (sym (row-more w i j (outputs fs ss hits) l) ∙ t .left);
+            left = rw o (sym (row-more w i j (pairOutputs fs ss hits) l) ∙ t .left);
             few = omega (arith, t .few, k);
             first-long = rw f (length-set fs hits (getD (w .list) i 0) ∙ t .first-long);
             second-long = rw g (length-set ss hits (getD (w .list) j 0) ∙ t .second-long);
@@ -161,33 +161,33 @@ cond-most : (y : Bool) (h : ℕ) → cond y (h + 1) h ≤ h + 1
 cond-most true h = omega arith
 cond-most false h = omega arith
 
-row-most : (w : Ready) (i n j : ℕ) (o : Outputs) → tryRow w i n j o .hits ≤ o .hits + n
+row-most : (w : ShortReady) (i n j : ℕ) (o : PairOutputs) → tryRow w i n j o .hits ≤ o .hits + n
 unfolding tryRow tryPair
 row-most w i zero j o = omega arith
 row-most w i (suc n) j o =
     omega (arith, row-most w i n (suc j) (tryPair (handsOut w i j) (getD (w .list) i 0) (getD (w .list) j 0) o), cond-most (handsOut w i j) (o .hits))
 
-rows-more : (w : Ready) (i : ℕ) (o : Outputs) → i < length (w .list)
+rows-more : (w : ShortReady) (i : ℕ) (o : PairOutputs) → i < length (w .list)
     → tryRows w (length (w .list) - i) i o ≡ tryRows w (length (w .list) - (i + 1)) (i + 1) (tryRow w i (length (w .list) - (i + 1)) (i + 1) o)
 unfolding tryRows
 rows-more w i o l = let e : length (w .list) - i ≡ suc (length (w .list) - (i + 1)) = omega arith in rw (e, add-one)
 
-pub record RowsTried (w : Ready) (fs₀ ss₀ : List ℕ) (hits₀ : ℕ) (fs ss : List ℕ) (hits i : ℕ) : Type 0 where
+pub record RowsTried (w : ShortReady) (fs₀ ss₀ : List ℕ) (hits₀ : ℕ) (fs ss : List ℕ) (hits i : ℕ) : Type 0 where
   pub fits : Room (length (w .list)) (length (w .marks)) (length (w .boxes)) hits₀
   pub at : i ≤ length (w .list)
-  pub left : tryRows w (length (w .list) - i) i (outputs fs ss hits) ≡ tryRows w (length (w .list)) 0 (outputs fs₀ ss₀ hits₀)
+  pub left : tryRows w (length (w .list) - i) i (pairOutputs fs ss hits) ≡ tryRows w (length (w .list)) 0 (pairOutputs fs₀ ss₀ hits₀)
   pub few : hits ≤ hits₀ + i * 64
   pub first-long : length fs ≡ length fs₀
   pub second-long : length ss ≡ length ss₀
 
-pub tried-begin : {w : Ready} {fs ss : List ℕ} {hits : ℕ} → Room (length (w .list)) (length (w .marks)) (length (w .boxes)) hits
+pub tried-begin : {w : ShortReady} {fs ss : List ℕ} {hits : ℕ} → Room (length (w .list)) (length (w .marks)) (length (w .boxes)) hits
     → RowsTried w fs ss hits fs ss hits 0
 tried-begin {w} f =
     let z : length (w .list) - 0 ≡ length (w .list) = omega arith in
     record { fits = f; at = omega arith; left = rw z; few = omega arith; first-long = refl; second-long = refl }
 
-module _ {w : Ready} {fs₀ ss₀ : List ℕ} {hits₀ : ℕ} {fs ss : List ℕ} {hits i : ℕ} (t : RowsTried w fs₀ ss₀ hits₀ fs ss hits i) where
-  pub tried-done : length (w .list) ≤ i → outputs fs ss hits ≡ tryRows w (length (w .list)) 0 (outputs fs₀ ss₀ hits₀)
+module _ {w : ShortReady} {fs₀ ss₀ : List ℕ} {hits₀ : ℕ} {fs ss : List ℕ} {hits i : ℕ} (t : RowsTried w fs₀ ss₀ hits₀ fs ss hits i) where
+  pub tried-done : length (w .list) ≤ i → pairOutputs fs ss hits ≡ tryRows w (length (w .list)) 0 (pairOutputs fs₀ ss₀ hits₀)
   unfolding tryRows
   tried-done l = let e : length (w .list) - i ≡ 0 = omega arith in rw e at (t .left)
 
@@ -200,15 +200,15 @@ module _ {w : Ready} {fs₀ ss₀ : List ℕ} {hits₀ : ℕ} {fs ss : List ℕ}
           small = omega (arith, t .few, t .fits .small, t .fits .few, l);
         }
 
-    pub tried-next : {fs′ ss′ : List ℕ} {hits′ : ℕ} → outputs fs′ ss′ hits′ ≡ tryRow w i (length (w .list) - (i + 1)) (i + 1) (outputs fs ss hits)
+    pub tried-next : {fs′ ss′ : List ℕ} {hits′ : ℕ} → pairOutputs fs′ ss′ hits′ ≡ tryRow w i (length (w .list) - (i + 1)) (i + 1) (pairOutputs fs ss hits)
         → length fs′ ≡ length fs → length ss′ ≡ length ss → RowsTried w fs₀ ss₀ hits₀ fs′ ss′ hits′ (i + 1)
     tried-next {fs′} {ss′} {hits′} e f g =
-        let h : hits′ ≡ tryRow w i (length (w .list) - (i + 1)) (i + 1) (outputs fs ss hits) .hits = ap (λ (o : Outputs). o .hits) e in
+        let h : hits′ ≡ tryRow w i (length (w .list) - (i + 1)) (i + 1) (pairOutputs fs ss hits) .hits = ap (λ (o : PairOutputs). o .hits) e in
         record {
           fits = t .fits;
           at = omega (arith, l);
-          left = rw e (sym (rows-more w i (outputs fs ss hits) l) ∙ t .left);
-          few = omega (arith, t .few, h, row-most w i (length (w .list) - (i + 1)) (i + 1) (outputs fs ss hits), t .fits .few);
+          left = rw e (sym (rows-more w i (pairOutputs fs ss hits) l) ∙ t .left);
+          few = omega (arith, t .few, h, row-most w i (length (w .list) - (i + 1)) (i + 1) (pairOutputs fs ss hits), t .fits .few);
           first-long = f ∙ t .first-long;
           second-long = g ∙ t .second-long;
         }

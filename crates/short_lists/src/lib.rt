@@ -4,7 +4,7 @@ use grid::Box;
 ghost use Prim.Native.Nat.{_+_, _-_, _*_, _≤_};
 ghost use mathlib.Core.Path.{_≡_};
 ghost use lib.ListN.{length};
-ghost use Rattle.short_lists.specs.Short.{readyBox, decideBy, ready, outputs, tryRow, shortFits, shortRows, ShortRowAsks};
+ghost use Rattle.short_lists.specs.Short.{readyBox, decideBy, ready, pairOutputs, tryRow, shortFits, shortRows, ShortRowAsks};
 
 // Whether there is room for the rows of a list: it has at most 64 lines, a mark and four floats for each, and no count comes near the greatest.
 pub fn fits(list: usize, marks: usize, room: usize, hits: usize) -> bool
@@ -75,8 +75,8 @@ fn scan_row(
 ) -> usize
     requires { ⌜ ShortRowAsks (ready (now list) (now marks) (now room) (now starts) (now listing) (now counts)) i hits ⌝ }
     ensures { λ r. let w = ready (now (list .entry)) (now (marks .entry)) (now (room .entry)) (now (starts .entry)) (now (listing .entry)) (now (counts .entry)) in
-        ⌜ outputs (now (first .exit)) (now (second .exit)) r
-        ≡ tryRow w i (length (now (list .entry)) - (i + 1)) (i + 1) (outputs (now (first .entry)) (now (second .entry)) hits) ⌝ }
+        ⌜ pairOutputs (now (first .exit)) (now (second .exit)) r
+        ≡ tryRow w i (length (now (list .entry)) - (i + 1)) (i + 1) (pairOutputs (now (first .entry)) (now (second .entry)) hits) ⌝ }
 {
     let line = list[i];
     let bounds = box_in(room, i);
@@ -110,7 +110,7 @@ pub fn scan(
     hits: usize,
 ) -> usize
     ensures { λ r. let w = ready (now (list .entry)) (now (marks .entry)) (now (room .entry)) (now (starts .entry)) (now (listing .entry)) (now (counts .entry)) in
-        ⌜ outputs (now (first .exit)) (now (second .exit)) r ≡ shortRows w (outputs (now (first .entry)) (now (second .entry)) hits) ⌝ }
+        ⌜ pairOutputs (now (first .exit)) (now (second .exit)) r ≡ shortRows w (pairOutputs (now (first .entry)) (now (second .entry)) hits) ⌝ }
 {
     if fits(list.len(), marks.len(), room.len(), hits) {
         let mut hits = hits;

@@ -189,10 +189,10 @@ module _ (plan : Plan) (ls : Lines) (lines-fit : LinesFit ls) (straight : AllStr
 
   -- ---- the grids of a build hold values of the format: a minimum is some line's coordinate
 
-  among-in-format : (starts completes : List Float) (n : ℕ) (v : Float)
-      → ((i : ℕ) → i < n → T (fits binary64 (getD starts i nan)) × T (fits binary64 (getD completes i nan))) → Among starts completes n v → T (fits binary64 v)
-  among-in-format starts completes n v h (i, l, inl e) = subst (λ (x : Float). T (fits binary64 x)) (sym e) (h i l .0)
-  among-in-format starts completes n v h (i, l, inr e) = subst (λ (x : Float). T (fits binary64 x)) (sym e) (h i l .1)
+  among-in-format : (starts ends : List Float) (n : ℕ) (v : Float)
+      → ((i : ℕ) → i < n → T (fits binary64 (getD starts i nan)) × T (fits binary64 (getD ends i nan))) → Among starts ends n v → T (fits binary64 v)
+  among-in-format starts ends n v h (i, l, inl e) = subst (λ (x : Float). T (fits binary64 x)) (sym e) (h i l .0)
+  among-in-format starts ends n v h (i, l, inr e) = subst (λ (x : Float). T (fits binary64 x)) (sym e) (h i l .1)
 
   holds-at : (n : ℕ) → whole ls ≡ suc n → count ls ≡ suc n → (size : Size) → GridInFormat (gridOf (extentOf ls) size)
   unfolding gridOf extentOf

@@ -305,7 +305,8 @@ fn is_clear(grid: Grid, line: Segment, trod: Trod) -> bool
 
 // Pushes what the line and its endpoints add to the cells that were walked. Mostly that is nothing, which the indices of a walk show.
 pub(crate) fn completed(s: &mut [u32], mode: Mode, grid: Grid, line: Segment, trod: Trod) -> usize
-    requires { ⌜ Shape (grid .cols) (grid .rows) ⌝ ∗ ⌜ 0 < grid .cols ⌝ ∗ ⌜ trod .count + trod .count * shareOf mode grid line + 6 ≤ length (now s) ⌝ ∗ ⌜ Below (grid .rows * grid .cols) (take (trod .count) (now s)) ⌝ }
+    requires { ⌜ Shape (grid .cols) (grid .rows) ⌝ ∗ ⌜ 0 < grid .cols ⌝ ∗ ⌜ trod .count + trod .count * shareOf mode grid line + 6 ≤ length (now s) ⌝
+        ∗ ⌜ Below (grid .rows * grid .cols) (take (trod .count) (now s)) ⌝ }
     ensures { λ r. ⌜ Complete (now (s .exit)) r (pushesOf mode grid line (take (trod .count) (now (s .entry)))) ⌝ }
 {
     if is_clear(grid, line, trod) {

@@ -51,5 +51,5 @@ agreeing-spec =
     let s = c .before .before .before .before .before .before .before .before .before .before .size-at .result in
     let n = c .before .before .before .counts .ensures in
     let z = of-parts w at (c .before .before .before .before .before .before .before .before .before .before .size-at .ensures .0) (c .before .before .before .before .before .before .before .before .before .if1 .left) in
-    (tally-more (at + 3) (at + 3 + getD w (at + 1) 0) (at + s) s (c .before .before .before .before .before .before .before .before .before .before .before .before .loop .inv .0) (c .before .before .before .before .before .before .before .before .before .before .size-at .ensures .0) (c .before .before .before .before .before .before .before .before .before .if1 .left) refl refl refl (omega (arith, z, c .before .before .before .before .before .before .before .before .before .before .size-at .ensures .1)) _ (n .0) (c .before .if-so .ensures) (c .if-so2 .ensures), n .1))
+    (tally-more w at (at + 3) (at + 3 + getD w (at + 1) 0) (at + s) s (c .before .before .before .before .before .before .before .before .before .before .size-at .ensures .0) (c .before .before .before .before .before .before .before .before .before .if1 .left) refl refl refl (omega (arith, z, c .before .before .before .before .before .before .before .before .before .before .size-at .ensures .1)) (c .before .before .before .before .before .before .before .before .before .before .before .before .loop .inv .0) _ (n .0) (c .before .if-so .ensures) (c .if-so2 .ensures), n .1))
     (λ c. tally-all (c .before .loop .inv .0) (ended (c .before .before .before .args .w .now) (c .before .loop .at) (omega arith))))

@@ -14,7 +14,8 @@ use Rattle.records.specs.Words.{sameTo}
 use Rattle.records.proofs.Sameness.{same-within, same-take, take-same}
 use Rattle.asked.specs.Asked.{WordsAnswered, AnswersFor}
 use Rattle.asked.proofs.Outcomes.{answers-once}
-use Rattle.agreed.specs.Agreed.{Agrees, Tells}
+use Rattle.agreed.specs.Agreed.{Agrees}
+use Rattle.agreed.specs.Inside.{Tells}
 
 -- words that there is room for stand at the start
 written : (ws room : List ℕ) → length ws ≤ length room → take (length ws) (sets room 0 ws) ≡ ws

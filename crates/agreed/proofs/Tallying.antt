@@ -9,7 +9,8 @@ use lib.ListN.{length, take, drop, getD, length-append, length-drop, drop-of-len
 use lib.Seq.{append-snoc, length-take-le}
 use Rattle.records.specs.Files.{Record, recordsOf, wordTotal, sizeOf}
 use Rattle.records.proofs.Rows.{size-parts, next-record, last-record}
-use Rattle.agreed.specs.Agreed.{Agrees, Agreeing, none, more, other, Tallied, AgreeTo, end, apart, past, Tells}
+use Rattle.agreed.specs.Agreed.{Agrees, Agreeing, none, more, other, Tallied, AgreeTo, end, apart, past}
+use Rattle.agreed.specs.Inside.{Tells}
 use Rattle.agreed.specs.declared.Tally.{Tally}
 
 -- the records up to a place are looked at

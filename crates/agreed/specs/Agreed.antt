@@ -1,7 +1,6 @@
 -- Which records of a file agree: those whose recorded words are the words that the exported function answers. Definitions only.
 use Prim.Native.Nat.{ℕ, _+_, _≤_, _<_}
 use mathlib.Core.Path.{_≡_}
-use mathlib.Core.Bool.{Bool, true, false}
 use mathlib.Core.List.{List, [], _∷_}
 use lib.ListN.{length}
 use Rattle.records.specs.Files.{Record, recordsOf, wordTotal}
@@ -32,10 +31,3 @@ pub data AgreeTo : List Record → ℕ → Type 0 where
   end : AgreeTo [] 0
   apart : {r : Record} {rs : List Record} → (Agrees r → ⊥) → AgreeTo (r ∷ rs) 0
   past : {r : Record} {rs : List Record} {n : ℕ} → Agrees r → AgreeTo rs n → AgreeTo (r ∷ rs) (wordTotal (r ∷ []) + n)
-
--- ---- what a private function promises
-
--- b says whether P holds
-pub record Tells (b : Bool) (P : Type 0) : Type 0 where
-  pub yes : b ≡ true → P
-  pub no : b ≡ false → P → ⊥

@@ -4,7 +4,8 @@ ghost use mathlib.Core.Bool.{cond};
 ghost use Prim.Native.Nat.{_≤_};
 ghost use lib.ListN.{length};
 ghost use Rattle.records.specs.Files.{recordsOf};
-ghost use Rattle.agreed.specs.Agreed.{Agrees, Tells, Tallied, AgreeTo};
+ghost use Rattle.agreed.specs.Agreed.{Agrees, Tallied, AgreeTo};
+ghost use Rattle.agreed.specs.Inside.{Tells};
 use records::files;
 use records::words;
 

@@ -1,5 +1,4 @@
 -- Laws of lists by line, for its own proofs and for the crates above.
-pub mod CellLists
 pub mod Turns
 pub mod Room
 pub mod Fronts

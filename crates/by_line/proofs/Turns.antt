@@ -10,12 +10,18 @@ use Rattle.slices.specs.Lists.{Below, Rising}
 use Rattle.tables.specs.Tables.{listIn}
 use Rattle.tables.specs.Lists.{Walks, linesAt, sum, start, itemsOf, offsetsOf}
 use Rattle.tables.specs.States.{Line, Table, Counted, Placed, CanCount, CanPlace}
+use Rattle.tables.proofs.Facts.{part-slice}
 use Rattle.tables.proofs.Laws.{counts-sum, placed-none, table-of}
 use Rattle.fill.specs.Inside.{Summed, ShiftedBack}
 use Rattle.fill.proofs.Counts.{zeros-at}
-use Rattle.by_line.specs.Inside.{TableAsks, ListCountAsks, ListPlaceAsks, MakeAsks, Made}
+use Rattle.by_line.specs.Inside.{CellListAsks, TableAsks, ListCountAsks, ListPlaceAsks, MakeAsks, Made}
 
 -- ---- the list of a cell
+
+-- the part of the items between two offsets
+pub part-is : (offsets items : List ℕ) (c from to : ℕ) → from ≡ getD offsets c 0 → to ≡ getD offsets (c + 1) 0
+    → take (to - from) (drop from items) ≡ listIn offsets items c
+part-is offsets items c from to ef et = part-slice from to items ∙ rw (ef, et, add-one)
 
 -- a list that increases below n has at most n entries
 length-rising : (low n : ℕ) (xs : List ℕ) → low ≤ n → Rising low xs → Below n xs → length xs + low ≤ n
@@ -134,3 +140,11 @@ module _ {m n : ℕ} {offsets items starts listing : List ℕ} (a : MakeAsks m n
             starts-are = tab .offsets-are ∙ ap (λ (x : ℕ). offsetsOf (linesAt (listIn offsets items) m) n x) ls;
             listing-is = tab .items-are ∙ ap (λ (x : ℕ). itemsOf (linesAt (listIn offsets items) m) n x) lt;
           }
+
+-- what a cell's list asks for, as the code has it
+module _ {offsets items : List ℕ} {c : ℕ} (a : CellListAsks offsets items c) where
+  pub part-up : getD offsets c 0 ≤ getD offsets (c + 1) 0
+  part-up = rw add-one (a .rises)
+
+  pub part-in : getD offsets (c + 1) 0 ≤ length items
+  part-in = rw add-one (a .within)

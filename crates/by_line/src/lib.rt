@@ -9,7 +9,6 @@ ghost use Rattle.by_line.specs.ByLine.{listsRoomCheck, ByLineIs};
 ghost use Rattle.by_line.specs.Inside.{MakeAsks, Made};
 
 pub mod first;
-pub mod lists;
 pub mod marks;
 mod passes;
 mod sums;

@@ -1,12 +1,21 @@
 // The two passes over the cells: counting, then placing.
-use crate::lists::list_of;
 ghost use Prim.Native.Nat.{_+_};
 ghost use mathlib.Core.Path.{_≡_};
 ghost use lib.ListN.{length};
 ghost use Rattle.tables.specs.Tables.{listIn};
 ghost use Rattle.tables.specs.Lists.{linesAt};
 ghost use Rattle.tables.specs.States.{CanCount, CanPlace, Counted, Placed};
-ghost use Rattle.by_line.specs.Inside.{ListCountAsks, ListPlaceAsks};
+ghost use Rattle.by_line.specs.Inside.{CellListAsks, ListCountAsks, ListPlaceAsks};
+
+// The list of a cell: a part of the items.
+fn list_of<'a>(offsets: &[u32], items: &'a [u32], cell: usize) -> &'a [u32]
+    requires { ⌜ CellListAsks (now offsets) (now items) cell ⌝ }
+    ensures { λ r. ⌜ now r ≡ listIn (now (offsets .entry)) (now (items .entry)) cell ⌝ }
+{
+    let from = offsets[cell] as usize;
+    let to = offsets[cell + 1] as usize;
+    &items[from..to]
+}
 
 // One more for each line of a list.
 fn count_list(list: &[u32], counts: &mut [u32])

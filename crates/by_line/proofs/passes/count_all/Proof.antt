@@ -2,14 +2,13 @@
 use mathlib.Core.Path.{_≡_, refl, sym, ap, _∙_}
 use Prim.Native.Nat.{ℕ, _-_}
 use native.Mathlib.Omega.{arith}
-use Rattle.by_line.proofs.CellLists.{told-list}
 use Rattle.by_line.proofs.Turns.{Counting, counting-none, counting-can, counting-more, counting-done}
 use Rattle.by_line.proofs.passes.count_all.Statement.{statement}
 use Rattle.by_line.proofs.passes.count_all.Tie as tie
 use Rattle.by_line.proofs.passes.count_all.Reads as reads
 use Rattle.by_line.proofs.passes.count_all.Lts as lts
 use Rattle.by_line.proofs.passes.count_list.Reads as count-list-reads
-use Rattle.by_line.proofs.lists.list_of.Reads as list-of-reads
+use Rattle.by_line.proofs.passes.list_of.Reads as list-of-reads
 
 abbrev Inv-loop : tie.InvT-loop
 Inv-loop cells lines offsets items counts₀ cell₀ counts cell = Counting cells lines offsets items counts₀ counts cell
@@ -21,13 +20,10 @@ loop-holds : tie.Need-loop-holds Inv-loop μ-loop
 loop-holds c = counting-none (c .before .before .before .pre)
 
 list-of-requires : tie.Need-list-of-requires Inv-loop μ-loop
-list-of-requires c κs = tt
+list-of-requires c κs = c .before .loop .inv .table .lists _ (c .loop-test .taken)
 
 count-list-requires : tie.Need-count-list-requires Inv-loop μ-loop
-count-list-requires c κs =
-    let h = c .before .before .before .loop .inv in
-    let l = c .before .before .loop-test .taken in
-    counting-can h l (c .before .list-of .ensures ∙ told-list _ _ _ (h .table .lists _ l))
+count-list-requires c κs = counting-can (c .before .before .before .loop .inv) (c .before .before .loop-test .taken) (c .before .list-of .ensures)
 
 add-cell : tie.Need-add-cell Inv-loop μ-loop
 add-cell c = omega arith
@@ -36,10 +32,7 @@ loop-less : tie.Need-loop-less Inv-loop μ-loop
 loop-less c = omega arith
 
 loop-again : tie.Need-loop-again Inv-loop μ-loop
-loop-again c =
-    let h = c .before .before .before .before .before .before .loop .inv in
-    let l = c .before .before .before .before .before .loop-test .taken in
-    counting-more h l (c .before .before .before .before .list-of .ensures ∙ told-list _ _ _ (h .table .lists _ l)) (c .before .before .count-list .kept .1 .0) (c .before .before .count-list .ensures)
+loop-again c = counting-more (c .before .before .before .before .before .before .loop .inv) (c .before .before .before .before .before .loop-test .taken) (c .before .before .before .before .list-of .ensures) (c .before .before .count-list .kept .1 .0) (c .before .before .count-list .ensures)
 
 same-length : tie.Need-same-length Inv-loop μ-loop
 same-length c = c .before .loop .inv .len

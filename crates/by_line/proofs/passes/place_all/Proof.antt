@@ -2,13 +2,12 @@
 use mathlib.Core.Path.{_≡_, refl, sym, ap, _∙_}
 use Prim.Native.Nat.{ℕ, _-_}
 use native.Mathlib.Omega.{arith}
-use Rattle.by_line.proofs.CellLists.{told-list}
 use Rattle.by_line.proofs.Turns.{Placing, placing-none, placing-can, placing-more, placing-done}
 use Rattle.by_line.proofs.passes.place_all.Statement.{statement}
 use Rattle.by_line.proofs.passes.place_all.Tie as tie
 use Rattle.by_line.proofs.passes.place_all.Reads as reads
 use Rattle.by_line.proofs.passes.place_all.Lts as lts
-use Rattle.by_line.proofs.lists.list_of.Reads as list-of-reads
+use Rattle.by_line.proofs.passes.list_of.Reads as list-of-reads
 use Rattle.by_line.proofs.passes.place_list.Reads as place-list-reads
 
 abbrev Inv-loop : tie.InvT-loop
@@ -21,13 +20,10 @@ loop-holds : tie.Need-loop-holds Inv-loop μ-loop
 loop-holds c = placing-none (c .before .before .before .before .pre)
 
 list-of-requires : tie.Need-list-of-requires Inv-loop μ-loop
-list-of-requires c κs = tt
+list-of-requires c κs = c .before .loop .inv .asks .table .lists _ (c .loop-test .taken)
 
 place-list-requires : tie.Need-place-list-requires Inv-loop μ-loop
-place-list-requires c κs =
-    let h = c .before .before .before .before .loop .inv in
-    let l = c .before .before .before .loop-test .taken in
-    placing-can h l (c .before .before .list-of .ensures ∙ told-list _ _ _ (h .asks .table .lists _ l))
+place-list-requires c κs = placing-can (c .before .before .before .before .loop .inv) (c .before .before .before .loop-test .taken) (c .before .before .list-of .ensures)
 
 add-cell : tie.Need-add-cell Inv-loop μ-loop
 add-cell c = omega arith
@@ -36,10 +32,7 @@ loop-less : tie.Need-loop-less Inv-loop μ-loop
 loop-less c = omega arith
 
 loop-again : tie.Need-loop-again Inv-loop μ-loop
-loop-again c =
-    let h = c .before .before .before .before .before .before .before .before .before .loop .inv in
-    let l = c .before .before .before .before .before .before .before .before .loop-test .taken in
-    placing-more h l (c .before .before .before .before .before .before .before .list-of .ensures ∙ told-list _ _ _ (h .asks .table .lists _ l)) (c .before .before .before .before .place-list .kept .1 .1 .0) (c .before .before .before .before .place-list .kept .1 .1 .1 .0) (c .before .before .before .before .place-list .ensures)
+loop-again c = placing-more (c .before .before .before .before .before .before .before .before .before .loop .inv) (c .before .before .before .before .before .before .before .before .loop-test .taken) (c .before .before .before .before .before .before .before .list-of .ensures) (c .before .before .before .before .place-list .kept .1 .1 .0) (c .before .before .before .before .place-list .kept .1 .1 .1 .0) (c .before .before .before .before .place-list .ensures)
 
 same-length : tie.Need-same-length Inv-loop μ-loop
 same-length c = c .before .loop .inv .len

@@ -4,7 +4,6 @@ use Prim.Native.Nat.{_-_}
 use native.Mathlib.Omega.{arith}
 use Rattle.samples.specs.Samples.{samples, sampleCount}
 use Rattle.samples.specs.Sharing.{shares}
-use Rattle.by_line.proofs.CellLists.{told-list}
 use Rattle.first_tests.proofs.Lists.{Cells, cells-begin, cells-done, cell-rows, cell-counts, cells-next}
 use Rattle.first_tests.proofs.Passing.{Beside}
 use Rattle.crossings.proofs.cells.scan_cells.Statement.{statement}
@@ -12,7 +11,7 @@ use Rattle.crossings.proofs.cells.scan_cells.Tie as tie
 use Rattle.crossings.proofs.cells.scan_cells.Reads as reads
 use Rattle.crossings.proofs.cells.scan_cells.Lts as lts
 use Rattle.crossings.proofs.cells.count_list.Reads as count-list-reads
-use Rattle.by_line.proofs.lists.list_of.Reads as list-of-reads
+use Rattle.crossings.proofs.cells.list_of.Reads as list-of-reads
 use Rattle.crossings.proofs.cells.scan_cell.Reads as scan-cell-reads
 
 abbrev Inv-loop : tie.InvT-loop
@@ -28,7 +27,7 @@ loop-holds : tie.Need-loop-holds Inv-loop μ-loop
 loop-holds c = record { long = refl; held = cells-begin (c .before .before .before .before .before .before .before .pre) }
 
 list-of-requires : tie.Need-list-of-requires Inv-loop μ-loop
-list-of-requires c κs = tt
+list-of-requires c κs = c .before .loop .inv .held .asks .table .lists _ (c .loop-test .taken)
 
 cast-scan-cell : tie.Need-cast-scan-cell Inv-loop μ-loop
 cast-scan-cell c = omega (arith, c .before .before .loop .inv .held .asks .few-cells)
@@ -39,14 +38,10 @@ slice-aggregate-scan-cell c = omega (arith, c .before .before .before .loop .inv
 scan-cell-requires : tie.Need-scan-cell-requires Inv-loop μ-loop
 scan-cell-requires c κs =
     let h = c .before .before .before .before .before .before .loop .inv .held in
-    let l = c .before .before .before .before .before .loop-test .taken in
-    cell-rows h l (c .before .before .before .before .list-of .ensures ∙ told-list _ _ _ (h .asks .table .lists _ l))
+    cell-rows h (c .before .before .before .before .before .loop-test .taken) (c .before .before .before .before .list-of .ensures)
 
 count-list-requires : tie.Need-count-list-requires Inv-loop μ-loop
-count-list-requires c κs =
-    let h = c .before .before .before .before .before .before .before .before .before .before .before .before .before .loop .inv .held in
-    let l = c .before .before .before .before .before .before .before .before .before .before .before .before .loop-test .taken in
-    cell-counts h l (c .before .before .before .before .before .before .before .before .before .before .before .list-of .ensures ∙ told-list _ _ _ (h .asks .table .lists _ l))
+count-list-requires c κs = cell-counts (c .before .before .before .before .before .before .before .before .before .before .before .before .before .loop .inv .held) (c .before .before .before .before .before .before .before .before .before .before .before .before .loop-test .taken) (c .before .before .before .before .before .before .before .before .before .before .before .list-of .ensures)
 
 add-cell : tie.Need-add-cell Inv-loop μ-loop
 add-cell c = omega arith
@@ -59,8 +54,7 @@ loop-again c =
     let d = c .before .before .before .before .before .before .before .before .before .scan-cell in
     let k = c .before .before .count-list in
     let h = c .before .before .before .before .before .before .before .before .before .before .before .before .before .before .before .before .loop .inv in
-    let l = c .before .before .before .before .before .before .before .before .before .before .before .before .before .before .before .loop-test .taken in
-    record { long = d .kept .1 .1 .0 ∙ h .long; held = cells-next (h .held) l (c .before .before .before .before .before .before .before .before .before .before .before .before .before .before .list-of .ensures ∙ told-list _ _ _ (h .held .asks .table .lists _ l)) (d .ensures) (k .ensures) (k .kept .1 .0) (d .kept .1 .1 .1 .1 .1 .1 .1 .1 .1 .1 .1 .0) (d .kept .1 .1 .1 .1 .1 .1 .1 .1 .1 .1 .1 .1 .0) }
+    record { long = d .kept .1 .1 .0 ∙ h .long; held = cells-next (h .held) (c .before .before .before .before .before .before .before .before .before .before .before .before .before .before .before .loop-test .taken) (c .before .before .before .before .before .before .before .before .before .before .before .before .before .before .list-of .ensures) (d .ensures) (k .ensures) (k .kept .1 .0) (d .kept .1 .1 .1 .1 .1 .1 .1 .1 .1 .1 .1 .0) (d .kept .1 .1 .1 .1 .1 .1 .1 .1 .1 .1 .1 .1 .0) }
 
 same-length : tie.Need-same-length Inv-loop μ-loop
 same-length c = c .before .loop .inv .held .counts-long

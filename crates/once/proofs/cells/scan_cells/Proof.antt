@@ -5,7 +5,6 @@ use native.Mathlib.Omega.{arith}
 use Rattle.grid.specs.Domain.{lines, count}
 use Rattle.visit.specs.Overlap.{overlap}
 use Rattle.once.specs.Inside.{LinesChecked}
-use Rattle.by_line.proofs.CellLists.{told-list}
 use Rattle.first_tests.proofs.Lists.{Cells, cells-begin, cells-done, cell-rows, cell-counts, cells-next}
 use Rattle.first_tests.proofs.Passing.{Beside}
 use Rattle.once.proofs.Boxed.{WithRoom}
@@ -14,7 +13,7 @@ use Rattle.once.proofs.cells.scan_cells.Tie as tie
 use Rattle.once.proofs.cells.scan_cells.Reads as reads
 use Rattle.once.proofs.cells.scan_cells.Lts as lts
 use Rattle.once.proofs.cells.count_list.Reads as count-list-reads
-use Rattle.by_line.proofs.lists.list_of.Reads as list-of-reads
+use Rattle.once.proofs.cells.list_of.Reads as list-of-reads
 use Rattle.once.proofs.cells.scan_cell.Reads as scan-cell-reads
 
 abbrev Inv-loop : tie.InvT-loop
@@ -30,7 +29,7 @@ loop-holds : tie.Need-loop-holds Inv-loop μ-loop
 loop-holds c = let h = c .before .before .before .before .before .before .before .before .before .before .before .pre in record { long = refl; held = record { long = refl; held = record { fine = h .fine; asks = cells-begin (h .asks) } } }
 
 list-of-requires : tie.Need-list-of-requires Inv-loop μ-loop
-list-of-requires c κs = tt
+list-of-requires c κs = c .before .loop .inv .held .held .asks .asks .table .lists _ (c .loop-test .taken)
 
 cast-scan-cell : tie.Need-cast-scan-cell Inv-loop μ-loop
 cast-scan-cell c = omega (arith, c .before .before .loop .inv .held .held .asks .asks .few-cells)
@@ -44,14 +43,10 @@ slice-aggregate-scan-cell-2 c = omega (arith, c .before .before .before .before 
 scan-cell-requires : tie.Need-scan-cell-requires Inv-loop μ-loop
 scan-cell-requires c κs =
     let h = c .before .before .before .before .before .before .before .loop .inv .held .held in
-    let l = c .before .before .before .before .before .before .loop-test .taken in
-    record { fine = h .fine; asks = cell-rows (h .asks) l (c .before .before .before .before .before .list-of .ensures ∙ told-list _ _ _ (h .asks .asks .table .lists _ l)) }
+    record { fine = h .fine; asks = cell-rows (h .asks) (c .before .before .before .before .before .before .loop-test .taken) (c .before .before .before .before .before .list-of .ensures) }
 
 count-list-requires : tie.Need-count-list-requires Inv-loop μ-loop
-count-list-requires c κs =
-    let h = c .before .before .before .before .before .before .before .before .before .before .before .before .before .before .before .loop .inv .held .held .asks in
-    let l = c .before .before .before .before .before .before .before .before .before .before .before .before .before .before .loop-test .taken in
-    cell-counts h l (c .before .before .before .before .before .before .before .before .before .before .before .before .before .list-of .ensures ∙ told-list _ _ _ (h .asks .table .lists _ l))
+count-list-requires c κs = cell-counts (c .before .before .before .before .before .before .before .before .before .before .before .before .before .before .before .loop .inv .held .held .asks) (c .before .before .before .before .before .before .before .before .before .before .before .before .before .before .loop-test .taken) (c .before .before .before .before .before .before .before .before .before .before .before .before .before .list-of .ensures)
 
 add-cell : tie.Need-add-cell Inv-loop μ-loop
 add-cell c = omega arith
@@ -64,14 +59,13 @@ loop-again c =
     let d = c .before .before .before .before .before .before .before .before .before .before .scan-cell in
     let k = c .before .before .count-list in
     let h = c .before .before .before .before .before .before .before .before .before .before .before .before .before .before .before .before .before .before .loop .inv in
-    let l = c .before .before .before .before .before .before .before .before .before .before .before .before .before .before .before .before .before .loop-test .taken in
     record {
       long = d .kept .1 .1 .0 ∙ h .long;
       held = record {
         long = d .kept .1 .1 .1 .0 ∙ h .held .long;
         held = record {
           fine = h .held .held .fine;
-          asks = cells-next (h .held .held .asks) l (c .before .before .before .before .before .before .before .before .before .before .before .before .before .before .before .before .list-of .ensures ∙ told-list _ _ _ (h .held .held .asks .asks .table .lists _ l)) (d .ensures) (k .ensures) (k .kept .1 .0) (d .kept .1 .1 .1 .1 .1 .1 .1 .1 .1 .1 .1 .1 .0) (d .kept .1 .1 .1 .1 .1 .1 .1 .1 .1 .1 .1 .1 .1 .0);
+          asks = cells-next (h .held .held .asks) (c .before .before .before .before .before .before .before .before .before .before .before .before .before .before .before .before .before .loop-test .taken) (c .before .before .before .before .before .before .before .before .before .before .before .before .before .before .before .before .list-of .ensures) (d .ensures) (k .ensures) (k .kept .1 .0) (d .kept .1 .1 .1 .1 .1 .1 .1 .1 .1 .1 .1 .1 .0) (d .kept .1 .1 .1 .1 .1 .1 .1 .1 .1 .1 .1 .1 .1 .0);
         };
       };
     }

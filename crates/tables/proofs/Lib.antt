@@ -2,6 +2,7 @@
 -- lists of any walk are laid out, `Lists` what they hold, `Standing` tables that hold them.
 pub mod Facts
 pub mod Climbing
+pub mod Breaks
 pub mod Turns
 pub mod Checking
 pub mod Laws

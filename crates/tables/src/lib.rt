@@ -9,6 +9,8 @@ ghost use lib.Dec.{leb, ltb};
 ghost use Rattle.tables.specs.Tables.{tables};
 ghost use Rattle.tables.specs.Fit.{increases, listsFit, tablesFit, standingCheck};
 
+mod rising;
+
 fn wide(x: u32) -> usize
     ensures { λ r. ⌜ r ≡ x ⌝ }
 {
@@ -41,7 +43,7 @@ pub fn is_increasing(lines: usize, list: &[u32]) -> bool
     rises(list) & (last < lines)
 }
 
-// One pass over the offsets and the items between them.
+// The offsets, and then the lists between them.
 fn lists_fit(cells: usize, lines: usize, offsets: &[u32], items: &[u32]) -> bool
     requires { ⌜ cells < length (now offsets) ⌝ }
     ensures { λ r. ⌜ r ≡ listsFit cells lines (now (offsets .entry)) (now (items .entry)) ⌝ }
@@ -49,23 +51,14 @@ fn lists_fit(cells: usize, lines: usize, offsets: &[u32], items: &[u32]) -> bool
     if offsets[0] != 0 {
         return false;
     }
-    let mut cell = 0;
-    while cell < cells {
-        let from = wide(offsets[cell]);
-        let to = wide(offsets[cell + 1]);
-        if to < from {
+    if rising::never_fall(cells, offsets) {
+        let total = wide(offsets[cells]);
+        if items.len() < total {
             return false;
         }
-        if items.len() < to {
-            return false;
-        }
-        if is_increasing(lines, &items[from..to]) {
-            cell = cell + 1;
-        } else {
-            return false;
-        }
+        return rising::lists_rise(cells, lines, offsets, &items[..total]);
     }
-    true
+    false
 }
 
 // The global lines strictly increase, and are within their slice.

@@ -404,7 +404,7 @@ int main(int argc, char **argv) {
         members(&points, argv[i]);
     }
     same(mt_lines_chain(x, y, 0).count == 0, "a chain of no points", "no file");
-    for (uint32_t number = 1; number <= MT_UNFIT_SNAP; number++) same(strcmp(mt_message(number), mt_message(MT_OK)) != 0, "a message", "no file");
+    for (uint32_t number = 1; number <= MT_OFF_GRID; number++) same(strcmp(mt_message(number), mt_message(MT_OK)) != 0 && strcmp(mt_message(number), mt_message(99)) != 0, "a message", "no file");
     same(MT_VERSION_AT_LEAST(MT_VERSION_MAJOR, MT_VERSION_MINOR, MT_VERSION_PATCH) && MT_VERSION_AT_LEAST(0, 1, 9) && !MT_VERSION_AT_LEAST(MT_VERSION_MAJOR + 1, 0, 0), "the version", "no file");
     printf("structs: %lu answers held to those of the flat functions\n", held);
     return 0;

@@ -87,6 +87,13 @@ class Documented(unittest.TestCase):
             self.assertTrue(raised.exception.sentence)
             self.assertTrue(raised.exception.advice)
 
+    def test_each_refusal_has_its_words(self):
+        for number in range(1, 17):
+            with self.subTest(number=number):
+                refusal = Refusal(number, 0)
+                self.assertNotEqual(refusal.sentence, Refusal(99, 0).sentence)
+                self.assertTrue(refusal.sentence and refusal.value_is and refusal.advice)
+
     def test_names_that_there_are_not(self):
         for words in ({"sizing": "round"}, {"walk": "long"}):
             with self.assertRaises(ValueError):

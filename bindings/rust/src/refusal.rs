@@ -31,7 +31,7 @@ impl Refusal {
     pub const BAD_LENGTHS: u32 = 3;
     /// A grid tried has more cells + 1 than the lent offsets. The value is that cells + 1.
     pub const SHORT_OFFSETS: u32 = 4;
-    /// Items lent, or room for points, members, bytes or lines, are fewer than needed. The value is the number needed.
+    /// Items lent, or room for points, members, bytes, lines or pairs, are fewer than needed. The value is the number needed.
     pub const SHORT_ITEMS: u32 = 5;
     /// Globals lent are fewer than found. The value is the number found.
     pub const SHORT_GLOBALS: u32 = 6;
@@ -85,6 +85,8 @@ pub enum Reason {
     BadWkb,
     /// [`Refusal::UNFIT_SNAP`].
     UnfitSnap,
+    /// [`Refusal::SUM_TOO_LARGE`].
+    SumTooLarge,
     /// [`Refusal::OUTSIDE_GRID`].
     OutsideGrid,
     /// [`Refusal::BAD_SAMPLE`].
@@ -120,6 +122,7 @@ impl Refusal {
             Refusal::MISFIT_TABLES => Reason::MisfitTables,
             Refusal::BAD_WKB => Reason::BadWkb,
             Refusal::UNFIT_SNAP => Reason::UnfitSnap,
+            Refusal::SUM_TOO_LARGE => Reason::SumTooLarge,
             Refusal::OUTSIDE_GRID => Reason::OutsideGrid,
             Refusal::BAD_SAMPLE => Reason::BadSample,
             Refusal::OFF_GRID => Reason::OffGrid,

@@ -478,7 +478,13 @@ fn words() {
         // those whose value says something say it
         assert_eq!(text.contains("77"), [1, 2, 4, 5, 6, 7, 9, 11, 13, 15].contains(&number), "{text}");
         assert!(!text.contains("value"), "{text} has words of its own");
+        assert_ne!(Refusal { number, value: 77 }.reason(), Reason::Other, "{number} has a name of its own");
     }
+    for number in [0, 17, u32::MAX] {
+        assert_eq!(Refusal { number, value: 77 }.reason(), Reason::Other, "{number} is no refusal");
+    }
+    let reasons: std::collections::HashSet<Reason> = (1..=16).map(|number| Refusal { number, value: 77 }.reason()).collect();
+    assert_eq!(reasons.len(), 16, "no two share one");
     let error: Box<dyn std::error::Error> = Box::new(Refusal { number: Refusal::MISFIT_TABLES, value: 0 });
     assert_eq!(error.to_string(), "refused 10: tables misfit");
 }

@@ -102,7 +102,7 @@ REFUSALS = {
     11: ('the bytes are no LineString of 1 to 1,024 points, or no MultiLineString of such, or bytes follow it', 'the byte position of the fault', 'look at the field that begins there: the byte order at 0, the type at 1, the count at 5, the points at 9, and in a member so far from where it begins; a fault at the end of input is a cut'),
     12: ('the snap size is not 0 or 1e-6 to 1e6, or the strategy not 0', '0', 'choose such a size, and strategy 0'),
     13: ('the sum of two counts is above 65,536', 'the first such entry', 'the two tables count a line twice, or more than 65,536 lines: add tables of other lines'),
-    15: ("a number that is to be a sample is above 2^29 in magnitude, or, in the program's input, no whole number", 'the first such line', 'mend or leave out that line; where the numbers are no samples, decide crossings in floats'),
     14: ("an end of a line that is to be added is below the grid's lower side on an axis, or above min + cols x cell_width (rows x cell_height); each step is rounded once, the product first", '0', 'build anew with that line: its grid will reach it'),
+    15: ("a number that is to be a sample is above 2^29 in magnitude, or, in the program's input, no whole number", 'the first such line', 'mend or leave out that line; where the numbers are no samples, decide crossings in floats'),
     16: ("one segment is asked for in the covering mode, and an end of it is below the grid's lower side on an axis, or 4,095 cells and more above it", '0', 'it counts as being in every cell, where it is counted or built on that grid: nothing is dropped by it. Cut it to the grid to have its cells; no line of a build is such a one'),
 }

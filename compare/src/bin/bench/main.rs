@@ -4,6 +4,7 @@
 mod added;
 mod blocks;
 mod clock;
+mod counts;
 mod covers;
 mod crossings;
 mod geos;
@@ -82,6 +83,9 @@ fn main() {
     if wanted("members") {
         members::times(clock, &mut Random::new(seed));
     }
+    if wanted("counts") {
+        counts::times(clock, &mut Random::new(seed));
+    }
     if wanted("added") {
         added::times(clock, &mut Random::new(seed));
     }
@@ -97,8 +101,8 @@ fn main() {
     clock.end();
 }
 
-const STAGES: [&str; 17] =
-    ["numbers", "walks", "covers", "orderings", "builds", "visits", "once", "memory", "points", "sizings", "members", "added", "blocks", "window", "crossings", "resume", "trees"];
+const STAGES: [&str; 18] =
+    ["numbers", "walks", "covers", "orderings", "builds", "visits", "once", "memory", "points", "sizings", "members", "counts", "added", "blocks", "window", "crossings", "resume", "trees"];
 
 fn stop() -> ! {
     eprintln!("bench [--seed S] [--rounds R] [STAGE..], with STAGE one of {}", STAGES.join(" "));

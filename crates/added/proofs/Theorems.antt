@@ -165,17 +165,27 @@ module _ (W : ℕ → List ℕ) (mode : Mode) (g : Grid) (line : Segment) (n : �
   unfolding totalWith
   total-more = let r = h .room in omega (arith, start-same F (localLines W (suc n)) m lists-more m (omega arith))
 
+  -- THE SLICES ARE THOSE OF ALL LINES, laid out anew in slices of their lengths
+  pub offsets-laid : o′ ≡ offsetsOf (localLines W (suc n)) m (length o)
+  offsets-laid = h .offsets-are ∙ offsets-same F (localLines W (suc n)) m lists-more (length o)
+
+  pub items-laid : xs′ ≡ itemsOf (localLines W (suc n)) m (length xs)
+  items-laid = h .items-are ∙ items-same F (localLines W (suc n)) m lists-more (length xs)
+
+  pub globals-laid : gs′ ≡ zeroBeyond 0 (length gs) (globalLines W (suc n))
+  globals-laid = h .globals-are ∙ rw globals-more
+
+  pub found-laid : found ≡ length (globalLines W (suc n))
+  found-laid = h .found-is ∙ ap length globals-more
+
   pub add-stands : Stands W (suc n) g (tables g (suc n) o′ xs′ gs′ found)
   unfolding zeroBeyond
   add-stands =
       let l : suc m ≤ length o = omega (arith, st .tables-fit .long) in
-      let x : o′ ≡ offsetsOf (localLines W (suc n)) m (length o) = h .offsets-are ∙ offsets-same F (localLines W (suc n)) m lists-more (length o) in
-      let y : xs′ ≡ itemsOf (localLines W (suc n)) m (length xs) = h .items-are ∙ items-same F (localLines W (suc n)) m lists-more (length xs) in
-      let u : gs′ ≡ globalLines W (suc n) ++ replicate (length gs - length (globalLines W (suc n))) 0 = h .globals-are ∙ rw globals-more in
-      let p : length o′ ≡ length o = ap length x ∙ length-offsets (localLines W (suc n)) m (length o) l in
-      let q : length xs′ ≡ length xs = ap length y ∙ length-items (localLines W (suc n)) m (length xs) total-more in
+      let p : length o′ ≡ length o = ap length offsets-laid ∙ length-offsets (localLines W (suc n)) m (length o) l in
+      let q : length xs′ ≡ length xs = ap length items-laid ∙ length-items (localLines W (suc n)) m (length xs) total-more in
       let k : length (globalLines W (suc n)) ≤ length gs = rw globals-more at (h .fits) in
-      let v : length gs′ ≡ length gs = ap length u ∙ rw (length-append, length-replicate) (omega arith) in
+      let v : length gs′ ≡ length gs = ap length globals-laid ∙ rw (length-append, length-replicate) (omega arith) in
       laid-stands
       (record {
         grid-fit = st .grid-fit;
@@ -183,9 +193,9 @@ module _ (W : ℕ → List ℕ) (mode : Mode) (g : Grid) (line : Segment) (n : �
         walks = walks-more;
         room = omega (arith, l);
         space = rw q total-more;
-        table = table-made l total-more x y;
-        found-is = h .found-is ∙ ap length globals-more;
-        globe = rw v u;
+        table = table-made l total-more offsets-laid items-laid;
+        found-is = found-laid;
+        globe = rw v globals-laid;
       })
 
 -- tables that stand for a walk stand for one that is the same below the number of lines

@@ -1,7 +1,7 @@
 -- Document 02, 12, as laws.
 --     made-own                  each number of a summary that was made is what the offsets say
 --     said-lists                which is the sum over the block's cells of the lengths of their lists
---     all-items                 the sum over the blocks is the total of items
+--     all-items, own-total      the sum over the blocks is the total of items; of the tables' own summary that is the sum of its numbers
 --     own-items                 on the tables' own summary a query gives the items in the lists of the rectangle's cells
 --     out-of-order              corners out of order give 0
 --     one-summary               the promise settles the answer and every entry
@@ -109,6 +109,10 @@ module _ (g : Grid) (n : ℕ) (offsets items globals : List ℕ) (found : ℕ) w
     all-items =
         by-places (λ _. true) (blockOf (g .cols)) (told offsets) (along (g .rows) * along (g .cols)) (cells t) (block-there (g .rows) (g .cols))
         ∙ all-told (cells t) (omega arith)
+
+    -- ... AND SO IS THE SUM OF THE NUMBERS of the tables' own summary
+    pub own-total : (s : List ℕ) → Own g offsets s → sum (λ b. getD s b 0) (blocks g) ≡ getD offsets (cells t) 0
+    own-total s own = sum-same (λ b. getD s b 0) (said g offsets) (blocks g) (own .at) ∙ all-items
 
     -- ON THE TABLES' OWN SUMMARY A QUERY GIVES THE ITEMS in the lists of the rectangle's cells: those whose rows and columns of blocks are in it
     pub own-items : (s : List ℕ) → Own g offsets s → (low high : Block)

@@ -12,7 +12,7 @@ use lib.Ieee.{Float, nan}
 use lib.ListN.{length, getD, length-append, List·getD-append}
 use lib.Seq.{getD-at}
 use Rattle.refusals.specs.declared.Check.the-variants.{Fine}
-use Rattle.refusals.specs.Refusals.{unless, andThen, eachFrom, gives}
+use Rattle.refusals.specs.Refusals.{unless, andThen, eachFrom, Answer, refused, gives, answerBy, leftIn, zeroBeyond}
 use Rattle.grid.specs.declared.Grid.{Grid}
 use Rattle.grid.specs.declared.Segment.{Segment}
 use Rattle.grid.specs.Domain.{Lines, lines, count, Alike, segmentAt, segmentBy, segment, lineFits, fit, lengthsCheck, countCheck, coordinatesCheck, linesCheck}
@@ -21,13 +21,20 @@ use Rattle.walk.specs.declared.Mode.{Mode}
 use Rattle.turns.specs.Pushes.{Outcome}
 use Rattle.walk.specs.Segment.{segmentOf}
 use Rattle.tables.specs.Tables.{Tables, tables, cells, listOf, globalsOf}
-use Rattle.tables.specs.Lists.{Walks}
+use Rattle.tables.specs.Lists.{Walks, itemsOf, offsetsOf}
 use Rattle.tables.specs.Stands.{Stands}
-use Rattle.fill.specs.OnGrid.{walkOn, visited, cellsOn}
+use Rattle.fill.specs.declared.Filled.{Filled}
+use Rattle.fill.specs.declared.Filled.the-variants as filled
+use Rattle.fill.specs.OnGrid.{gridCells, walkOn, visited, cellsOn, listOn, globalsOn}
+use Rattle.fill.specs.Fill.{Filling, crowded, made, fillingOf, filledOf, writtenIn, FillIs}
 use Rattle.build.specs.declared.Plan.{Plan}
 use Rattle.build.proofs.Theorems.{build-stands, walks-end, lines-passed, grid-fits}
 use Rattle.straight.proofs.Builds.{each-fine}
-use Rattle.added.proofs.Theorems.{Success, success, add-stands, stands-alike}
+use Rattle.added.specs.declared.Added.the-variants as added
+use Rattle.added.specs.Added.{cleared}
+use Rattle.added.proofs.Theorems.{Success, success, offsets-laid, items-laid, globals-laid, found-laid, add-stands, stands-alike}
+use Rattle.blocks_added.specs.Beside.{BesideIs}
+use Rattle.blocks_added.proofs.Laws.{as-added}
 use Rattle.demands.specs.Build.{AfterBuild}
 use Rattle.demands.specs.Grown.{FromBuild, withLine, FromLine, SameLists, Grown, from-build, one-more, moved}
 use Rattle.demands.proofs.Whole.{demand-3}
@@ -38,6 +45,13 @@ pub record Says (mode : Mode) (g : Grid) (ls : Lines) (t : Tables) : Type 0 wher
   pub passed : linesCheck ls ≡ Fine
   pub walks : (k : ℕ) → k < count ls → walkOn mode g ls k ≡ gives (cellsOn mode g ls k)
   pub some : 1 ≤ count ls → 1 ≤ g .cols
+
+-- tables as counting and placing leaves them, in slices of as many entries as others have
+pub record AsFilled (mode : Mode) (g : Grid) (ls : Lines) (was t : Tables) : Type 0 where
+  pub offsets : t .offsets ≡ offsetsOf (listOn mode g ls) (gridCells g) (length (was .offsets))
+  pub items : t .items ≡ itemsOf (listOn mode g ls) (gridCells g) (length (was .items))
+  pub globals : t .globals ≡ zeroBeyond 0 (length (was .globals)) (globalsOn mode g ls)
+  pub found : t .«global_count» ≡ length (globalsOn mode g ls)
 
 -- ---- a build
 
@@ -141,6 +155,20 @@ module _ {mode : Mode} {g : Grid} {ls : Lines} {t : Tables} {line : Segment} {t�
       let a : Stands (cellsOn mode g ls) (count ls) g spelt = subst (λ (x : Tables). Stands (cellsOn mode g ls) (count ls) g x) (s .stands .on-grid) (s .stands) in
       rw (h .left, count-more ls line) (add-stands (cellsOn mode g more) mode g line (count ls) (stands-alike cells-before a) added-line cells-last)
 
+  -- they are those of all lines, counted and placed in slices of as many entries
+  line-filled : AsFilled mode g more t t′
+  unfolding spelt listOn globalsOn
+  line-filled =
+      let a : Stands (cellsOn mode g ls) (count ls) g spelt = subst (λ (x : Tables). Stands (cellsOn mode g ls) (count ls) g x) (s .stands .on-grid) (s .stands) in
+      let b = stands-alike cells-before a in
+      rw (h .left, count-more ls line)
+      (record {
+        offsets = offsets-laid (cellsOn mode g more) mode g line (count ls) b added-line cells-last;
+        items = items-laid (cellsOn mode g more) mode g line (count ls) b added-line cells-last;
+        globals = globals-laid (cellsOn mode g more) mode g line (count ls) b added-line cells-last;
+        found = found-laid (cellsOn mode g more) mode g line (count ls) b added-line cells-last;
+      })
+
   line-fits : LinesFit more
   unfolding lineFits spelt
   line-fits =
@@ -194,3 +222,49 @@ grown-says (moved k h) = moved-says (grown-says k) h
 -- DEMAND 3, after a build, or a build followed by lines added in its mode
 pub after-grown : {mode : Mode} {g : Grid} {ls : Lines} {t : Tables} → Grown mode g ls t → AfterBuild mode ls g t
 after-grown k = let s = grown-says k in record { walks = s .walks; demand = demand-3 (s .stands) (s .passed) }
+
+-- ---- document 02, 11: "the new ones are those of all n + 1 counted and placed on it in that mode"
+
+-- where filling the tables of some lines succeeds, it leaves these
+fills : {mode : Mode} {g : Grid} {ls : Lines} {was t : Tables} {offsets items globals scratch : List ℕ} {r : Filled} {a b : ℕ} {o xs gs z : List ℕ}
+    → AsFilled mode g ls was t → (f : Answer Filling) → FillIs mode g ls offsets items globals scratch r o xs gs z f → r ≡ filled.Tables a b
+    → length offsets ≡ length (was .offsets) → length items ≡ length (was .items) → length globals ≡ length (was .globals)
+    → (t .offsets ≡ o) × (t .items ≡ xs) × (t .globals ≡ gs) × (t .«global_count» ≡ b)
+unfolding answerBy filledOf leftIn writtenIn
+fills k (refused why) h e p q v = let x : _≡_ {A = ℕ} 0 1 = cc (h .answer, e) in absurd (omega arith)
+fills k (gives crowded) h e p q v = let x : _≡_ {A = ℕ} 0 1 = cc (h .answer, e) in absurd (omega arith)
+fills k (gives made) h e p q v = (
+  k .offsets ∙ rw (← p) (sym (h .offsets-are)),
+  k .items ∙ rw (← q) (sym (h .items-are)),
+  k .globals ∙ rw (← v) (sym (h .globals-are)),
+  k .found ∙ cc (h .answer, e),
+)
+
+-- A LINE ADDED IS ALL LINES COUNTED AND PLACED on the same grid, in slices of the same lengths
+pub as-counted : {mode : Mode} {g : Grid} {ls : Lines} {t : Tables} {line : Segment} {t′ : Tables} → Grown mode g ls t → FromLine mode g ls t line t′
+    → {most : ℕ} {offsets items globals scratch : List ℕ} {r : Filled} {a b : ℕ} {o xs gs z : List ℕ}
+    → FillIs mode g (withLine ls line) offsets items globals scratch r o xs gs z (fillingOf mode g (withLine ls line) most (length offsets) (length items) (length globals) (length scratch))
+    → r ≡ filled.Tables a b → length offsets ≡ length (t .offsets) → length items ≡ length (t .items) → length globals ≡ length (t .globals)
+    → (t′ .offsets ≡ o) × (t′ .items ≡ xs) × (t′ .globals ≡ gs) × (t′ .«global_count» ≡ b)
+as-counted k h f e p q v = fills (line-filled (grown-says k) h) _ f e p q v
+
+-- ---- a line that was added with its summary is one that was added
+
+pub line-beside : {mode : Mode} {g : Grid} {ls : Lines} {t : Tables} {line : Segment} {kept s : List ℕ} {i j l : ℕ} {o xs gs k z : List ℕ}
+    → BesideIs mode g line t kept s (added.Tables i j l) o xs gs k z → FromLine mode g ls t line (tables g (suc (count ls)) o xs gs l)
+line-beside {s = s} {i = i} {j = j} {l = l} {o = o} {xs = xs} {gs = gs} {z = z} h =
+    record {
+      scratch = s;
+      leaves = cleared s;
+      answer = added.Tables i j l;
+      listing-cells = i;
+      all-items = j;
+      all-globals = l;
+      offsets′ = o;
+      items′ = xs;
+      globals′ = gs;
+      scratch′ = z;
+      is = as-added h;
+      made = refl;
+      left = refl;
+    }

@@ -43,7 +43,8 @@ unfoldable pub withLine : Lines → Segment → Lines
 withLine ls line =
     lines (ls .«start_x» ++ (line .«start_x» ∷ [])) (ls .«start_y» ++ (line .«start_y» ∷ [])) (ls .«end_x» ++ (line .«end_x» ∷ [])) (ls .«end_y» ++ (line .«end_y» ∷ []))
 
--- a line that was added, numbered with the count of the lines; either entry of `added`, by what it leaves in the scratch
+-- a line that was added, numbered with the count of the lines; either entry of `added`, by what it leaves in the scratch. One that was added with its summary
+-- is such a line, too (`line-beside`).
 pub record FromLine (mode : Mode) (g : Grid) (ls : Lines) (t : Tables) (line : Segment) (t′ : Tables) : Type 0 where
   pub scratch : List ℕ
   pub leaves : List ℕ → List ℕ

@@ -26,14 +26,7 @@ fn bit_of(cell: u32, before: u32, low: u32) -> u32
 }
 
 // The bits of the first cells of a line, as many as are counted for it, from the last back to `low`.
-pub fn mark(
-    line: u32,
-    before: u32,
-    low: u32,
-    starts: &[u32],
-    listing: &[u32],
-    counts: &[u32],
-) -> u32
+fn mark(line: u32, before: u32, low: u32, starts: &[u32], listing: &[u32], counts: &[u32]) -> u32
     ensures { λ r. ⌜ r ≡ markOf line before low (now (starts .entry)) (now (listing .entry)) (now (counts .entry)) ⌝ }
 {
     let cells = first::front(line, starts, listing, counts);

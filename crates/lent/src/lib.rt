@@ -16,7 +16,7 @@ pub enum OnceAnswer {
 }
 
 // Refusal 3, by lengths: the outputs differ, the lists by line have too little room, or there is no count for each line.
-pub fn check_lent(
+fn check_lent(
     lines: usize,
     items: usize,
     first: usize,

@@ -47,7 +47,7 @@ use Rattle.resume.specs.declared.NextAnswer.the-variants as next
 use Rattle.resume.specs.AsTheyAre.{cellsToLook, listAs, globalsAs}
 use Rattle.resume.specs.Cursors.{globalsFrom, leftFrom, cursorOf}
 use Rattle.resume.specs.Answers.{nextTests, nextAnswer, NextIs}
-use Rattle.resume.specs.Inside.{Passed, GlobalsAsk, GlobalsRanIs, GoAsks, RunAsks, leftBy, RunIs, SettleAsks, Gone}
+use Rattle.resume.specs.Inside.{Passed, GlobalsAsk, GlobalsRanIs, GoAsks, RunAsks, stillLeft, RunIs, SettleAsks, Gone}
 use Rattle.resume.proofs.AsIs.{globals-increase}
 use Rattle.resume.proofs.Zeros.{Kept, kept}
 use Rattle.resume.proofs.Bounds.{globals-few, globals-table, globals-start, clip}
@@ -202,7 +202,7 @@ module _ (ls : Lines) (cols m : ℕ) (offsets items globals : List ℕ) (c : Cur
         first-same : length fs₁ ≡ length fs
         first-same = goes₁ [] .moved .first-long
 
-        whole : leftBy (count ls) cols m offsets items globals c ≡ C ++ G
+        whole : stillLeft (count ls) cols m offsets items globals c ≡ C ++ G
         unfolding C G
         whole = ap (λ (l : List Pair). cellsFrom cols (listBy (count ls) offsets items) (m - c .place) (c .place) (c .i) (c .j) ++ l) (sym (rw (ep, e₀, ek) (clip (count ls) globals (c .place - m) (cond (ltb (c .place) m) 0 (c .j)))))
 
@@ -264,7 +264,7 @@ module _ (ls : Lines) (g : Grid) (offsets items globals : List ℕ) (count-of : 
     go-runs a = record { asks = a; most = rw em (reach-most (g .rows * g .cols) (length offsets)); increase = rw el (globals-increase (count ls) globals count-of) }
 
     module _ (fs₁ ss₁ : List ℕ) (r : Ran) (w : RunIs ls (g .cols) m offsets items listed c fs ss fs₁ ss₁ r) where
-      left-is : leftBy (count ls) (g .cols) m offsets items listed c ≡ leftFrom (beside ls g offsets items globals count-of) c
+      left-is : stillLeft (count ls) (g .cols) m offsets items listed c ≡ leftFrom (beside ls g offsets items globals count-of) c
       unfolding leftFrom
       left-is = rw (em, el)
 

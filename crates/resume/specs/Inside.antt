@@ -101,22 +101,22 @@ pub record RunAsks (ls : Lines) (m : ℕ) (globals fs ss : List ℕ) : Type 0 wh
   pub increase : Increasing (count ls) globals
 
 -- the tests that are left from a cursor, as a run is lent them
-abbrev pub leftBy : ℕ → ℕ → ℕ → List ℕ → List ℕ → List ℕ → Cursor → List Pair
-leftBy n cols m offsets items globals c =
+abbrev pub stillLeft : ℕ → ℕ → ℕ → List ℕ → List ℕ → List ℕ → Cursor → List Pair
+stillLeft n cols m offsets items globals c =
     cellsFrom cols (listBy n offsets items) (m - c .place) (c .place) (c .i) (c .j)
     ++ globalsFrom n globals (c .place - m) (cond (ltb (c .place) m) 0 (c .j))
 
 pub record RunIs (ls : Lines) (cols m : ℕ) (offsets items globals : List ℕ) (c : Cursor) (fs ss fs′ ss′ : List ℕ) (r : Ran) : Type 0 where
-  pub tests : r .tests ≡ length (made ls (leftBy (count ls) cols m offsets items globals c) (length fs))
-  pub hits : r .hits ≡ length (handed ls (leftBy (count ls) cols m offsets items globals c) (length fs))
-  pub first-is : take (r .hits) fs′ ≡ firsts (handed ls (leftBy (count ls) cols m offsets items globals c) (length fs))
-  pub second-is : take (r .hits) ss′ ≡ seconds (handed ls (leftBy (count ls) cols m offsets items globals c) (length fs))
+  pub tests : r .tests ≡ length (made ls (stillLeft (count ls) cols m offsets items globals c) (length fs))
+  pub hits : r .hits ≡ length (handed ls (stillLeft (count ls) cols m offsets items globals c) (length fs))
+  pub first-is : take (r .hits) fs′ ≡ firsts (handed ls (stillLeft (count ls) cols m offsets items globals c) (length fs))
+  pub second-is : take (r .hits) ss′ ≡ seconds (handed ls (stillLeft (count ls) cols m offsets items globals c) (length fs))
   pub first-long : length fs′ ≡ length fs
   pub second-long : length ss′ ≡ length ss
   -- what is left of the cells
   pub rest : List Pair
   pub at : LeftAt cols (count ls) m offsets items rest (r .found)
-  pub left : drop (r .tests) (leftBy (count ls) cols m offsets items globals c) ≡ rest ++ globalsFrom (count ls) globals (r .p) (r .k)
+  pub left : drop (r .tests) (stillLeft (count ls) cols m offsets items globals c) ≡ rest ++ globalsFrom (count ls) globals (r .p) (r .k)
   pub first-zero : c .place < m → ZeroAfter (r .hits) fs′
   pub second-zero : c .place < m → ZeroAfter (r .hits) ss′
   pub place : LineFits (count ls) (length globals) globals (r .p) (r .q) (r .k)

@@ -16,7 +16,7 @@ pub struct Raised {
 }
 
 // A sample, raised by 2^29; 2^32 - 1 for a number that is none.
-pub fn raise(v: i32) -> u32
+fn raise(v: i32) -> u32
     ensures { λ r. ⌜ r ≡ raised v ⌝ }
 {
     if v < -536870912 {

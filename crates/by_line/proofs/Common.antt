@@ -14,7 +14,7 @@ use lib.Seq.{slice, getD-at, take-at, take-append-le, take-take}
 use Rattle.slices.specs.Lists.{elem, Below, Rising}
 use Rattle.slices.proofs.Members.{below-at}
 use Rattle.tables.specs.Lists.{only, linesAt, start}
-use Rattle.tables.specs.States.{Table, Counted}
+use Rattle.tables.specs.InsidePasses.{Table, Counted}
 use Rattle.tables.proofs.Lists.{lines-below}
 use Rattle.tables.proofs.Laws.{sum-below, table-offset, table-list}
 use Rattle.by_line.specs.First.{meets, frontOf, meetBefore, someBelow, metBelow}

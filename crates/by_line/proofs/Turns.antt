@@ -9,7 +9,7 @@ use lib.Seq.{slice, take-length}
 use Rattle.slices.specs.Lists.{Below, Rising}
 use Rattle.tables.specs.Tables.{listIn}
 use Rattle.tables.specs.Lists.{Walks, linesAt, sum, start, itemsOf, offsetsOf}
-use Rattle.tables.specs.States.{Line, Table, Counted, Placed, CanCount, CanPlace}
+use Rattle.tables.specs.InsidePasses.{Line, Table, Counted, Placed, CanCount, CanPlace}
 use Rattle.tables.proofs.Facts.{part-slice}
 use Rattle.tables.proofs.Laws.{counts-sum, placed-none, table-of}
 use Rattle.fill.specs.Inside.{Summed, ShiftedBack}

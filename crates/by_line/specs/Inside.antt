@@ -5,7 +5,7 @@ use mathlib.Core.List.{List}
 use lib.ListN.{length, getD}
 use Rattle.tables.specs.Tables.{listIn}
 use Rattle.tables.specs.Lists.{Walks, linesAt, start, itemsOf, offsetsOf}
-use Rattle.tables.specs.States.{Counted, Placed}
+use Rattle.tables.specs.InsidePasses.{Counted, Placed}
 
 -- a cell, and its list within the items
 pub record CellListAsks (offsets items : List ℕ) (c : ℕ) : Type 0 where

@@ -4,7 +4,7 @@ ghost use mathlib.Core.Path.{_≡_};
 ghost use lib.ListN.{length};
 ghost use Rattle.tables.specs.Tables.{listIn};
 ghost use Rattle.tables.specs.Lists.{linesAt};
-ghost use Rattle.tables.specs.States.{CanCount, CanPlace, Counted, Placed};
+ghost use Rattle.tables.specs.InsidePasses.{CanCount, CanPlace, Counted, Placed};
 ghost use Rattle.by_line.specs.Inside.{CellListAsks, ListCountAsks, ListPlaceAsks};
 
 // The list of a cell: a part of the items.

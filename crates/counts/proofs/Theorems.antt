@@ -22,7 +22,7 @@ use Rattle.grid.specs.Domain.{Lines, count, Alike, scratchCheck, linesCheck}
 use Rattle.walk.specs.declared.Mode.{Mode}
 use Rattle.tables.specs.Tables.{tables, listIn}
 use Rattle.tables.specs.Lists.{sum, start, itemsOf, offsetsOf}
-use Rattle.tables.specs.States.{Table}
+use Rattle.tables.specs.InsidePasses.{Table}
 use Rattle.tables.specs.Stands.{Stands}
 use Rattle.tables.proofs.Laws.{sum-same, table-made, table-offset, length-offsets, length-items}
 use Rattle.tables.proofs.Standing.{Laid, laid-stands}

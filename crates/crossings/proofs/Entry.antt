@@ -23,7 +23,7 @@ use Rattle.lent.specs.declared.OnceAnswer.the-variants as answer
 use Rattle.lent.specs.Lent.{beginCheck, Begun, pairsCheck, EndIs}
 use Rattle.lent.proofs.Beginning.{begun-passed}
 use Rattle.first_tests.specs.Firsts.{keptBy, keeps, firstTests, PairsAre}
-use Rattle.first_tests.specs.Scan.{HandedOut}
+use Rattle.first_tests.specs.InsideScan.{HandedOut}
 use Rattle.first_tests.proofs.Ends.{pairs-stopped, pairs-end}
 use Rattle.crossings.specs.Crossings.{besideSamples, crossingsOf, crossingsCheck, crossingsBy}
 

@@ -7,8 +7,8 @@ use Rattle.samples.specs.declared.Raised.{Raised}
 use Rattle.samples.specs.Samples.{Samples, sampleCount, raisedAt}
 use Rattle.samples.specs.Sharing.{sharing, shares}
 use Rattle.by_line.specs.First.{firstBy}
-use Rattle.first_tests.specs.Scan.{keepAt, PlaceAsks}
-use Rattle.first_tests.specs.Marked.{MarkedPair}
+use Rattle.first_tests.specs.InsideScan.{keepAt, PlaceAsks}
+use Rattle.first_tests.specs.InsideMarked.{MarkedPair}
 use Rattle.first_tests.proofs.Passing.{marked-far, marked-near}
 use Rattle.crossings.specs.declared.rows.Row.{Row}
 use Rattle.crossings.specs.Inside.{rowOf, RaisedHeld}

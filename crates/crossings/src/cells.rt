@@ -7,10 +7,10 @@ ghost use Rattle.samples.specs.Samples.{samples, sampleCount};
 ghost use Rattle.samples.specs.Sharing.{shares};
 ghost use Rattle.tables.specs.Tables.{listIn};
 ghost use Rattle.tables.specs.Lists.{linesAt};
-ghost use Rattle.tables.specs.States.{CanCount, Counted};
+ghost use Rattle.tables.specs.InsidePasses.{CanCount, Counted};
 ghost use Rattle.by_line.specs.Inside.{CellListAsks};
-ghost use Rattle.first_tests.specs.Scan.{RowsAsk, RowsDone, CellsAsk, CellsDone};
-ghost use Rattle.first_tests.specs.Marked.{MarkedRows};
+ghost use Rattle.first_tests.specs.InsideScan.{RowsAsk, RowsDone, CellsAsk, CellsDone};
+ghost use Rattle.first_tests.specs.InsideMarked.{MarkedRows};
 
 // The list of a cell: a part of the items.
 fn list_of<'a>(offsets: &[u32], items: &'a [u32], cell: usize) -> &'a [u32]

@@ -2,7 +2,7 @@
 use crate::rows;
 ghost use Rattle.samples.specs.Samples.{samples, sampleCount};
 ghost use Rattle.samples.specs.Sharing.{shares};
-ghost use Rattle.first_tests.specs.Scan.{GlobalAsks, GlobalDone, GlobalsAsk, GlobalsDone};
+ghost use Rattle.first_tests.specs.InsideScan.{GlobalAsks, GlobalDone, GlobalsAsk, GlobalsDone};
 
 // The global at a position: runs of lines between the globals that are passed over.
 fn scan_global(

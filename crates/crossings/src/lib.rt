@@ -5,7 +5,7 @@ use lent::OnceAnswer;
 use refusals::Check;
 ghost use Rattle.seek.specs.Tests.{testsOf};
 ghost use Rattle.first_tests.specs.Firsts.{keeps, PairsAre};
-ghost use Rattle.first_tests.specs.Scan.{HandedOut, RunAsks};
+ghost use Rattle.first_tests.specs.InsideScan.{HandedOut, RunAsks};
 ghost use Rattle.samples.specs.Samples.{samples};
 ghost use Rattle.samples.specs.Sharing.{shares};
 ghost use Rattle.crossings.specs.Crossings.{besideSamples, crossingsBy};

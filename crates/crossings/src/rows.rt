@@ -5,8 +5,8 @@ ghost use Prim.Native.Nat.{_-_};
 ghost use Rattle.samples.specs.Samples.{samples, sampleCount};
 ghost use Rattle.seek.specs.Inside.{numbers};
 ghost use Rattle.samples.specs.Sharing.{shares};
-ghost use Rattle.first_tests.specs.Scan.{keepAt, PlaceAsks, RowHandedOut, ScanAsks};
-ghost use Rattle.first_tests.specs.Marked.{MarkedPair, MarkedRow};
+ghost use Rattle.first_tests.specs.InsideScan.{keepAt, PlaceAsks, RowHandedOut, ScanAsks};
+ghost use Rattle.first_tests.specs.InsideMarked.{MarkedPair, MarkedRow};
 ghost use Rattle.crossings.specs.Inside.{rowOf, RaisedHeld};
 
 // The first line of a row, raised, and 1 if the marks that the row goes by are sure, else 0.

@@ -18,7 +18,7 @@ use Rattle.grid.specs.declared.Grid.{Grid}
 use Rattle.grid.specs.Domain.{Lines, count}
 use Rattle.walk.specs.declared.Mode.{Mode}
 use Rattle.tables.specs.Lists.{long, only, globalLines}
-use Rattle.tables.specs.States.{CanCount}
+use Rattle.tables.specs.InsidePasses.{CanCount}
 use Rattle.tables.proofs.Laws.{counted-none}
 use Rattle.fill.specs.declared.passes.Walked.{Walked}
 use Rattle.fill.specs.declared.Count.the-variants as counted

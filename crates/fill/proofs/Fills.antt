@@ -16,7 +16,7 @@ use Rattle.grid.specs.declared.Grid.{Grid}
 use Rattle.grid.specs.Domain.{Lines, count}
 use Rattle.walk.specs.declared.Mode.{Mode}
 use Rattle.tables.specs.Lists.{Walks, linesAt, sum, start, itemsOf, offsetsOf}
-use Rattle.tables.specs.States.{Counted, Placed, Table}
+use Rattle.tables.specs.InsidePasses.{Counted, Placed, Table}
 use Rattle.tables.proofs.Laws.{counts-sum, placed-none, table-of}
 use Rattle.fill.specs.declared.Filled.{Filled}
 use Rattle.fill.specs.declared.Filled.the-variants as filled

@@ -12,7 +12,7 @@ use Rattle.grid.specs.declared.Grid.{Grid}
 use Rattle.grid.specs.Domain.{Lines, count, fit}
 use Rattle.walk.specs.declared.Mode.{Mode}
 use Rattle.tables.specs.Lists.{long, linesAt, start}
-use Rattle.tables.specs.States.{Counted, Placed, CanCount, CanPlace}
+use Rattle.tables.specs.InsidePasses.{Counted, Placed, CanCount, CanPlace}
 use Rattle.tables.proofs.Laws.{total-few}
 use Rattle.tables.proofs.Lists.{local-long, local-few, list-none}
 use Rattle.fill.specs.OnGrid.{gridCells, cellsOn, listOn, total}

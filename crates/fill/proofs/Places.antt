@@ -13,7 +13,7 @@ use Rattle.grid.specs.declared.Grid.{Grid}
 use Rattle.grid.specs.Domain.{Lines, count}
 use Rattle.walk.specs.declared.Mode.{Mode}
 use Rattle.tables.specs.Lists.{long, only, globalLines}
-use Rattle.tables.specs.States.{CanPlace}
+use Rattle.tables.specs.InsidePasses.{CanPlace}
 use Rattle.fill.specs.declared.passes.Walked.{Walked}
 use Rattle.fill.specs.OnGrid.{walkOn, completes, cellsOn, globalsOn, oneIf}
 use Rattle.fill.specs.Inside.{Walkable, WalkAsks, LineFront, WalkedIs, VisitsPlaced, PlacedTo, LineAsks, LinePlaced, PlaceAsks, AllPlaced}

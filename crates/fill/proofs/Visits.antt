@@ -5,7 +5,7 @@ use Prim.Native.Nat.{ℕ, suc, _+_, _-_, _≤_, _<_, _^_}
 use native.Mathlib.Omega.{arith}
 use lib.ListN.{length, getD, set, length-set}
 use Rattle.tables.specs.Lists.{linesAt, start}
-use Rattle.tables.specs.States.{Line, Counted, Placed, CanCount, CanPlace}
+use Rattle.tables.specs.InsidePasses.{Line, Counted, Placed, CanCount, CanPlace}
 use Rattle.tables.proofs.Laws.{soFar, so-far-none, Turn, turn, line-done, count-step, count-fits, place-step, place-inside}
 
 -- ---- the first pass: j of the n cells at the front of s are counted

@@ -20,7 +20,7 @@ use Rattle.walk.specs.Segment as walk
 use Rattle.walk.proofs.Visits.{Cells, segment-visits}
 use Rattle.walk.proofs.Checked.{as-is}
 use Rattle.tables.specs.Lists.{Walks, long, local}
-use Rattle.tables.specs.States.{Line}
+use Rattle.tables.specs.InsidePasses.{Line}
 use Rattle.tables.proofs.Lists.{local-walks, local-short}
 use Rattle.fill.specs.OnGrid.{gridCells, walkOn, completes, visited, cellsOn}
 use Rattle.fill.specs.Inside.{Walkable, WalkAsks, LineFront, WalkedIs, localOn}

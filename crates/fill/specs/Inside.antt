@@ -12,7 +12,7 @@ use Rattle.grid.specs.declared.Grid.{Grid}
 use Rattle.grid.specs.Domain.{Lines, count, Alike, lineFits, fit}
 use Rattle.walk.specs.declared.Mode.{Mode}
 use Rattle.tables.specs.Lists.{long, local, linesAt, sum}
-use Rattle.tables.specs.States.{Counted, Placed, CanCount, CanPlace}
+use Rattle.tables.specs.InsidePasses.{Counted, Placed, CanCount, CanPlace}
 use Rattle.fill.specs.declared.Count.{Count}
 use Rattle.fill.specs.declared.Count.the-variants as counted
 use Rattle.fill.specs.declared.passes.Walked.{Walked}

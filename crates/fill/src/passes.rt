@@ -4,7 +4,7 @@ ghost use mathlib.Core.Bool.{true};
 ghost use Prim.Native.Nat.{_≤_, _<_};
 ghost use lib.ListN.{length};
 ghost use Rattle.grid.specs.Domain.{lines, fit};
-ghost use Rattle.tables.specs.States.{CanCount, CanPlace};
+ghost use Rattle.tables.specs.InsidePasses.{CanCount, CanPlace};
 ghost use Rattle.fill.specs.OnGrid.{gridCells};
 ghost use Rattle.fill.specs.Checks.{turnsCheck};
 ghost use Rattle.fill.specs.Inside.{CountAs, WalkAsks, WalkedIs, VisitsCounted, PassAsks, AllCounted, VisitsPlaced, PlaceAsks, AllPlaced};

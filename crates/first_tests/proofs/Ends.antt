@@ -26,7 +26,7 @@ use Rattle.lent.specs.declared.OnceAnswer.the-variants as answer
 use Rattle.lent.specs.Lent.{beginCheck, Begun, pairsCheck, pairsEnd, endLeft, EndIs}
 use Rattle.lent.proofs.Beginning.{begun-stopped, begin-spares}
 use Rattle.first_tests.specs.Firsts.{PairsAre}
-use Rattle.first_tests.specs.Scan.{putAt, SameFirst}
+use Rattle.first_tests.specs.InsideScan.{putAt, SameFirst}
 use Rattle.first_tests.proofs.Writes.{length-put}
 
 -- ---- what is written, and zero beyond

@@ -12,7 +12,7 @@ use Rattle.slices.specs.Lists.{Below, Rising}
 use Rattle.slices.proofs.Members.{below-at}
 use Rattle.tables.specs.Tables.{listIn}
 use Rattle.tables.specs.Lists.{linesAt}
-use Rattle.tables.specs.States.{Counted, CanCount}
+use Rattle.tables.specs.InsidePasses.{Counted, CanCount}
 use Rattle.seek.specs.declared.Place.{Place}
 use Rattle.seek.specs.declared.Place.the-variants.{Global}
 use Rattle.seek.specs.Tests.{Pair, pair, withEach, pairs, placeOf, cellTests}
@@ -21,7 +21,7 @@ use Rattle.seek.proofs.Clauses.{with-nil, length-with, pairs-nil, pairs-cons, c
 use Rattle.seek.proofs.Lengths.{tri-suc, tri-mono, tri-twice}
 use Rattle.by_line.proofs.Turns.{line-of}
 use Rattle.first_tests.specs.Firsts.{keptBy}
-use Rattle.first_tests.specs.Scan.{HandedOut, keepAt, Listed, RowHandedOut, ScanAsks, PlaceAsks, RowsAsk, RowsDone, CellsAsk, CellsDone}
+use Rattle.first_tests.specs.InsideScan.{HandedOut, keepAt, Listed, RowHandedOut, ScanAsks, PlaceAsks, RowsAsk, RowsDone, CellsAsk, CellsDone}
 use Rattle.first_tests.proofs.Writes.{grown-none, grown-then, kept-few}
 
 -- ---- rows

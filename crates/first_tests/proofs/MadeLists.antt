@@ -10,7 +10,7 @@ use Rattle.grid.specs.declared.Grid.{Grid}
 use Rattle.tables.specs.Tables.{Tables}
 use Rattle.lent.specs.Lent.{Begun}
 use Rattle.lent.proofs.Beginning.{begun-passed}
-use Rattle.first_tests.specs.Scan.{RunAsks}
+use Rattle.first_tests.specs.InsideScan.{RunAsks}
 
 module _ {checked : Check} {g : Grid} {t : Tables} {first second : ℕ} {starts listing counts starts′ listing′ counts′ : List ℕ} {r : Check}
     (b : Begun checked g t first second starts listing counts r starts′ listing′ counts′) (e : r ≡ Fine)

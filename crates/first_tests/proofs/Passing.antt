@@ -15,8 +15,8 @@ use Rattle.by_line.specs.First.{metBelow, meetBefore, firstBy}
 use Rattle.by_line.specs.Marks.{markOf, MarksAre}
 use Rattle.by_line.proofs.Common.{Standing}
 use Rattle.by_line.proofs.Shared.{shared-met, apart-first}
-use Rattle.first_tests.specs.Scan.{keepAt, PlaceAsks, PairAsks, RowHandedOut, RowsAsk}
-use Rattle.first_tests.specs.Marked.{MarkedPair, MarkedRow, MarkedRows}
+use Rattle.first_tests.specs.InsideScan.{keepAt, PlaceAsks, PairAsks, RowHandedOut, RowsAsk}
+use Rattle.first_tests.specs.InsideMarked.{MarkedPair, MarkedRow, MarkedRows}
 use Rattle.first_tests.proofs.Scans.{pair-no, pair-met, pair-first, ListScan, list-begin, list-pair, list-yes, list-no}
 use Rattle.first_tests.proofs.Lists.{Rows, rows-begin, row-scan, rows-next}
 

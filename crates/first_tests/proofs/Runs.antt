@@ -18,7 +18,7 @@ use Rattle.seek.proofs.Clauses.{with-nil, with-append, length-with, others-zero
 use Rattle.seek.proofs.OtherLines.{length-numbers, others-run}
 use Rattle.seek.proofs.GlobalRests.{stop-in, stop-out, k-most, free, line-further, pass-fits}
 use Rattle.first_tests.specs.Firsts.{keptBy}
-use Rattle.first_tests.specs.Scan.{HandedOut, keepAt, RowHandedOut, ScanAsks, PlaceAsks, GlobalAsks, GlobalDone, GlobalsAsk, GlobalsDone}
+use Rattle.first_tests.specs.InsideScan.{HandedOut, keepAt, RowHandedOut, ScanAsks, PlaceAsks, GlobalAsks, GlobalDone, GlobalsAsk, GlobalsDone}
 use Rattle.first_tests.proofs.Writes.{grown-none, grown-then, kept-few}
 
 -- ---- the other lines, up to a line and from it on

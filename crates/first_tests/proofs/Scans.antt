@@ -16,7 +16,7 @@ use Rattle.seek.proofs.Clauses.{with-nil, with-cons, with-append, numbers-zero,
 use Rattle.seek.proofs.OtherLines.{length-numbers}
 use Rattle.by_line.specs.First.{metBelow, meetBefore}
 use Rattle.by_line.proofs.Common.{met-is}
-use Rattle.first_tests.specs.Scan.{keepAt, PlaceAsks, PairAsks, RowHandedOut, ScanAsks}
+use Rattle.first_tests.specs.InsideScan.{keepAt, PlaceAsks, PairAsks, RowHandedOut, ScanAsks}
 use Rattle.first_tests.proofs.Writes.{grown-none, grown-then, grown-over, grown-yes, grown-no}
 
 -- ---- one test

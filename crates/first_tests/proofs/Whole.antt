@@ -16,7 +16,7 @@ use Rattle.seek.proofs.Standing.{globals-fit, has-columns}
 use Rattle.by_line.proofs.Turns.{counted-none}
 use Rattle.by_line.proofs.Room.{Passed, passed, list-asks, table-walks, by-line-total}
 use Rattle.first_tests.specs.Firsts.{through, isFirst, keeps}
-use Rattle.first_tests.specs.Scan.{HandedOut, keepAt, PlaceAsks, CellsAsk, CellsDone, GlobalsAsk, GlobalsDone, RunAsks}
+use Rattle.first_tests.specs.InsideScan.{HandedOut, keepAt, PlaceAsks, CellsAsk, CellsDone, GlobalsAsk, GlobalsDone, RunAsks}
 use Rattle.first_tests.proofs.Writes.{grown-then}
 
 -- ---- which tests are the first

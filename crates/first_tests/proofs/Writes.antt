@@ -11,7 +11,7 @@ use lib.Seq.{take-all, take-set-le, take-suc-set}
 use Rattle.seek.specs.Tests.{Pair}
 use Rattle.visit.specs.Batches.{keepIf}
 use Rattle.first_tests.specs.Firsts.{keptBy}
-use Rattle.first_tests.specs.Scan.{putAt, SameFirst, HandedOut}
+use Rattle.first_tests.specs.InsideScan.{putAt, SameFirst, HandedOut}
 
 -- ---- which tests pass
 

@@ -1,5 +1,5 @@
--- The definitions of the first tests: `Firsts` the first test of two lines and the pairs that a visit hands out at it, `Scan` what a scan asks and
--- promises, whatever decides which two lines are handed out, `Marked` what one by marks asks.
+-- The definitions of the first tests: `Firsts` the first test of two lines and the pairs that a visit hands out at it, `InsideScan` what a scan asks and
+-- promises, whatever decides which two lines are handed out, `InsideMarked` what one by marks asks.
 pub mod Firsts
-pub mod Scan
-pub mod Marked
+pub mod InsideScan
+pub mod InsideMarked

@@ -17,8 +17,8 @@ use Rattle.grid.specs.Boxes.{boxOf, overlaps}
 use Rattle.visit.specs.Overlap.{overlap}
 use Rattle.visit.specs.Inside.{LineAsks}
 use Rattle.by_line.specs.First.{firstBy}
-use Rattle.first_tests.specs.Scan.{keepAt, PlaceAsks, RowsDone}
-use Rattle.first_tests.specs.Marked.{MarkedPair, MarkedRows}
+use Rattle.first_tests.specs.InsideScan.{keepAt, PlaceAsks, RowsDone}
+use Rattle.first_tests.specs.InsideMarked.{MarkedPair, MarkedRows}
 use Rattle.first_tests.proofs.Passing.{marked-far, marked-near}
 use Rattle.short_lists.specs.Short.{readyBox, ready, pairOutputs, shortFits, shortRows}
 use Rattle.once.proofs.Deciding.{short-done}

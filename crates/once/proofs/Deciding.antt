@@ -16,8 +16,8 @@ use lib.Seq.{getD-drop}
 use Rattle.slices.proofs.Members.{below-at}
 use Rattle.grid.specs.Boxes.{overlaps}
 use Rattle.by_line.specs.First.{meetBefore}
-use Rattle.first_tests.specs.Scan.{keepAt, PlaceAsks, PairAsks, RowsDone}
-use Rattle.first_tests.specs.Marked.{Says, MarkedPair, MarkedRows}
+use Rattle.first_tests.specs.InsideScan.{keepAt, PlaceAsks, PairAsks, RowsDone}
+use Rattle.first_tests.specs.InsideMarked.{Says, MarkedPair, MarkedRows}
 use Rattle.first_tests.proofs.Scans.{pair-no, pair-met, pair-first, ListScan, list-begin, list-done, list-over, list-yes, list-no}
 use Rattle.first_tests.proofs.Lists.{Rows, rows-begin, rows-done, row-scan, rows-next}
 use Rattle.first_tests.proofs.Passing.{marked-met, marked-apart}

@@ -25,7 +25,7 @@ use Rattle.lent.specs.Lent.{beginCheck, Begun, pairsCheck, EndIs}
 use Rattle.lent.proofs.Beginning.{begun-passed}
 use Rattle.first_tests.specs.Firsts.{keptBy, keeps, firstTests, PairsAre}
 use Rattle.once.specs.Once.{onceOf, onceBy}
-use Rattle.first_tests.specs.Scan.{HandedOut}
+use Rattle.first_tests.specs.InsideScan.{HandedOut}
 use Rattle.first_tests.proofs.Ends.{pairs-stopped, pairs-end}
 
 module _ (ls : Lines) (g : Grid) (offsets items globals : List ℕ) (k : ℕ) (first second starts listing counts : List ℕ) where

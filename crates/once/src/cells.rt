@@ -8,10 +8,10 @@ ghost use Rattle.grid.specs.Domain.{lines, count};
 ghost use Rattle.visit.specs.Overlap.{overlap};
 ghost use Rattle.tables.specs.Tables.{listIn};
 ghost use Rattle.tables.specs.Lists.{linesAt};
-ghost use Rattle.tables.specs.States.{CanCount, Counted};
+ghost use Rattle.tables.specs.InsidePasses.{CanCount, Counted};
 ghost use Rattle.by_line.specs.Inside.{CellListAsks};
-ghost use Rattle.first_tests.specs.Scan.{RowsAsk, RowsDone, CellsAsk, CellsDone};
-ghost use Rattle.first_tests.specs.Marked.{MarkedRows};
+ghost use Rattle.first_tests.specs.InsideScan.{RowsAsk, RowsDone, CellsAsk, CellsDone};
+ghost use Rattle.first_tests.specs.InsideMarked.{MarkedRows};
 ghost use Rattle.once.specs.Inside.{LinesChecked};
 
 // The list of a cell: a part of the items.

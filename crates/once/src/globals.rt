@@ -2,7 +2,7 @@
 use crate::rows;
 ghost use Rattle.grid.specs.Domain.{lines, count};
 ghost use Rattle.visit.specs.Overlap.{overlap};
-ghost use Rattle.first_tests.specs.Scan.{GlobalAsks, GlobalDone, GlobalsAsk, GlobalsDone};
+ghost use Rattle.first_tests.specs.InsideScan.{GlobalAsks, GlobalDone, GlobalsAsk, GlobalsDone};
 ghost use Rattle.once.specs.Inside.{LinesChecked};
 
 // The global at a position: runs of lines between the globals that are passed over.

@@ -10,7 +10,7 @@ ghost use Rattle.visit.specs.Overlap.{overlap};
 ghost use Rattle.tables.specs.Tables.{beside};
 ghost use Rattle.first_tests.specs.Firsts.{keeps, PairsAre};
 ghost use Rattle.once.specs.Once.{onceBy};
-ghost use Rattle.first_tests.specs.Scan.{HandedOut, RunAsks};
+ghost use Rattle.first_tests.specs.InsideScan.{HandedOut, RunAsks};
 ghost use Rattle.once.specs.Inside.{LinesChecked};
 
 mod boxes;

@@ -7,8 +7,8 @@ ghost use Rattle.grid.specs.Domain.{lines, count};
 ghost use Rattle.seek.specs.Inside.{numbers};
 ghost use Rattle.visit.specs.Inside.{LineAsks};
 ghost use Rattle.visit.specs.Overlap.{overlap};
-ghost use Rattle.first_tests.specs.Scan.{keepAt, PlaceAsks, RowHandedOut, ScanAsks};
-ghost use Rattle.first_tests.specs.Marked.{MarkedPair, MarkedRow};
+ghost use Rattle.first_tests.specs.InsideScan.{keepAt, PlaceAsks, RowHandedOut, ScanAsks};
+ghost use Rattle.first_tests.specs.InsideMarked.{MarkedPair, MarkedRow};
 ghost use Rattle.once.specs.Inside.{rowOf, RowHeld};
 
 // The first line of a row, with its box, and 1 if the marks that the row goes by are sure, else 0.

@@ -35,7 +35,7 @@ use lib.Seq.{getD-set-same, getD-set-other, getD-at, getD-take, getD-drop, take-
 use Rattle.slices.specs.Lists.{elem, Below, Rising}
 use Rattle.slices.proofs.Members.{below-at}
 use Rattle.tables.specs.Lists.{Walks, only, linesAt, sum, concat, start, tabulate, itemsOf, offsetsOf}
-use Rattle.tables.specs.States.{Line, Table, Counted, runAt, Placed}
+use Rattle.tables.specs.InsidePasses.{Line, Table, Counted, runAt, Placed}
 
 -- ---- sums
 

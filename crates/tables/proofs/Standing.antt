@@ -18,7 +18,7 @@ use Rattle.grid.specs.Domain.{fit}
 use Rattle.tables.specs.Tables.{Tables, tables, cells, listIn, listOf, globalsOf}
 use Rattle.tables.specs.Fit.{TablesFit}
 use Rattle.tables.specs.Lists.{Walks, long, only, local, localLines, globalLines, sum, start}
-use Rattle.tables.specs.States.{Table}
+use Rattle.tables.specs.InsidePasses.{Table}
 use Rattle.tables.specs.Stands.{Stands}
 use Rattle.tables.proofs.Facts.{part-slice}
 use Rattle.tables.proofs.Laws.{sum-mono, sum-same, table-offset, table-list}

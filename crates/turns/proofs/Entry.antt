@@ -30,7 +30,7 @@ use Rattle.turns.specs.declared.Trail.the-variants.{Walked, Refused}
 use Rattle.turns.specs.Turns.{rayOf, startOf}
 use Rattle.turns.specs.Pushes.{pushOf, Outcome, followedBy, onwardOf, walkedOf}
 use Rattle.turns.specs.Trails.{unlessThere, endedIn, troddenOf, treadOf, trodBy, trailOf, TrailLeft, TrailIs}
-use Rattle.turns.specs.Modular.{courseBy, positionBy, wayBy, startBy, troddenBy}
+use Rattle.turns.specs.InsideModular.{courseBy, positionBy, wayBy, startBy, troddenBy}
 use Rattle.turns.specs.Inside.{RanTo}
 use Rattle.turns.proofs.Grows.{there-le, there-same}
 use Rattle.turns.proofs.Whole.{trodden-is}

@@ -16,7 +16,7 @@ use Rattle.grid.specs.Axes.{xAxis, yAxis, indexOn}
 use Rattle.grid.proofs.Shapes.{Shape}
 use Rattle.turns.specs.Turns.{nought, deltaOf, firstOn, rayOf, startOf}
 use Rattle.turns.specs.Pushes.{walkedOf}
-use Rattle.turns.specs.Modular.{courseBy, positionBy, wayBy, startBy, steppedBy, advancedBy}
+use Rattle.turns.specs.InsideModular.{courseBy, positionBy, wayBy, startBy, steppedBy, advancedBy}
 use Rattle.turns.specs.Inside.{Far, Straight, Still}
 use Rattle.turns.proofs.Floats.{sum-far, step-none, index-le}
 use Rattle.turns.proofs.Whole.{walked-is}

@@ -11,7 +11,7 @@ use Rattle.numbers.specs.Floor.{clampedFloor}
 use Rattle.grid.specs.declared.Axis.{Axis}
 use Rattle.grid.specs.Axes.{scaledOn, indexOn}
 use Rattle.turns.specs.Turns.{nought, finiteOf}
-use Rattle.turns.specs.Modular.{stepBy}
+use Rattle.turns.specs.InsideModular.{stepBy}
 
 -- ---- the tests of `near`, the difference first
 

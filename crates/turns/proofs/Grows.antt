@@ -15,7 +15,7 @@ use Rattle.cover.specs.Inside.{Appended}
 use Rattle.cover.proofs.Growing.{none, one}
 use Rattle.turns.specs.Pushes.{keptIf}
 use Rattle.turns.specs.Trails.{lastIs, unlessThere}
-use Rattle.turns.specs.Modular.{pushBy}
+use Rattle.turns.specs.InsideModular.{pushBy}
 
 -- a cell's number is below the number of cells
 pub number : (x y cols rows : ℕ) → x < cols → y < rows → y * cols + x < rows * cols

@@ -22,7 +22,7 @@ use Rattle.cover.specs.Inside.{Appended}
 use Rattle.cover.proofs.Growing.{none, then}
 use Rattle.turns.specs.Pushes.{Outcome, before}
 use Rattle.turns.specs.Trails.{unlessThere, endedIn}
-use Rattle.turns.specs.Modular.{arrivedBy, turnBy, steppedBy, advancedBy, movedBy, pushBy, sidesBy, pushedBy, nextBy, goingBy, turnsBy, onwardBy, troddenBy}
+use Rattle.turns.specs.InsideModular.{arrivedBy, turnBy, steppedBy, advancedBy, movedBy, pushBy, sidesBy, pushedBy, nextBy, goingBy, turnsBy, onwardBy, troddenBy}
 use Rattle.turns.specs.Inside.{RanTo, RanWithin, Far, Straight, Still, Runs}
 use Rattle.turns.proofs.Floats.{sum-far}
 use Rattle.turns.proofs.Grows.{at-most-one}

@@ -16,7 +16,7 @@ use Rattle.turns.specs.declared.Walk.{Walk}
 use Rattle.turns.specs.declared.Way.{Way}
 use Rattle.turns.specs.Turns.{Ray, State, turnOf}
 use Rattle.turns.specs.Pushes.{keptIf, pushOf, pushedOf, Outcome, before, followedBy, nextOf, goingOf, turns, walkedOf}
-use Rattle.turns.specs.Modular.{turnBy, steppedBy, movedBy, pushBy, sidesBy, pushedBy, nextBy, goingBy, turnsBy, walkedBy}
+use Rattle.turns.specs.InsideModular.{turnBy, steppedBy, movedBy, pushBy, sidesBy, pushedBy, nextBy, goingBy, turnsBy, walkedBy}
 use Rattle.turns.specs.Inside.{Straight, Still}
 use Rattle.turns.proofs.Grows.{number, at-most-one}
 use Rattle.turns.proofs.Loop.{at-most-three, one-way, turn-lean, far-of, straight-next, still-next}

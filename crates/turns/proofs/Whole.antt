@@ -22,7 +22,7 @@ use Rattle.turns.specs.declared.Way.{Way}
 use Rattle.turns.specs.Turns.{nought, signOf, Stride, strideOn, Progress, progressOn, Ray, State, rayOf, startOf, sameInt, arrivedOf, turnOf, steppedOf, advanced, movedOf, goesOf}
 use Rattle.turns.specs.Pushes.{keptIf, pushOf, sidesOf, pushedOf, before, followedBy, nextOf, goingOf, turns, onwardOf, walkedOf}
 use Rattle.turns.specs.Trails.{endedIn, troddenOf}
-use Rattle.turns.specs.Modular.{stepBy, courseBy, positionBy, wayBy, startBy, arrivedBy, turnBy, steppedBy, advancedBy, movedBy, pushBy, sidesBy, pushedBy, nextBy, goingBy, turnsBy, onwardBy, walkedBy, troddenBy}
+use Rattle.turns.specs.InsideModular.{stepBy, courseBy, positionBy, wayBy, startBy, arrivedBy, turnBy, steppedBy, advancedBy, movedBy, pushBy, sidesBy, pushedBy, nextBy, goingBy, turnsBy, onwardBy, walkedBy, troddenBy}
 use Rattle.turns.proofs.Floats.{index-le}
 
 -- ---- an index

@@ -18,7 +18,7 @@ use Rattle.turns.specs.declared.Ran.{Ran}
 use Rattle.turns.specs.declared.Ran.the-variants.{Done, Over}
 use Rattle.turns.specs.Turns.{nought, one, infinite}
 use Rattle.turns.specs.Pushes.{Outcome}
-use Rattle.turns.specs.Modular.{advancedBy}
+use Rattle.turns.specs.InsideModular.{advancedBy}
 
 -- The tolerance by the greater t_max, and whether a turn is plain: the lesser t_max is above 0 and at most 1 + tolerance, and `gap`, by which the two
 -- differ, is more than the tolerance; or the greater is infinite.

@@ -14,7 +14,7 @@ ghost use mathlib.Core.Path.{_≡_};
 ghost use mathlib.Core.Bool.{true, false};
 ghost use lib.Ieee.{inf, binary64, sub};
 ghost use Rattle.turns.specs.Turns.{finiteOf, deltaOf, nextOn, firstOn, toleranceOf, nearOf, furtherOf, goesOf};
-ghost use Rattle.turns.specs.Modular.{stepBy, courseBy, positionBy, wayBy, startBy, arrivedBy, turnBy, steppedBy, advancedBy, movedBy};
+ghost use Rattle.turns.specs.InsideModular.{stepBy, courseBy, positionBy, wayBy, startBy, arrivedBy, turnBy, steppedBy, advancedBy, movedBy};
 ghost use Rattle.turns.specs.Inside.{plainly};
 
 fn infinity() -> f64

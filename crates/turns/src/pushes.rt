@@ -10,7 +10,7 @@ ghost use Prim.Native.Nat.{_+_, _*_, _≤_, _<_};
 ghost use lib.ListN.{length, take};
 ghost use Rattle.cover.specs.Inside.{Appended};
 ghost use Rattle.turns.specs.Pushes.{before};
-ghost use Rattle.turns.specs.Modular.{movedBy, pushBy, sidesBy, pushedBy, goingBy, turnsBy, troddenBy};
+ghost use Rattle.turns.specs.InsideModular.{movedBy, pushBy, sidesBy, pushedBy, goingBy, turnsBy, troddenBy};
 ghost use Rattle.turns.specs.Trails.{lastIs, unlessThere};
 ghost use Rattle.turns.specs.Inside.{RanTo, Runs};
 

@@ -1,6 +1,6 @@
 -- `turns::Position::moved` meets its contract. Assumes nothing.
 use borrow.Author.Needs.{needs}
-use Rattle.turns.specs.Modular.{advancedBy}
+use Rattle.turns.specs.InsideModular.{advancedBy}
 use Rattle.turns.proofs.Position.moved.Statement.{statement}
 use Rattle.turns.proofs.Position.moved.Tie as tie
 

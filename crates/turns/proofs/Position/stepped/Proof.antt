@@ -1,6 +1,6 @@
 -- `turns::Position::stepped` meets its contract. Assumes nothing.
 use borrow.Author.Needs.{needs}
-use Rattle.turns.specs.Modular.{steppedBy}
+use Rattle.turns.specs.InsideModular.{steppedBy}
 use Rattle.turns.proofs.Position.stepped.Statement.{statement}
 use Rattle.turns.proofs.Position.stepped.Tie as tie
 

@@ -1,6 +1,6 @@
 -- `turns::Walk::arrived` meets its contract. Assumes nothing.
 use borrow.Author.Tests.{eq-eqb, ne-eqb}
-use Rattle.turns.specs.Modular.{arrivedBy}
+use Rattle.turns.specs.InsideModular.{arrivedBy}
 use Rattle.turns.proofs.Walk.arrived.Statement.{statement}
 use Rattle.turns.proofs.Walk.arrived.Tie as tie
 

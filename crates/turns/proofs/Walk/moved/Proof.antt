@@ -1,6 +1,6 @@
 -- `turns::Walk::moved` meets its contract. Assumes nothing.
 use borrow.Author.Needs.{needs}
-use Rattle.turns.specs.Modular.{advancedBy, movedBy}
+use Rattle.turns.specs.InsideModular.{advancedBy, movedBy}
 use Rattle.turns.proofs.Walk.moved.Statement.{statement}
 use Rattle.turns.proofs.Walk.moved.Tie as tie
 

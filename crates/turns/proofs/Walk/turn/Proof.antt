@@ -1,6 +1,6 @@
 -- `turns::Walk::turn` meets its contract. Assumes nothing.
 use borrow.Author.Needs.{needs}
-use Rattle.turns.specs.Modular.{turnBy}
+use Rattle.turns.specs.InsideModular.{turnBy}
 use Rattle.turns.proofs.Walk.turn.Statement.{statement}
 use Rattle.turns.proofs.Walk.turn.Tie as tie
 

@@ -1,6 +1,6 @@
 -- `turns::moves::course` meets its contract. Assumes nothing.
 use borrow.Author.Needs.{needs}
-use Rattle.turns.specs.Modular.{courseBy}
+use Rattle.turns.specs.InsideModular.{courseBy}
 use Rattle.turns.proofs.moves.course.Statement.{statement}
 use Rattle.turns.proofs.moves.course.Tie as tie
 

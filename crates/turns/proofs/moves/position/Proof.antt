@@ -1,6 +1,6 @@
 -- `turns::moves::position` meets its contract. Assumes nothing.
 use borrow.Author.Needs.{needs}
-use Rattle.turns.specs.Modular.{positionBy}
+use Rattle.turns.specs.InsideModular.{positionBy}
 use Rattle.turns.proofs.moves.position.Statement.{statement}
 use Rattle.turns.proofs.moves.position.Tie as tie
 

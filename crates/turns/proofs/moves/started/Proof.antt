@@ -1,6 +1,6 @@
 -- `turns::moves::started` meets its contract. Assumes nothing.
 use borrow.Author.Needs.{needs}
-use Rattle.turns.specs.Modular.{startBy}
+use Rattle.turns.specs.InsideModular.{startBy}
 use Rattle.turns.proofs.moves.started.Statement.{statement}
 use Rattle.turns.proofs.moves.started.Tie as tie
 

@@ -1,6 +1,6 @@
 -- `turns::moves::step_of` meets its contract. Assumes nothing.
 use lib.Ieee.{ofBits}
-use Rattle.turns.specs.Modular.{stepBy}
+use Rattle.turns.specs.InsideModular.{stepBy}
 use Rattle.turns.proofs.moves.step_of.Statement.{statement}
 use Rattle.turns.proofs.moves.step_of.Tie as tie
 

@@ -1,6 +1,6 @@
 -- `turns::moves::way_of` meets its contract. Assumes nothing.
 use borrow.Author.Needs.{needs}
-use Rattle.turns.specs.Modular.{wayBy}
+use Rattle.turns.specs.InsideModular.{wayBy}
 use Rattle.turns.proofs.moves.way_of.Statement.{statement}
 use Rattle.turns.proofs.moves.way_of.Tie as tie
 

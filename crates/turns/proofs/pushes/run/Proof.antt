@@ -4,7 +4,7 @@ use native.Mathlib.Omega.{arith}
 use borrow.Author.Tests.{not-true, not-false}
 use lib.ListN.{length, take}
 use Rattle.turns.specs.Pushes.{before}
-use Rattle.turns.specs.Modular.{goingBy, turnsBy}
+use Rattle.turns.specs.InsideModular.{goingBy, turnsBy}
 use Rattle.turns.proofs.Loop.{Going, going-is, again, done, over}
 use Rattle.turns.proofs.pushes.run.Statement.{statement}
 use Rattle.turns.proofs.pushes.run.Tie as tie

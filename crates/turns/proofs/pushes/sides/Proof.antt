@@ -1,7 +1,7 @@
 -- `turns::pushes::sides` meets its contract. Assumes nothing.
 use native.Mathlib.Omega.{arith}
 use borrow.Author.Needs.{needs}
-use Rattle.turns.specs.Modular.{sidesBy}
+use Rattle.turns.specs.InsideModular.{sidesBy}
 use Rattle.cover.proofs.Growing.{then}
 use Rattle.turns.proofs.Grows.{at-most-one}
 use Rattle.turns.proofs.pushes.sides.Statement.{statement}

@@ -7,7 +7,7 @@ use mathlib.Core.List.{List}
 use lib.Bits.{bitAnd}
 use lib.ListN.{length, getD}
 use Rattle.by_line.specs.First.{metBelow}
-use Rattle.first_tests.specs.Scan.{PlaceAsks, PairAsks, ScanAsks, RowsAsk}
+use Rattle.first_tests.specs.InsideScan.{PlaceAsks, PairAsks, ScanAsks, RowsAsk}
 
 -- what the bits that the marks of two lines have in common say of them
 pub record Says (N head b common sure : ℕ) (starts listing counts : List ℕ) : Type 0 where

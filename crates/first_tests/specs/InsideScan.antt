@@ -11,7 +11,7 @@ use Rattle.grid.specs.declared.Grid.{Grid}
 use Rattle.tables.specs.Tables.{Tables, listIn}
 use Rattle.tables.specs.Fit.{standingCheck}
 use Rattle.tables.specs.Lists.{linesAt, start, offsetsOf, itemsOf}
-use Rattle.tables.specs.States.{Table, Counted}
+use Rattle.tables.specs.InsidePasses.{Table, Counted}
 use Rattle.seek.specs.declared.Place.{Place}
 use Rattle.seek.specs.declared.Place.the-variants.{Global}
 use Rattle.seek.specs.Tests.{Pair, pair, withEach, pairs, placeOf, cellTests, others, globalTests}

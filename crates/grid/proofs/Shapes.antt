@@ -10,11 +10,15 @@ use Rattle.grid.specs.declared.Grid.{Grid}
 use Rattle.grid.specs.Domain.{coordinate, point, counts, shape, sizeFits, sizesFit, fit}
 use Rattle.grid.proofs.Bools.{and-left, and-right, or-false}
 
--- two counts within 4,004 have a product of 32 bits
-pub small-product : (a b : ℕ) → a ≤ 4004 → b ≤ 4004 → a * b < 2 ^ 32
-small-product a b h k = let u : a * b ≤ 4004 * 4004 = le-trans (mul-le-mul-right b h) (mul-le-mul-left 4004 k) in omega arith
+-- two numbers of 32 bits have a product of 64
+pub wide-product : (a b : ℕ) → a < 2 ^ 32 → b < 2 ^ 32 → a * b < 2 ^ 64
+wide-product a b h k =
+    let p : a ≤ 4294967295 = omega arith in
+    let q : b ≤ 4294967295 = omega arith in
+    let u : a * b ≤ 4294967295 * 4294967295 = le-trans (mul-le-mul-right b p) (mul-le-mul-left 4294967295 q) in
+    omega arith
 
-pub count-within : (a : ℕ) → counts a ≡ true → a ≤ 4004
+count-within : (a : ℕ) → counts a ≡ true → a ≤ 4004
 count-within a h = leb-true _ _ (and-right (leb 1 a) (leb a 4004) h)
 
 -- ---- the test, case by case

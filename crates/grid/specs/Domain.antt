@@ -1,11 +1,11 @@
--- Document 01, "Domain", and the checks of its refusals 1, 2, 3, 8, 9 and 12, in its words. Definitions only.
+-- Document 01, "Domain", and the checks of its refusals 1, 2, 3, 8 and 9, in its words. Definitions only.
 use mathlib.Core.Path.{_≡_}
 use Prim.Native.Nat.{ℕ, _*_}
 use mathlib.Core.Bool.{Bool, _&&_, _||_}
 use mathlib.Core.List.{List}
 use lib.ListN.{length, getD}
 use lib.Dec.{leb, ltb, eqb}
-use lib.Ieee.{Float, nan, le, eq}
+use lib.Ieee.{Float, nan, le}
 use Rattle.numbers.specs.Arithmetic.{decimal}
 use Rattle.numbers.specs.Order.{magnitudeOf}
 use Rattle.refusals.specs.declared.Check.{Check}
@@ -115,20 +115,6 @@ segmentCheck s = unless (segment s) 1 0
 -- 8: grid record unfit
 unfoldable pub gridCheck : Grid → Check
 gridCheck g = unless (fit g) 8 0
-
--- a snap size: 0, or 1e-6 to 1e6
-unfoldable pub snapSize : Float → Bool
-snapSize size =
-    eq size (decimal 0 1)
-    || (le (decimal 1 1000000) size && le size (decimal 1000000 1))
-
--- 12: snap size unfit
-unfoldable pub snapSizeCheck : Float → Check
-snapSizeCheck size = unless (snapSize size) 12 0
-
--- 12: snap size or strategy unfit; 0 (Grid) is the only strategy
-unfoldable pub snapCheck : Float → ℕ → Check
-snapCheck size strategy = unless (snapSize size && eqb strategy 0) 12 0
 
 -- 9: a cell beyond its end; the value is the row
 unfoldable pub cellCheck : Grid → ℕ → ℕ → Check

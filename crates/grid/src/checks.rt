@@ -12,7 +12,7 @@ ghost use lib.ListN.{length};
 ghost use Rattle.refusals.specs.declared.Check.the-variants.{Fine};
 ghost use Rattle.grid.specs.Domain.{coordinate, point, segment, lines, Alike, counts, shape, sizeFits, sizesFit, fit};
 ghost use Rattle.grid.specs.Domain.{lengthsCheck, scratchCheck, countCheck, coordinatesCheck, coordinateCheck, pointCheck, segmentCheck, gridCheck};
-ghost use Rattle.grid.specs.Domain.{snapSize, snapSizeCheck, snapCheck, cellCheck, linesCheck};
+ghost use Rattle.grid.specs.Domain.{cellCheck, linesCheck};
 
 // The most lines of a call, and the least scratch.
 pub const MOST_LINES: usize = 65536;
@@ -29,75 +29,47 @@ fn is_coordinate(v: f64) -> bool
 pub fn is_point(x: f64, y: f64) -> bool
     ensures { λ r. ⌜ r ≡ point x y ⌝ }
 {
-    if is_coordinate(x) {
-        return is_coordinate(y);
-    }
-    false
+    is_coordinate(x) & is_coordinate(y)
 }
 
 fn is_segment(s: Segment) -> bool
     ensures { λ r. ⌜ r ≡ segment s ⌝ }
 {
-    if is_point(s.start_x, s.start_y) {
-        return is_point(s.end_x, s.end_y);
-    }
-    false
+    is_point(s.start_x, s.start_y) & is_point(s.end_x, s.end_y)
 }
 
 fn is_count(n: u32) -> bool
     ensures { λ r. ⌜ r ≡ counts n ⌝ }
 {
-    if 1 <= n {
-        return n <= 4004;
-    }
-    false
+    (1 <= n) & (n <= 4004)
 }
 
 // The counts of a fit grid: both 0, or each 1 to 4,004 with product at most 1,002,001.
 pub fn is_shape(cols: u32, rows: u32) -> bool
     ensures { λ r. ⌜ r ≡ shape cols rows ⌝ }
 {
-    if cols == 0 {
-        return rows == 0;
-    }
-    if is_count(cols) {
-        if is_count(rows) {
-            return rows * cols <= 1002001;
-        }
-        return false;
-    }
-    false
+    ((cols == 0) & (rows == 0))
+        | (is_count(cols) & (is_count(rows) & (rows as u64 * cols as u64 <= 1002001)))
 }
 
 // The smallest and the largest size of a cell on an axis of a fit grid.
 fn is_cell_size(v: f64) -> bool
     ensures { λ r. ⌜ r ≡ sizeFits v ⌝ }
 {
-    if 0.25e-6 <= v {
-        return v <= 2e9;
-    }
-    false
+    (0.25e-6 <= v) & (v <= 2e9)
 }
 
 fn are_cell_sizes(width: f64, height: f64) -> bool
     ensures { λ r. ⌜ r ≡ sizesFit width height ⌝ }
 {
-    if is_cell_size(width) {
-        return is_cell_size(height);
-    }
-    false
+    is_cell_size(width) & is_cell_size(height)
 }
 
 pub fn is_fit(grid: Grid) -> bool
     ensures { λ r. ⌜ r ≡ fit grid ⌝ }
 {
-    if is_point(grid.min_x, grid.min_y) {
-        if are_cell_sizes(grid.cell_width, grid.cell_height) {
-            return is_shape(grid.cols, grid.rows);
-        }
-        return false;
-    }
-    false
+    is_point(grid.min_x, grid.min_y)
+        & (are_cell_sizes(grid.cell_width, grid.cell_height) & is_shape(grid.cols, grid.rows))
 }
 
 pub fn check_coordinate(v: f64) -> Check
@@ -136,48 +108,10 @@ pub fn check_count(n: usize) -> Check
     refuse_unless(n <= MOST_LINES, 2, n as u64)
 }
 
-// A snap size is 0, or 1e-6 to 1e6.
-fn is_snap_size(size: f64) -> bool
-    ensures { λ r. ⌜ r ≡ snapSize size ⌝ }
-{
-    if size == 0.0 {
-        return true;
-    }
-    if 1e-6 <= size {
-        return size <= 1e6;
-    }
-    false
-}
-
-pub fn check_snap_size(size: f64) -> Check
-    ensures { λ r. ⌜ r ≡ snapSizeCheck size ⌝ }
-{
-    refuse_unless(is_snap_size(size), 12, 0)
-}
-
-// 0, Grid, is the only strategy.
-fn is_snap(size: f64, strategy: u32) -> bool
-    ensures { λ r. ⌜ r ≡ (snapSize size && eqb strategy 0) ⌝ }
-{
-    if is_snap_size(size) {
-        return strategy == 0;
-    }
-    false
-}
-
-pub fn check_snap(size: f64, strategy: u32) -> Check
-    ensures { λ r. ⌜ r ≡ snapCheck size strategy ⌝ }
-{
-    refuse_unless(is_snap(size, strategy), 12, 0)
-}
-
 fn is_cell(grid: Grid, row: u32, col: u32) -> bool
     ensures { λ r. ⌜ r ≡ (ltb row (grid .rows) && ltb col (grid .cols)) ⌝ }
 {
-    if row < grid.rows {
-        return col < grid.cols;
-    }
-    false
+    (row < grid.rows) & (col < grid.cols)
 }
 
 pub fn check_cell(grid: Grid, row: u32, col: u32) -> Check
@@ -189,13 +123,7 @@ pub fn check_cell(grid: Grid, row: u32, col: u32) -> Check
 fn all_are(n: usize, a: usize, b: usize, c: usize) -> bool
     ensures { λ r. ⌜ r ≡ (eqb a n && (eqb b n && eqb c n)) ⌝ }
 {
-    if a == n {
-        if b == n {
-            return c == n;
-        }
-        return false;
-    }
-    false
+    (a == n) & ((b == n) & (c == n))
 }
 
 // The coordinate slices have one length.

@@ -8,13 +8,13 @@ use Rattle.numbers.specs.Floor.{clampedFloor, floorOf}
 use Rattle.numbers.specs.Away.{roundAway}
 use Rattle.slices.specs.Slices.{sorted, insert, insertIf, distinctOf, after as runAfter, consUnless as unlessHere}
 use Rattle.refusals.specs.Refusals.{unless, andThen, _then_, _into_, answerBy}
-use Rattle.grid.specs.Domain.{coordinate, point, segment, sizeFits, sizesFit, shape, fit, scratchCheck, coordinateCheck, pointCheck, segmentCheck, gridCheck, cellCheck, snapSize, snapSizeCheck, snapCheck}
+use Rattle.grid.specs.Domain.{coordinate, point, segment, sizeFits, sizesFit, shape, fit, scratchCheck, coordinateCheck, pointCheck, segmentCheck, gridCheck, cellCheck}
 use Rattle.grid.specs.Axes.{scaledOn, indexOn, lowOn, highOn, nearWhole, sideOf, sideOn}
 use Rattle.turns.specs.Turns.{finiteOf, signOf as stepOf, deltaOf, nextOn, firstOn, strideOn, progressOn, rayOf, startOf, toleranceOf, nearOf, furtherOf, sameInt, arrivedOf, turnOf, advanced, movedOf, goesOf}
 use Rattle.turns.specs.Pushes.{keptIf, pushOf, sidesOf, pushedOf, before, followedBy, nextOf, goingOf, turns, walkedOf}
 use Rattle.walk.specs.Neighbours.{neighbourFor, neighbourOn, alongOn, lowColOf, upColOf, lowRowOf, upRowOf, columnOf, rowOf, besideOf, lineOf, cellOf, endpointOf}
 use Rattle.walk.specs.Segment.{pushesOf, answered, byTurns, unlessNone, turnsOf, turning, segmentOf, entryCheck, offIn, offCheck, entryOf}
-use Rattle.snap.specs.Snap.{gridSnap, snapOf, snapAnswer}
+use Rattle.snap.specs.Snap.{snapSize, snapSizeCheck, snapCheck, gridSnap, snapOf, snapAnswer}
 use Rattle.snap.specs.Strategies.{signOne, geosSnap, geosOf, sameBits, agreementAnswer}
 use Rattle.own.specs.Own.{ownsOn, ownsPoint, pointOnGridCheck, pointAnswer}
 use Rattle.measured.specs.Table.{table, Claim}

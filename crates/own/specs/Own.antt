@@ -9,8 +9,8 @@ use Rattle.refusals.specs.Refusals.{andThen, gives, _then_, answerBy}
 use Rattle.grid.specs.declared.Grid.{Grid}
 use Rattle.grid.specs.declared.Axis.{Axis}
 use Rattle.grid.specs.Axes.{xAxis, yAxis, lowOn, highOn}
-use Rattle.grid.specs.Domain.{pointCheck, gridCheck, snapCheck, cellCheck}
-use Rattle.snap.specs.Snap.{snapOf}
+use Rattle.grid.specs.Domain.{pointCheck, gridCheck, cellCheck}
+use Rattle.snap.specs.Snap.{snapCheck, snapOf}
 use Rattle.own.specs.declared.Owned.{Owned}
 use Rattle.own.specs.declared.Owned.the-variants.{Yes, No, Refused}
 

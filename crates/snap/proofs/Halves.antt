@@ -26,8 +26,8 @@ use Rattle.numbers.proofs.OrderLaws.{magnitude-finite}
 use Rattle.numbers.proofs.WholeLaws.{counted, counted-value}
 use Rattle.numbers.proofs.FloatSum.{zero-le}
 use Rattle.numbers.proofs.FloatQuotient.{div-is, num-pos}
-use Rattle.grid.specs.Domain.{coordinate, snapSize}
-use Rattle.snap.specs.Snap.{gridSnap, snapOf}
+use Rattle.grid.specs.Domain.{coordinate}
+use Rattle.snap.specs.Snap.{snapSize, gridSnap, snapOf}
 use Rattle.snap.specs.Strategies.{signOne, geosSnap, geosOf, sameBits}
 use Rattle.snap.proofs.HalfSums.{Under, floor-rounded, under-whole, under-fraction}
 

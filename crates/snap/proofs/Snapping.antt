@@ -8,10 +8,10 @@ use Rattle.refusals.specs.declared.Check.{Check}
 use Rattle.refusals.specs.declared.Check.the-variants.{Fine, Refused}
 use Rattle.refusals.specs.Refusals.{gives, _then_, answerBy}
 use Rattle.refusals.proofs.Answers.{past}
-use Rattle.grid.specs.Domain.{pointCheck, snapCheck}
+use Rattle.grid.specs.Domain.{pointCheck}
 use Rattle.snap.specs.declared.Snapped.the-variants.{Point}
 use Rattle.snap.specs.declared.Snapped.the-variants as snapped-variants
-use Rattle.snap.specs.Snap.{snapOf, snapAnswer}
+use Rattle.snap.specs.Snap.{snapCheck, snapOf, snapAnswer}
 
 -- the check of size and strategy, read off the answer
 refused-so : (k : Check) (p q : Float) (r : Refusal) → answerBy snapped-variants.Refused (λ s. s) (k then gives (Point p q)) ≡ snapped-variants.Refused r → k ≡ Refused r

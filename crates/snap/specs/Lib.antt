@@ -1,3 +1,3 @@
--- The definitions that the contracts of `snap` cite. `Snap`: a point snapped. `Strategies`: whether the two strategies of document 01 agree.
+-- The definitions that the contracts of `snap` cite. `Snap`: the checks, and a point snapped. `Strategies`: whether the two strategies of document 01 agree.
 pub mod Snap
 pub mod Strategies

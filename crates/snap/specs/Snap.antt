@@ -1,14 +1,34 @@
 -- Document 01, "Ownership and snapping", its second paragraph, with document 02's change 13: Grid is the only strategy. Each float step rounds once,
 -- in the written order. Definitions only.
 use Prim.Native.Nat.{ℕ}
-use mathlib.Core.Bool.{cond}
-use lib.Ieee.{Float, eq}
+use mathlib.Core.Bool.{Bool, cond, _&&_, _||_}
+use lib.Dec.{eqb}
+use lib.Ieee.{Float, le, eq}
 use Rattle.numbers.specs.Arithmetic.{_*₆₄_, _/₆₄_, decimal}
 use Rattle.numbers.specs.Away.{roundAway}
-use Rattle.refusals.specs.Refusals.{gives, _then_, answerBy}
-use Rattle.grid.specs.Domain.{pointCheck, snapCheck}
+use Rattle.refusals.specs.declared.Check.{Check}
+use Rattle.refusals.specs.Refusals.{unless, gives, _then_, answerBy}
+use Rattle.grid.specs.Domain.{pointCheck}
 use Rattle.snap.specs.declared.Snapped.{Snapped}
 use Rattle.snap.specs.declared.Snapped.the-variants.{Point, Refused}
+
+-- ---- the checks, with document 01's number and value
+
+-- a snap size: 0, or 1e-6 to 1e6
+unfoldable pub snapSize : Float → Bool
+snapSize size =
+    eq size (decimal 0 1)
+    || (le (decimal 1 1000000) size && le size (decimal 1000000 1))
+
+-- 12: snap size unfit
+unfoldable pub snapSizeCheck : Float → Check
+snapSizeCheck size = unless (snapSize size) 12 0
+
+-- 12: snap size or strategy unfit; 0 (Grid) is the only strategy
+unfoldable pub snapCheck : Float → ℕ → Check
+snapCheck size strategy = unless (snapSize size && eqb strategy 0) 12 0
+
+-- ---- the answer
 
 -- Grid: round half away of v / size, a zero signed as v / size, times size. (`roundAway` keeps the sign of what it rounds.)
 unfoldable pub gridSnap : Float → Float → Float

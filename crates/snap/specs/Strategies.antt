@@ -7,10 +7,10 @@ use Rattle.numbers.specs.Arithmetic.{_+₆₄_, _*₆₄_, _/₆₄_, decimal}
 use Rattle.numbers.specs.Floor.{floorOf}
 use Rattle.numbers.specs.Order.{magnitudeOf}
 use Rattle.refusals.specs.Refusals.{gives, _then_, answerBy}
-use Rattle.grid.specs.Domain.{coordinateCheck, snapSizeCheck}
+use Rattle.grid.specs.Domain.{coordinateCheck}
 use Rattle.snap.specs.declared.Agreement.{Agreement}
 use Rattle.snap.specs.declared.Agreement.the-variants.{Same, Differ, Refused}
-use Rattle.snap.specs.Snap.{snapOf}
+use Rattle.snap.specs.Snap.{snapSizeCheck, snapOf}
 
 -- 1 or -1 by the sign bit, negative zero giving -1; a NaN has no sign
 unfoldable pub signOne : Float → Float

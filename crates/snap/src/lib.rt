@@ -1,4 +1,5 @@
 // Snap rounding of a point, the Rust's `SnapNoder::snap` with its strategy Grid; and whether GeosCompat, which is retired, gave the same.
+pub mod checks;
 pub mod strategies;
 
 use refusals::Check;
@@ -43,7 +44,7 @@ pub fn snap_point(x: f64, y: f64, size: f64, strategy: u32) -> Snapped
     if let Check::Refused(r) = point {
         return Snapped::Refused(r);
     }
-    let fit = grid::checks::check_snap(size, strategy);
+    let fit = checks::check_snap(size, strategy);
     if let Check::Refused(r) = fit {
         return Snapped::Refused(r);
     }

@@ -1,9 +1,11 @@
 // Whether document 01's two strategies, Grid and GeosCompat, give a coordinate the same bits.
 use crate::Agreement;
+use crate::checks::check_snap_size;
 use refusals::Check;
 ghost use mathlib.Core.Path.{_≡_};
 ghost use lib.Dec.{T};
-ghost use Rattle.grid.specs.Domain.{coordinate, snapSize};
+ghost use Rattle.grid.specs.Domain.{coordinate};
+ghost use Rattle.snap.specs.Snap.{snapSize};
 ghost use Rattle.snap.specs.Strategies.{sameBits, agreed, agreementAnswer};
 
 // They differ where |v / size| is the largest float below one half, and nowhere else: there the sum with 0.5 is rounded up to 1. A quotient by
@@ -30,7 +32,7 @@ pub fn strategies_agree(v: f64, size: f64) -> Agreement
     if let Check::Refused(r) = value {
         return Agreement::Refused(r);
     }
-    let fit = grid::checks::check_snap_size(size);
+    let fit = check_snap_size(size);
     if let Check::Refused(r) = fit {
         return Agreement::Refused(r);
     }

@@ -12,12 +12,7 @@ is-cell-size-requires-2 c κs = search needs
 
 returns : tie.Need-returns
 unfolding sizesFit
-returns c = rw (← c .before .before .is-cell-size .ensures, c .before .if1 .taken) (c .is-cell-size2 .ensures)
-
-returns-2 : tie.Need-returns-2
-unfolding sizesFit
-returns-2 c = rw (← c .before .is-cell-size .ensures, c .if1 .left)
+returns c = rw (c .before .is-cell-size .ensures, c .is-cell-size2 .ensures)
 
 pub are-cell-sizes-spec : {M : Type 1} → statement M
-are-cell-sizes-spec =
-    tie.close (tie.spec is-cell-size-requires is-cell-size-requires-2 returns returns-2)
+are-cell-sizes-spec = tie.close (tie.spec is-cell-size-requires is-cell-size-requires-2 returns)

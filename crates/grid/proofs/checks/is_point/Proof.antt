@@ -12,12 +12,7 @@ is-coordinate-requires-2 c κs = search needs
 
 returns : tie.Need-returns
 unfolding point
-returns c = rw (← c .before .before .is-coordinate .ensures, c .before .if1 .taken) (c .is-coordinate2 .ensures)
-
-returns-2 : tie.Need-returns-2
-unfolding point
-returns-2 c = rw (← c .before .is-coordinate .ensures, c .if1 .left)
+returns c = rw (c .before .is-coordinate .ensures, c .is-coordinate2 .ensures)
 
 pub is-point-spec : {M : Type 1} → statement M
-is-point-spec =
-    tie.close (tie.spec is-coordinate-requires is-coordinate-requires-2 returns returns-2)
+is-point-spec = tie.close (tie.spec is-coordinate-requires is-coordinate-requires-2 returns)

@@ -12,11 +12,7 @@ is-point-requires-2 c κs = search needs
 
 returns : tie.Need-returns
 unfolding segment
-returns c = rw (← c .before .before .is-point .ensures, c .before .if1 .taken) (c .is-point2 .ensures)
-
-returns-2 : tie.Need-returns-2
-unfolding segment
-returns-2 c = rw (← c .before .is-point .ensures, c .if1 .left)
+returns c = rw (c .before .is-point .ensures, c .is-point2 .ensures)
 
 pub is-segment-spec : {M : Type 1} → statement M
-is-segment-spec = tie.close (tie.spec is-point-requires is-point-requires-2 returns returns-2)
+is-segment-spec = tie.close (tie.spec is-point-requires is-point-requires-2 returns)

@@ -4,7 +4,8 @@ use Rattle.refusals.specs.Refusals.{answerBy}
 use Rattle.refusals.proofs.Answers.{refused-by, past}
 use Rattle.refusals.proofs.Checks.{unless-fine}
 use Rattle.numbers.proofs.Tests.{holds}
-use Rattle.grid.specs.Domain.{coordinateCheck, snapSizeCheck}
+use Rattle.grid.specs.Domain.{coordinateCheck}
+use Rattle.snap.specs.Snap.{snapSizeCheck}
 use Rattle.snap.specs.Strategies.{agreementAnswer}
 use borrow.Author.Needs.{needs}
 use Rattle.snap.proofs.strategies.strategies_agree.Statement.{statement}

@@ -1,8 +1,8 @@
--- `grid::checks::check_snap` meets its contract. Assumes nothing.
-use Rattle.grid.specs.Domain.{snapCheck}
+-- `snap::checks::check_snap` meets its contract. Assumes nothing.
+use Rattle.snap.specs.Snap.{snapCheck}
 use borrow.Author.Needs.{needs}
-use Rattle.grid.proofs.checks.check_snap.Statement.{statement}
-use Rattle.grid.proofs.checks.check_snap.Tie as tie
+use Rattle.snap.proofs.checks.check_snap.Statement.{statement}
+use Rattle.snap.proofs.checks.check_snap.Tie as tie
 
 is-snap-requires : tie.Need-is-snap-requires
 is-snap-requires c κs = search needs

@@ -1,8 +1,8 @@
--- `grid::checks::check_snap_size` meets its contract. Assumes nothing.
-use Rattle.grid.specs.Domain.{snapSizeCheck}
+-- `snap::checks::check_snap_size` meets its contract. Assumes nothing.
+use Rattle.snap.specs.Snap.{snapSizeCheck}
 use borrow.Author.Needs.{needs}
-use Rattle.grid.proofs.checks.check_snap_size.Statement.{statement}
-use Rattle.grid.proofs.checks.check_snap_size.Tie as tie
+use Rattle.snap.proofs.checks.check_snap_size.Statement.{statement}
+use Rattle.snap.proofs.checks.check_snap_size.Tie as tie
 
 is-snap-size-requires : tie.Need-is-snap-size-requires
 is-snap-size-requires c κs = search needs

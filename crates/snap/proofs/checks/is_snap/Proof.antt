@@ -1,0 +1,13 @@
+-- `snap::checks::is_snap` meets its contract. Assumes nothing.
+use borrow.Author.Needs.{needs}
+use Rattle.snap.proofs.checks.is_snap.Statement.{statement}
+use Rattle.snap.proofs.checks.is_snap.Tie as tie
+
+is-snap-size-requires : tie.Need-is-snap-size-requires
+is-snap-size-requires c κs = search needs
+
+returns : tie.Need-returns
+returns c = rw (c .is-snap-size .ensures)
+
+pub is-snap-spec : {M : Type 1} → statement M
+is-snap-spec = tie.close (tie.spec is-snap-size-requires returns)

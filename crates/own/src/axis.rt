@@ -19,27 +19,15 @@ struct Stretch {
 pub(crate) fn owns(axis: Axis, i: u32, p: f64) -> bool
     ensures { λ r. ⌜ r ≡ ownsOn axis i p ⌝ }
 {
-    if axis.low_edge(i) <= p {
-        let high = axis.high_edge(i);
-        if p < high {
-            return true;
-        }
-        if i as u64 + 1 == axis.count as u64 {
-            return p == high;
-        }
-        return false;
-    }
-    false
+    let high = axis.high_edge(i);
+    (axis.low_edge(i) <= p) & ((p < high) | ((i as u64 + 1 == axis.count as u64) & (p == high)))
 }
 
 // Of a collinear overlap: no high edge counts.
 pub(crate) fn holds(axis: Axis, i: u32, p: f64) -> bool
     ensures { λ r. ⌜ r ≡ holdsOn axis i p ⌝ }
 {
-    if axis.low_edge(i) <= p {
-        return p < axis.high_edge(i);
-    }
-    false
+    (axis.low_edge(i) <= p) & (p < axis.high_edge(i))
 }
 
 // A guess at the index of p, from how many cells p lies above the low end of its axis, cut to a whole number; the count, where that is

@@ -117,10 +117,7 @@ pub fn make(
 fn is_block(grid: Grid, block: Block) -> bool
     ensures { λ r. ⌜ r ≡ (ltb (block .row) (along (grid .rows)) && ltb (block .col) (along (grid .cols))) ⌝ }
 {
-    if wide(block.row) < blocks_along(grid.rows) {
-        return wide(block.col) < blocks_along(grid.cols);
-    }
-    false
+    (wide(block.row) < blocks_along(grid.rows)) & (wide(block.col) < blocks_along(grid.cols))
 }
 
 // 9: a block beyond the end, with its row of blocks.

@@ -1,6 +1,6 @@
 -- Laws of parts of points, and of a slice that is filled along them. Assumes nothing.
 use mathlib.Core.Path.{_≡_, refl, sym, ap, _∙_, subst}
-use mathlib.Core.Bool.{Bool, true, false, cond}
+use mathlib.Core.Bool.{Bool, true, false, _&&_, cond}
 use mathlib.Core.List.{List, [], _∷_, _++_, append-assoc, append-nil, map, map-append, flatMap}
 use Prim.Native.Nat.{ℕ, zero, suc, _+_, _-_, _*_, _/_, _≤_, _<_}
 use native.Mathlib.Numerals.{add-one}
@@ -72,13 +72,9 @@ module _ (xs ys : List ℕ) (alike : length ys ≡ length xs) where
 
 -- ---- a test of two points
 
-pub same-yes : (p q : Point) {a b c d : Float} → a ≡ ofBits binary64 (p .x) → b ≡ ofBits binary64 (q .x) → c ≡ ofBits binary64 (p .y) → d ≡ ofBits binary64 (q .y) → eq a b ≡ true → eq c d ≡ samePoint p q
+pub same-by : (p q : Point) {a b c d : Float} → a ≡ ofBits binary64 (p .x) → b ≡ ofBits binary64 (q .x) → c ≡ ofBits binary64 (p .y) → d ≡ ofBits binary64 (q .y) → (eq a b && eq c d) ≡ samePoint p q
 unfolding samePoint
-same-yes p q ea eb ec ed t = rw (← ea, ← eb, ← ec, ← ed, t)
-
-pub same-no : (p q : Point) {a b : Float} → a ≡ ofBits binary64 (p .x) → b ≡ ofBits binary64 (q .x) → eq a b ≡ false → false ≡ samePoint p q
-unfolding samePoint
-same-no p q ea eb t = rw (← ea, ← eb, t)
+same-by p q ea eb ec ed = rw (ea, eb, ec, ed)
 
 -- ---- the end of a piece
 

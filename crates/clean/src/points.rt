@@ -19,10 +19,7 @@ pub(crate) fn is_same(x: &[u64], y: &[u64], i: usize, j: usize) -> bool
     requires { ⌜ (i < length (now x)) × (i < length (now y)) × (j < length (now x)) × (j < length (now y)) ⌝ }
     ensures { λ r. ⌜ r ≡ samePoint (pointIn (now (x .entry)) (now (y .entry)) i) (pointIn (now (x .entry)) (now (y .entry)) j) ⌝ }
 {
-    if from_bits(x[i]) == from_bits(x[j]) {
-        return from_bits(y[i]) == from_bits(y[j]);
-    }
-    false
+    (from_bits(x[i]) == from_bits(x[j])) & (from_bits(y[i]) == from_bits(y[j]))
 }
 
 // Where the piece ends that begins at `from`: at the first point outside the rule, or at the member's end.

@@ -25,10 +25,8 @@ pub enum Listing {
 fn is_window(window: Box) -> bool
     ensures { λ r. ⌜ r ≡ (point (window .«min_x») (window .«min_y») && point (window .«max_x») (window .«max_y»)) ⌝ }
 {
-    if grid::checks::is_point(window.min_x, window.min_y) {
-        return grid::checks::is_point(window.max_x, window.max_y);
-    }
-    false
+    grid::checks::is_point(window.min_x, window.min_y)
+        & grid::checks::is_point(window.max_x, window.max_y)
 }
 
 fn check_window(window: Box) -> Check
@@ -40,10 +38,7 @@ fn check_window(window: Box) -> Check
 fn is_in_order(window: Box) -> bool
     ensures { λ r. ⌜ r ≡ inOrder window ⌝ }
 {
-    if window.min_x <= window.max_x {
-        return window.min_y <= window.max_y;
-    }
-    false
+    (window.min_x <= window.max_x) & (window.min_y <= window.max_y)
 }
 
 // Refusals 3, 2, 1 of the lines, 1 of the window, 8 and 10, in that order. The tables' check asks 2 again, of the number of lines that

@@ -10,10 +10,7 @@ is-point-requires-2 : tie.Need-is-point-requires-2
 is-point-requires-2 c κs = search needs
 
 returns : tie.Need-returns
-returns c = rw (← c .before .before .is-point .ensures, c .before .if1 .taken) (c .is-point2 .ensures)
-
-returns-2 : tie.Need-returns-2
-returns-2 c = rw (← c .before .is-point .ensures, c .if1 .left)
+returns c = rw (c .before .is-point .ensures, c .is-point2 .ensures)
 
 pub is-window-spec : {M : Type 1} → statement M
-is-window-spec = tie.close (tie.spec is-point-requires is-point-requires-2 returns returns-2)
+is-window-spec = tie.close (tie.spec is-point-requires is-point-requires-2 returns)

@@ -17,28 +17,20 @@ ghost use Rattle.added.specs.Inside.{spaceBy};
 fn is_on(axis: Axis, v: f64) -> bool
     ensures { λ r. ⌜ r ≡ insideOn axis v ⌝ }
 {
-    if axis.low <= v {
-        return v <= axis.low_edge(axis.count);
-    }
-    false
+    (axis.low <= v) & (v <= axis.low_edge(axis.count))
 }
 
 fn is_point_inside(grid: Grid, x: f64, y: f64) -> bool
     ensures { λ r. ⌜ r ≡ pointInside grid x y ⌝ }
 {
-    if is_on(grid.x_axis(), x) {
-        return is_on(grid.y_axis(), y);
-    }
-    false
+    is_on(grid.x_axis(), x) & is_on(grid.y_axis(), y)
 }
 
 fn is_inside(grid: Grid, line: Segment) -> bool
     ensures { λ r. ⌜ r ≡ lineInside grid line ⌝ }
 {
-    if is_point_inside(grid, line.start_x, line.start_y) {
-        return is_point_inside(grid, line.end_x, line.end_y);
-    }
-    false
+    is_point_inside(grid, line.start_x, line.start_y)
+        & is_point_inside(grid, line.end_x, line.end_y)
 }
 
 // 14: an end of the line is off the grid.
@@ -51,10 +43,7 @@ pub(crate) fn check_edge(grid: Grid, line: Segment) -> Check
 fn has_cells(grid: Grid) -> bool
     ensures { λ r. ⌜ r ≡ (fit grid && ltb 0 (grid .cols)) ⌝ }
 {
-    if grid::checks::is_fit(grid) {
-        return 0 < grid.cols;
-    }
-    false
+    grid::checks::is_fit(grid) & (0 < grid.cols)
 }
 
 // 3, 2, 1, 8 and 10, in that order.
@@ -97,10 +86,7 @@ pub(crate) fn check_asked(
 fn is_room(total: usize, items: usize) -> bool
     ensures { λ r. ⌜ r ≡ (leb total items && leb total 4294967295) ⌝ }
 {
-    if total <= items {
-        return total <= 4294967295;
-    }
-    false
+    (total <= items) & (total <= 4294967295)
 }
 
 // 5, then 6, by the numbers that there will be and the lengths of the slices.

@@ -7,10 +7,7 @@ is-fit-requires : tie.Need-is-fit-requires
 is-fit-requires c κs = search needs
 
 returns : tie.Need-returns
-returns c = rw (← c .before .before .is-fit .ensures, c .before .if1 .taken)
-
-returns-2 : tie.Need-returns-2
-returns-2 c = rw (← c .before .is-fit .ensures, c .if1 .left)
+returns c = rw (c .before .is-fit .ensures)
 
 pub has-cells-spec : {M : Type 1} → statement M
-has-cells-spec = tie.close (tie.spec is-fit-requires returns returns-2)
+has-cells-spec = tie.close (tie.spec is-fit-requires returns)

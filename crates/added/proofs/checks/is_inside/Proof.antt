@@ -12,12 +12,7 @@ is-point-inside-requires-2 c κs = search needs
 
 returns : tie.Need-returns
 unfolding lineInside
-returns c = rw (← c .before .before .is-point-inside .ensures, c .before .if1 .taken) (c .is-point-inside2 .ensures)
-
-returns-2 : tie.Need-returns-2
-unfolding lineInside
-returns-2 c = rw (← c .before .is-point-inside .ensures, c .if1 .left)
+returns c = rw (c .before .is-point-inside .ensures, c .is-point-inside2 .ensures)
 
 pub is-inside-spec : {M : Type 1} → statement M
-is-inside-spec =
-    tie.close (tie.spec is-point-inside-requires is-point-inside-requires-2 returns returns-2)
+is-inside-spec = tie.close (tie.spec is-point-inside-requires is-point-inside-requires-2 returns)

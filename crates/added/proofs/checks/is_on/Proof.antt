@@ -9,11 +9,7 @@ low-edge-requires c κs = search needs
 
 returns : tie.Need-returns
 unfolding insideOn
-returns c = rw (c .before .if1 .taken, ← c .low-edge .ensures)
-
-returns-2 : tie.Need-returns-2
-unfolding insideOn
-returns-2 c = rw (c .if1 .left)
+returns c = rw (c .low-edge .ensures)
 
 pub is-on-spec : {M : Type 1} → statement M
-is-on-spec = tie.close (tie.spec low-edge-requires returns returns-2)
+is-on-spec = tie.close (tie.spec low-edge-requires returns)

@@ -18,13 +18,8 @@ is-on-requires-2 c κs = search needs
 
 returns : tie.Need-returns
 unfolding pointInside
-returns c = rw (← c .before .before .before .before .x-axis .ensures, ← c .before .before .before .is-on .ensures, c .before .before .if1 .taken, ← c .before .y-axis .ensures) (c .is-on2 .ensures)
-
-returns-2 : tie.Need-returns-2
-unfolding pointInside
-returns-2 c = rw (← c .before .before .x-axis .ensures, ← c .before .is-on .ensures, c .if1 .left)
+returns c = rw (c .before .before .is-on .ensures, c .before .before .before .x-axis .ensures, c .is-on2 .ensures, c .before .y-axis .ensures)
 
 pub is-point-inside-spec : {M : Type 1} → statement M
 is-point-inside-spec =
-    tie.close
-    (tie.spec x-axis-requires is-on-requires y-axis-requires is-on-requires-2 returns returns-2)
+    tie.close (tie.spec x-axis-requires is-on-requires y-axis-requires is-on-requires-2 returns)

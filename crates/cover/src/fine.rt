@@ -1,4 +1,5 @@
 // The ends of a line in fine units, 2^20 to a cell, and the guard: which ends can be brought into them.
+// The guard's tests are branches: as one expression they were no faster.
 use crate::Ends;
 use grid::Axis;
 use grid::Grid;

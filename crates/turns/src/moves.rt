@@ -1,4 +1,5 @@
 // One axis of a line and of a walk's state, and one turn of the walk.
+// Tests are branches here, which is faster than one expression: a turn's mostly end at the first.
 use crate::Course;
 use crate::Position;
 use crate::Turn;

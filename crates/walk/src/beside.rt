@@ -267,6 +267,7 @@ fn ended(s: &mut [u32], n: usize, mode: Mode, grid: Grid, x: f64, y: f64) -> usi
 }
 
 // Whether a coordinate lies between the boundaries i and i + 1, and off both. It is asked of the index that is known already.
+// Branches, here and in `is_clear`: a test that fails spares the others, with their divisions.
 fn is_between(axis: Axis, v: f64, i: u32) -> bool
     ensures { λ r. ⌜ (r ≡ true → sideOn axis v ≡ Off) ⌝ }
 {

@@ -21,7 +21,7 @@ use Rattle.walk.specs.declared.Mode.{Mode}
 use Rattle.turns.specs.Pushes.{Outcome}
 use Rattle.walk.specs.Segment.{segmentOf}
 use Rattle.tables.specs.Tables.{Tables, tables, cells, listOf, globalsOf}
-use Rattle.tables.specs.Lists.{Walks, itemsOf, offsetsOf}
+use Rattle.tables.specs.Lists.{Walks, localLines, globalLines, itemsOf, offsetsOf}
 use Rattle.tables.specs.Stands.{Stands}
 use Rattle.fill.specs.declared.Filled.{Filled}
 use Rattle.fill.specs.declared.Filled.the-variants as filled
@@ -161,13 +161,26 @@ module _ {mode : Mode} {g : Grid} {ls : Lines} {t : Tables} {line : Segment} {t�
   line-filled =
       let a : Stands (cellsOn mode g ls) (count ls) g spelt = subst (λ (x : Tables). Stands (cellsOn mode g ls) (count ls) g x) (s .stands .on-grid) (s .stands) in
       let b = stands-alike cells-before a in
-      rw (h .left, count-more ls line)
-      (record {
-        offsets = offsets-laid (cellsOn mode g more) mode g line (count ls) b added-line cells-last;
-        items = items-laid (cellsOn mode g more) mode g line (count ls) b added-line cells-last;
-        globals = globals-laid (cellsOn mode g more) mode g line (count ls) b added-line cells-last;
-        found = found-laid (cellsOn mode g more) mode g line (count ls) b added-line cells-last;
-      })
+      let n : suc (count ls) ≡ count more = sym (count-more ls line) in
+      let W : ℕ → List ℕ = cellsOn mode g more in
+      record {
+        offsets =
+            ap (λ (x : Tables). x .offsets) (h .left)
+            ∙ offsets-laid W mode g line (count ls) b added-line cells-last
+            ∙ ap (λ (k : ℕ). offsetsOf (localLines W k) (gridCells g) (length (t .offsets))) n;
+        items =
+            ap (λ (x : Tables). x .items) (h .left)
+            ∙ items-laid W mode g line (count ls) b added-line cells-last
+            ∙ ap (λ (k : ℕ). itemsOf (localLines W k) (gridCells g) (length (t .items))) n;
+        globals =
+            ap (λ (x : Tables). x .globals) (h .left)
+            ∙ globals-laid W mode g line (count ls) b added-line cells-last
+            ∙ ap (λ (k : ℕ). zeroBeyond 0 (length (t .globals)) (globalLines W k)) n;
+        found =
+            ap (λ (x : Tables). x .«global_count») (h .left)
+            ∙ found-laid W mode g line (count ls) b added-line cells-last
+            ∙ ap (λ (k : ℕ). length (globalLines W k)) n;
+      }
 
   line-fits : LinesFit more
   unfolding lineFits spelt
@@ -242,11 +255,11 @@ fills k (gives made) h e p q v = (
 
 -- A LINE ADDED IS ALL LINES COUNTED AND PLACED on the same grid, in slices of the same lengths
 pub as-counted : {mode : Mode} {g : Grid} {ls : Lines} {t : Tables} {line : Segment} {t′ : Tables} → Grown mode g ls t → FromLine mode g ls t line t′
-    → {most : ℕ} {offsets items globals scratch : List ℕ} {r : Filled} {a b : ℕ} {o xs gs z : List ℕ}
+    → (most : ℕ) {offsets items globals scratch : List ℕ} {r : Filled} {a b : ℕ} {o xs gs z : List ℕ}
     → FillIs mode g (withLine ls line) offsets items globals scratch r o xs gs z (fillingOf mode g (withLine ls line) most (length offsets) (length items) (length globals) (length scratch))
     → r ≡ filled.Tables a b → length offsets ≡ length (t .offsets) → length items ≡ length (t .items) → length globals ≡ length (t .globals)
     → (t′ .offsets ≡ o) × (t′ .items ≡ xs) × (t′ .globals ≡ gs) × (t′ .«global_count» ≡ b)
-as-counted k h f e p q v = fills (line-filled (grown-says k) h) _ f e p q v
+as-counted k h most f e p q v = fills (line-filled (grown-says k) h) _ f e p q v
 
 -- ---- a line that was added with its summary is one that was added
 

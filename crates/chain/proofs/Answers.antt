@@ -1,10 +1,9 @@
 -- What is printed, case by case of what the calls answered. Assumes nothing.
 use mathlib.Core.Path.{_≡_, refl, sym, ap, _∙_}
-use mathlib.Core.List.{List, [], _++_, append-nil}
-use Prim.Native.Nat.{ℕ, _+_, _-_, _≤_, min}
+use mathlib.Core.List.{List}
+use Prim.Native.Nat.{ℕ}
 use native.Mathlib.Omega.{arith}
-use lib.ListN.{length, take, drop, replicate, length-take, length-drop, drop-of-length-le}
-use lib.Seq.{length-take-le, take-at}
+use lib.ListN.{length}
 use Rattle.refusals.specs.declared.Refusal.{Refusal}
 use Rattle.refusals.specs.declared.Check.the-variants.{Fine}
 use Rattle.refusals.specs.Refusals.{Answer, refused, gives, answerBy, leftIn}
@@ -22,13 +21,11 @@ use Rattle.tables.specs.Tables.{Tables, beside}
 use Rattle.seek.specs.Tests.{Pair}
 use Rattle.visit.specs.Batches.{overlapping}
 use Rattle.seek.specs.Bookmarks.{visitCheck}
-use Rattle.report.specs.Pages.{page, Puts}
 use Rattle.report.specs.Lines.{refusedLine}
-use Rattle.report.proofs.Written.{Written, written}
 use Rattle.chain.specs.declared.Visited.{Visited}
 use Rattle.chain.specs.declared.Visited.the-variants as visited
 use Rattle.chain.specs.Inside.{fullVisit}
-use Rattle.chain.specs.Printed.{refusedText, reportOf, allTests, printedTables, tablesOn, printedOn, printedLines, Prints}
+use Rattle.chain.specs.Printed.{refusedText, reportOf, allTests, printedTables, tablesOn, printedOn, printedLines}
 
 -- ---- the visit
 
@@ -91,29 +88,3 @@ module _ (plan : Plan) (ls : Lines) {o i gs s o′ i′ gs′ s′ : List ℕ} {
   pub lines-made : BuildIs (plan .mode) ls o i gs s r o′ i′ gs′ s′ (endOf plan ls (length o) (length i) (length gs) (length s)) → {st : Standing} → r ≡ built.Tables st → printedTables ls (st .grid) (beside ls (st .grid) o′ i′ gs′ (st .globals)) (st .items) ≡ printedLines plan ls
   unfolding printedLines
   lines-made b {st} x = made-end _ (at-end _ refl b) st x
-
--- ---- the end of the text
-
-pub end-within : (text out out₁ : List ℕ) (r : ℕ) → Puts text (page out 0) (page out₁ r) → length out₁ ≡ length out → r ≤ length out₁
-end-within text out out₁ r f e =
-    let w = written text out out₁ r f in
-    let c = w .count in
-    let l = length-take (length out) text in
-    omega arith
-
-pub prints : (text out out₁ ys : List ℕ) (r : ℕ) → Puts text (page out 0) (page out₁ r) → length out₁ ≡ length out → ys ≡ replicate (length (take (length out₁ - r) (drop r out₁))) 0 → Prints text out (take r out₁ ++ (ys ++ drop (length out₁ - r) (drop r out₁))) r
-prints text out out₁ ys r f e q =
-    let w = written text out out₁ r f in
-    let n : length (drop r out₁) ≡ length out₁ - r = length-drop r out₁ in
-    let k : length (take (length out₁ - r) (drop r out₁)) ≡ length out - r = length-take-le (length out₁ - r) (drop r out₁) (omega arith) ∙ ap (λ (m : ℕ). m - r) e in
-    record {
-      end = w .count;
-      is =
-          rw (drop-of-length-le (drop r out₁) {i = length out₁ - r} (omega arith), append-nil ys, w .start)
-          (ap (λ (l : List ℕ). take (length out) text ++ l) (q ∙ ap (λ (m : ℕ). replicate m 0) k));
-    }
-
--- what was printed, as a part of the buffer
-pub prints-within : {text out out′ : List ℕ} {r : ℕ} → Prints text out out′ r → r ≡ length (take r out′)
-prints-within {text} {out} {out′} {r} p =
-    p .end ∙ ap length (sym (ap (take r) (p .is) ∙ take-at (take (length out) text) (replicate (length out - r) 0) r (sym (p .end))))

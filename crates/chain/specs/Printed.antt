@@ -1,9 +1,8 @@
 -- Document 01, "The program": what is printed for the bytes that are read. Definitions only.
-use Prim.Native.Nat.{ℕ, zero, suc, _*_, _-_, _/_, _%_}
-use mathlib.Core.Path.{_≡_}
+use Prim.Native.Nat.{ℕ, zero, suc, _*_, _/_, _%_}
 use mathlib.Core.List.{List, [], _++_, map}
 use lib.Ieee.{Float, binary64, ofBits, toBits}
-use lib.ListN.{length, take, drop, replicate}
+use lib.ListN.{length}
 use Rattle.wkb.specs.Bytes.{Point}
 use Rattle.wkb.specs.Reading.{found}
 use Rattle.wkb.specs.Multi.{starts, ends}
@@ -72,8 +71,3 @@ printedPoints plan ps = printedLines plan (chainOf (map (λ (p : Point). ofBits 
 -- WHAT THE PROGRAM OF A PLAN PRINTS for the bytes of its input
 unfoldable pub printed : Plan → List ℕ → List ℕ
 printed plan bs = answerBy refusedText (printedPoints plan) (found bs)
-
--- the promise: as much of the text as there is room for, its end, and zero beyond (`printed-fits`: 281,000 bytes hold every text)
-pub record Prints (text out out′ : List ℕ) (r : ℕ) : Type 0 where
-  pub end : r ≡ length (take (length out) text)
-  pub is : out′ ≡ take (length out) text ++ replicate (length out - r) 0

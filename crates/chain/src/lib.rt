@@ -1,11 +1,11 @@
 // What the program prints for the bytes that it reads: one LineString in well-known binary, whose consecutive points are lines.
 ghost use mathlib.Core.Path.{_≡_};
 ghost use Prim.Native.Nat.{_≤_};
-ghost use lib.ListN.{length, take, replicate};
+ghost use lib.ListN.{length, take};
 ghost use Rattle.grid.specs.Domain.{lines};
 ghost use Rattle.tables.specs.Tables.{beside};
-ghost use Rattle.report.specs.Pages.{page, Puts};
-ghost use Rattle.chain.specs.Printed.{printedTables, printedLines, chainOf, printed, Prints};
+ghost use Rattle.report.specs.Pages.{page, Puts, Prints};
+ghost use Rattle.chain.specs.Printed.{printedTables, printedLines, chainOf, printed};
 use build::Built;
 use build::Plan;
 use grid::Grid;
@@ -135,22 +135,11 @@ fn put_chain(bytes: &[u8], plan: Plan, out: &mut [u8]) -> usize
     }
 }
 
-// Writes zero to each byte.
-pub fn clear(s: &mut [u8])
-    ensures { λ _. ⌜ now (s .exit) ≡ replicate (length (now (s .entry))) 0 ⌝ }
-{
-    let mut i = 0;
-    while i < s.len() {
-        s[i] = 0;
-        i += 1;
-    }
-}
-
 // Writes what the program of a plan prints for the bytes of its input, as far as there is room, and zero beyond; answers where it ends.
 pub fn print_chain(bytes: &[u8], plan: Plan, out: &mut [u8]) -> usize
     ensures { λ r. ⌜ Prints (printed plan (now (bytes .entry))) (now (out .entry)) (now (out .exit)) r ⌝ }
 {
     let end = put_chain(bytes, plan, out);
-    clear(&mut out[end..]);
+    report::clear(&mut out[end..]);
     end
 }

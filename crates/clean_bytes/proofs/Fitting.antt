@@ -7,9 +7,9 @@ use Prim.Native.Nat.{ℕ, zero, suc, _+_, _*_, _≤_}
 use native.Mathlib.Omega.{arith}
 use lib.Dec.{eqb}
 use lib.ListN.{length, length-append, length-take}
-use Rattle.refusals.specs.Refusals.{Answer, refused, gives, answerBy}
-use Rattle.report.proofs.Outcomes as texts
-use Rattle.report.proofs.Written.{written}
+use Rattle.refusals.specs.Refusals.{Answer, refused, gives, answerBy, leftIn}
+use Rattle.report.proofs.Outcomes.{one-print}
+use Rattle.report.proofs.Written.{prints-within}
 use Rattle.report.proofs.Sizes.{refused-size, dropped-size}
 use Rattle.wkb.specs.Bytes.{Point, multiBytes}
 use Rattle.clean.specs.Cleaning.{cleaned, memberReasons}
@@ -49,24 +49,23 @@ text-fits (gives pss) h = let s = text-size 0 pss in let k = h pss refl in omega
 -- ---- the parts of the buffers that are used
 
 pub bytes-within : {a : Answer (List (List Point))} {f t f₁ t₁ : List ℕ} {r : Ends} → CleansAs a f t r f₁ t₁ → r .bytes ≤ length f₁
-unfolding fileOf fileLeft answerBy
+unfolding fileOf fileLeft answerBy leftIn
 bytes-within {a} {f} {t} {f₁} {t₁} {r} c = go a (c .bytes) (c .file)
   where
     go : (o : Answer (List (List Point))) → r .bytes ≡ length (fileOf o) → f₁ ≡ fileLeft o f → r .bytes ≤ length f₁
     go (refused q) b e = omega arith
     go (gives pss) b e = within (multiBytes (cleaned pss)) (length f) (r .bytes) e b
 
-pub text-within : {a : Answer (List (List Point))} {f t f₁ t₁ : List ℕ} {r : Ends} → CleansAs a f t r f₁ t₁ → length t₁ ≡ length t → r .text ≤ length t₁
-text-within {a} {f} {t} {f₁} {t₁} {r} c e =
-    let w = written (textOf a) t t₁ (r .text) (c .text) in
-    let k = w .count in
-    let l = length-take (length t) (textOf a) in
+pub text-within : {a : Answer (List (List Point))} {f t f₁ t₁ : List ℕ} {r : Ends} → CleansAs a f t r f₁ t₁ → r .text ≤ length t₁
+text-within {a} {f} {t} {f₁} {t₁} {r} c =
+    let k = prints-within (c .text) in
+    let l = length-take (r .text) t₁ in
     omega arith
 
--- ---- the promise settles the ends, the file's slice and the text
+-- ---- the promise settles the ends and both slices
 
 pub one-outcome : {a : Answer (List (List Point))} {f t f₁ t₁ f₂ t₂ : List ℕ} {r s : Ends} → CleansAs a f t r f₁ t₁ → CleansAs a f t s f₂ t₂
     → (r .bytes ≡ s .bytes) × (f₁ ≡ f₂) × (t₁ ≡ t₂) × (r .text ≡ s .text)
 one-outcome c d =
-    let p = texts.one-outcome (c .text) (d .text) in
+    let p = one-print (c .text) (d .text) in
     (c .bytes ∙ sym (d .bytes), c .file ∙ sym (d .file), p .1, p .0)

@@ -1,18 +1,20 @@
 -- What is cleaned and written of members in so few bytes. Assumes nothing.
 use mathlib.Core.Path.{_≡_, refl, sym, ap, _∙_, subst}
 use mathlib.Core.Bool.{true}
-use mathlib.Core.List.{List, [], _∷_, map, flatten}
-use Prim.Native.Nat.{ℕ, _+_, _*_, _/_, _≤_, _<_}
+use mathlib.Core.List.{List, [], _∷_, _++_, map, flatten}
+use Prim.Native.Nat.{ℕ, _+_, _-_, _*_, _/_, _≤_, _<_}
 use native.Mathlib.Omega.{arith}
 use lib.Dec.{leb, eqb}
-use lib.ListN.{length, take, length-map}
+use lib.ListN.{length, take, drop, replicate, length-map}
 use borrow.Author.Tests.{le-leb, lt-leb}
 use Rattle.refusals.specs.declared.Refusal.{Refusal}
 use Rattle.refusals.specs.declared.Check.the-variants as check
-use Rattle.refusals.specs.Refusals.{refusal, unless, andThen, Answer, refused, gives, _then_, answerBy, leftIn, zeroBeyond}
+use Rattle.refusals.specs.Refusals.{refusal, unless, andThen, Answer, refused, gives, _then_, answerBy, clears, leftBy, leftIn, zeroBeyond}
 use Rattle.refusals.proofs.Answers.{then-fine}
+use Rattle.refusals.proofs.Leaving.{left-same, left-zero}
 use Rattle.report.specs.Pages.{page, Puts}
 use Rattle.report.proofs.Putting.{puts-text}
+use Rattle.report.proofs.Written.{end-within, prints}
 use Rattle.wkb.specs.Bytes.{Point, multiBytes}
 use Rattle.grid.specs.Domain.{countCheck}
 use Rattle.wkb.specs.declared.MultiRead.{MultiRead}
@@ -33,17 +35,17 @@ use Rattle.clean.proofs.Rules.{Clean, AllClean, length-reasons, cleaned-clean}
 use Rattle.clean.proofs.Again.{Gave, gave}
 use Rattle.clean_bytes.specs.declared.Ends.{Ends}
 use Rattle.clean_bytes.specs.Printed.{sizesCheck, chainsIn, textFrom, textOf, fileOf, fileLeft, CleansAs}
-use Rattle.clean_bytes.specs.Inside.{Widened, BytesAsk, Fits, WroteText, NoFile}
+use Rattle.clean_bytes.specs.Inside.{Widened, NoFile, PutsAs, BytesAsk, Fits, WroteText}
 use Rattle.clean_bytes.proofs.Sizes.{AllMost, cleaned-size, cleaned-most, kept-lengths}
-use Rattle.clean_bytes.proofs.Reading.{Few, few-lines}
+use Rattle.clean_bytes.proofs.Reading.{Few, few-lines, none-clears}
 use Rattle.clean_bytes.proofs.Loading.{within, Loaded, loaded, held, chains-are, unread, members-read}
 use Rattle.clean_bytes.proofs.Texts.{cut-reasons}
 
 -- ---- a refusal
 
-pub refuses : {r : Refusal} {f t t₁ : List ℕ} {e : Ends} → NoFile (r .number) t e t₁ → CleansAs (refused r) f t e f t₁
-unfolding fileOf fileLeft textOf answerBy
-refuses n = record { bytes = n .none; file = refl; text = n .text }
+refuses : {r : Refusal} {f f₁ t t₁ : List ℕ} {e : Ends} → f₁ ≡ leftBy 0 r f → NoFile (r .number) t e t₁ → PutsAs (refused r) f t e f₁ t₁
+unfolding fileOf fileLeft textOf answerBy leftIn
+refuses l n = record { bytes = n .none; file = l; text = n .text }
 
 -- ---- the writer
 
@@ -174,8 +176,8 @@ module _ {x y ns file : List ℕ} (a : BytesAsk x y ns file) where
     text-is = ap (chainsOf ns) (told .in-reasons) ∙ ap (λ (ks : List ℕ). chainsOf ks (zeroBeyond 0 (length (o .reasons)) (reasons chains))) (sym lengths-are) ∙ cut-reasons chains (length (o .reasons))
 
     pub cleans : {f₁ t₀ t₁ : List ℕ} {k end : ℕ} → WroteText (chainsOf (take m (o′ .lengths)) (pointsOf (take n (o′ .x)) (take n (o′ .y)))) file k f₁
-        → Puts (textFrom 0 (chainsOf ns (o′ .reasons))) (page t₀ 0) (page t₁ end) → CleansAs (gives chains) file t₀ (record { bytes = k; text = end }) f₁ t₁
-    unfolding fileOf fileLeft textOf answerBy
+        → Puts (textFrom 0 (chainsOf ns (o′ .reasons))) (page t₀ 0) (page t₁ end) → PutsAs (gives chains) file t₀ (record { bytes = k; text = end }) f₁ t₁
+    unfolding fileOf fileLeft textOf answerBy leftIn
     cleans {f₁} {t₀} {t₁} {k} {end} w p =
         let v : WroteText (cleaned chains) file k f₁ = subst (λ (q : List (List Point)). WroteText q file k f₁) (chains-are kept-load) w in
         record { bytes = v .count; file = v .is; text = puts-text (ap (textFrom 0) text-is) p }
@@ -183,25 +185,39 @@ module _ {x y ns file : List ℕ} (a : BytesAsk x y ns file) where
 -- ---- the reader's answers, cleaned
 
 module _ {bs x₀ y₀ l₀ x₁ y₁ l₁ : List ℕ} {r : MultiRead} (a : MultiReadAs bs x₀ y₀ l₀ r x₁ y₁ l₁) (ex : length x₀ ≡ 4096) (ey : length y₀ ≡ 4096) (el : length l₀ ≡ 4096) (h : length bs ≤ 65545) where
-  pub unread-refused : {q : Refusal} {f t t₁ : List ℕ} {e : Ends} → r ≡ multi.Refused q → NoFile (q .number) t e t₁ → CleansAs (foundMulti bs) f t e f t₁
-  unread-refused {q} {f} {t} {t₁} {e} d n = subst (λ (o : Answer (List (List Point))). CleansAs o f t e f t₁) (sym (unread a ex ey el h d)) (refuses n)
+  pub unread-refused : {q : Refusal} {f t t₁ : List ℕ} {e : Ends} → r ≡ multi.Refused q → NoFile (q .number) t e t₁ → PutsAs (foundMulti bs) f t e f t₁
+  unread-refused {q} {f} {t} {t₁} {e} d n =
+      let u = unread a ex ey el h d in
+      subst (λ (o : Answer (List (List Point))). PutsAs o f t e f t₁) (sym u) (refuses (sym (left-same 0 q f (none-clears bs u))) n)
 
-  pub read-cleaned : {p m : ℕ} {f f₁ t t₁ : List ℕ} {e : Ends} → r ≡ multi.Members p m → CleansAs (gives (chainsOf (take m l₁) (pointsOf (take p x₁) (take p y₁)))) f t e f₁ t₁ → CleansAs (foundMulti bs) f t e f₁ t₁
+  pub read-cleaned : {p m : ℕ} {f f₁ t t₁ : List ℕ} {e : Ends} → r ≡ multi.Members p m → PutsAs (gives (chainsOf (take m l₁) (pointsOf (take p x₁) (take p y₁)))) f t e f₁ t₁ → PutsAs (foundMulti bs) f t e f₁ t₁
   read-cleaned {p} {m} {f} {f₁} {t} {t₁} {e} d n =
       let q = members-read a ex ey el h d in
-      subst (λ (o : Answer (List (List Point))). CleansAs o f t e f₁ t₁) (ap gives (chains-are (q .load)) ∙ sym (q .is)) n
+      subst (λ (o : Answer (List (List Point))). PutsAs o f t e f₁ t₁) (ap gives (chains-are (q .load)) ∙ sym (q .is)) n
 
 -- ---- the sizes
 
 module _ (bs f : List ℕ) {t : List ℕ} where
-  pub short-refused : {t₁ : List ℕ} {e : Ends} → length f < 65545 → NoFile 3 t e t₁ → CleansAs (chainsIn (length f) bs) f t e f t₁
-  unfolding chainsIn sizesCheck unless andThen _then_
-  short-refused h n = rw (lt-leb 65545 (length f) h) (refuses {r = refusal 3 0} n)
+  pub short-refused : {t₁ : List ℕ} {e : Ends} → length f < 65545 → NoFile 3 t e t₁ → PutsAs (chainsIn (length f) bs) f t e f t₁
+  unfolding chainsIn sizesCheck unless andThen _then_ clears
+  short-refused h n = rw (lt-leb 65545 (length f) h) (refuses {r = refusal 3 0} (sym (left-same 0 (refusal 3 0) f refl)) n)
 
-  pub long-refused : {t₁ : List ℕ} {e : Ends} → 65545 ≤ length f → 65536 < length bs → NoFile 5 t e t₁ → CleansAs (chainsIn (length f) bs) f t e f t₁
-  unfolding chainsIn sizesCheck unless andThen _then_
-  long-refused k h n = rw (le-leb 65545 (length f) k, lt-leb (length bs) 65536 h) (refuses {r = refusal 5 (length bs)} n)
+  pub long-refused : {f₁ t₁ : List ℕ} {e : Ends} → 65545 ≤ length f → 65536 < length bs → NoFile 5 t e t₁ × (f₁ ≡ replicate (length f) 0) → PutsAs (chainsIn (length f) bs) f t e f₁ t₁
+  unfolding chainsIn sizesCheck unless andThen _then_ clears
+  long-refused k h n =
+      let five = refusal 5 (length bs) in
+      rw (le-leb 65545 (length f) k, lt-leb (length bs) 65536 h) (refuses {r = five} (n .1 ∙ sym (left-zero 0 five f refl)) (n .0))
 
-  pub sizes-right : {f₁ t₁ s : List ℕ} {e : Ends} {n : ℕ} → 65545 ≤ length f → length bs ≤ 65536 → Widened bs n s → CleansAs (foundMulti (take n s)) f t e f₁ t₁ → CleansAs (chainsIn (length f) bs) f t e f₁ t₁
+  pub sizes-right : {f₁ t₁ s : List ℕ} {e : Ends} {n : ℕ} → 65545 ≤ length f → length bs ≤ 65536 → Widened bs n s → PutsAs (foundMulti (take n s)) f t e f₁ t₁ → PutsAs (chainsIn (length f) bs) f t e f₁ t₁
   unfolding chainsIn sizesCheck unless andThen _then_
-  sizes-right {f₁} {t₁} {s} {e} {n} k h w c = rw (le-leb 65545 (length f) k, le-leb (length bs) 65536 h) (subst (λ (o : Answer (List (List Point))). CleansAs o f t e f₁ t₁) (w .is) c)
+  sizes-right {f₁} {t₁} {s} {e} {n} k h w c = rw (le-leb 65545 (length f) k, le-leb (length bs) 65536 h) (subst (λ (o : Answer (List (List Point))). PutsAs o f t e f₁ t₁) (w .is) c)
+
+-- ---- zero beyond the text
+
+module _ {a : Answer (List (List Point))} {f t f₁ t₁ : List ℕ} {r : Ends} (p : PutsAs a f t r f₁ t₁) (e : length t₁ ≡ length t) where
+  pub text-end : r .text ≤ length t₁
+  text-end = end-within (textOf a) t t₁ (r .text) (p .text) e
+
+  pub text-cleared : {ys : List ℕ} → ys ≡ replicate (length (take (length t₁ - r .text) (drop (r .text) t₁))) 0
+      → CleansAs a f t r f₁ (take (r .text) t₁ ++ (ys ++ drop (length t₁ - r .text) (drop (r .text) t₁)))
+  text-cleared z = record { bytes = p .bytes; file = p .file; text = prints (textOf a) t t₁ _ (r .text) (p .text) e z }

@@ -1,9 +1,9 @@
--- What the readers find in the bytes of an input: a LineString with a head before it is a MultiLineString of one member; and of so few bytes all
--- members have room in the buffers. Assumes nothing.
+-- What the readers find in the bytes of an input: a LineString with a head before it is a MultiLineString of one member; of so few bytes all
+-- members have room in the buffers; and what is no MultiLineString is refused by 11. Assumes nothing.
 use mathlib.Core.Path.{_≡_, refl, sym, ap, _∙_, subst}
-use mathlib.Core.Bool.{true}
+use mathlib.Core.Bool.{Bool, true, false}
 use mathlib.Core.List.{List, [], _∷_, _++_, append-nil, map, flatten}
-use Prim.Native.Nat.{ℕ, _+_, _*_, _^_, _≤_, _<_}
+use Prim.Native.Nat.{ℕ, zero, suc, _+_, _*_, _^_, _≤_, _<_}
 use native.Mathlib.Numerals.{add-one}
 use native.Mathlib.Omega.{arith}
 use lib.Dec.{leb, eqb}
@@ -12,9 +12,11 @@ use lib.ListN.{length, take, getD, set, length-append, length-map}
 use lib.Seq.{take-at, take-all, take-suc, length-take-le}
 use borrow.Author.Tests.{le-leb}
 use Rattle.refusals.specs.declared.Refusal.{Refusal}
+use Rattle.refusals.specs.declared.Check.{Check}
 use Rattle.refusals.specs.declared.Check.the-variants as check
-use Rattle.refusals.specs.Refusals.{unless, andThen, Answer, refused, gives, _then_, _into_, answerBy, leftIn, zeroBeyond}
+use Rattle.refusals.specs.Refusals.{unless, andThen, Answer, refused, gives, _then_, _into_, answerBy, clears, leftIn, zeroBeyond}
 use Rattle.refusals.proofs.Answers.{then-fine, then-passed}
+use Rattle.refusals.proofs.Leaving.{Clearing, clearing-unless, clearing-then}
 use Rattle.grid.specs.Domain.{countCheck}
 use Rattle.wkb.specs.declared.Order.{Order}
 use Rattle.wkb.specs.declared.Order.the-variants.{Little}
@@ -23,8 +25,8 @@ use Rattle.wkb.specs.declared.Read.the-variants as one
 use Rattle.wkb.specs.declared.MultiRead.{MultiRead}
 use Rattle.wkb.specs.declared.MultiRead.the-variants as multi
 use Rattle.wkb.specs.Bytes.{Point, orderByte, littleBytes, wordBytes, LineString, Members, none, more, multiHead, MultiLineString}
-use Rattle.wkb.specs.Reading.{found, slicesCheck, outcome, readOf, ReadAs}
-use Rattle.wkb.specs.Multi.{startsOf, foundMulti, pairCheck, membersRoomCheck, multiOutcome, multiReadOf, axisLeft, lengthsLeft, MultiReadAs}
+use Rattle.wkb.specs.Reading.{fieldCheck, endAt, headCheck, lineCheck, endCheck, countAt, found, slicesCheck, outcome, readOf, ReadAs}
+use Rattle.wkb.specs.Multi.{startsOf, membersCheck, multiCheck, chainsAt, foundMulti, pairCheck, membersRoomCheck, multiOutcome, multiReadOf, axisLeft, lengthsLeft, MultiReadAs}
 use Rattle.wkb.specs.Inside.{PutIn}
 use Rattle.wkb.proofs.Words.{length-word}
 use Rattle.wkb.proofs.Stores.{put-length, put-more, put-then}
@@ -148,3 +150,26 @@ module _ {bs : List ℕ} (only : (pss : List (List Point)) → foundMulti bs ≡
           let b = k .bytes in
           let s = k .some in
           rw (e, few-lines pss (members-some (l .members)) (omega arith), le-leb (length (flatten pss)) 4096 (omega arith), le-leb (length pss) 4096 (omega arith))
+
+-- ---- the refusal is 11, which clears nothing
+
+field-same : (bs : List ℕ) (start end : ℕ) (right : Bool) → Clearing false (fieldCheck bs start end right)
+unfolding fieldCheck clears
+field-same bs start end right = clearing-then (clearing-unless (leb end (length bs)) 11 (length bs) refl) (clearing-unless right 11 start refl)
+
+head-same : (type at : ℕ) (bs : List ℕ) → Clearing false (headCheck type at bs)
+unfolding headCheck
+head-same type at bs = clearing-then (field-same _ _ _ _) (field-same _ _ _ _)
+
+members-same : (m at : ℕ) (bs : List ℕ) → Clearing false (membersCheck m at bs)
+unfolding membersCheck lineCheck endCheck clears
+members-same zero at bs = clearing-unless (leb (length bs) at) 11 at refl
+members-same (suc m) at bs = clearing-then (clearing-then (head-same 2 at bs) (clearing-then (field-same _ _ _ _) (field-same _ _ _ _))) (members-same m (endAt at bs) bs)
+
+pub none-clears : (bs : List ℕ) {r : Refusal} → foundMulti bs ≡ refused r → clears (r .number) ≡ false
+unfolding foundMulti multiCheck _then_
+none-clears bs {r} e = go (multiCheck bs) (clearing-then (head-same 5 0 bs) (clearing-then (field-same _ _ _ _) (members-same (countAt 0 bs) 9 bs))) e
+  where
+    go : (c : Check) → Clearing false c → (c then gives (chainsAt (countAt 0 bs) 9 bs)) ≡ refused r → clears (r .number) ≡ false
+    go check.Fine k d = absurd (let z : _≡_ {A = ℕ} 0 1 = cc in omega arith)
+    go (check.Refused s) k d = let z : check.Refused s ≡ check.Refused r = cc in k .says r z

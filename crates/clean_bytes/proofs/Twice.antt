@@ -5,18 +5,18 @@
 use mathlib.Core.Path.{_≡_, refl, sym, ap, _∙_, subst}
 use mathlib.Core.Bool.{Bool, true, false, cond}
 use mathlib.Core.List.{List, [], _∷_, _++_, append-assoc, append-nil, map, flatten, flatMap}
-use Prim.Native.Nat.{ℕ, zero, suc, _+_, _*_, _≤_}
+use Prim.Native.Nat.{ℕ, zero, suc, _+_, _-_, _*_, _≤_}
 use native.Mathlib.Omega.{arith}
 use lib.Dec.{leb}
 use lib.ListN.{length, take, replicate, length-append}
+use lib.Seq.{take-nil}
 use borrow.Author.Tests.{le-leb, leb-true}
 use Rattle.refusals.specs.declared.Refusal.{Refusal}
 use Rattle.refusals.specs.declared.Check.the-variants as check
-use Rattle.refusals.specs.Refusals.{unless, andThen, Answer, refused, gives, _then_, answerBy}
+use Rattle.refusals.specs.Refusals.{unless, andThen, Answer, refused, gives, _then_, answerBy, leftIn}
 use Rattle.refusals.proofs.Answers.{then-fine, then-passed}
 use Rattle.refusals.proofs.Checks.{unless-fine, andThen-right}
-use Rattle.report.specs.Pages.{Page, page, putAll, Puts}
-use Rattle.report.proofs.Putting.{puts-text}
+use Rattle.report.specs.Pages.{Prints}
 use Rattle.wkb.specs.declared.Order.the-variants.{Little}
 use Rattle.wkb.specs.Bytes.{Point, Patterns, LineString, Members, none, more, multiHead, MultiLineString, multiBytes}
 use Rattle.wkb.specs.Reading.{found, lineCheck}
@@ -180,12 +180,20 @@ cleaned-twice room bs pss s e next h =
 
 -- the bytes of the file stand at the start of its slice
 file-stands : {a : Answer (List (List Point))} {f t f₁ t₁ : List ℕ} {r : Ends} → CleansAs a f t r f₁ t₁ → take (r .bytes) f₁ ≡ fileOf a
-unfolding fileOf fileLeft answerBy
+unfolding fileOf fileLeft answerBy leftIn
 file-stands {a} {f} {t} {f₁} {t₁} {r} c = go a (c .bytes) (c .file)
   where
     go : (o : Answer (List (List Point))) → r .bytes ≡ length (fileOf o) → f₁ ≡ fileLeft o f → take (r .bytes) f₁ ≡ fileOf o
     go (refused q) b e = rw b
     go (gives pss) b e = ap (take (r .bytes)) e ∙ start (multiBytes (cleaned pss)) (r .bytes) (length f) (sym b)
+
+-- no text: its end is 0, and the buffer is zero throughout
+none-printed : {text out out′ : List ℕ} {r : ℕ} → text ≡ [] → Prints text out out′ r → (r ≡ 0) × (out′ ≡ replicate (length out) 0)
+none-printed {text} {out} {out′} {r} e p =
+    let n : take (length out) text ≡ [] = ap (take (length out)) e ∙ take-nil (length out) in
+    let k : r ≡ 0 = p .end ∙ ap length n in
+    let same : length out - r ≡ length out = omega arith in
+    (k, p .is ∙ rw (n, same))
 
 none-written : (q : Refusal) (n : ℕ) → n ≡ length (fileOf (refused q)) → 1 ≤ n → ⊥
 unfolding fileOf answerBy
@@ -194,12 +202,11 @@ none-written q n e h = omega arith
 -- CLEANING THE FILE THAT A CALL WROTE, BY ANOTHER: it writes the same bytes and no text. (A file of 0 bytes is none: the input was refused.)
 pub same-file : (bs : List ℕ) {f t f₁ t₁ g u g₁ u₁ : List ℕ} {r s : Ends} → Small bs → CleansAs (chainsIn (length f) bs) f t r f₁ t₁ → 1 ≤ r .bytes
     → 65545 ≤ length g → CleansAs (chainsIn (length g) (take (r .bytes) f₁)) g u s g₁ u₁
-    → (s .bytes ≡ r .bytes) × (take (s .bytes) g₁ ≡ take (r .bytes) f₁) × (s .text ≡ 0) × (u₁ ≡ u)
-unfolding putAll
+    → (s .bytes ≡ r .bytes) × (take (s .bytes) g₁ ≡ take (r .bytes) f₁) × (s .text ≡ 0) × (u₁ ≡ replicate (length u) 0)
 same-file bs {f} {t} {f₁} {t₁} {g} {u} {g₁} {u₁} {r} {s} small c some room d = go (chainsIn (length f) bs) refl (c .bytes)
   where
     go : (a : Answer (List (List Point))) → chainsIn (length f) bs ≡ a → r .bytes ≡ length (fileOf (chainsIn (length f) bs))
-        → (s .bytes ≡ r .bytes) × (take (s .bytes) g₁ ≡ take (r .bytes) f₁) × (s .text ≡ 0) × (u₁ ≡ u)
+        → (s .bytes ≡ r .bytes) × (take (s .bytes) g₁ ≡ take (r .bytes) f₁) × (s .text ≡ 0) × (u₁ ≡ replicate (length u) 0)
     go (refused q) e n = absurd (none-written q (r .bytes) (n ∙ ap (λ (a : Answer (List (List Point))). length (fileOf a)) e) some)
     go (gives pss) e n =
         let first = file-stands c in
@@ -208,9 +215,5 @@ same-file bs {f} {t} {f₁} {t₁} {g} {u} {g₁} {u₁} {r} {s} small c some ro
         let same : fileOf (chainsIn (length g) (take (r .bytes) f₁)) ≡ take (r .bytes) f₁ =
         ap (λ (l : List ℕ). fileOf (chainsIn (length g) l)) first ∙ twice .1 ∙ sym first in
         let text : textOf (chainsIn (length g) (take (r .bytes) f₁)) ≡ [] = ap (λ (l : List ℕ). textOf (chainsIn (length g) l)) first ∙ twice .0 in
-        let p : page u₁ (s .text) ≡ page u 0 = puts-text text (d .text) .is in (
-          d .bytes ∙ ap length (same ∙ first) ∙ sym n,
-          file-stands d ∙ same,
-          ap (λ (q : Page). q .at) p,
-          ap (λ (q : Page). q .bytes) p,
-        )
+        let p = none-printed text (d .text) in
+        (d .bytes ∙ ap length (same ∙ first) ∙ sym n, file-stands d ∙ same, p .0, p .1)

@@ -4,14 +4,14 @@ use mathlib.Core.Path.{_≡_}
 use mathlib.Core.List.{List}
 use lib.ListN.{length, take}
 use Rattle.refusals.specs.declared.Check.the-variants.{Fine}
-use Rattle.refusals.specs.Refusals.{zeroBeyond}
+use Rattle.refusals.specs.Refusals.{Answer, zeroBeyond}
 use Rattle.report.specs.Pages.{page, Puts}
 use Rattle.report.specs.Lines.{refusedLine}
 use Rattle.grid.specs.Domain.{countCheck}
 use Rattle.wkb.specs.Bytes.{Point, multiBytes}
 use Rattle.wkb.specs.Multi.{startsOf, foundMulti}
 use Rattle.members.specs.Held.{pointsOf, chainsOf, heldCheck}
-use Rattle.clean_bytes.specs.Printed.{chainsFound}
+use Rattle.clean_bytes.specs.Printed.{chainsFound, textOf, fileOf, fileLeft}
 use Rattle.clean_bytes.specs.declared.Ends.{Ends}
 
 -- the first r bytes of the slice hold, as a MultiLineString, what the input holds
@@ -24,6 +24,12 @@ pub record Widened (bs : List ℕ) (r : ℕ) (s : List ℕ) : Type 0 where
 pub record NoFile (number : ℕ) (t₀ : List ℕ) (r : Ends) (t₁ : List ℕ) : Type 0 where
   pub none : r .bytes ≡ 0
   pub text : Puts (refusedLine number) (page t₀ 0) (page t₁ (r .text))
+
+-- the file and the text: as the promise has them, save that what stands beyond the text stays
+pub record PutsAs (a : Answer (List (List Point))) (f₀ t₀ : List ℕ) (r : Ends) (f₁ t₁ : List ℕ) : Type 0 where
+  pub bytes : r .bytes ≡ length (fileOf a)
+  pub file : f₁ ≡ fileLeft a f₀
+  pub text : Puts (textOf a) (page t₀ 0) (page t₁ (r .text))
 
 -- the first points and members are within their slices
 pub record Parts (x y lengths : List ℕ) (points members : ℕ) : Type 0 where

@@ -6,11 +6,11 @@ use lib.Dec.{leb}
 use lib.ListN.{length}
 use Rattle.refusals.specs.declared.Refusal.{Refusal}
 use Rattle.refusals.specs.declared.Check.{Check}
-use Rattle.refusals.specs.Refusals.{unless, andThen, Answer, gives, _then_, answerBy, zeroBeyond}
+use Rattle.refusals.specs.Refusals.{unless, andThen, Answer, gives, _then_, answerBy, leftIn, zeroBeyond}
 use Rattle.wkb.specs.Bytes.{Point, multiBytes}
 use Rattle.wkb.specs.Reading.{found}
 use Rattle.wkb.specs.Multi.{foundMulti}
-use Rattle.report.specs.Pages.{page, Puts}
+use Rattle.report.specs.Pages.{Prints}
 use Rattle.report.specs.Lines.{refusedLine, droppedLine}
 use Rattle.clean.specs.Cleaning.{cleaned, memberReasons}
 use Rattle.clean_bytes.specs.declared.Ends.{Ends}
@@ -57,10 +57,10 @@ fileOf a = answerBy (λ r. []) (λ pss. multiBytes (cleaned pss)) a
 
 -- what its slice holds
 unfoldable pub fileLeft : Answer (List (List Point)) → List ℕ → List ℕ
-fileLeft a was = answerBy (λ r. was) (λ pss. zeroBeyond 0 (length was) (multiBytes (cleaned pss))) a
+fileLeft a was = leftIn 0 was a (λ pss. zeroBeyond 0 (length was) (multiBytes (cleaned pss)))
 
--- The promise: how long the file is (0 where there is none) and what its slice holds, and the text, as far as there is room, with its end.
+-- The promise: how long the file is (0 where there is none) and what its slice holds; the text as far as there is room, its end, and zero beyond.
 pub record CleansAs (a : Answer (List (List Point))) (f₀ t₀ : List ℕ) (r : Ends) (f₁ t₁ : List ℕ) : Type 0 where
   pub bytes : r .bytes ≡ length (fileOf a)
   pub file : f₁ ≡ fileLeft a f₀
-  pub text : Puts (textOf a) (page t₀ 0) (page t₁ (r .text))
+  pub text : Prints (textOf a) t₀ t₁ (r .text)

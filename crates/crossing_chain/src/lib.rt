@@ -6,8 +6,8 @@ ghost use lib.ListN.{length, take};
 ghost use Rattle.grid.specs.Domain.{lines};
 ghost use Rattle.samples.specs.Samples.{samples};
 ghost use Rattle.crossings.specs.Crossings.{besideSamples};
-ghost use Rattle.report.specs.Pages.{page, Puts};
-ghost use Rattle.chain.specs.Printed.{chainOf, Prints};
+ghost use Rattle.report.specs.Pages.{page, Puts, Prints};
+ghost use Rattle.chain.specs.Printed.{chainOf};
 ghost use Rattle.crossing_chain.specs.Printed.{crossingsOfTables, printedSamples, crossingsOfLines, crossingsPrinted};
 ghost use Rattle.crossing_chain.specs.Inside.{LengthsHeld};
 use build::Built;
@@ -185,6 +185,6 @@ pub fn print_crossings(bytes: &[u8], plan: Plan, out: &mut [u8]) -> usize
     ensures { λ r. ⌜ Prints (crossingsPrinted plan (now (bytes .entry))) (now (out .entry)) (now (out .exit)) r ⌝ }
 {
     let end = put_chain(bytes, plan, out);
-    chain::clear(&mut out[end..]);
+    report::clear(&mut out[end..]);
     end
 }

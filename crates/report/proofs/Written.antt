@@ -1,11 +1,12 @@
--- What stands in a buffer after a text was put into it from its start: the text, as far as there is room. Assumes nothing.
+-- What stands in a buffer after a text was put into it from its start: the text, as far as there is room, and zero beyond where that is cleared.
+-- Assumes nothing.
 use mathlib.Core.Path.{_≡_, refl, sym, ap, _∙_}
 use mathlib.Core.List.{List, [], _∷_, _++_, append-assoc, append-nil}
 use Prim.Native.Nat.{ℕ, suc, _+_, _-_, _≤_, _<_, min}
 use native.Mathlib.Omega.{arith}
-use lib.ListN.{length, take, drop, set, length-append, length-take}
-use lib.Seq.{take-nil, drop-nil, set-append-seam, append-snoc, take-at}
-use Rattle.report.specs.Pages.{Page, page, put, putAll, Puts}
+use lib.ListN.{length, take, drop, set, replicate, length-append, length-take, length-drop, drop-of-length-le}
+use lib.Seq.{take-nil, drop-nil, set-append-seam, append-snoc, take-at, length-take-le}
+use Rattle.report.specs.Pages.{Page, page, put, putAll, Puts, Prints}
 use Rattle.report.proofs.Putting.{put-room, put-full}
 
 -- where `post` stands after `pre`: the text over the start of `post`
@@ -64,3 +65,29 @@ written text out out′ r f =
           ap (take r) (ap (λ (p : Page). p .bytes) e)
           ∙ take-at (take (length out) text) (drop (length text) out) r (sym n);
     }
+
+-- ---- its end, and zero beyond
+
+pub end-within : (text out out₁ : List ℕ) (r : ℕ) → Puts text (page out 0) (page out₁ r) → length out₁ ≡ length out → r ≤ length out₁
+end-within text out out₁ r f e =
+    let w = written text out out₁ r f in
+    let c = w .count in
+    let l = length-take (length out) text in
+    omega arith
+
+pub prints : (text out out₁ ys : List ℕ) (r : ℕ) → Puts text (page out 0) (page out₁ r) → length out₁ ≡ length out → ys ≡ replicate (length (take (length out₁ - r) (drop r out₁))) 0 → Prints text out (take r out₁ ++ (ys ++ drop (length out₁ - r) (drop r out₁))) r
+prints text out out₁ ys r f e q =
+    let w = written text out out₁ r f in
+    let n : length (drop r out₁) ≡ length out₁ - r = length-drop r out₁ in
+    let k : length (take (length out₁ - r) (drop r out₁)) ≡ length out - r = length-take-le (length out₁ - r) (drop r out₁) (omega arith) ∙ ap (λ (m : ℕ). m - r) e in
+    record {
+      end = w .count;
+      is =
+          rw (drop-of-length-le (drop r out₁) {i = length out₁ - r} (omega arith), append-nil ys, w .start)
+          (ap (λ (l : List ℕ). take (length out) text ++ l) (q ∙ ap (λ (m : ℕ). replicate m 0) k));
+    }
+
+-- what was printed, as a part of the buffer
+pub prints-within : {text out out′ : List ℕ} {r : ℕ} → Prints text out out′ r → r ≡ length (take r out′)
+prints-within {text} {out} {out′} {r} p =
+    p .end ∙ ap length (sym (ap (take r) (p .is) ∙ take-at (take (length out) text) (replicate (length out - r) 0) r (sym (p .end))))

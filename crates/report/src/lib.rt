@@ -1,8 +1,10 @@
 // The lines that the program prints, in ASCII. Each function puts one line into a buffer, from a
-// position on and as far as there is room, and answers the position after it.
+// position on and as far as there is room, and answers the position after it. `clear` is for what
+// stands beyond the last.
 ghost use mathlib.Core.Path.{_≡_};
 ghost use Prim.Native.Nat.{_<_};
 ghost use mathlib.Core.List.{[], _∷_};
+ghost use lib.ListN.{length, replicate};
 ghost use Rattle.report.specs.Pages.{page, Puts};
 ghost use Rattle.report.specs.Numbers.{glyph as Numbers·glyph};
 ghost use Rattle.report.specs.Numbers.{inDecimal, hex};
@@ -220,4 +222,15 @@ pub fn dropped_line(member: u64, point: u64, reason: u32, out: &mut [u8], at: us
     let at = put_number(point, out, at);
     let at = put_reason(reason, out, at);
     put(b'\n', out, at)
+}
+
+// Writes zero to each byte.
+pub fn clear(s: &mut [u8])
+    ensures { λ _. ⌜ now (s .exit) ≡ replicate (length (now (s .entry))) 0 ⌝ }
+{
+    let mut i = 0;
+    while i < s.len() {
+        s[i] = 0;
+        i += 1;
+    }
 }

@@ -1,11 +1,11 @@
 -- `chain::print_chain` meets its contract. Assumes nothing.
-use Rattle.chain.proofs.Answers.{end-within, prints}
+use Rattle.report.proofs.Written.{end-within, prints}
 use borrow.Author.Needs.{needs}
 use Rattle.chain.proofs.print_chain.Statement.{statement}
 use Rattle.chain.proofs.print_chain.Tie as tie
 use Rattle.chain.proofs.print_chain.Reads as reads
 use Rattle.chain.proofs.print_chain.Lts as lts
-use Rattle.chain.proofs.clear.Reads as clear-reads
+use Rattle.report.proofs.clear.Reads as clear-reads
 use Rattle.chain.proofs.put_chain.Reads as put-chain-reads
 
 -- src/lib.rt:147:9

@@ -13,10 +13,10 @@ slice-aggregate-deliver : tie.Need-slice-aggregate-deliver
 slice-aggregate-deliver c = sym (length-take-le _ _ (bytes-within (c .before .before .before .clean-bytes .ensures)))
 
 array-share-prefix-text : tie.Need-array-share-prefix-text
-array-share-prefix-text c = text-within (c .before .before .before .clean-bytes .ensures) (c .before .before .before .clean-bytes .kept .1 .1 .0)
+array-share-prefix-text c = text-within (c .before .before .before .clean-bytes .ensures)
 
 slice-aggregate-deliver-2 : tie.Need-slice-aggregate-deliver-2
-slice-aggregate-deliver-2 c = sym (length-take-le _ _ (text-within (c .before .before .before .before .clean-bytes .ensures) (c .before .before .before .before .clean-bytes .kept .1 .1 .0)))
+slice-aggregate-deliver-2 c = sym (length-take-le _ _ (text-within (c .before .before .before .before .clean-bytes .ensures)))
 
 pub respond-spec : {M : Type 1} → statement M
 respond-spec =

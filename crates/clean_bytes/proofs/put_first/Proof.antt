@@ -9,13 +9,13 @@ use Rattle.clean_bytes.proofs.put_first.Reads as reads
 use Rattle.clean_bytes.proofs.put_first.Lts as lts
 use Rattle.clean_bytes.proofs.put_multi.Reads as put-multi-reads
 
--- src/lib.rt:128:15
+-- src/lib.rt:136:15
 slice-aggregate-put-multi : tie.Need-slice-aggregate-put-multi
 slice-aggregate-put-multi c =
     let s = c .before .before .before .before in
     sym (length-take-le _ (s .args .s .now) (s .pre .0))
 
--- src/lib.rt:128:5
+-- src/lib.rt:136:5
 put-multi-requires : tie.Need-put-multi-requires
 put-multi-requires c κs =
     let s = c .before .before .before .before .before .before in
@@ -23,15 +23,15 @@ put-multi-requires c κs =
     let m = s .pre .1 in
     (omega arith, s .pre .2)
 
--- src/lib.rt:124:1
+-- src/lib.rt:132:1
 same-length : tie.Need-same-length
 same-length c = search needs
 
--- src/lib.rt:124:1
+-- src/lib.rt:132:1
 same-length-2 : tie.Need-same-length-2
 same-length-2 c = search needs
 
--- src/lib.rt:124:1
+-- src/lib.rt:132:1
 returns : tie.Need-returns
 returns c = search needs
 

@@ -1,11 +1,11 @@
 -- `crossing_chain::print_crossings` meets its contract. Assumes nothing.
-use Rattle.chain.proofs.Answers.{end-within, prints}
+use Rattle.report.proofs.Written.{end-within, prints}
 use borrow.Author.Needs.{needs}
 use Rattle.crossing_chain.proofs.print_crossings.Statement.{statement}
 use Rattle.crossing_chain.proofs.print_crossings.Tie as tie
 use Rattle.crossing_chain.proofs.print_crossings.Reads as reads
 use Rattle.crossing_chain.proofs.print_crossings.Lts as lts
-use Rattle.chain.proofs.clear.Reads as clear-reads
+use Rattle.report.proofs.clear.Reads as clear-reads
 use Rattle.crossing_chain.proofs.put_chain.Reads as put-chain-reads
 
 -- src/lib.rt:187:9

@@ -1,4 +1,4 @@
--- `chain::clear` meets its contract. The invariant: the first i entries are zero, and the others as they were. Assumes nothing.
+-- `report::clear` meets its contract. The invariant: the first i entries are zero, and the others as they were. Assumes nothing.
 use mathlib.Core.Path.{_≡_, refl, ap, sym, _∙_}
 use mathlib.Core.List.{List, [], _++_, append-nil}
 use Prim.Native.Nat.{ℕ, _≤_, _-_, zero-le}
@@ -6,8 +6,8 @@ use native.Mathlib.Omega.{arith}
 use lib.ListN.{length, replicate, drop, set, length-set, drop-of-length-le}
 use lib.Seq.{drop-length}
 use borrow.Author.Fill.{fill-more}
-use Rattle.chain.proofs.clear.Statement.{statement}
-use Rattle.chain.proofs.clear.Tie as tie
+use Rattle.report.proofs.clear.Statement.{statement}
+use Rattle.report.proofs.clear.Tie as tie
 
 abbrev Inv-loop : tie.InvT-loop
 Inv-loop s₀ i₀ s i = (s ≡ replicate i 0 ++ drop i s₀) × (i ≤ length s₀) × (length s ≡ length s₀)

@@ -1,8 +1,9 @@
 -- The ownership tests and the first check, as the code asks them. lo and hi are the edges of index i. Assumes nothing.
-use mathlib.Core.Path.{_≡_}
-use mathlib.Core.Bool.{Bool, _&&_, _||_}
-use Prim.Native.Nat.{ℕ, _+_}
+use mathlib.Core.Path.{_≡_, sym, ap, _∙_}
+use mathlib.Core.Bool.{Bool, true, false, _&&_, _||_}
+use Prim.Native.Nat.{ℕ, suc, _+_}
 use native.Mathlib.Numerals.{add-one}
+use borrow.Author.Tests.{eq-eqb, ne-eqb}
 use lib.Dec.{eqb}
 use lib.Ieee.{Float, lt, le, eq}
 use Rattle.refusals.specs.declared.Refusal.{Refusal}
@@ -15,16 +16,48 @@ use Rattle.grid.specs.Domain.{pointCheck, gridCheck}
 use Rattle.grid.specs.Axes.{lowOn, highOn}
 use Rattle.own.specs.Own.{ownsOn, holdsOn, pointOnGridCheck}
 
+-- ---- the tests as Bools: l is "low <= p", t is "p < high", n is "the last index" and e is "p = high"
+
+within : (l t n : Bool) → l ≡ true → t ≡ true → true ≡ (l && (t || n))
+within l t n h k = rw (h, k)
+
+at-last : (l t n e : Bool) → l ≡ true → t ≡ false → n ≡ true → e ≡ (l && (t || (n && e)))
+at-last l t n e h k m = rw (h, k, m)
+
+past : (l t n e : Bool) → l ≡ true → t ≡ false → n ≡ false → false ≡ (l && (t || (n && e)))
+past l t n e h k m = rw (h, k, m)
+
+short : (l t : Bool) → l ≡ false → false ≡ (l && t)
+short l t h = rw h
+
 -- ---- on an axis
 
-module _ (a : Axis) (i : ℕ) (p lo hi : Float) (l : lo ≡ lowOn a i) (u : hi ≡ highOn a i) where
-  pub owns-by : (le lo p && (lt p hi || (eqb (i + 1) (a .count) && eq p hi))) ≡ ownsOn a i p
+module _ (a : Axis) (i : ℕ) (p lo : Float) (l : lo ≡ lowOn a i) where
+  -- below the low edge
+  pub owns-under : le lo p ≡ false → false ≡ ownsOn a i p
   unfolding ownsOn
-  owns-by = rw (l, u, add-one)
+  owns-under h = short (le (lowOn a i) p) _ (rw l at h)
 
-  pub holds-by : (le lo p && lt p hi) ≡ holdsOn a i p
-  unfolding holdsOn
-  holds-by = rw (l, u)
+  module _ (hi : Float) (u : hi ≡ highOn a i) (h : le lo p ≡ true) where
+    pub owns-within : lt p hi ≡ true → true ≡ ownsOn a i p
+    unfolding ownsOn
+    owns-within k = within (le (lowOn a i) p) (lt p (highOn a i)) _ (rw l at h) (rw u at k)
+
+    -- on or over the high edge: the last index takes the edge itself
+    pub owns-last : lt p hi ≡ false → i + 1 ≡ a .count → eq p hi ≡ ownsOn a i p
+    unfolding ownsOn
+    owns-last k e =
+        ap (λ (z : Float). eq p z) u
+        ∙ at-last (le (lowOn a i) p) (lt p (highOn a i)) (eqb (suc i) (a .count)) (eq p (highOn a i)) (rw l at h) (rw u at k) (eq-eqb (suc i) (a .count) (sym (add-one i) ∙ e))
+
+    pub owns-past : lt p hi ≡ false → (i + 1 ≡ a .count → ⊥) → false ≡ ownsOn a i p
+    unfolding ownsOn
+    owns-past k e =
+        past (le (lowOn a i) p) (lt p (highOn a i)) (eqb (suc i) (a .count)) (eq p (highOn a i)) (rw l at h) (rw u at k) (ne-eqb (suc i) (a .count) (λ x. e (add-one i ∙ x)))
+
+pub holds-by : (a : Axis) (i : ℕ) (p lo hi : Float) → lo ≡ lowOn a i → hi ≡ highOn a i → (le lo p && lt p hi) ≡ holdsOn a i p
+unfolding holdsOn
+holds-by a i p lo hi l u = rw (l, u)
 
 -- ---- on both axes, by either test: u and v are what the two answer
 

@@ -15,12 +15,21 @@ struct Stretch {
     high: u32,
 }
 
-// Of a point: the high edge of the last index counts too.
+// Of a point: the high edge of the last index counts too. Branches: as one expression the owners of many points take longer.
 pub(crate) fn owns(axis: Axis, i: u32, p: f64) -> bool
     ensures { λ r. ⌜ r ≡ ownsOn axis i p ⌝ }
 {
-    let high = axis.high_edge(i);
-    (axis.low_edge(i) <= p) & ((p < high) | ((i as u64 + 1 == axis.count as u64) & (p == high)))
+    if axis.low_edge(i) <= p {
+        let high = axis.high_edge(i);
+        if p < high {
+            return true;
+        }
+        if i as u64 + 1 == axis.count as u64 {
+            return p == high;
+        }
+        return false;
+    }
+    false
 }
 
 // Of a collinear overlap: no high edge counts.

@@ -6,11 +6,17 @@ ghost use mathlib.Core.Bool.{_&&_};
 ghost use lib.Dec.{eqb};
 ghost use Rattle.snap.specs.Snap.{snapSize, snapSizeCheck, snapCheck};
 
-// A snap size is 0, or 1e-6 to 1e6.
+// A snap size is 0, or 1e-6 to 1e6. Branches, here and in `is_snap`: as one expression a snap takes longer.
 fn is_snap_size(size: f64) -> bool
     ensures { λ r. ⌜ r ≡ snapSize size ⌝ }
 {
-    (size == 0.0) | ((1e-6 <= size) & (size <= 1e6))
+    if size == 0.0 {
+        return true;
+    }
+    if 1e-6 <= size {
+        return size <= 1e6;
+    }
+    false
 }
 
 pub fn check_snap_size(size: f64) -> Check
@@ -23,7 +29,10 @@ pub fn check_snap_size(size: f64) -> Check
 fn is_snap(size: f64, strategy: u32) -> bool
     ensures { λ r. ⌜ r ≡ (snapSize size && eqb strategy 0) ⌝ }
 {
-    is_snap_size(size) & (strategy == 0)
+    if is_snap_size(size) {
+        return strategy == 0;
+    }
+    false
 }
 
 pub fn check_snap(size: f64, strategy: u32) -> Check

@@ -1,24 +1,42 @@
 -- `own::axis::owns` meets its contract, by the tests of the edges and of the last index. Assumes nothing.
-use Rattle.own.proofs.Tests.{owns-by}
+use Rattle.own.proofs.Tests.{owns-under, owns-within, owns-last, owns-past}
 use borrow.Author.Needs.{needs}
 use Rattle.own.proofs.axis.owns.Statement.{statement}
 use Rattle.own.proofs.axis.owns.Tie as tie
 
-high-edge-requires : tie.Need-high-edge-requires
-high-edge-requires c κs = search needs
-
 low-edge-requires : tie.Need-low-edge-requires
 low-edge-requires c κs = search needs
 
-add-result : tie.Need-add-result
-add-result c = search needs
-
-cast-result : tie.Need-cast-result
-cast-result c = search needs
+high-edge-requires : tie.Need-high-edge-requires
+high-edge-requires c κs = search needs
 
 returns : tie.Need-returns
-returns c = owns-by _ _ _ _ _ (c .before .low-edge .ensures) (c .before .before .high-edge .ensures)
+returns c = owns-within _ _ _ _ (c .before .before .before .low-edge .ensures) _ (c .before .high-edge .ensures) (c .before .before .if1 .taken) (c .if2 .taken)
+
+add-if3 : tie.Need-add-if3
+add-if3 c = search needs
+
+cast-if3 : tie.Need-cast-if3
+cast-if3 c = search needs
+
+returns-2 : tie.Need-returns-2
+returns-2 c = owns-last _ _ _ _ (c .before .before .before .before .before .low-edge .ensures) _ (c .before .before .before .high-edge .ensures) (c .before .before .before .before .if1 .taken) (c .before .before .if2 .left) (c .if3 .taken)
+
+returns-3 : tie.Need-returns-3
+returns-3 c = owns-past _ _ _ _ (c .before .before .before .before .before .low-edge .ensures) _ (c .before .before .before .high-edge .ensures) (c .before .before .before .before .if1 .taken) (c .before .before .if2 .left) (c .if3 .left)
+
+returns-4 : tie.Need-returns-4
+returns-4 c = owns-under _ _ _ _ (c .before .low-edge .ensures) (c .if1 .left)
 
 pub owns-spec : {M : Type 1} → statement M
 owns-spec =
-    tie.close (tie.spec high-edge-requires low-edge-requires add-result cast-result returns)
+    tie.close
+    (tie.spec
+    low-edge-requires
+    high-edge-requires
+    returns
+    add-if3
+    cast-if3
+    returns-2
+    returns-3
+    returns-4)

@@ -7,7 +7,10 @@ is-snap-size-requires : tie.Need-is-snap-size-requires
 is-snap-size-requires c κs = search needs
 
 returns : tie.Need-returns
-returns c = rw (c .is-snap-size .ensures)
+returns c = rw (← c .before .is-snap-size .ensures, c .if1 .taken)
+
+returns-2 : tie.Need-returns-2
+returns-2 c = rw (← c .before .is-snap-size .ensures, c .if1 .left)
 
 pub is-snap-spec : {M : Type 1} → statement M
-is-snap-spec = tie.close (tie.spec is-snap-size-requires returns)
+is-snap-spec = tie.close (tie.spec is-snap-size-requires returns returns-2)

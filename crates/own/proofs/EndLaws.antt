@@ -23,5 +23,9 @@ module _ (a : Axis) (p : Float) where
       go zero h = absurd (h (omega arith))
       go (suc n) h = let e : n ≡ suc n - 1 = omega arith in ap (λ (k : ℕ). le (lowOn a 0) p && le p (highOn a k)) e
 
-  pub ends-by : (a .count ≡ 0 → ⊥) → (lo hi : Float) → lo ≡ lowOn a 0 → hi ≡ highOn a (a .count - 1) → (le lo p && le p hi) ≡ spans a p
-  ends-by some lo hi l u = rw (two-ends some, l, u)
+  module _ (some : a .count ≡ 0 → ⊥) (lo : Float) (l : lo ≡ lowOn a 0) where
+    pub under-ends : le lo p ≡ false → false ≡ spans a p
+    under-ends h = rw (two-ends some, ← l, h)
+
+    pub up-to-end : le lo p ≡ true → (hi : Float) → hi ≡ highOn a (a .count - 1) → le p hi ≡ spans a p
+    up-to-end h hi u = rw (two-ends some, ← l, h, ← u)

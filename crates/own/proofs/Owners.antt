@@ -63,11 +63,14 @@ module _ (g : Grid) (x y : Float) where
     unfolding seamOrOutside
     spanned = rw (e, d, f, k)
 
-    pub in-seam : (u && v) ≡ true → Seam ≡ seamOrOutside g x y
-    in-seam s = rw s at spanned
+    pub in-seam : u ≡ true → v ≡ true → Seam ≡ seamOrOutside g x y
+    in-seam s t = rw (s, t) at spanned
 
-    pub no-seam : (u && v) ≡ false → Outside ≡ seamOrOutside g x y
-    no-seam s = rw s at spanned
+    pub out-across : u ≡ false → Outside ≡ seamOrOutside g x y
+    out-across s = rw s at spanned
+
+    pub out-up : u ≡ true → v ≡ false → Outside ≡ seamOrOutside g x y
+    out-up s t = rw (s, t) at spanned
 
 -- ---- what the checks say of the two axes
 

@@ -1,4 +1,4 @@
--- The ownership tests and the first check, as the code asks them. lo and hi are the edges of index i. Assumes nothing.
+-- The cases of the ownership tests and of the first check, as the code takes them. lo and hi are the edges of index i. Assumes nothing.
 use mathlib.Core.Path.{_≡_, sym, ap, _∙_}
 use mathlib.Core.Bool.{Bool, true, false, _&&_, _||_}
 use Prim.Native.Nat.{ℕ, suc, _+_}
@@ -27,6 +27,9 @@ at-last l t n e h k m = rw (h, k, m)
 past : (l t n e : Bool) → l ≡ true → t ≡ false → n ≡ false → false ≡ (l && (t || (n && e)))
 past l t n e h k m = rw (h, k, m)
 
+over : (l t : Bool) → l ≡ true → t ≡ (l && t)
+over l t h = rw h
+
 short : (l t : Bool) → l ≡ false → false ≡ (l && t)
 short l t h = rw h
 
@@ -38,7 +41,15 @@ module _ (a : Axis) (i : ℕ) (p lo : Float) (l : lo ≡ lowOn a i) where
   unfolding ownsOn
   owns-under h = short (le (lowOn a i) p) _ (rw l at h)
 
+  pub holds-under : le lo p ≡ false → false ≡ holdsOn a i p
+  unfolding holdsOn
+  holds-under h = short (le (lowOn a i) p) _ (rw l at h)
+
   module _ (hi : Float) (u : hi ≡ highOn a i) (h : le lo p ≡ true) where
+    pub holds-over : lt p hi ≡ holdsOn a i p
+    unfolding holdsOn
+    holds-over = ap (λ (z : Float). lt p z) u ∙ over (le (lowOn a i) p) (lt p (highOn a i)) (rw l at h)
+
     pub owns-within : lt p hi ≡ true → true ≡ ownsOn a i p
     unfolding ownsOn
     owns-within k = within (le (lowOn a i) p) (lt p (highOn a i)) _ (rw l at h) (rw u at k)
@@ -55,15 +66,28 @@ module _ (a : Axis) (i : ℕ) (p lo : Float) (l : lo ≡ lowOn a i) where
     owns-past k e =
         past (le (lowOn a i) p) (lt p (highOn a i)) (eqb (suc i) (a .count)) (eq p (highOn a i)) (rw l at h) (rw u at k) (ne-eqb (suc i) (a .count) (λ x. e (add-one i ∙ x)))
 
-pub holds-by : (a : Axis) (i : ℕ) (p lo hi : Float) → lo ≡ lowOn a i → hi ≡ highOn a i → (le lo p && lt p hi) ≡ holdsOn a i p
-unfolding holdsOn
-holds-by a i p lo hi l u = rw (l, u)
+-- ---- one axis after the other, by either test: u and v are what the two answer
 
--- ---- on both axes, by either test: u and v are what the two answer
+module _ (test : Axis → ℕ → Float → Bool) (ax ax' : Axis) (i : ℕ) (p : Float) (u : Bool) (e : u ≡ test ax i p) (d : ax ≡ ax') where
+  first : u ≡ test ax' i p
+  first = e ∙ ap (λ (a : Axis). test a i p) d
 
-pub both : (test : Axis → ℕ → Float → Bool) (ax ax' ay ay' : Axis) (i j : ℕ) (p q : Float) (u v : Bool) →
-    u ≡ test ax i p → ax ≡ ax' → v ≡ test ay j q → ay ≡ ay' → (u && v) ≡ (test ax' i p && test ay' j q)
-both test ax ax' ay ay' i j p q u v e d f g = rw (e, d, f, g)
+  pub both : (ay ay' : Axis) (j : ℕ) (q : Float) (v : Bool) → v ≡ test ay j q → ay ≡ ay' → u ≡ true → v ≡ (test ax' i p && test ay' j q)
+  both ay ay' j q v f g h = rw (← first, h, ← g) f
+
+  pub not-both : (rest : Bool) → u ≡ false → false ≡ (test ax' i p && rest)
+  not-both rest h = rw (← first, h)
+
+-- ---- an overlap: u is the answer of the two axes
+
+pub by-axes : (u p q : Bool) → u ≡ p → u ≡ true → true ≡ (p || q)
+by-axes u p q e h = rw (← e, h)
+
+pub by-cell : (u p q : Bool) (row : ℕ) → u ≡ p → u ≡ false → row ≡ 0 → q ≡ (p || (eqb row 0 && q))
+by-cell u p q row e h r = rw (← e, h, eq-eqb row 0 r)
+
+pub by-neither : (u p q : Bool) (row : ℕ) → u ≡ p → u ≡ false → (row ≡ 0 → ⊥) → false ≡ (p || (eqb row 0 && q))
+by-neither u p q row e h r = rw (← e, h, ne-eqb row 0 r)
 
 -- ---- the check of the point, then that of the grid
 

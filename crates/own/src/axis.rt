@@ -15,7 +15,8 @@ struct Stretch {
     high: u32,
 }
 
-// Of a point: the high edge of the last index counts too. Branches: as one expression the owners of many points take longer.
+// Tests here are branches: as one expression they take a tenth to two fifths longer.
+// Of a point: the high edge of the last index counts too.
 pub(crate) fn owns(axis: Axis, i: u32, p: f64) -> bool
     ensures { λ r. ⌜ r ≡ ownsOn axis i p ⌝ }
 {
@@ -36,7 +37,10 @@ pub(crate) fn owns(axis: Axis, i: u32, p: f64) -> bool
 pub(crate) fn holds(axis: Axis, i: u32, p: f64) -> bool
     ensures { λ r. ⌜ r ≡ holdsOn axis i p ⌝ }
 {
-    (axis.low_edge(i) <= p) & (p < axis.high_edge(i))
+    if axis.low_edge(i) <= p {
+        return p < axis.high_edge(i);
+    }
+    false
 }
 
 // A guess at the index of p, from how many cells p lies above the low end of its axis, cut to a whole number; the count, where that is

@@ -10,5 +10,8 @@ pub(crate) fn spanned(axis: Axis, p: f64) -> bool
     if axis.count == 0 {
         return false;
     }
-    (axis.low_edge(0) <= p) & (p <= axis.high_edge(axis.count - 1))
+    if axis.low_edge(0) <= p {
+        return p <= axis.high_edge(axis.count - 1);
+    }
+    false
 }

@@ -63,21 +63,33 @@ fn answer(yes: bool) -> Owned
 fn owns_point(grid: Grid, row: u32, col: u32, x: f64, y: f64) -> bool
     ensures { λ r. ⌜ r ≡ ownsPoint grid row col x y ⌝ }
 {
-    axis::owns(grid.x_axis(), col, x) & axis::owns(grid.y_axis(), row, y)
+    if axis::owns(grid.x_axis(), col, x) {
+        return axis::owns(grid.y_axis(), row, y);
+    }
+    false
 }
 
 // The axes of the cell hold the point.
 fn holds_point(grid: Grid, row: u32, col: u32, x: f64, y: f64) -> bool
     ensures { λ r. ⌜ r ≡ (holdsOn (xAxis grid) col x && holdsOn (yAxis grid) row y) ⌝ }
 {
-    axis::holds(grid.x_axis(), col, x) & axis::holds(grid.y_axis(), row, y)
+    if axis::holds(grid.x_axis(), col, x) {
+        return axis::holds(grid.y_axis(), row, y);
+    }
+    false
 }
 
 // The first end is snapped already.
 fn owns_overlap(grid: Grid, row: u32, col: u32, x: f64, y: f64) -> bool
     ensures { λ r. ⌜ r ≡ ownsOverlap grid row col x y ⌝ }
 {
-    holds_point(grid, row, col, x, y) | ((row == 0) & (col == 0))
+    if holds_point(grid, row, col, x, y) {
+        return true;
+    }
+    if row == 0 {
+        return col == 0;
+    }
+    false
 }
 
 // Whether a cell owns a point. Refuses by 1, 8, 9.
@@ -133,8 +145,10 @@ fn seam_or_outside(grid: Grid, x: f64, y: f64) -> Owner
 {
     let across = ends::spanned(grid.x_axis(), x);
     let up = ends::spanned(grid.y_axis(), y);
-    if across & up {
-        return Owner::Seam;
+    if across {
+        if up {
+            return Owner::Seam;
+        }
     }
     Owner::Outside
 }

@@ -1,6 +1,6 @@
--- `own::owns_point` meets its contract, by both axes. Assumes nothing.
+-- `own::owns_point` meets its contract: one axis after the other. Assumes nothing.
 use Rattle.own.specs.Own.{ownsOn, ownsPoint}
-use Rattle.own.proofs.Tests.{both}
+use Rattle.own.proofs.Tests.{both, not-both}
 use borrow.Author.Needs.{needs}
 use Rattle.own.proofs.owns_point.Statement.{statement}
 use Rattle.own.proofs.owns_point.Tie as tie
@@ -19,8 +19,13 @@ owns-requires-2 c κs = search needs
 
 returns : tie.Need-returns
 unfolding ownsPoint
-returns c = both ownsOn _ _ _ _ _ _ _ _ _ _ (c .before .before .owns .ensures) (c .before .before .before .x-axis .ensures) (c .owns2 .ensures) (c .before .y-axis .ensures)
+returns c = both ownsOn _ _ _ _ _ (c .before .before .before .owns .ensures) (c .before .before .before .before .x-axis .ensures) _ _ _ _ _ (c .owns2 .ensures) (c .before .y-axis .ensures) (c .before .before .if1 .taken)
+
+returns-2 : tie.Need-returns-2
+unfolding ownsPoint
+returns-2 c = not-both ownsOn _ _ _ _ _ (c .before .owns .ensures) (c .before .before .x-axis .ensures) _ (c .if1 .left)
 
 pub owns-point-spec : {M : Type 1} → statement M
 owns-point-spec =
-    tie.close (tie.spec x-axis-requires owns-requires y-axis-requires owns-requires-2 returns)
+    tie.close
+    (tie.spec x-axis-requires owns-requires y-axis-requires owns-requires-2 returns returns-2)

@@ -4,6 +4,7 @@ pub mod Facts
 pub mod Climbing
 pub mod Breaks
 pub mod Turns
+pub mod AtOnce
 pub mod Checking
 pub mod Laws
 pub mod Lists

@@ -8,62 +8,86 @@ use native.Mathlib.Nat.{mul-le-mul-right}
 use native.Mathlib.Omega.{arith}
 use native.Mathlib.Decide.{ℕ-discrete}
 use lib.ListN.{length, getD, take, drop, drop-of-length-le}
-use lib.Seq.{take-take, length-take-le}
+use lib.Seq.{drop-cons}
 use lib.Dec.{leb, ltb, eqb}
-use borrow.Author.Tests.{leb-true, le-leb, lt-leb, eq-eqb}
-use Rattle.tables.specs.Tables.{Tables, cells, listIn, globalsOf}
-use Rattle.tables.specs.Fit.{increases, every, listsFit, tablesFit}
-use Rattle.tables.specs.Inside.{LaidOut}
-use Rattle.tables.proofs.Facts.{not-true, every-says, lists-facts}
-use Rattle.tables.proofs.Breaks.{laid-within}
+use borrow.Author.Count.{below-none, below-more}
+use borrow.Author.Tests.{le-leb, lt-leb, lt-ltb, le-ltb}
+use Rattle.tables.specs.Tables.{Tables, cells, listIn, listOf, globalsOf}
+use Rattle.tables.specs.Fit.{Increasing, ListsFit, TablesFit, increases, every, listsFit, tablesFit}
+use Rattle.tables.proofs.Facts.{part-slice, not-true, lists-facts, facts-lists, all-within, says-increases, increases-says}
 
--- ---- the lists
+-- ---- the cells before `cell` fit
 
-every-same : (m : ℕ) (f g : ℕ → Bool) → ((c : ℕ) → c < m → f c ≡ g c) → every m f ≡ every m g
-unfolding every
-every-same zero f g h = refl
-every-same (suc m) f g h = rw (every-same m f g (λ c l. h c (omega arith)), h m (omega arith))
+pub record ListsSeen (m n : ℕ) (offsets items : List ℕ) (cell : ℕ) : Type 0 where
+  pub long : m < length offsets
+  pub at : cell ≤ m
+  pub first : getD offsets 0 0 ≡ 0
+  pub rises : (c : ℕ) → c < cell → getD offsets c 0 ≤ getD offsets (suc c) 0
+  pub within : getD offsets cell 0 ≤ length items
+  pub lists : (c : ℕ) → c < cell → Increasing n (listIn offsets items c)
 
 module _ (m n : ℕ) (offsets items : List ℕ) where
+  pub seen-none : m < length offsets → getD offsets 0 0 ≡ 0 → ListsSeen m n offsets items 0
+  seen-none l e =
+      record {
+        long = l;
+        at = omega arith;
+        first = e;
+        rises = below-none (λ (c : ℕ). getD offsets c 0 ≤ getD offsets (suc c) 0);
+        within = omega arith;
+        lists = below-none (λ (c : ℕ). Increasing n (listIn offsets items c));
+      }
+
   pub first-bad : (getD offsets 0 0 ≡ 0 → ⊥) → false ≡ listsFit m n offsets items
   first-bad h = sym (not-true (listsFit m n offsets items) (λ e. h (lists-facts m n offsets items e .first)))
 
-  abbrev up : ℕ → Bool
-  up c = leb (getD offsets c 0) (getD offsets (suc c) 0)
+  module _ (cell : ℕ) (s : ListsSeen m n offsets items cell) where
+    pub seen-all : m ≤ cell → true ≡ listsFit m n offsets items
+    seen-all l =
+        let e : cell ≡ m = omega (arith, s .at) in
+        sym
+        (facts-lists m n offsets items
+        (record {
+          first = s .first;
+          rises = λ c k. s .rises c (omega arith);
+          within = rw e at (s .within);
+          lists = λ c k. s .lists c (omega arith);
+        }))
 
-  module _ (first : getD offsets 0 0 ≡ 0) where
-    pub falls-bad : every m up ≡ false → false ≡ listsFit m n offsets items
-    unfolding listsFit
-    falls-bad h = rw (eq-eqb (getD offsets 0 0) 0 first, h)
+    -- the list of `cell` lies from `from` to `to`
+    module _ (from to : ℕ) (l : cell < m) (f : from ≡ getD offsets cell 0) (t : to ≡ getD offsets (cell + 1) 0) where
+      to-is : getD offsets (suc cell) 0 ≡ to
+      to-is = sym (t ∙ rw add-one)
 
-    -- no offset falls, and the last is `total`
-    module _ (rises : every m up ≡ true) (total : ℕ) (last : total ≡ getD offsets m 0) where
-      pub beyond-bad : length items < total → false ≡ listsFit m n offsets items
-      unfolding listsFit
-      beyond-bad h = rw (eq-eqb (getD offsets 0 0) 0 first, rises, lt-leb (getD offsets m 0) (length items) (omega arith))
+      pub falls-bad : to < from → false ≡ listsFit m n offsets items
+      falls-bad h = sym (not-true (listsFit m n offsets items) (λ e. omega (arith, to-is, lists-facts m n offsets items e .rises cell l)))
 
-      module _ (within : total ≤ length items) where
-        pub laid-out : m < length offsets → getD offsets m 0 < 2 ^ 32 → LaidOut m offsets (take total items)
-        laid-out l h =
-            let e = length-take-le total items within in
-            record {
-              long = l;
-              first = first;
-              rises = λ c k. leb-true (getD offsets c 0) (getD offsets (suc c) 0) (every-says m up rises c k);
-              last = omega (arith, e);
-              small = omega (arith, e);
-            }
+      pub beyond-bad : length items < to → false ≡ listsFit m n offsets items
+      beyond-bad h =
+          sym (not-true (listsFit m n offsets items) (λ e. omega (arith, to-is, all-within m n offsets items (lists-facts m n offsets items e) (suc cell) l)))
 
-        -- the lists of the items up to there are those of the items
-        pub laid-fits : m < length offsets → getD offsets m 0 < 2 ^ 32 → every m (λ c. increases 0 n (listIn offsets (take total items) c)) ≡ listsFit m n offsets items
-        unfolding listsFit
-        laid-fits l h =
-            let laid = laid-out l h in
-            let e = length-take-le total items within in
-            let same : every m (λ c. increases 0 n (listIn offsets (take total items) c)) ≡ every m (λ c. increases 0 n (listIn offsets items c)) =
-            every-same m (λ c. increases 0 n (listIn offsets (take total items) c)) (λ c. increases 0 n (listIn offsets items c))
-            (λ c k. ap (λ (l : List ℕ). increases 0 n (drop (getD offsets c 0) l)) (take-take (getD offsets (suc c) 0) total items (omega (arith, e, laid-within m offsets (take total items) laid (suc c) k)))) in
-            same ∙ rw (eq-eqb (getD offsets 0 0) 0 first, rises, le-leb (getD offsets m 0) (length items) (omega arith))
+      part-is : take (to - from) (drop from items) ≡ listIn offsets items cell
+      part-is = part-slice from to items ∙ rw (f, to-is)
+
+      pub list-bad : increases 0 n (take (to - from) (drop from items)) ≡ false → false ≡ listsFit m n offsets items
+      list-bad h =
+          sym
+          (not-true (listsFit m n offsets items)
+          (λ e.
+          let k : increases 0 n (take (to - from) (drop from items)) ≡ true = ap (increases 0 n) part-is ∙ says-increases n (listIn offsets items cell) (lists-facts m n offsets items e .lists cell l) in
+          let z : true ≡ false = sym k ∙ h in
+          mathlib.Core.Bool.true≢false z))
+
+      pub seen-more : from ≤ to → to ≤ length items → increases 0 n (take (to - from) (drop from items)) ≡ true → ListsSeen m n offsets items (cell + 1)
+      seen-more a b h =
+          record {
+            long = s .long;
+            at = omega arith;
+            first = s .first;
+            rises = below-more (λ (c : ℕ). getD offsets c 0 ≤ getD offsets (suc c) 0) cell (s .rises) (omega (arith, to-is));
+            within = omega arith;
+            lists = below-more (λ (c : ℕ). Increasing n (listIn offsets items c)) cell (s .lists) (increases-says n (listIn offsets items cell) (sym (ap (increases 0 n) part-is) ∙ h));
+          }
 
 -- ---- the globals: a count beyond the slice, and one within it
 

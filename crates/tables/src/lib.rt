@@ -43,8 +43,8 @@ pub fn is_increasing(lines: usize, list: &[u32]) -> bool
     rises(list) & (last < lines)
 }
 
-// The offsets, and then the lists between them.
-fn lists_fit(cells: usize, lines: usize, offsets: &[u32], items: &[u32]) -> bool
+// The offsets, and then all lists at once.
+fn fit_at_once(cells: usize, lines: usize, offsets: &[u32], items: &[u32]) -> bool
     requires { ⌜ cells < length (now offsets) ⌝ }
     ensures { λ r. ⌜ r ≡ listsFit cells lines (now (offsets .entry)) (now (items .entry)) ⌝ }
 {
@@ -59,6 +59,46 @@ fn lists_fit(cells: usize, lines: usize, offsets: &[u32], items: &[u32]) -> bool
         return rising::lists_rise(cells, lines, offsets, &items[..total]);
     }
     false
+}
+
+// List by list: one pass over the offsets and the items between them.
+fn fit_each(cells: usize, lines: usize, offsets: &[u32], items: &[u32]) -> bool
+    requires { ⌜ cells < length (now offsets) ⌝ }
+    ensures { λ r. ⌜ r ≡ listsFit cells lines (now (offsets .entry)) (now (items .entry)) ⌝ }
+{
+    if offsets[0] != 0 {
+        return false;
+    }
+    let mut cell = 0;
+    while cell < cells {
+        let from = wide(offsets[cell]);
+        let to = wide(offsets[cell + 1]);
+        if to < from {
+            return false;
+        }
+        if items.len() < to {
+            return false;
+        }
+        if is_increasing(lines, &items[from..to]) {
+            cell = cell + 1;
+        } else {
+            return false;
+        }
+    }
+    true
+}
+
+// The offsets, and the lists between them: all at once where lists are short, since the end of each would be a branch that cannot be foreseen. Where they
+// are long, the second look at where each begins would bring nearly all items from memory once more.
+fn lists_fit(cells: usize, lines: usize, offsets: &[u32], items: &[u32]) -> bool
+    requires { ⌜ cells < length (now offsets) ⌝ }
+    ensures { λ r. ⌜ r ≡ listsFit cells lines (now (offsets .entry)) (now (items .entry)) ⌝ }
+{
+    let total = wide(offsets[cells]);
+    if total / 16 < cells {
+        return fit_at_once(cells, lines, offsets, items);
+    }
+    fit_each(cells, lines, offsets, items)
 }
 
 // The global lines strictly increase, and are within their slice.

@@ -15,6 +15,8 @@ const BAR: Option<f64> = Some(1.0);
 const MEMORY_BAR: Option<f64> = Some(0.5);
 /// Of a visit that hands out each pair once, by a Rust that takes the repeats out of what it is handed, which is what a caller does without it.
 const ONCE_BAR: Option<f64> = Some(0.5);
+/// The same by a plain visit of the port, and by the Rust's callback that only counts.
+const PLAIN_BAR: Option<f64> = Some(1.07);
 
 /// Of a visit that pays for its checks once, by the Rust's callback.
 const VISIT_BAR: Option<f64> = Some(0.6);
@@ -238,7 +240,7 @@ pub fn once(clock: &Clock, years: &[Year], seed: u64) {
         let mut counted = || assert_eq!(black_box(rust_counted(y)), y.overlaps);
         let mut sorted = || assert_eq!(rust_once(y) as u64, out[0]);
         let held = y.overlaps <= 1 << 24;
-        let others: &[(&str, Option<f64>)] = &[("plain", None), ("counted", None), ("sorted", ONCE_BAR)][..if held { 3 } else { 2 }];
+        let others: &[(&str, Option<f64>)] = &[("plain", PLAIN_BAR), ("counted", PLAIN_BAR), ("sorted", ONCE_BAR)][..if held { 3 } else { 2 }];
         let parties: &mut [&mut dyn FnMut()] =
             if held { &mut [&mut once, &mut plain, &mut counted, &mut sorted] } else { &mut [&mut once, &mut plain, &mut counted] };
         let times = clock.turns(parties);

@@ -1,5 +1,5 @@
 // The lists of all cells at once: whether each strictly increases below the number of lines. The items are looked at in one run, and then the entries
-// where lists begin, and no branch goes by a list: so it takes as long for many short lists as for a few long ones.
+// where lists begin, and no branch goes by a list.
 ghost use mathlib.Core.Path.{_≡_};
 ghost use mathlib.Core.Bool.{cond};
 ghost use Prim.Native.Nat.{ℕ, suc, _-_, _<_, _^_};

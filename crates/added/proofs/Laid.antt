@@ -5,39 +5,31 @@
 --     items-laid, offsets-laid    with zeros beyond
 -- Assumes nothing.
 use mathlib.Core.Path.{_≡_, refl, sym, ap, _∙_}
-use mathlib.Core.Bool.{Bool, true, false, _||_}
+use mathlib.Core.Bool.{Bool, false, _||_}
 use mathlib.Core.List.{List, [], _∷_, _++_, append-assoc, append-nil}
-use Prim.Native.Nat.{ℕ, zero, suc, _+_, _-_, _≤_, _<_, _^_}
+use Prim.Native.Nat.{ℕ, suc, _+_, _-_, _≤_, _<_, _^_}
 use native.Mathlib.Nat.{le-refl, zero-add}
 use native.Mathlib.Decide.{le-ind}
 use native.Mathlib.Numerals.{add-one}
 use native.Mathlib.Omega.{arith}
-use borrow.Author.Tests.{eq-eqb, ne-eqb}
+use borrow.Author.Tests.{ne-eqb}
 use lib.Dec.{eqb}
 use lib.ListN.{length, getD, take, drop, replicate, length-append}
 use lib.Seq.{slice, slice-empty, length-slice, take-at}
 use Rattle.slices.specs.Slices.{clearedFrom}
 use Rattle.slices.specs.Lists.{elem, Below, Rising}
+use Rattle.slices.proofs.Distinct.{not-elem}
+use Rattle.slices.proofs.Members.{elem-head}
 use Rattle.tables.specs.Tables.{listIn}
 use Rattle.tables.specs.Lists.{only, sum, concat, tabulate, start, itemsOf, offsetsOf}
 use Rattle.tables.specs.Fit.{ListsFit}
 use Rattle.tables.proofs.Facts.{all-within}
+use Rattle.tables.proofs.Laws.{length-tabulate, length-concat}
 use Rattle.added.specs.Inside.{endIn, behind, spreadOf, Spreadable, more, nextIn, movedAbove, liftedOf, RaisableAll, Insertable, withIn, Inserted}
 use Rattle.added.proofs.Parts.{slice-join, slice-last, more-append, more-none}
 use Rattle.added.proofs.Spreads.{never-fall}
 
 -- ---- visited cells
-
--- a cell below all of them is not visited
-before-all : (low c : ℕ) (cs : List ℕ) → Rising low cs → c < low → elem c cs ≡ false
-before-all low c [] r l = refl
-before-all low c (x ∷ cs) r l =
-    let n : eqb c x ≡ false = ne-eqb c x (λ e. omega (arith, r .0)) in
-    rw (n, before-all (suc x) c cs (r .1) (omega (arith, r .0)))
-
--- the first is visited, and beyond it the others count
-first-in : (c : ℕ) (cs : List ℕ) → elem c (c ∷ cs) ≡ true
-first-in c cs = rw (eq-eqb c c refl)
 
 beyond-first : (c d : ℕ) (cs : List ℕ) → c < d → elem d (c ∷ cs) ≡ elem d cs
 beyond-first c d cs l = let n : eqb d c ≡ false = ne-eqb d c (λ e. omega arith) in rw n
@@ -76,8 +68,8 @@ module _ (cells lines n : ℕ) (o xs : List ℕ) (fits : ListsFit cells lines o 
       rw (e, stretch a cells l (omega arith) (λ c u v. kept [] a c w u v refl), append-assoc)
   weave rest total e (c ∷ cs) a l r b w =
       let m : c < cells = b .0 in
-      let s = stretch a c (r .0) (omega arith) (λ d u v. kept (c ∷ cs) a d w u (omega arith) (before-all c d (c ∷ cs) (omega arith, r .1) v)) in
-      let v : F c ≡ listIn o xs c ++ (n ∷ []) = w c (r .0) m ∙ rw (first-in c cs) in
+      let s = stretch a c (r .0) (omega arith) (λ d u v. kept (c ∷ cs) a d w u (omega arith) (not-elem d c (c ∷ cs) v (omega arith, r .1))) in
+      let v : F c ≡ listIn o xs c ++ (n ∷ []) = w c (r .0) m ∙ rw (elem-head c cs) in
       let j = slice-join (getD o a 0) (getD o c 0) (getD o (suc c) 0) xs (rises a c (r .0) (omega arith)) (fits .rises c m) (within (suc c) m) in
       let ih = weave rest total e cs (suc c) m (r .1) (b .1) (λ d u k. w d (omega (arith, r .0)) k ∙ rw (beyond-first c d cs u)) in
       ih
@@ -97,12 +89,12 @@ module _ (cells lines n : ℕ) (o xs : List ℕ) (fits : ListsFit cells lines o 
   module _ (j a c : ℕ) (cs : List ℕ) (e : start F a ≡ getD o a 0 + j) (r : Rising a (c ∷ cs)) (b : Below cells (c ∷ cs)) (w : With (c ∷ cs) a) where
     to-first : (p : ℕ) → a ≤ p → p ≤ c → start F p ≡ getD o p 0 + j
     to-first p l k =
-        run j a p e l (omega (arith, b .0)) (λ d u v. kept (c ∷ cs) a d w u (omega (arith, b .0)) (before-all c d (c ∷ cs) (omega arith, r .1) (omega arith)))
+        run j a p e l (omega (arith, b .0)) (λ d u v. kept (c ∷ cs) a d w u (omega (arith, b .0)) (not-elem d c (c ∷ cs) (omega arith) (omega arith, r .1)))
 
     past-first : start F (suc c) ≡ getD o (suc c) 0 + suc j
     unfolding sum
     past-first =
-        let v : F c ≡ listIn o xs c ++ (n ∷ []) = w c (r .0) (b .0) ∙ rw (first-in c cs) in
+        let v : F c ≡ listIn o xs c ++ (n ∷ []) = w c (r .0) (b .0) ∙ rw (elem-head c cs) in
         let u : length (F c) ≡ (getD o (suc c) 0 - getD o c 0) + 1 =
         ap length v ∙ length-append (listIn o xs c) (n ∷ []) ∙ ap (λ (k : ℕ). k + 1) (length-slice (getD o c 0) (getD o (suc c) 0) xs (within (suc c) (b .0))) in
         omega (arith, to-first c (r .0) (omega arith), fits .rises c (b .0))
@@ -195,16 +187,6 @@ module _ {visited : List ℕ} {cells total : ℕ} {o xs : List ℕ} (h : Inserta
         small = λ p q. omega (arith, h .last, h .small, never-fall o cells (h .lists .rises) p cells (omega arith) (omega arith));
       }
 
-length-lists : (F : ℕ → List ℕ) (m : ℕ) → length (concat F m) ≡ start F m
-unfolding concat sum
-length-lists F zero = refl
-length-lists F (suc m) = rw (length-append, length-lists F m)
-
-length-table : (g : ℕ → ℕ) (m : ℕ) → length (tabulate g m) ≡ m
-unfolding tabulate
-length-table g zero = refl
-length-table g (suc m) = rw (length-append, length-table g m) (omega arith)
-
 module _ {visited : List ℕ} {cells total : ℕ} {o xs : List ℕ} (h : Insertable visited cells total o xs) (n : ℕ) {ys zs us vs : List ℕ} where
   -- WHAT IS INSERTED: the lists with n, laid out anew
   pub inserted : ys ≡ spreadOf n o total xs visited → length ys ≡ length xs → zs ≡ clearedFrom (total + length visited) ys
@@ -215,10 +197,10 @@ module _ {visited : List ℕ} {cells total : ℕ} {o xs : List ℕ} (h : Inserta
       let x : ys ≡ concat G cells ++ drop (total + length visited) xs = a ∙ sym (spread-is h n) in
       let t : start G cells ≡ total + length visited = total-is h n in
       let y : take (total + length visited) ys ≡ concat G cells =
-      ap (take (total + length visited)) x ∙ take-at (concat G cells) (drop (total + length visited) xs) (total + length visited) (length-lists G cells ∙ t) in
+      ap (take (total + length visited)) x ∙ take-at (concat G cells) (drop (total + length visited) xs) (total + length visited) (length-concat G cells ∙ t) in
       let u : us ≡ tabulate (start G) (suc cells) ++ drop (suc cells) o = d ∙ ap (λ (m : ℕ). liftedOf o m visited) (add-one cells) ∙ sym (lifted-is h n) in
       let v : take (suc cells) us ≡ tabulate (start G) (suc cells) =
-      ap (take (suc cells)) u ∙ take-at (tabulate (start G) (suc cells)) (drop (suc cells) o) (suc cells) (length-table (start G) (suc cells)) in
+      ap (take (suc cells)) u ∙ take-at (tabulate (start G) (suc cells)) (drop (suc cells) o) (suc cells) (length-tabulate (start G) (suc cells)) in
       record {
         offsets-are = f ∙ rw (add-one cells, v, e);
         items-are = c ∙ rw (y, b, t);

@@ -21,7 +21,7 @@ use lib.Seq.{
   getD-at,
   getD-take,
 }
-use Rattle.added.specs.Inside.{gapOf, more, raisedIn, Raisable}
+use Rattle.added.specs.Inside.{gapOf, more, raisedPart, Raisable}
 
 -- ---- parts
 
@@ -158,6 +158,6 @@ module _ {from to by : ℕ} {xs ys : List ℕ} {i : ℕ} (o : Raising from to by
               ∙ rw (raising-at, add-one i, slice-last from i xs (o .low) inside, more-append by (slice from i xs) (getD xs i 0 ∷ []), append-assoc, append-assoc);
         }
 
-  pub raising-done : to ≤ i → ys ≡ raisedIn from to by xs
-  unfolding raisedIn
+  pub raising-done : to ≤ i → ys ≡ raisedPart from to by xs
+  unfolding raisedPart
   raising-done l = let e : i ≡ to = omega (arith, o .high) in rw e at (o .is)

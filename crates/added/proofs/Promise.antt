@@ -82,7 +82,7 @@ only-few true = omega arith
 only-few false = omega arith
 
 -- the cells that list a line are those that it visits, or none
-by-listing : (P : List ℕ → Type 0) (xs : List ℕ) → P [] → P xs → P (listing xs)
+pub by-listing : (P : List ℕ → Type 0) (xs : List ℕ) → P [] → P xs → P (listing xs)
 unfolding listing
 by-listing P xs none all = go (long xs)
   where

@@ -10,7 +10,7 @@ use lib.ListN.{length, getD, take, drop, length-take, length-drop, take-append-d
 use lib.Seq.{slice, length-take-le, take-take, take-append-le, drop-cons, drop-at, drop-length, getD-take}
 use Rattle.slices.specs.Lists.{Below, Rising}
 use Rattle.slices.proofs.Members.{below-at}
-use Rattle.added.specs.Inside.{gapOf, endIn, behind, spreadOf, Spreadable, more, raisedIn, Raisable, nextIn, movedAbove, liftedOf, RaisableAll}
+use Rattle.added.specs.Inside.{gapOf, endIn, behind, spreadOf, Spreadable, more, raisedPart, Raisable, nextIn, movedAbove, liftedOf, RaisableAll}
 
 -- offsets that never fall
 pub never-fall : (o : List ℕ) (cells : ℕ) → ((c : ℕ) → c < cells → getD o c 0 ≤ getD o (suc c) 0) → (a b : ℕ) → a ≤ b → b ≤ cells → getD o a 0 ≤ getD o b 0
@@ -190,12 +190,12 @@ module _ {visited xs : List ℕ} {end : ℕ} {ys : List ℕ} {to j : ℕ} (k : L
               omega (arith, k .at, to-within, k .asks .small p (omega (arith, to-within)));
         }
 
-    module _ {zs : List ℕ} (h : zs ≡ raisedIn (getD visited (j - 1) 0 + 1) to j ys) where
+    module _ {zs : List ℕ} (h : zs ≡ raisedPart (getD visited (j - 1) 0 + 1) to j ys) where
       abbrev after : ℕ
       after = getD visited (j - 1) 0 + 1
 
       pub lifting-more : length zs ≡ length ys → Lifting visited xs end zs after (j - 1)
-      unfolding raisedIn movedAbove
+      unfolding raisedPart movedAbove
       lifting-more e =
           let fits : after ≤ length ys = omega (arith, ordered, to-within, k .asks .within, k .len) in
           let m : length (take after ys) ≡ after = length-take-le after ys fits in

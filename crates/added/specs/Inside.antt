@@ -61,8 +61,8 @@ abbrev pub more : ℕ → List ℕ → List ℕ
 more by [] = []
 more by (x ∷ xs) = (x + by) ∷ more by xs
 
-unfoldable pub raisedIn : ℕ → ℕ → ℕ → List ℕ → List ℕ
-raisedIn from to by o = take from o ++ (more by (slice from to o) ++ drop to o)
+unfoldable pub raisedPart : ℕ → ℕ → ℕ → List ℕ → List ℕ
+raisedPart from to by o = take from o ++ (more by (slice from to o) ++ drop to o)
 
 pub record Raisable (from to by : ℕ) (o : List ℕ) : Type 0 where
   pub order : from ≤ to

@@ -1,12 +1,12 @@
 // The offsets: each grows by the number of the visited cells before it.
 ghost use mathlib.Core.Path.{_≡_};
 ghost use lib.ListN.{length};
-ghost use Rattle.added.specs.Inside.{Raisable, raisedIn, RaisableAll, liftedOf};
+ghost use Rattle.added.specs.Inside.{Raisable, raisedPart, RaisableAll, liftedOf};
 
 // Adds to the offsets from `from` to `to`.
 fn raise(offsets: &mut [u32], from: usize, to: usize, by: u32)
     requires { ⌜ Raisable from to by (now offsets) ⌝ }
-    ensures { λ _. ⌜ now (offsets .exit) ≡ raisedIn from to by (now (offsets .entry)) ⌝ }
+    ensures { λ _. ⌜ now (offsets .exit) ≡ raisedPart from to by (now (offsets .entry)) ⌝ }
 {
     let mut i = from;
     while i < to {

@@ -2,7 +2,7 @@
 use Prim.Native.Nat.{ℕ, _+_, _-_, _≤_, _<_}
 use native.Mathlib.Omega.{arith}
 use mathlib.Core.Path.{_≡_, refl, sym, subst, ap, _∙_}
-use mathlib.Core.Bool.{Bool, true, false, not, cond, true≢false}
+use mathlib.Core.Bool.{Bool, true, false, cond}
 use mathlib.Core.Logic.{_≢_}
 use mathlib.Core.List.{List, [], _∷_, _++_, append-nil}
 use lib.ListN.{length, take, drop, getD, length-append, length-drop, drop-of-length-le}
@@ -125,12 +125,3 @@ ended w at h = rw (drop-of-length-le w h)
 pub at-most : (b : Bool) (n : ℕ) {x : ℕ} → x ≡ cond b n 0 → x ≤ n
 at-most true n e = omega (arith, e)
 at-most false n e = omega (arith, e)
-
--- a flag by its denial
-pub not-so : (b : Bool) → not b ≡ true → b ≡ false
-not-so true e = absurd (true≢false (sym e))
-not-so false e = refl
-
-pub so : (b : Bool) → not b ≡ false → b ≡ true
-so true e = refl
-so false e = absurd (true≢false e)

@@ -1,24 +1,17 @@
 -- Any two outcomes that the promise of `ask` admits are identical: how many words there are, and every entry that is lent. Assumes nothing.
-use Prim.Native.Nat.{ℕ, _≤_, _<_}
+use Prim.Native.Nat.{ℕ}
 use mathlib.Core.Path.{_≡_, refl, sym, ap, _∙_}
 use mathlib.Core.Bool.{Bool, true, false}
-use mathlib.Core.Logic.{_≢_, _⊎_, inl, inr}
+use mathlib.Core.Logic.{_≢_}
 use mathlib.Core.List.{List, [], _∷_, map}
 use lib.Dec.{eqb}
 use lib.Ieee.{Float}
 use lib.ListN.{length, take, drop}
 use borrow.Author.Tests.{eqb-true, eqb-false}
-use Rattle.slices.proofs.Laws.{le-or}
+use Rattle.replies.proofs.Handing.{by-size}
 use Rattle.capi.proofs.Outcomes.{walk-one-outcome, owners-one-outcome, build-one-outcome, batch-one-outcome}
 use Rattle.records.specs.Questions.{shortBy, floatBy, readWord, readShort, readFloat, readWords, readShorts, readFloats}
 use Rattle.asked.specs.Asked.{WordsAnswered, AnswersFor, zeros, readLent, readTables, WalkAnswer, BuildAnswer, BatchAnswer, OwnersAnswer}
-
-by-room : (n most : ℕ) {P : Type 0} → (n ≤ most → P) → (most < n → P) → P
-by-room n most {P} room none = go (le-or n most)
-  where
-    go : (n ≤ most) ⊎ (most < n) → P
-    go (inl h) = room h
-    go (inr h) = none h
 
 -- of the words of which P holds there is one row at most
 abbrev Once : (List ℕ → Type 0) → Type 0
@@ -58,7 +51,7 @@ module _ (q : List ℕ) where
   lent-once : (most : ℕ) {f : List ℕ → List ℕ → List ℕ → Type 0} → ((s left : List ℕ) → Once (f s left)) → Once (readLent most q f)
   unfolding readLent
   lent-once most h =
-      word-once (λ n left ws vs a b. by-room n most (λ l. h (zeros n) left ws vs (a .room l) (b .room l)) (λ l. a .none l ∙ sym (b .none l)))
+      word-once (λ n left ws vs a b. by-size n most (λ l. h (zeros n) left ws vs (a .room l) (b .room l)) (λ l. a .none l ∙ sym (b .none l)))
 
 -- ---- each kind
 
@@ -120,7 +113,7 @@ by-kind k n {P} same other = go (eqb k n) refl
 
 pub answers-once : {kind : ℕ} {q ws vs : List ℕ} → AnswersFor kind q ws → AnswersFor kind q vs → ws ≡ vs
 answers-once {kind} {q} h k =
-    by-room (length q) 16384
+    by-size (length q) 16384
     (λ l. by-kind kind 2 (λ e. walk-once q _ _ (h .walk l e) (k .walk l e))
     (λ a. by-kind kind 3 (λ e. build-once q _ _ (h .build l e) (k .build l e))
     (λ b. by-kind kind 4 (λ e. batch-once q _ _ (h .batch l e) (k .batch l e))

@@ -2,11 +2,11 @@
 use mathlib.Core.Path.{_≡_, refl, sym, ap, _∙_}
 use mathlib.Core.Bool.{true, false, _&&_}
 use mathlib.Core.List.{List, _++_, []}
-use Prim.Native.Nat.{ℕ, zero, suc, _+_, _-_, _*_, _≤_, _<_}
+use Prim.Native.Nat.{ℕ, _+_, _-_, _*_, _≤_, _<_}
 use native.Mathlib.Omega.{arith}
 use borrow.Author.Tests.{leb-true, ltb-true}
 use lib.Dec.{leb, ltb}
-use lib.ListN.{length, getD, take, drop, replicate, length-append, length-replicate, take-append-drop}
+use lib.ListN.{length, getD, take, drop, replicate, length-replicate, take-append-drop}
 use Rattle.refusals.specs.declared.Refusal.{Refusal}
 use Rattle.refusals.specs.declared.Check.{Check}
 use Rattle.refusals.specs.declared.Check.the-variants.{Fine}
@@ -20,9 +20,8 @@ use Rattle.grid.specs.Domain.{fit, countCheck, gridCheck}
 use Rattle.grid.proofs.Fine.{grid-spares}
 use Rattle.grid.proofs.Bools.{and-left, and-right}
 use Rattle.tables.specs.Tables.{Tables, tables}
-use Rattle.tables.specs.Lists.{tabulate}
 use Rattle.tables.specs.Fit.{tablesCheck, standingCheck}
-use Rattle.tables.proofs.Laws.{take-tabulate, drop-zeros}
+use Rattle.tables.proofs.Laws.{take-tabulate, drop-zeros, length-tabulate}
 use Rattle.tables.proofs.Checking.{Standing, standing-says}
 use Rattle.blocks.specs.declared.Block.{Block}
 use Rattle.blocks.specs.declared.Made.{Made}
@@ -34,11 +33,6 @@ use Rattle.blocks.specs.Query.{itemsIn, blockCheck, countEnd, countAnswe
 use Rattle.blocks.specs.Inside.{Fills, Told, BlocksFilled, BlocksAsk}
 use Rattle.blocks.proofs.Places.{few-blocks}
 use Rattle.blocks.proofs.Telling.{told-none, said-beyond}
-
-pub length-tabulate : (f : ℕ → ℕ) (n : ℕ) → length (tabulate f n) ≡ n
-unfolding tabulate
-length-tabulate f zero = refl
-length-tabulate f (suc n) = rw (length-append, length-tabulate f n) (omega arith)
 
 pub length-numbers : (g : Grid) (offsets : List ℕ) → length (blockTotals g offsets) ≡ blocks g
 unfolding blockTotals

@@ -10,21 +10,22 @@
 use mathlib.Core.Path.{_≡_, refl, sym, ap, ap₂, _∙_}
 use mathlib.Core.Bool.{Bool, true, false, cond, _&&_}
 use mathlib.Core.Logic.{_⊎_, ⊎-elim}
-use mathlib.Core.List.{List, [], _∷_, _++_}
+use mathlib.Core.List.{List}
 use Prim.Native.Nat.{ℕ, zero, suc, _+_, _-_, _*_, _/_, _%_, _≤_, _<_}
 use native.Mathlib.Decide.{decLt, ℕ-discrete}
 use native.Mathlib.Omega.{arith}
 use borrow.Author.Tests.{eq-eqb, ne-eqb}
 use lib.Dec.{leb, eqb}
 use lib.ListN.{length, getD, List·getD-append}
-use lib.Seq.{length-slice, getD-at}
+use lib.Seq.{length-slice}
 use Rattle.refusals.specs.Refusals.{Answer, refused, gives, answerBy, leftIn, zeroBeyond}
 use Rattle.refusals.proofs.Answers.{then-passed}
 use Rattle.grid.specs.declared.Grid.{Grid}
+use Rattle.grid.proofs.Bools.{and-off}
 use Rattle.tables.specs.Tables.{Tables, tables, cells, listOf}
 use Rattle.tables.specs.Fit.{TablesFit}
 use Rattle.tables.specs.Lists.{sum, tabulate}
-use Rattle.tables.proofs.Laws.{sum-same}
+use Rattle.tables.proofs.Laws.{sum-same, length-tabulate, sum-add, getD-tabulate, sum-zero}
 use Rattle.tables.proofs.Facts.{all-within}
 use Rattle.blocks.specs.declared.Block.{Block}
 use Rattle.blocks.specs.declared.Made.{Made}
@@ -32,20 +33,9 @@ use Rattle.blocks.specs.declared.Made.the-variants as made
 use Rattle.blocks.specs.Blocks.{along, blocks, blockOf, told, saidBelow, said, blockTotals, Own, makeEnd, makeAnswer, MakeIs}
 use Rattle.blocks.specs.Query.{within, inside, addedBelow, itemsIn}
 use Rattle.blocks.proofs.Places.{block-there, block-row, block-col}
-use Rattle.blocks.proofs.Rectangles.{within-under, within-over, off-left, off-right}
-use Rattle.blocks.proofs.Entry.{length-tabulate}
+use Rattle.blocks.proofs.Rectangles.{within-under, within-over, off-left}
 
 -- ---- sums
-
-pub sum-zero : (f : ℕ → ℕ) (n : ℕ) → ((k : ℕ) → k < n → f k ≡ 0) → sum f n ≡ 0
-unfolding sum
-sum-zero f zero h = refl
-sum-zero f (suc n) h = rw (sum-zero f n (λ k l. h k (omega arith)), h n (omega arith))
-
-pub sum-add : (f g : ℕ → ℕ) (n : ℕ) → sum (λ k. f k + g k) n ≡ sum f n + sum g n
-unfolding sum
-sum-add f g zero = refl
-sum-add f g (suc n) = rw (sum-add f g n) (omega arith)
 
 -- one number alone
 sum-one : (f : ℕ → ℕ) (m n : ℕ) → m < n → ((k : ℕ) → (k ≡ m → ⊥) → f k ≡ 0) → sum f n ≡ f m
@@ -144,21 +134,10 @@ out-of-order g s low high h = sum-zero _ (blocks g) (λ b l. ap (λ (x : Bool). 
     none b =
         ⊎-elim
         (λ (l : high .row < low .row). off-left (within (low .row) (high .row) (b / along (g .cols))) (within (low .col) (high .col) (b % along (g .cols))) (within-none (low .row) (high .row) (b / along (g .cols)) l))
-        (λ (l : high .col < low .col). off-right (within (low .row) (high .row) (b / along (g .cols))) (within (low .col) (high .col) (b % along (g .cols))) (within-none (low .col) (high .col) (b % along (g .cols)) l))
+        (λ (l : high .col < low .col). and-off (within (low .row) (high .row) (b / along (g .cols))) (within (low .col) (high .col) (b % along (g .cols))) (within-none (low .col) (high .col) (b % along (g .cols)) l))
         h
 
 -- ---- the summary that was made
-
-pub getD-tabulate : (f : ℕ → ℕ) (n c : ℕ) → c < n → getD (tabulate f n) c 0 ≡ f c
-unfolding tabulate
-getD-tabulate f zero c l = absurd (omega arith)
-getD-tabulate f (suc n) c l = go (λ q. getD-tabulate f n c q) (decLt c n)
-  where
-    go : (c < n → getD (tabulate f n) c 0 ≡ f c) → Dec (c < n) → getD (tabulate f n ++ (f n ∷ [])) c 0 ≡ f c
-    go ih (yes q) = List·getD-append (tabulate f n) (f n ∷ []) 0 c (omega (arith, length-tabulate f n)) ∙ ih q
-    go ih (no q) =
-        let e : n ≡ c = omega arith in
-        getD-at (tabulate f n) (f n) [] 0 c (length-tabulate f n ∙ e) ∙ ap f e
 
 pub numbers-own : (g : Grid) (offsets : List ℕ) (len : ℕ) → Own g offsets (zeroBeyond 0 len (blockTotals g offsets))
 unfolding zeroBeyond blockTotals

@@ -1,8 +1,8 @@
 -- Whether a summary is that of some offsets: tests one after another, and what they come to. Assumes nothing.
 use mathlib.Core.Path.{_≡_, refl, sym, ap, _∙_}
-use mathlib.Core.Bool.{Bool, true, false, not, _&&_, true≢false}
+use mathlib.Core.Bool.{Bool, true, false, _&&_, true≢false}
 use mathlib.Core.List.{List}
-use Prim.Native.Nat.{ℕ, zero, suc, _+_, _*_, _≤_, _<_}
+use Prim.Native.Nat.{ℕ, suc, _+_, _*_, _≤_, _<_}
 use native.Mathlib.Numerals.{add-one}
 use native.Mathlib.Omega.{arith}
 use borrow.Author.Tests.{le-leb, lt-leb, leb-true, eqb-true, eq-eqb}
@@ -15,11 +15,12 @@ use Rattle.grid.proofs.Shapes.{fit-says}
 use Rattle.tables.specs.Fit.{every, TablesFit}
 use Rattle.tables.specs.Tables.{tables}
 use Rattle.tables.proofs.Facts.{not-true, every-says, says-every}
+use Rattle.tables.proofs.Offsets.{every-same}
 use Rattle.blocks.specs.Blocks.{along, blocks, said, Own, own, rising, summaryOf}
 use Rattle.blocks.specs.Inside.{Fills, Told, BlocksFilled}
 use Rattle.blocks.proofs.Places.{few-blocks}
 use Rattle.blocks.proofs.Telling.{told-none}
-use Rattle.blocks.proofs.Rectangles.{off-left, off-right}
+use Rattle.blocks.proofs.Rectangles.{off-left}
 
 -- ---- a loop of tests: those before k pass
 
@@ -41,20 +42,6 @@ module _ {f : ℕ → Bool} {n k : ℕ} (h : Testing f n k) where
 
 pub testing-bad : (f : ℕ → Bool) (n k : ℕ) → k < n → f k ≡ false → false ≡ every n f
 testing-bad f n k l e = sym (not-true (every n f) (λ h. true≢false (sym (every-says n f h k l) ∙ e)))
-
-every-same : (f g : ℕ → Bool) (n : ℕ) → ((k : ℕ) → k < n → f k ≡ g k) → every n f ≡ every n g
-unfolding every
-every-same f g zero h = refl
-every-same f g (suc n) h = rw (every-same f g n (λ k l. h k (omega arith)), h n (omega arith))
-
--- a test and its opposite
-pub not-set : (b : Bool) → not b ≡ true → b ≡ false
-not-set true h = absurd (true≢false (sym h))
-not-set false h = refl
-
-pub set-so : (b : Bool) → not b ≡ false → b ≡ true
-set-so true h = refl
-set-so false h = absurd (true≢false h)
 
 -- ---- offsets that never fall
 
@@ -112,7 +99,7 @@ module _ (g : Grid) (offsets : List ℕ) where
       unfolding summaryOf own
       same-is l room now h =
           rw (f, r, le-leb (blocks g) (length s) l)
-          (every-same (λ b. eqb (getD s b 0) (getD now b 0)) (λ b. eqb (getD s b 0) (said g offsets b)) (blocks g)
+          (every-same (blocks g) (λ b. eqb (getD s b 0) (getD now b 0)) (λ b. eqb (getD s b 0) (said g offsets b))
           (λ b _. ap (λ (x : ℕ). eqb (getD s b 0) x) (h .told .at b)))
 
 -- ---- the test and the sentence

@@ -8,7 +8,7 @@ use native.Mathlib.Decide.{decLt}
 use native.Mathlib.Omega.{arith}
 use Rattle.grid.specs.declared.Grid.{Grid}
 use Rattle.grid.specs.Domain.{fit}
-use Rattle.grid.proofs.Shapes.{Shape, fit-says}
+use Rattle.grid.proofs.Shapes.{Shape, fit-says, cell-inside}
 use Rattle.blocks.specs.Blocks.{along, blocks, blockOf}
 
 -- ---- row and column of a place in row order
@@ -41,11 +41,8 @@ product-small a b h k =
     let u : a * b ≤ a * 268435456 = mul-le-mul-left a k in
     omega arith
 
-pub place-under : (rows cols r c : ℕ) → r < rows → c < cols → r * cols + c < rows * cols
-place-under rows cols r c h k = let m : suc r * cols ≤ rows * cols = mul-le-mul-right cols h in omega arith
-
 pub block-under : (rows cols row x : ℕ) → row < rows → x < cols → row / 16 * along cols + x / 16 < along rows * along cols
-block-under rows cols row x h k = place-under (along rows) (along cols) (row / 16) (x / 16) (along-over rows row h) (along-over cols x k)
+block-under rows cols row x h k = cell-inside (along rows) (along cols) (row / 16) (x / 16) (along-over rows row h) (along-over cols x k)
 
 -- the row and the column of a cell, and of its block
 pub record Cell (rows cols c : ℕ) : Type 0 where

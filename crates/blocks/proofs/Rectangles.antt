@@ -13,33 +13,28 @@ use native.Mathlib.Omega.{arith}
 use borrow.Author.Tests.{le-leb, lt-leb}
 use lib.Dec.{leb}
 use lib.ListN.{length, getD}
+use Rattle.grid.proofs.Shapes.{cell-inside}
+use Rattle.grid.proofs.Bools.{and-off, and-both}
 use Rattle.tables.specs.Lists.{sum}
 use Rattle.tables.proofs.Laws.{sum-mono}
 use Rattle.blocks.specs.declared.Block.{Block}
 use Rattle.blocks.specs.Query.{within, inside, addedBelow}
 use Rattle.blocks.specs.Inside.{BlocksAsk, runBelow, BlockPartAsks, BlockPartIs}
-use Rattle.blocks.proofs.Places.{row-of, col-of, place-under}
+use Rattle.blocks.proofs.Places.{row-of, col-of}
 
 -- ---- tests
 
 pub off-left : (a b : Bool) → a ≡ false → (a && b) ≡ false
 off-left a b h = rw h
 
-pub off-right : (a b : Bool) → b ≡ false → (a && b) ≡ false
-off-right true b h = h
-off-right false b h = refl
-
-on-both : (a b : Bool) → a ≡ true → b ≡ true → (a && b) ≡ true
-on-both a b h k = rw (h, k)
-
 pub within-under : (low high n : ℕ) → n < low → within low high n ≡ false
 within-under low high n l = off-left (leb low n) (leb n high) (lt-leb low n l)
 
 pub within-over : (low high n : ℕ) → high < n → within low high n ≡ false
-within-over low high n l = off-right (leb low n) (leb n high) (lt-leb n high l)
+within-over low high n l = and-off (leb low n) (leb n high) (lt-leb n high l)
 
 pub within-has : (low high n : ℕ) → low ≤ n → n ≤ high → within low high n ≡ true
-within-has low high n a b = on-both (leb low n) (leb n high) (le-leb low n a) (le-leb n high b)
+within-has low high n a b = and-both (leb low n) (leb n high) (le-leb low n a) (le-leb n high b)
 
 -- ---- running sums
 
@@ -155,15 +150,15 @@ module _ (width : ℕ) (s : List ℕ) (low high : Block) where
         rows-in = within-has (low .row) (high .row) row a b
 
         under : (k : ℕ) → start ≤ k → k < start + low .col → here k ≡ false
-        under k p q = here-is row k p (omega arith) ∙ off-right (within (low .row) (high .row) row) (within (low .col) (high .col) (k - start)) (within-under (low .col) (high .col) (k - start) (omega arith))
+        under k p q = here-is row k p (omega arith) ∙ and-off (within (low .row) (high .row) row) (within (low .col) (high .col) (k - start)) (within-under (low .col) (high .col) (k - start) (omega arith))
 
         over : (k : ℕ) → start + high .col + 1 ≤ k → k < start + width → here k ≡ false
-        over k p q = here-is row k (omega arith) q ∙ off-right (within (low .row) (high .row) row) (within (low .col) (high .col) (k - start)) (within-over (low .col) (high .col) (k - start) (omega arith))
+        over k p q = here-is row k (omega arith) q ∙ and-off (within (low .row) (high .row) row) (within (low .col) (high .col) (k - start)) (within-over (low .col) (high .col) (k - start) (omega arith))
 
         among : (k : ℕ) → start + low .col ≤ k → k < start + high .col + 1 → here k ≡ true
         among k p q =
             here-is row k (omega arith) (omega arith)
-            ∙ on-both (within (low .row) (high .row) row) (within (low .col) (high .col) (k - start)) rows-in (within-has (low .col) (high .col) (k - start) (omega arith) (omega arith))
+            ∙ and-both (within (low .row) (high .row) row) (within (low .col) (high .col) (k - start)) rows-in (within-has (low .col) (high .col) (k - start) (omega arith) (omega arith))
 
         go : Dec (high .col < low .col) → added (start + width) ≡ added start + (runBelow s (start + high .col + 1) - runBelow s (start + low .col))
         go (yes d) =
@@ -209,17 +204,17 @@ module _ {width : ℕ} {s : List ℕ} {low high : Block} {row sum : ℕ} (h : Up
   -- the last block of the row is there
   pub row-there : row ≤ high .row → row * width + high .col < 4148
   row-there l =
-      let u = place-under (h .height) width row (high .col) (omega (arith, h .asks .«high-row»)) (h .asks .«high-col») in
+      let u = cell-inside (h .height) width row (high .col) (omega (arith, h .asks .«high-row»)) (h .asks .«high-col») in
       omega (arith, h .asks .few)
 
   pub row-begun : row ≤ high .row → row * width + low .col < 4148
   row-begun l =
-      let u = place-under (h .height) width row (low .col) (omega (arith, h .asks .«high-row»)) (h .asks .«low-col») in
+      let u = cell-inside (h .height) width row (low .col) (omega (arith, h .asks .«high-row»)) (h .asks .«low-col») in
       omega (arith, h .asks .few)
 
   pub upward-asks : row ≤ high .row → BlockPartAsks s (row * width + low .col) (row * width + high .col + 1) sum
   upward-asks l =
-      let u = place-under (h .height) width row (high .col) (omega (arith, h .asks .«high-row»)) (h .asks .«high-col») in
+      let u = cell-inside (h .height) width row (high .col) (omega (arith, h .asks .«high-row»)) (h .asks .«high-col») in
       record { room = omega (arith, h .asks .room); few = omega (arith, h .asks .few); small = omega (arith, h .small) }
 
   pub upward-more : row ≤ high .row → (r : ℕ) → BlockPartIs s (row * width + low .col) (row * width + high .col + 1) sum r → Upward width s low high (row + 1) r

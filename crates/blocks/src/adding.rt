@@ -1,8 +1,8 @@
 // The numbers of a summary, added up over a rectangle of blocks, row by row of blocks. The sums are in 64 bits.
 use crate::Block;
 use crate::blocks_along;
-use crate::wide;
 use grid::Grid;
+use slices::wide;
 ghost use mathlib.Core.Path.{_≡_};
 ghost use Rattle.blocks.specs.Blocks.{along};
 ghost use Rattle.blocks.specs.Query.{itemsIn};

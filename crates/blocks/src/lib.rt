@@ -8,6 +8,7 @@ pub mod owning;
 use grid::Grid;
 use refusals::Check;
 use refusals::Refusal;
+use slices::wide;
 ghost use mathlib.Core.Path.{_≡_};
 ghost use mathlib.Core.Bool.{_&&_};
 ghost use lib.Dec.{ltb};
@@ -35,12 +36,6 @@ pub enum Made {
 pub enum Count {
     Items(u64),
     Refused(Refusal),
-}
-
-pub(crate) fn wide(n: u32) -> usize
-    ensures { λ r. ⌜ r ≡ n ⌝ }
-{
-    n as usize
 }
 
 // How many blocks lie along n cells.

@@ -1,8 +1,8 @@
 // The items of each block, added up row by row of cells. In a row the lists of a block stand side by side, so they come to one difference of two
 // offsets.
 use crate::blocks_along;
-use crate::wide;
 use grid::Grid;
+use slices::wide;
 ghost use Prim.Native.Nat.{_+_, _*_};
 ghost use Rattle.blocks.specs.Inside.{Fills, Told, BlockRow, BlocksFilled};
 

@@ -1,8 +1,8 @@
 // Whether a summary is that of some offsets. It is asked of any offsets, so that they never fall is asked first.
 use crate::block_count;
 use crate::making::add_rows;
-use crate::wide;
 use grid::Grid;
+use slices::wide;
 ghost use mathlib.Core.Path.{_≡_};
 ghost use Prim.Native.Nat.{suc, _<_, _≤_};
 ghost use lib.Dec.{leb, eqb};

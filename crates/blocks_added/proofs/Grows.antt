@@ -10,21 +10,21 @@ use lib.ListN.{length, getD, take, replicate, length-append, length-replicate, L
 use lib.Seq.{take-append-seam}
 use Rattle.slices.specs.Slices.{clearedFrom}
 use Rattle.slices.specs.Lists.{elem, Below, Rising}
-use Rattle.slices.proofs.Members.{Place, place-of, elem-at, below-at}
-use Rattle.slices.proofs.Distinct.{rising-least}
+use Rattle.slices.proofs.Members.{Place, elem-at, below-at}
+use Rattle.slices.proofs.Distinct.{head-alone}
 use Rattle.refusals.specs.Refusals.{zeroBeyond}
 use Rattle.grid.specs.declared.Grid.{Grid}
 use Rattle.tables.specs.Tables.{Tables, tables, cells, listOf}
 use Rattle.tables.specs.Fit.{TablesFit}
-use Rattle.tables.specs.Lists.{only, long, noneIf, sum, start, tabulate, offsetsOf}
-use Rattle.tables.proofs.Laws.{sum-same, take-tabulate}
+use Rattle.tables.specs.Lists.{only, long, sum, start, tabulate, offsetsOf}
+use Rattle.tables.proofs.Laws.{sum-same, take-tabulate, length-tabulate, sum-add, getD-tabulate, sum-zero}
 use Rattle.blocks.specs.Blocks.{along, blocks, blockOf, told, saidBelow, said, blockTotals, Own}
 use Rattle.blocks.proofs.Places.{block-there}
 use Rattle.blocks.proofs.Telling.{said-most}
-use Rattle.blocks.proofs.Entry.{length-tabulate}
-use Rattle.blocks.proofs.Laws.{sum-zero, sum-add, sum-suc, add-where, by-places, getD-tabulate, told-length}
+use Rattle.blocks.proofs.Laws.{sum-suc, add-where, by-places, told-length}
 use Rattle.added.specs.Added.{listing, listWith, totalWith}
 use Rattle.added.proofs.Laid.{totalled}
+use Rattle.added.proofs.Promise.{by-listing}
 use Rattle.blocks_added.specs.Beside.{offsetsWith}
 use Rattle.blocks_added.specs.Inside.{amongBelow, RaiseAsks, Raised}
 
@@ -34,13 +34,6 @@ sum-front : (f : ℕ → ℕ) (n : ℕ) → sum f (suc n) ≡ f 0 + sum (λ k. f
 unfolding sum
 sum-front f zero = omega arith
 sum-front f (suc n) = rw (sum-front f n) (omega arith)
-
-head-alone : (x : ℕ) (xs : List ℕ) → Rising (suc x) xs → elem x xs ≡ false
-head-alone x xs h = go (elem x xs) refl
-  where
-    go : (b : Bool) → elem x xs ≡ b → b ≡ false
-    go false e = refl
-    go true e = let p = place-of x xs e in let u = rising-least (suc x) xs (p .k) h (p .within) in absurd (omega (arith, p .is))
 
 occurs : (a : ℕ) (xs : List ℕ) (c i : ℕ) → Rising a xs → sum (λ k. cond (eqb (getD xs k 0) c) 1 0) (length xs) ≡ length (only (elem c xs) i)
 unfolding sum
@@ -56,14 +49,6 @@ occurs a (x ∷ xs) c i h = sum-front (λ k. cond (eqb (getD (x ∷ xs) k 0) c) 
     go false e ih = rw (e, ne-eqb c x (λ d. true≢false (sym (eq-eqb x c (sym d)) ∙ e)), ih) (omega arith)
 
 -- ---- the cells that list a line: those that it visits, or none
-
-by-listing : (P : List ℕ → Type 0) (xs : List ℕ) → P [] → P xs → P (listing xs)
-unfolding listing
-by-listing P xs none all = go (long xs)
-  where
-    go : (b : Bool) → P (noneIf b xs)
-    go true = none
-    go false = all
 
 pub listing-rises : (xs : List ℕ) → Rising 0 xs → Rising 0 (listing xs)
 listing-rises xs h = by-listing (λ z. Rising 0 z) xs tt h

@@ -1,15 +1,10 @@
 // The blocks of the cells that list a line.
 use grid::Grid;
+use slices::wide;
 ghost use mathlib.Core.Path.{_≡_};
 ghost use Prim.Native.Nat.{_<_};
 ghost use Rattle.blocks.specs.Blocks.{blockOf};
 ghost use Rattle.blocks_added.specs.Inside.{RaiseAsks, Raised};
-
-fn wide(n: u32) -> usize
-    ensures { λ r. ⌜ r ≡ n ⌝ }
-{
-    n as usize
-}
 
 fn block_of(cols: u32, cell: u32) -> usize
     requires { ⌜ 0 < cols ⌝ }

@@ -2,8 +2,8 @@
 use mathlib.Core.Path.{_≡_, refl, sym, ap, _∙_, subst}
 use mathlib.Core.Bool.{Bool, true, false, cond, _&&_}
 use mathlib.Core.List.{List, _++_}
-use Prim.Native.Nat.{ℕ, zero, suc, _+_, _-_, _*_, _^_, _≤_, _<_}
-use native.Mathlib.Nat.{le-trans, mul-le-mul-right}
+use Prim.Native.Nat.{ℕ, zero, suc, _+_, _-_, _*_, _≤_, _<_}
+use native.Mathlib.Nat.{le-trans}
 use native.Mathlib.Omega.{arith}
 use borrow.Author.Tests.{le-leb, lt-leb, lt-ltb, le-ltb, ltb-true}
 use lib.Dec.{ltb}
@@ -167,12 +167,6 @@ most-many g left h l =
     let a : 0 < left = omega arith in
     let b : 1000000 ≤ gridCells g * 4 = omega arith in
     rw (lt-ltb 0 left a, le-ltb (gridCells g * 4) 1000000 b)
-
--- the number of cells of any two counts fits 64 bits
-pub cells-fit : (a b : ℕ) → a < 2 ^ 32 → b < 2 ^ 32 → a * b < 2 ^ 64
-cells-fit a b h k =
-    let u : a * b ≤ 4294967296 * b = mul-le-mul-right b (omega arith) in
-    omega arith
 
 -- ---- the choice from a size on
 

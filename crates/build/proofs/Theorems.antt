@@ -5,7 +5,8 @@ use mathlib.Core.Bool.{true}
 use mathlib.Core.List.{List, _++_}
 use Prim.Native.Nat.{ℕ, suc, _+_, _-_, _≤_, _<_}
 use native.Mathlib.Omega.{arith}
-use lib.ListN.{length, replicate, length-append, length-replicate}
+use lib.ListN.{length, replicate}
+use Rattle.slices.proofs.Clearing.{length-filled}
 use Rattle.refusals.specs.declared.Check.the-variants.{Fine}
 use Rattle.refusals.specs.Refusals.{andThen, Answer, refused, gives, _into_, answerBy, leftIn, zeroBeyond}
 use Rattle.refusals.proofs.Checks.{each-says, andThen-right}
@@ -78,9 +79,6 @@ made-passed plan ls offsets items globals scratch g h =
     andThen-right (scratchCheck scratch) (linesCheck ls)
     (then-passed (andThen (scratchCheck scratch) (linesCheck ls)) (choice plan ls offsets into roomOn (plan .mode) ls items globals) h .0)
 
-length-globe : (xs : List ℕ) (n : ℕ) → length xs ≤ n → length (xs ++ replicate (n - length xs) 0) ≡ n
-length-globe xs n l = rw (length-append, length-replicate) (omega arith)
-
 success : (plan : Plan) {ls : Lines} {o t gs s : List ℕ} {r : Built} {o′ t′ gs′ s′ : List ℕ} {st : Standing}
     → BuildIs (plan .mode) ls o t gs s r o′ t′ gs′ s′ (endOf plan ls (length o) (length t) (length gs) (length s)) → r ≡ built.Tables st → Success (plan .mode) ls st o′ t′ gs′
 unfolding total listOn globalsOn zeroBeyond
@@ -96,7 +94,7 @@ success plan {ls} {o} {t} {gs} {s} {r} {o′} {t′} {gs′} {s′} {st} h ok =
     let l : suc (gridCells g) ≤ length o = omega (arith, m .room) in
     let p : length o′ ≡ length o = ap length x ∙ length-offsets (listOn (plan .mode) g ls) (gridCells g) (length o) l in
     let q : length t′ ≡ length t = ap length y ∙ length-items (listOn (plan .mode) g ls) (gridCells g) (length t) (m .space) in
-    let v : length gs′ ≡ length gs = ap length z ∙ length-globe (globalsOn (plan .mode) g ls) (length gs) (m .listed) in
+    let v : length gs′ ≡ length gs = ap length z ∙ length-filled (globalsOn (plan .mode) g ls) (length gs) (m .listed) in
     record {
       passed = made-passed plan ls (length o) (length t) (length gs) (length s) g (a .0);
       turns = m .turns;

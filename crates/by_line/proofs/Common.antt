@@ -1,7 +1,7 @@
 -- What the search for a common cell finds. Of the lists by line of tables, with the cells below c counted for each line, it finds whether some
 -- cell below c lists both lines (`met-is`). Assumes nothing.
 use mathlib.Core.Path.{_≡_, refl, sym, ap, _∙_}
-use mathlib.Core.Bool.{Bool, true, false, cond, _&&_, _||_}
+use mathlib.Core.Bool.{Bool, true, false, cond, _&&_, _||_, or-false, or-true}
 use mathlib.Core.List.{List, [], _∷_, _++_, append-nil, append-assoc}
 use Prim.Native.Nat.{ℕ, zero, suc, _+_, _-_, _≤_, _<_}
 use native.Mathlib.Nat.{le-refl}
@@ -83,14 +83,6 @@ module _ (c : ℕ) (xs ys : List ℕ) (bx : Below c xs) (by : Below c ys) where
           ∙ rw z (meets-alike xs (ys ++ (c ∷ [])) xs ys (suc n) (length ys) (λ k l. refl) (λ k l. List·getD-append ys (c ∷ []) 0 k l))
 
 -- ---- of the cells that list two lines
-
-or-false : (b : Bool) → (b || false) ≡ b
-or-false true = refl
-or-false false = refl
-
-or-true : (b : Bool) → (b || true) ≡ true
-or-true true = refl
-or-true false = refl
 
 found-is : (W : ℕ → List ℕ) (a b c : ℕ) → found (linesAt W c a) (linesAt W c b) ≡ someBelow c (λ k. elem a (W k) && elem b (W k))
 unfolding linesAt someBelow found

@@ -11,6 +11,7 @@ use lib.Dec.{leb, ltb, eqb}
 use lib.ListN.{length, getD, length-append}
 use lib.Seq.{length-slice}
 use Rattle.slices.specs.Lists.{elem, Below, Rising}
+use Rattle.slices.proofs.Distinct.{not-elem}
 use Rattle.refusals.specs.declared.Refusal.{Refusal}
 use Rattle.refusals.specs.declared.Check.{Check}
 use Rattle.refusals.specs.declared.Check.the-variants.{Fine, Refused}
@@ -25,19 +26,16 @@ use Rattle.grid.proofs.Shapes.{Fit, fit-says}
 use Rattle.tables.specs.Tables.{Tables, tables, cells, listIn, listOf}
 use Rattle.tables.specs.Fit.{TablesFit, ListsFit, tablesCheck, standingCheck}
 use Rattle.tables.specs.Lists.{Walks, only, linesAt, sum, start, itemsOf, offsetsOf}
-use Rattle.tables.proofs.Facts.{check-facts, all-within}
-use Rattle.tables.proofs.Laws.{sum-same}
+use Rattle.tables.specs.InsideFit.{CellsFit}
+use Rattle.tables.proofs.Facts.{check-facts}
+use Rattle.tables.proofs.Parts.{fit-cells}
+use Rattle.tables.proofs.Laws.{sum-same, sum-add}
 use Rattle.by_line.specs.declared.ByLine.{ByLine}
 use Rattle.by_line.specs.declared.ByLine.the-variants as answer
 use Rattle.by_line.specs.ByLine.{cellsListing, listsRoomCheck, byLine, ByLineIs}
-use Rattle.by_line.specs.Inside.{CellListAsks, TableAsks, MakeAsks, Made}
+use Rattle.by_line.specs.Inside.{MakeAsks, Made}
 
 -- ---- double counting
-
-sum-add : (g h : ℕ → ℕ) (m : ℕ) → sum (λ c. g c + h c) m ≡ sum g m + sum h m
-unfolding sum
-sum-add g h zero = refl
-sum-add g h (suc m) = omega (arith, sum-add g h m)
 
 sum-nought : (m : ℕ) → sum (λ c. 0) m ≡ 0
 unfolding sum
@@ -62,16 +60,12 @@ sum-one x i (suc n) l = go (λ q. sum-one x i n q) (ℕ-discrete n x)
     go ih (yes e) = rw (eq-eqb n x e) (omega (arith, sum-none x i n (omega arith)))
     go ih (no d) = rw (ne-eqb n x d) (omega (arith, ih (omega arith)))
 
-not-below : (low c : ℕ) (xs : List ℕ) → Rising low xs → c < low → elem c xs ≡ false
-not-below low c [] r l = refl
-not-below low c (x ∷ xs) r l = rw (ne-eqb c x (omega (arith, r .0))) (not-below (suc x) c xs (r .1) (omega (arith, r .0)))
-
 -- of the numbers below n, as many are in a list that increases below n as it has entries
 sum-in : (low : ℕ) (xs : List ℕ) (i n : ℕ) → Rising low xs → Below n xs → sum (λ c. length (only (elem c xs) i)) n ≡ length xs
 sum-in low [] i n r b = sum-nought n
 sum-in low (x ∷ xs) i n r b =
     sum-same (λ c. length (only (eqb c x || elem c xs) i)) (λ c. length (only (eqb c x) i) + length (only (elem c xs) i)) n
-    (λ c l. only-or (eqb c x) (elem c xs) i (λ e. not-below (suc x) c xs (r .1) (omega (arith, eqb-true c x e))))
+    (λ c l. only-or (eqb c x) (elem c xs) i (λ e. not-elem c (suc x) xs (omega (arith, eqb-true c x e)) (r .1)))
     ∙ omega (
       arith,
       sum-add (λ c. length (only (eqb c x) i)) (λ c. length (only (elem c xs) i)) n,
@@ -93,16 +87,16 @@ turned W n (suc i) k w l =
     )
 
 -- the lists between offsets end where the last offset is
-lists-sum : (offsets items : List ℕ) (m : ℕ) → getD offsets 0 0 ≡ 0 → ((c : ℕ) → c < m → CellListAsks offsets items c)
+lists-sum : (offsets items : List ℕ) (k m : ℕ) → getD offsets 0 0 ≡ 0 → CellsFit k offsets items → m ≤ k
     → sum (λ c. length (listIn offsets items c)) m ≡ getD offsets m 0
 unfolding sum
-lists-sum offsets items zero z h = sym z
-lists-sum offsets items (suc m) z h =
+lists-sum offsets items k zero z h l = sym z
+lists-sum offsets items k (suc m) z h l =
     omega (
       arith,
-      lists-sum offsets items m z (λ c l. h c (omega arith)),
-      length-slice (getD offsets m 0) (getD offsets (suc m) 0) items (h m (omega arith) .within),
-      h m (omega arith) .rises,
+      lists-sum offsets items k m z h (omega arith),
+      length-slice (getD offsets m 0) (getD offsets (suc m) 0) items (h .within (suc m) l),
+      h .rises m l,
     )
 
 -- ---- the checks
@@ -150,14 +144,6 @@ passed g t h =
     }
 
 module _ (t : Tables) (f : TablesFit t) where
-  pub list-asks : (c : ℕ) → c < cells t → CellListAsks (t .offsets) (t .items) c
-  list-asks c h =
-      record {
-        inside = omega (arith, f .long);
-        rises = f .lists .rises c h;
-        within = all-within (cells t) (t .lines) (t .offsets) (t .items) (f .lists) (suc c) h;
-      }
-
   pub table-walks : Walks (listOf t) (cells t) (t .lines)
   table-walks = record { rises = λ c h. f .lists .lists c h .rises; below = λ c h. f .lists .lists c h .below }
 
@@ -165,7 +151,7 @@ module _ (t : Tables) (f : TablesFit t) where
   pub by-line-total : start (cellsListing t) (t .lines) ≡ getD (t .offsets) (cells t) 0
   by-line-total =
       turned (listOf t) (t .lines) (cells t) (cells t) table-walks (omega arith)
-      ∙ lists-sum (t .offsets) (t .items) (cells t) (f .lists .first) list-asks
+      ∙ lists-sum (t .offsets) (t .items) (cells t) (cells t) (f .lists .first) (fit-cells t f) (omega arith)
 
 -- ---- the entry
 
@@ -202,7 +188,7 @@ module _ (g : Grid) (n : ℕ) (offsets items globals : List ℕ) (k : ℕ) (star
         let b = room-says n (length items) (length starts) (length listing) f in
         let e = by-line-total t (p .fits) in
         record {
-          table = record { lists = list-asks t (p .fits); walks = table-walks t (p .fits); few-lines = omega (arith, p .few); few-cells = by-line-cells };
+          table = record { fits = fit-cells t (p .fits); walks = table-walks t (p .fits); few-lines = omega (arith, p .few); few-cells = by-line-cells };
           room = b .0;
           space = omega (arith, p .fits .lists .within, b .1);
           small = omega arith;

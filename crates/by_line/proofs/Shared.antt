@@ -2,7 +2,7 @@
 -- before (`shared-met`). Each of those cells has a bit, so two lines whose marks have none in common did not (`apart-first`). Assumes nothing.
 use mathlib.Core.Path.{_≡_, refl, sym, ap, _∙_}
 use mathlib.Core.Logic.{_⊎_, inl, inr}
-use mathlib.Core.Bool.{Bool, true, false, cond, _&&_, _||_, true≢false}
+use mathlib.Core.Bool.{Bool, true, false, cond, _&&_, _||_, true≢false, or-true}
 use mathlib.Core.List.{List, [], _∷_, _++_, append-nil}
 use Prim.Native.Nat.{ℕ, zero, suc, _+_, _-_, _/_, _^_, _≤_, _<_}
 use native.Mathlib.Decide.{decLt, decLe, ℕ-discrete}
@@ -14,6 +14,7 @@ use lib.ListN.{length, getD, set, length-set, length-append, List·getD-append}
 use lib.Seq.{getD-at, getD-set-same, getD-set-other}
 use Rattle.slices.specs.Lists.{elem}
 use Rattle.slices.proofs.Members.{any-append, elem-at}
+use Rattle.grid.proofs.Bools.{or-says, and-says}
 use Rattle.tables.specs.Lists.{only, linesAt}
 use Rattle.by_line.specs.First.{frontOf, someBelow, metBelow}
 use Rattle.by_line.specs.Marks.{bitPlace, bitOf, bitsBack, markOf, MarksAre}
@@ -185,10 +186,6 @@ module _ {cells : List ℕ} {before low m i : ℕ} (s : Marking cells before low
 
 -- ---- the cells that list a line
 
-or-says : (a b : Bool) → (a || b) ≡ true → (a ≡ true) ⊎ (b ≡ true)
-or-says true b h = inl refl
-or-says false b h = inr h
-
 only-says : (p : Bool) (v c : ℕ) → elem v (only p c) ≡ true → (p ≡ true) × (v ≡ c)
 only-says true v c h = go (or-says (eqb v c) false h)
   where
@@ -206,10 +203,6 @@ lines-say W (suc c) i v h = go (lines-say W c i v) (or-says _ _ (sym (any-append
         → (elem v (linesAt W c i) ≡ true) ⊎ (elem v (only (elem i (W c)) c) ≡ true) → (v < suc c) × (elem i (W v) ≡ true)
     go ih (inl e) = let r = ih e in (omega (arith, r .0), r .1)
     go ih (inr e) = let r = only-says (elem i (W c)) v c e in (omega (arith, r .1), rw (r .1) (r .0))
-
-or-true : (b : Bool) → (b || true) ≡ true
-or-true true = refl
-or-true false = refl
 
 some-says : (c : ℕ) (f : ℕ → Bool) (v : ℕ) → v < c → f v ≡ true → someBelow c f ≡ true
 unfolding someBelow
@@ -276,10 +269,6 @@ module _ (before low : ℕ) where
           below : Dec (v ≡ c) → v < c
           below (yes z) = absurd (true≢false (sym e ∙ rw z q))
           below (no n) = omega (arith, l, n)
-
-and-says : (a b : Bool) → (a && b) ≡ true → (a ≡ true) × (b ≡ true)
-and-says true b h = (refl, h)
-and-says false b h = absurd (true≢false (sym h))
 
 module _ {W : ℕ → List ℕ} {m n : ℕ} {starts listing : List ℕ} {c : ℕ} {counts : List ℕ} (s : Standing W m n starts listing c counts) where
   -- TWO LINES WHOSE MARKS HAVE THE BIT OF A CELL IN COMMON met in a cell below c

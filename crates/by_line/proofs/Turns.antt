@@ -1,35 +1,23 @@
 -- The two passes over the cells: from a cell's list to the next, and from the counts to the lists by line. Assumes nothing.
 use mathlib.Core.Path.{_≡_, refl, sym, ap, _∙_}
-use mathlib.Core.List.{List, [], _∷_}
+use mathlib.Core.List.{List}
 use Prim.Native.Nat.{ℕ, zero, suc, _+_, _-_, _≤_, _<_, _^_}
-use native.Mathlib.Numerals.{add-one}
 use native.Mathlib.Omega.{arith}
-use lib.ListN.{length, getD, take, drop, replicate, getD-replicate}
-use lib.Seq.{slice, take-length}
-use Rattle.slices.specs.Lists.{Below, Rising}
+use lib.ListN.{length, getD, replicate}
+use lib.Seq.{take-length}
+use Rattle.slices.proofs.Distinct.{length-rising}
+use Rattle.slices.proofs.Clearing.{zeros-at}
 use Rattle.tables.specs.Tables.{listIn}
 use Rattle.tables.specs.Lists.{Walks, linesAt, sum, start, itemsOf, offsetsOf}
 use Rattle.tables.specs.InsidePasses.{Line, Table, Counted, Placed, CanCount, CanPlace}
-use Rattle.tables.proofs.Facts.{part-slice}
 use Rattle.tables.proofs.Laws.{counts-sum, placed-none, table-of}
 use Rattle.fill.specs.Inside.{Summed, ShiftedBack}
-use Rattle.fill.proofs.Counts.{zeros-at}
-use Rattle.by_line.specs.Inside.{CellListAsks, TableAsks, ListCountAsks, ListPlaceAsks, MakeAsks, Made}
+use Rattle.by_line.specs.Inside.{TurnAsks, ListCountAsks, ListPlaceAsks, MakeAsks, Made}
 
 -- ---- the list of a cell
 
--- the part of the items between two offsets
-pub part-is : (offsets items : List ℕ) (c from to : ℕ) → from ≡ getD offsets c 0 → to ≡ getD offsets (c + 1) 0
-    → take (to - from) (drop from items) ≡ listIn offsets items c
-part-is offsets items c from to ef et = part-slice from to items ∙ rw (ef, et, add-one)
-
--- a list that increases below n has at most n entries
-length-rising : (low n : ℕ) (xs : List ℕ) → low ≤ n → Rising low xs → Below n xs → length xs + low ≤ n
-length-rising low n [] h r b = omega arith
-length-rising low n (x ∷ xs) h r b = omega (arith, r .0, length-rising (suc x) n xs (b .0) (r .1) (b .1))
-
 -- the list of a cell is the walk of that cell through the lines
-pub line-of : {m n : ℕ} {offsets items : List ℕ} {c : ℕ} {s : List ℕ} → TableAsks m n offsets items → c < m → s ≡ listIn offsets items c
+pub line-of : {m n : ℕ} {offsets items : List ℕ} {c : ℕ} {s : List ℕ} → TurnAsks m n offsets items → c < m → s ≡ listIn offsets items c
     → Line (listIn offsets items) m n c s (length s)
 line-of {m} {n} {offsets} {items} {c} {s} a h e =
     record {
@@ -46,7 +34,7 @@ line-of {m} {n} {offsets} {items} {c} {s} a h e =
 -- ---- counting
 
 pub record Counting (m n : ℕ) (offsets items counts₀ counts : List ℕ) (c : ℕ) : Type 0 where
-  pub table : TableAsks m n offsets items
+  pub table : TurnAsks m n offsets items
   pub at : c ≤ m
   pub len : length counts ≡ length counts₀
   pub room : n ≤ length counts
@@ -140,11 +128,3 @@ module _ {m n : ℕ} {offsets items starts listing : List ℕ} (a : MakeAsks m n
             starts-are = tab .offsets-are ∙ ap (λ (x : ℕ). offsetsOf (linesAt (listIn offsets items) m) n x) ls;
             listing-is = tab .items-are ∙ ap (λ (x : ℕ). itemsOf (linesAt (listIn offsets items) m) n x) lt;
           }
-
--- what a cell's list asks for, as the code has it
-module _ {offsets items : List ℕ} {c : ℕ} (a : CellListAsks offsets items c) where
-  pub part-up : getD offsets c 0 ≤ getD offsets (c + 1) 0
-  part-up = rw add-one (a .rises)
-
-  pub part-in : getD offsets (c + 1) 0 ≤ length items
-  part-in = rw add-one (a .within)

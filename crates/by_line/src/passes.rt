@@ -4,12 +4,13 @@ ghost use mathlib.Core.Path.{_≡_};
 ghost use lib.ListN.{length};
 ghost use Rattle.tables.specs.Tables.{listIn};
 ghost use Rattle.tables.specs.Lists.{linesAt};
+ghost use Rattle.tables.specs.InsideFit.{CellIn};
 ghost use Rattle.tables.specs.InsidePasses.{CanCount, CanPlace, Counted, Placed};
-ghost use Rattle.by_line.specs.Inside.{CellListAsks, ListCountAsks, ListPlaceAsks};
+ghost use Rattle.by_line.specs.Inside.{ListCountAsks, ListPlaceAsks};
 
 // The list of a cell: a part of the items.
 fn list_of<'a>(offsets: &[u32], items: &'a [u32], cell: usize) -> &'a [u32]
-    requires { ⌜ CellListAsks (now offsets) (now items) cell ⌝ }
+    requires { ⌜ CellIn (now offsets) (now items) cell ⌝ }
     ensures { λ r. ⌜ now r ≡ listIn (now (offsets .entry)) (now (items .entry)) cell ⌝ }
 {
     let from = offsets[cell] as usize;

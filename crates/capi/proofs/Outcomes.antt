@@ -1,14 +1,11 @@
 -- Any two outcomes that the promise of an exported function admits are identical: its number, `out`, and every slice that it is lent to write,
 -- also where `out` is short, words are too few to say a grid or a number names nothing. One that is lent nothing to write but `out` promises `Replies`, as the functions of
 -- `replies` do, and `one-outcome` there says it. Assumes nothing.
-use mathlib.Core.Path.{_≡_, refl, sym, _∙_}
-use mathlib.Core.Bool.{Bool, true, false}
+use mathlib.Core.Path.{_≡_, sym, _∙_}
 use mathlib.Core.List.{List}
 use Prim.Native.Nat.{ℕ, _≤_, _<_}
-use lib.Dec.{leb}
 use lib.Ieee.{Float}
 use lib.ListN.{length}
-use borrow.Author.Tests.{leb-true, leb-false}
 use Rattle.grid.specs.Domain.{Lines}
 use Rattle.grid.specs.declared.Grid.{Grid}
 use Rattle.grid.specs.Words.{gridWords}
@@ -19,28 +16,13 @@ use Rattle.build.proofs.Theorems as build
 use Rattle.own.proofs.ManyEnds as own
 use Rattle.visit.proofs.Outcomes as visit
 use Rattle.replies.proofs.Outcomes.{one-outcome}
+use Rattle.replies.proofs.Handing.{by-size}
 use Rattle.capi.specs.Unknown.{lastSizing, lastMode}
 use Rattle.capi.specs.Lent.{WalkReplies, OwnersReplies, BuildReplies, BatchReplies}
 
--- `out` has the n words of a result, or is short
-by-room : (n : ℕ) (out : List ℕ) {P : Type 0} → (n ≤ length out → P) → (length out < n → P) → P
-by-room n out {P} enough short = go (leb n (length out)) refl
-  where
-    go : (b : Bool) → leb n (length out) ≡ b → P
-    go true e = enough (leb-true n (length out) e)
-    go false e = short (leb-false n (length out) e)
-
 -- and words say a grid, or are too few
 by-words : (n : ℕ) (out words : List ℕ) {P : Type 0} → (n ≤ length out → gridWords ≤ length words → P) → (length out < n → P) → (length words < gridWords → P) → P
-by-words n out words asked short few = by-room n out (λ l. by-room gridWords words (asked l) few) short
-
--- a number names something, or is above the last that does
-by-name : (last n : ℕ) {P : Type 0} → (n ≤ last → P) → (last < n → P) → P
-by-name last n {P} named above = go (leb n last) refl
-  where
-    go : (b : Bool) → leb n last ≡ b → P
-    go true e = named (leb-true n last e)
-    go false e = above (leb-false n last e)
+by-words n out words asked short few = by-size n (length out) (λ l. by-size gridWords (length words) (asked l) few) short
 
 pub walk-one-outcome : {words : List ℕ} {mode : ℕ} {o : Outcome} {scratch scratch′ scratch₁ out out′ out₁ : List ℕ} {r r₁ : ℕ}
     → WalkReplies words mode o scratch out r scratch′ out′ → WalkReplies words mode o scratch out r₁ scratch₁ out₁
@@ -50,7 +32,7 @@ walk-one-outcome {words} {mode} {out = out} h k =
       a .0,
       a .1,
       by-words 1 out words
-          (λ l m. by-name lastMode mode (λ n. walk.one-outcome (h .called l m n) (k .called l m n) .1) (λ n. h .unwalked n ∙ sym (k .unwalked n)))
+          (λ l m. by-size mode lastMode (λ n. walk.one-outcome (h .called l m n) (k .called l m n) .1) (λ n. h .unwalked n ∙ sym (k .unwalked n)))
           (λ l. h .short l ∙ sym (k .short l)) (λ m. h .few m ∙ sym (k .few m)),
     )
 
@@ -70,11 +52,11 @@ pub build-one-outcome : {sizing mode : ℕ} {ls : Lines} {o o′ o₁ t t′ t�
 build-one-outcome {sizing} {mode} {out = out} h k =
     let a = one-outcome (h .replies) (k .replies) in
     let lent =
-    by-room 8 out
+    by-size 8 (length out)
     (λ l.
-    by-name lastSizing sizing
+    by-size sizing lastSizing
     (λ n.
-    by-name lastMode mode
+    by-size mode lastMode
     (λ m.
     let b = build.one-outcome (h .called l n m) (k .called l n m) in
     (b .offsets, b .items, b .globals, b .scratch))

@@ -1,25 +1,15 @@
 -- Any two outcomes that the promise of `mt_block_counts` admits are identical: its number, `out` and the summary, also where `out` is short or words are
 -- too few to say a grid. Assumes nothing.
-use mathlib.Core.Path.{_≡_, refl, sym, _∙_}
-use mathlib.Core.Bool.{Bool, true, false}
+use mathlib.Core.Path.{_≡_, sym, _∙_}
 use mathlib.Core.List.{List}
-use Prim.Native.Nat.{ℕ, _≤_, _<_}
-use lib.Dec.{leb}
+use Prim.Native.Nat.{ℕ}
 use lib.ListN.{length}
-use borrow.Author.Tests.{leb-true, leb-false}
 use Rattle.grid.specs.declared.Grid.{Grid}
 use Rattle.grid.specs.Words.{gridWords}
 use Rattle.tables.specs.Tables.{Tables}
 use Rattle.replies.proofs.Outcomes.{one-outcome}
+use Rattle.replies.proofs.Handing.{by-size}
 use Rattle.capi_blocks.specs.Lent.{MakeReplies}
-
--- a number is at most another, or above it
-by-size : (n m : ℕ) {P : Type 0} → (n ≤ m → P) → (m < n → P) → P
-by-size n m {P} f g = go (leb n m) refl
-  where
-    go : (b : Bool) → leb n m ≡ b → P
-    go true e = f (leb-true n m e)
-    go false e = g (leb-false n m e)
 
 module _ {words : List ℕ} {g : Grid} {t : Tables} {summary out : List ℕ} {r r₁ : ℕ} {summary′ out′ summary₁ out₁ : List ℕ}
     (h : MakeReplies words g t summary out r summary′ out′) (k : MakeReplies words g t summary out r₁ summary₁ out₁) where

@@ -1,27 +1,17 @@
 -- Any two outcomes that the promise of an exported function admits are identical: its number, `out`, and every slice that it is lent to write, also where
 -- `out` is short, words are too few to say a grid or a number names no mode of walk. Assumes nothing.
-use mathlib.Core.Path.{_≡_, refl, sym, _∙_}
-use mathlib.Core.Bool.{Bool, true, false}
+use mathlib.Core.Path.{_≡_, sym, _∙_}
 use mathlib.Core.List.{List}
-use Prim.Native.Nat.{ℕ, _≤_, _<_}
-use lib.Dec.{leb}
+use Prim.Native.Nat.{ℕ}
 use lib.ListN.{length}
-use borrow.Author.Tests.{leb-true, leb-false}
 use Rattle.grid.specs.Domain.{Lines}
 use Rattle.grid.specs.Words.{gridWords}
 use Rattle.counts.proofs.AddLaws.{one-sum}
 use Rattle.counts.proofs.Theorems.{one-count, one-tables}
 use Rattle.replies.proofs.Outcomes.{one-outcome}
+use Rattle.replies.proofs.Handing.{by-size}
 use Rattle.capi.specs.Unknown.{lastMode}
 use Rattle.capi_counts.specs.Lent.{CountReplies, AddReplies, TablesReplies}
-
--- a number reaches another, or stays below it
-by : (n m : ℕ) {P : Type 0} → (n ≤ m → P) → (m < n → P) → P
-by n m {P} reached below = go (leb n m) refl
-  where
-    go : (b : Bool) → leb n m ≡ b → P
-    go true e = reached (leb-true n m e)
-    go false e = below (leb-false n m e)
 
 -- two that are both as a third
 alike : {a a′ a₁ : List ℕ} → a′ ≡ a → a₁ ≡ a → a′ ≡ a₁
@@ -32,11 +22,11 @@ pub count-one-outcome : {words : List ℕ} {mode : ℕ} {ls : Lines} {o o′ o�
 count-one-outcome {words} {mode} {out = out} h k =
     let a = one-outcome (h .replies) (k .replies) in
     let lent =
-    by 2 (length out)
+    by-size 2 (length out)
     (λ l.
-    by gridWords (length words)
+    by-size gridWords (length words)
     (λ m.
-    by mode lastMode (λ n. let b = one-count (h .called l m n) (k .called l m n) in (b .1, b .2)) (λ n. all (h .unwalked n) (k .unwalked n)))
+    by-size mode lastMode (λ n. let b = one-count (h .called l m n) (k .called l m n) in (b .1, b .2)) (λ n. all (h .unwalked n) (k .unwalked n)))
     (λ m. all (h .few m) (k .few m)))
     (λ l. all (h .short l) (k .short l)) in
     (a .0, a .1, lent .0, lent .1)
@@ -47,7 +37,7 @@ count-one-outcome {words} {mode} {out = out} h k =
 pub add-one-outcome : {a a′ a₁ b out out′ out₁ : List ℕ} {r r₁ : ℕ} → AddReplies a b out r a′ out′ → AddReplies a b out r₁ a₁ out₁ → (r ≡ r₁) × (out′ ≡ out₁) × (a′ ≡ a₁)
 add-one-outcome {out = out} h k =
     let a = one-outcome (h .replies) (k .replies) in
-    (a .0, a .1, by 1 (length out) (λ l. one-sum (h .called l) (k .called l) .1) (λ l. alike (h .short l) (k .short l)))
+    (a .0, a .1, by-size 1 (length out) (λ l. one-sum (h .called l) (k .called l) .1) (λ l. alike (h .short l) (k .short l)))
 
 pub tables-one-outcome : {words : List ℕ} {mode : ℕ} {ls : Lines} {o o′ o₁ t t′ t₁ gs gs′ gs₁ s s′ s₁ out out′ out₁ : List ℕ} {r r₁ : ℕ}
     → TablesReplies words mode ls o t gs s out r o′ t′ gs′ s′ out′ → TablesReplies words mode ls o t gs s out r₁ o₁ t₁ gs₁ s₁ out₁
@@ -55,10 +45,10 @@ pub tables-one-outcome : {words : List ℕ} {mode : ℕ} {ls : Lines} {o o′ o�
 tables-one-outcome {words} {mode} {out = out} h k =
     let a = one-outcome (h .replies) (k .replies) in
     let lent =
-    by 2 (length out)
+    by-size 2 (length out)
     (λ l.
-    by gridWords (length words)
-    (λ m. by mode lastMode (λ n. let b = one-tables (h .called l m n) (k .called l m n) in (b .1, b .2, b .3, b .4)) (λ n. all (h .unwalked n) (k .unwalked n))) (λ m. all (h .few m) (k .few m)))
+    by-size gridWords (length words)
+    (λ m. by-size mode lastMode (λ n. let b = one-tables (h .called l m n) (k .called l m n) in (b .1, b .2, b .3, b .4)) (λ n. all (h .unwalked n) (k .unwalked n))) (λ m. all (h .few m) (k .few m)))
     (λ l. all (h .short l) (k .short l)) in
     (a .0, a .1, lent .0, lent .1, lent .2, lent .3)
   where

@@ -1,3 +1,2 @@
--- `Handing`: an answer that was handed over for fewer words. `Outcomes`: the promises settle the number, `out` and every slice.
-pub mod Handing
+-- `Outcomes`: the promises settle the number, `out` and every slice.
 pub mod Outcomes

@@ -1,12 +1,9 @@
 -- Any two outcomes that the promises of `mt_lists_by_line` and of `mt_pairs_once` admit are identical: the number, `out` and every slice, also
 -- where `out` is short or words are too few to say a grid. Assumes nothing.
 use mathlib.Core.Path.{_≡_, refl, sym, _∙_}
-use mathlib.Core.Bool.{Bool, true, false}
 use mathlib.Core.List.{List}
-use Prim.Native.Nat.{ℕ, _≤_, _<_}
-use lib.Dec.{leb}
+use Prim.Native.Nat.{ℕ}
 use lib.ListN.{length}
-use borrow.Author.Tests.{leb-true, leb-false}
 use Rattle.grid.specs.declared.Grid.{Grid}
 use Rattle.grid.specs.Words.{gridWords}
 use Rattle.tables.specs.Tables.{Tables}
@@ -14,15 +11,8 @@ use Rattle.refusals.specs.Refusals.{Answer}
 use Rattle.seek.specs.Tests.{Pair}
 use Rattle.first_tests.specs.Firsts.{PairsAre}
 use Rattle.replies.proofs.Outcomes.{one-outcome}
+use Rattle.replies.proofs.Handing.{by-size}
 use Rattle.capi_pairs.specs.Lent.{ByLineReplies, onceAnswer, SameFive, OnceReplies}
-
--- a number is at most another, or above it
-by-size : (n m : ℕ) {P : Type 0} → (n ≤ m → P) → (m < n → P) → P
-by-size n m {P} f g = go (leb n m) refl
-  where
-    go : (b : Bool) → leb n m ≡ b → P
-    go true e = f (leb-true n m e)
-    go false e = g (leb-false n m e)
 
 module _ {words : List ℕ} {g : Grid} {t : Tables} {starts listing out : List ℕ} {r r₁ : ℕ} {starts′ listing′ out′ starts₁ listing₁ out₁ : List ℕ}
     (h : ByLineReplies words g t starts listing out r starts′ listing′ out′) (k : ByLineReplies words g t starts listing out r₁ starts₁ listing₁ out₁) where

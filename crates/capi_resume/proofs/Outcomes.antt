@@ -1,26 +1,16 @@
 -- Any two outcomes that the promise of `mt_next_unchecked` admits are identical: the number, `out` and both outputs, also where `out` is short or words
 -- are too few to say a grid. Assumes nothing.
-use mathlib.Core.Path.{_≡_, refl, sym, _∙_}
-use mathlib.Core.Bool.{Bool, true, false}
+use mathlib.Core.Path.{_≡_, sym, _∙_}
 use mathlib.Core.List.{List}
-use Prim.Native.Nat.{ℕ, _≤_, _<_}
-use lib.Dec.{leb}
+use Prim.Native.Nat.{ℕ}
 use lib.ListN.{length}
-use borrow.Author.Tests.{leb-true, leb-false}
 use Rattle.grid.specs.Domain.{Lines}
 use Rattle.grid.specs.Words.{gridWords}
 use Rattle.tables.specs.Tables.{Tables}
 use Rattle.resume.specs.declared.Cursor.{Cursor}
 use Rattle.replies.proofs.Outcomes.{one-outcome}
+use Rattle.replies.proofs.Handing.{by-size}
 use Rattle.capi_resume.specs.Lent.{NextReplies}
-
--- a number is at most another, or above it
-by-size : (n m : ℕ) {P : Type 0} → (n ≤ m → P) → (m < n → P) → P
-by-size n m {P} f g = go (leb n m) refl
-  where
-    go : (b : Bool) → leb n m ≡ b → P
-    go true e = f (leb-true n m e)
-    go false e = g (leb-false n m e)
 
 module _ {words : List ℕ} {ls : Lines} {t : Tables} {c : Cursor} {first second out : List ℕ} {r r₁ : ℕ} {first′ second′ out′ first₁ second₁ out₁ : List ℕ}
     (h : NextReplies words ls t c first second out r first′ second′ out′) (k : NextReplies words ls t c first second out r₁ first₁ second₁ out₁) where

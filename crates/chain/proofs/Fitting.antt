@@ -13,7 +13,7 @@ use Rattle.refusals.specs.Refusals.{Answer, refused, gives, answerBy, zeroBeyon
 use Rattle.refusals.proofs.Answers.{then-passed}
 use Rattle.grid.specs.declared.Grid.{Grid}
 use Rattle.grid.specs.Domain.{Lines, count, scratchCheck, linesCheck}
-use Rattle.tables.specs.Lists.{concat, sum, start, itemsOf, offsetsOf}
+use Rattle.tables.specs.Lists.{start, itemsOf, offsetsOf}
 use Rattle.fill.specs.OnGrid as on
 use Rattle.fill.specs.OnGrid.{total}
 use Rattle.build.specs.declared.Plan.{Plan}
@@ -22,6 +22,7 @@ use Rattle.build.proofs.Settled.{Made, made-says}
 use Rattle.tables.specs.Tables.{Tables, cells, listOf, globalsOf, beside}
 use Rattle.tables.specs.Fit.{TablesFit}
 use Rattle.tables.proofs.Facts.{all-within}
+use Rattle.tables.proofs.Laws.{length-concat}
 use Rattle.seek.specs.Bookmarks.{visitCheck}
 use Rattle.seek.specs.Tests.{Pair}
 use Rattle.visit.specs.Batches.{overlapping}
@@ -65,11 +66,6 @@ tables-size ls g t items c i m = go (allTests ls g t) refl
     go (gives ps) e = report-size g t items (length ps) (length (overlapping ls ps)) (stands ls g t (then-passed (visitCheck ls g t) _ e .0) .tables) c i m
 
 -- ---- the whole
-
-length-concat : (F : ℕ → List ℕ) (n : ℕ) → length (concat F n) ≡ start F n
-unfolding concat sum
-length-concat F zero = refl
-length-concat F (suc n) = rw (length-append, length-concat F n)
 
 items-size : (F : ℕ → List ℕ) (n : ℕ) → start F n ≤ 4096 → length (itemsOf F n 4096) ≤ 4096
 unfolding itemsOf

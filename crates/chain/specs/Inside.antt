@@ -1,12 +1,11 @@
 -- What the private functions ask and promise. Definitions only.
-use mathlib.Core.Path.{_≡_}
-use Prim.Native.Nat.{ℕ, suc, _*_, _+_, _^_, _≤_, _<_}
-use mathlib.Core.List.{List}
-use lib.ListN.{length, getD}
+use Prim.Native.Nat.{ℕ, _^_, _<_}
+use lib.ListN.{length}
 use Rattle.refusals.specs.Refusals.{answerBy}
 use Rattle.grid.specs.declared.Grid.{Grid}
 use Rattle.grid.specs.Domain.{Lines}
 use Rattle.tables.specs.Tables.{Tables, cells}
+use Rattle.tables.specs.InsideFit.{CellsFit, GlobalsFit}
 use Rattle.visit.specs.Batches.{overlapping}
 use Rattle.seek.specs.Bookmarks.{testsFrom}
 use Rattle.visit.specs.Entries.{batchOf}
@@ -17,18 +16,16 @@ use Rattle.chain.specs.declared.Visited.the-variants as visited
 
 -- ---- the report
 
--- a cell of tables: its list is a part of the items
-pub record PrintAsks (t : Tables) (c : ℕ) : Type 0 where
-  pub some : 0 < t .cols
-  pub long : c + 1 < length (t .offsets)
-  pub rises : getD (t .offsets) c 0 ≤ getD (t .offsets) (suc c) 0
-  pub within : getD (t .offsets) (suc c) 0 ≤ length (t .items)
-
--- tables whose lists are parts of the items and of the globals
-pub record TablesAsk (t : Tables) : Type 0 where
+-- tables that can be shown, all of them
+pub record ShowAsks (t : Tables) : Type 0 where
   pub few : cells t < 2 ^ 32
-  pub each : (c : ℕ) → c < cells t → PrintAsks t c
-  pub counted : t .«global_count» ≤ length (t .globals)
+  pub lists : CellsFit (cells t) (t .offsets) (t .items)
+  pub globals : GlobalsFit (t .lines) (t .«global_count») (t .globals)
+
+-- a cell whose line can be put
+pub record ShowCellAsks (t : Tables) (c : ℕ) : Type 0 where
+  pub lists : CellsFit (cells t) (t .offsets) (t .items)
+  pub inside : c < cells t
 
 -- ---- the visit
 

@@ -4,17 +4,12 @@ ghost use Rattle.tables.specs.Tables.{tables, cells};
 ghost use Rattle.report.specs.Pages.{page, Puts};
 ghost use Rattle.report.specs.Lines.{cellLine};
 ghost use Rattle.chain.specs.Printed.{cellLines, reportOf};
-ghost use Rattle.chain.specs.Inside.{PrintAsks, TablesAsk};
+ghost use Rattle.chain.specs.Inside.{ShowCellAsks, ShowAsks};
 ghost use Rattle.tables.specs.Tables.{listOf};
 ghost use Prim.Native.Nat.{_/_, _%_};
 use grid::Grid;
 use numbers::bits::to_bits;
-
-fn wide(x: u32) -> usize
-    ensures { λ r. ⌜ r ≡ x ⌝ }
-{
-    x as usize
-}
+use slices::wide;
 
 // The line of one cell.
 fn put_cell(
@@ -28,20 +23,12 @@ fn put_cell(
     out: &mut [u8],
     at: usize,
 ) -> usize
-    requires { ⌜ PrintAsks (tables grid lines (now offsets) (now items) (now globals) «global_count») cell ⌝ }
+    requires { ⌜ ShowCellAsks (tables grid lines (now offsets) (now items) (now globals) «global_count») cell ⌝ }
     ensures { λ r. let t = tables grid lines (now (offsets .entry)) (now (items .entry)) (now (globals .entry)) «global_count» in
         ⌜ Puts (cellLine (cell / grid .cols) (cell % grid .cols) (listOf t cell)) (page (now (out .entry)) at) (page (now (out .exit)) r) ⌝ }
 {
-    let c = wide(cell);
-    let from = wide(offsets[c]);
-    let to = wide(offsets[c + 1]);
-    report::cell_line(
-        cell / grid.cols,
-        cell % grid.cols,
-        &items[from..to],
-        out,
-        at,
-    )
+    let list = tables::list_of(offsets, items, wide(cell));
+    report::cell_line(cell / grid.cols, cell % grid.cols, list, out, at)
 }
 
 // A line for each nonempty cell.
@@ -55,7 +42,7 @@ fn put_cells(
     out: &mut [u8],
     at: usize,
 ) -> usize
-    requires { ⌜ TablesAsk (tables grid lines (now offsets) (now items) (now globals) «global_count») ⌝ }
+    requires { ⌜ ShowAsks (tables grid lines (now offsets) (now items) (now globals) «global_count») ⌝ }
     ensures { λ r. let t = tables grid lines (now (offsets .entry)) (now (items .entry)) (now (globals .entry)) «global_count» in
         ⌜ Puts (cellLines t (cells t)) (page (now (out .entry)) at) (page (now (out .exit)) r) ⌝ }
 {
@@ -93,7 +80,7 @@ pub(crate) fn put_report(
     out: &mut [u8],
     at: usize,
 ) -> usize
-    requires { ⌜ TablesAsk (tables grid lines (now offsets) (now items) (now globals) «global_count») ⌝ }
+    requires { ⌜ ShowAsks (tables grid lines (now offsets) (now items) (now globals) «global_count») ⌝ }
     ensures { λ r. let t = tables grid lines (now (offsets .entry)) (now (items .entry)) (now (globals .entry)) «global_count» in
         ⌜ Puts (reportOf grid t «item_count» tests overlaps) (page (now (out .entry)) at) (page (now (out .exit)) r) ⌝ }
 {

@@ -4,13 +4,13 @@ use mathlib.Core.List.{List, [], _++_, map, flatten}
 use Prim.Native.Nat.{ℕ, _-_}
 use native.Mathlib.Omega.{arith}
 use lib.ListN.{length, take, replicate, length-map}
-use lib.Seq.{take-at}
 use Rattle.refusals.specs.Refusals.{Answer, refused, gives, _then_, answerBy, leftIn, zeroBeyond}
 use Rattle.refusals.proofs.Answers.{then-passed}
 use Rattle.wkb.specs.Bytes.{Point}
 use Rattle.wkb.proofs.LineStrings.{gives-same}
 use Rattle.members.specs.Held.{pointsOf, chainsOf, heldCheck}
 use Rattle.members.proofs.Held.{points-back, chains-back}
+use Rattle.members.proofs.RoundTrips.{start}
 use Rattle.clean.specs.Cleaning.{cleaned, reasons, kept}
 use Rattle.clean.specs.Calls.{Outputs, outputs, keptRoomCheck, cleaning, cleanedOf, holds, keptAxis, keptLengths, outputsLeft, CleanedAs}
 use Rattle.clean.specs.declared.Cleaned.the-variants.{Kept, Refused}
@@ -57,11 +57,6 @@ gave {x} {y} {ns} {o} {n} {m} {o′} c = go (cleaning x y ns o) refl (c .answer)
           in-lengths = ap (λ (u : Outputs). u .lengths) g′;
           in-reasons = ap (λ (u : Outputs). u .reasons) g′;
         }
-
--- what stands at the start is taken from it
-pub start : (xs : List ℕ) (n k : ℕ) → length xs ≡ n → take n (zeroBeyond 0 k xs) ≡ xs
-unfolding zeroBeyond
-start xs n k e = take-at xs _ n e
 
 -- THE KEPT POINTS AND LENGTHS OF A CALL, CLEANED BY ANOTHER: as many are kept, and the slices hold the same, with no reason but `kept`
 pub again : {x y ns : List ℕ} {o o′ p p′ : Outputs} {n m k l : ℕ} → CleanedAs x y ns o (Kept n m) o′

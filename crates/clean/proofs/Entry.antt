@@ -13,8 +13,8 @@ use Rattle.refusals.specs.Refusals.{unless, Answer, refused, gives, _then_, ans
 use Rattle.refusals.proofs.Checks.{unless-fine}
 use Rattle.refusals.proofs.Answers.{then-refused, then-fine}
 use Rattle.refusals.proofs.Leaving.{left-same, clearing-unless}
+use Rattle.grid.proofs.Bools.{and-says}
 use Rattle.wkb.specs.Bytes.{Point}
-use Rattle.wkb.proofs.Fields.{both}
 use Rattle.members.specs.Held.{pointsOf, chainsOf, allLengths, sumOf, heldCheck}
 use Rattle.members.proofs.Held.{Held, held-says, length-points-of, map-x, map-y, flatten-chains}
 use Rattle.clean.specs.Cleaning.{cleaned, reasons, keptValues}
@@ -35,9 +35,9 @@ pub record Lent (n : ℕ) (o : Outputs) : Type 0 where
 pub lent-says : (n : ℕ) (o : Outputs) → keptRoomCheck n o ≡ check.Fine → Lent n o
 unfolding keptRoomCheck
 lent-says n o h =
-    let a = both (eqb (length (o .x)) (length (o .y))) _ (unless-fine _ _ _ h) in
-    let b = both (leb n (length (o .x))) _ (a .1) in
-    let c = both (leb (n / 2) (length (o .lengths))) (leb n (length (o .reasons))) (b .1) in
+    let a = and-says (eqb (length (o .x)) (length (o .y))) _ (unless-fine _ _ _ h) in
+    let b = and-says (leb n (length (o .x))) _ (a .1) in
+    let c = and-says (leb (n / 2) (length (o .lengths))) (leb n (length (o .reasons))) (b .1) in
     record { alike = eqb-true _ _ (a .0); points = leb-true _ _ (b .0); halves = leb-true _ _ (c .0); marks = leb-true _ _ (c .1) }
 
 pub room-of : {xs : List ℕ} {o : Outputs} → Lent (length xs) o → CleanRoom xs (o .reasons) (o .lengths) 0 0

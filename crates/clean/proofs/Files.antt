@@ -15,17 +15,11 @@ use Rattle.wkb.proofs.LineStrings.{gives-same}
 use Rattle.members.specs.Held.{pointsOf, chainsOf, heldCheck}
 use Rattle.members.specs.Writing.{fitCheck, bytesIn, written, writtenOf, bytesLeft, WrittenAs}
 use Rattle.members.specs.declared.Written.the-variants.{Bytes, Refused}
-use Rattle.members.proofs.RoundTrips.{read-back}
+use Rattle.members.proofs.RoundTrips.{read-back, start, members-points, members-count}
 use Rattle.clean.specs.Cleaning.{cleaned, kept}
 use Rattle.clean.specs.Calls.{Outputs, CleanedAs}
 use Rattle.clean.specs.declared.Cleaned.the-variants.{Kept}
-use Rattle.clean.proofs.Again.{Gave, gave, start, again}
-
-members-points : {p q m n : ℕ} → read.Members p m ≡ read.Members q n → p ≡ q
-members-points e = cc
-
-members-count : {p q m n : ℕ} → read.Members p m ≡ read.Members q n → m ≡ n
-members-count e = cc
+use Rattle.clean.proofs.Again.{Gave, gave, again}
 
 bytes-count : {m n : ℕ} → Bytes m ≡ Bytes n → m ≡ n
 bytes-count e = cc

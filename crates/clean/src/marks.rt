@@ -8,6 +8,7 @@ ghost use Rattle.members.specs.Held.{pointsOf, chainsOf, heldCheck};
 ghost use Rattle.clean.specs.Cleaning.{keptOf, cleanedMember, pieceReasons, memberReasons, kept, repeat};
 ghost use Rattle.clean.specs.Inside.{part, Part, ReasonsMarked, CleanRoom, Did, MarkedAll};
 use crate::points;
+use slices::wide;
 
 // A point that is no repeat is kept, as far as its piece is.
 fn reason_of(again: bool) -> u32
@@ -100,12 +101,6 @@ fn mark_member(
         reasons[to] = 1;
         start = to + 1;
     }
-}
-
-fn wide(n: u32) -> usize
-    ensures { λ r. ⌜ r ≡ n ⌝ }
-{
-    n as usize
 }
 
 // Marks the points of all members; zero beyond. Answers how many pieces are kept.

@@ -12,7 +12,7 @@ use Rattle.wkb.specs.Bytes.{Point}
 use Rattle.wkb.specs.Multi.{foundMulti, multiOutcome, multiReadOf, axisLeft, lengthsLeft, MultiReadAs}
 use Rattle.members.specs.Held.{pointsOf, chainsOf}
 use Rattle.members.proofs.Held.{Held, held-fine, points-back, chains-back, sum-back}
-use Rattle.clean.proofs.Again.{start}
+use Rattle.members.proofs.RoundTrips.{start}
 use Rattle.clean_bytes.specs.Inside.{Parts, BytesAsk}
 use Rattle.clean_bytes.proofs.Reading.{Few, few-of, all-read}
 

@@ -27,9 +27,9 @@ use Rattle.wkb.proofs.LineStrings.{length-line, HeadStands, head-stands, sound,
 use Rattle.wkb.proofs.MultiLineStrings.{multi-sound, multi-complete}
 use Rattle.members.proofs.Held.{Fits, chains-fit, chains-back, sum-back}
 use Rattle.members.proofs.Putting.{length-multi, multi-is}
+use Rattle.members.proofs.RoundTrips.{start}
 use Rattle.clean.specs.Cleaning.{cleaned, kept, keptValues, memberReasons, reasons}
 use Rattle.clean.proofs.Rules.{kept-are, AllClean, Clean, cleaned-clean, clean-same, cleaned-again}
-use Rattle.clean.proofs.Again.{start}
 use Rattle.clean_bytes.specs.declared.Ends.{Ends}
 use Rattle.clean_bytes.specs.Printed.{chainsFound, sizesCheck, chainsIn, droppedIf, memberText, textFrom, textOf, fileOf, fileLeft, CleansAs}
 use Rattle.clean_bytes.proofs.Sizes.{Sized, sized, cleaned-size}

@@ -1,4 +1,5 @@
 // A line for each dropped point.
+use slices::wide;
 ghost use mathlib.Core.Path.{_≡_};
 ghost use mathlib.Core.Bool.{true};
 ghost use Prim.Native.Nat.{_+_, _≤_};
@@ -6,12 +7,6 @@ ghost use lib.ListN.{length, take, drop};
 ghost use Rattle.report.specs.Pages.{page, Puts};
 ghost use Rattle.members.specs.Held.{chainsOf, allLengths, sumOf};
 ghost use Rattle.clean_bytes.specs.Printed.{droppedIf, memberText, textFrom};
-
-fn wide(n: u32) -> usize
-    ensures { λ r. ⌜ r ≡ n ⌝ }
-{
-    n as usize
-}
 
 // One point: nothing where it is kept.
 fn put_point(member: u64, point: u64, reason: u32, out: &mut [u8], at: usize) -> usize

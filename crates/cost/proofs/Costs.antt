@@ -23,19 +23,19 @@ use Rattle.grid.proofs.Shapes.{Fit, fit-says}
 use Rattle.tables.specs.Tables.{Tables, tables, cells, listOf, globalsOf}
 use Rattle.tables.specs.Fit.{TablesFit, tablesCheck, standingCheck}
 use Rattle.tables.proofs.Facts.{check-facts}
-use Rattle.seek.specs.Inside.{tri, CellsFit}
+use Rattle.seek.specs.Inside.{tri}
 use Rattle.seek.specs.Tests.{testsOf}
-use Rattle.seek.proofs.Lengths.{tri-twice, tri-mono, length-increasing}
-use Rattle.seek.proofs.Standing.{cells-fit}
+use Rattle.seek.proofs.Lengths.{tri-twice, length-increasing, tri-few}
+use Rattle.tables.proofs.Parts.{fit-cells}
 use Rattle.seek.proofs.CellRests.{length-list}
-use Rattle.visit_laws.specs.Words.{halfDown, sumBelow}
-use Rattle.visit_laws.proofs.Number.{half-is, sum-zero, sum-suc, tests-number}
+use Rattle.visit.specs.Words.{halfDown, sumBelow}
+use Rattle.visit.proofs.Number.{half-is, sum-zero, sum-suc, tests-number}
 use borrow.Author.Tests.{leb-true}
 use Rattle.cost.specs.declared.Cost.{Cost}
 use Rattle.cost.specs.declared.CostAnswer.{CostAnswer}
 use Rattle.cost.specs.declared.CostAnswer.the-variants as answer
 use Rattle.cost.specs.Cost.{greatest, costOf, costAnswer}
-use Rattle.cost.specs.Inside.{gap, OffsetsAsk, CellsCost, CostAsks}
+use Rattle.cost.specs.Inside.{gap, GapsAsk, CellsCost, CostAsks}
 
 -- ---- sums and greatest numbers over the cells
 
@@ -55,20 +55,16 @@ sum-alike : (m : ℕ) (f g : ℕ → ℕ) → ((c : ℕ) → c < m → f c ≡ g
 sum-alike zero f g h = simp sum-zero
 sum-alike (suc m) f g h = simp sum-suc (rw (sum-alike m f g (λ c l. h c (omega arith)), h m (omega arith)))
 
--- a list of at most 65,536 lines has fewer than 2 ^ 31 tests
-tri-few : (k : ℕ) → k ≤ 65536 → tri k ≤ 2147450880
-tri-few k h = omega (arith, tri-mono k 65536 h, tri-twice 65536)
-
 -- ---- the loop over the cells
 
 pub record Adding (m : ℕ) (offsets : List ℕ) (cell tests longest : ℕ) : Type 0 where
-  pub asks : OffsetsAsk m offsets
+  pub asks : GapsAsk m offsets
   pub at-most : cell ≤ m
   pub tests-are : tests ≡ sumBelow cell (λ c. tri (gap offsets c))
   pub longest-is : longest ≡ greatest (gap offsets) cell
   pub small : tests ≤ cell * 2147450880
 
-pub adding-none : {m : ℕ} {offsets : List ℕ} → OffsetsAsk m offsets → Adding m offsets 0 0 0
+pub adding-none : {m : ℕ} {offsets : List ℕ} → GapsAsk m offsets → Adding m offsets 0 0 0
 adding-none {m} {offsets} a =
     record {
       asks = a;
@@ -90,10 +86,10 @@ module _ {m : ℕ} {offsets : List ℕ} {cell tests longest : ℕ} (s : Adding m
 
   module _ (h : cell < m) where
     pub adding-up : getD offsets cell 0 ≤ getD offsets (cell + 1) 0
-    adding-up = rw add-one (s .asks .rises cell h)
+    adding-up = rw add-one (s .asks .fits .rises cell h)
 
     pub adding-inside : cell + 1 < length offsets
-    adding-inside = omega (arith, s .asks .long)
+    adding-inside = omega (arith, s .asks .fits .long)
 
     module _ (k : ℕ) (e : k ≡ getD offsets (cell + 1) 0 - getD offsets cell 0) where
       gap-is : k ≡ gap offsets cell
@@ -153,14 +149,14 @@ module _ (g : Grid) (n : ℕ) (offsets items globals : List ℕ) (m : ℕ) where
     fits = check-facts t (andThen-right _ _ (andThen-right _ _ f))
 
     gap-at : (c : ℕ) → c < cells t → length (listOf t c) ≡ gap offsets c
-    gap-at c h = length-list (cells t) offsets items (cells-fit t fits) c h
+    gap-at c h = length-list (cells t) offsets items (fit-cells t fits) c h
 
-    pub cells-ask : OffsetsAsk (g .rows * g .cols) offsets
+    pub cells-ask : GapsAsk (g .rows * g .cols) offsets
     cells-ask =
         record {
           few = shaped .counts .cells;
-          long = omega (arith, fits .long);
-          rises = fits .lists .rises;
+          items = items;
+          fits = fit-cells t fits;
           short = λ c h. omega (arith, gap-at c h, length-increasing n (listOf t c) (fits .lists .lists c h), few-lines);
         }
 

@@ -2,9 +2,10 @@
 use Prim.Native.Nat.{ℕ, suc, _-_, _≤_, _<_, _^_}
 use mathlib.Core.Path.{_≡_}
 use mathlib.Core.List.{List}
-use lib.ListN.{length, getD}
+use lib.ListN.{getD}
+use Rattle.tables.specs.InsideFit.{CellsFit}
 use Rattle.seek.specs.Inside.{tri}
-use Rattle.visit_laws.specs.Words.{sumBelow}
+use Rattle.visit.specs.Words.{sumBelow}
 use Rattle.cost.specs.declared.Cost.{Cost}
 use Rattle.cost.specs.Cost.{greatest}
 
@@ -12,11 +13,11 @@ use Rattle.cost.specs.Cost.{greatest}
 abbrev pub gap : List ℕ → ℕ → ℕ
 gap offsets c = getD offsets (suc c) 0 - getD offsets c 0
 
--- m cells, cells + 1 offsets that never fall, and lists of at most 65,536 lines
-pub record OffsetsAsk (m : ℕ) (offsets : List ℕ) : Type 0 where
+-- the offsets of m cells whose lists are parts of some items, and have at most 65,536 lines
+pub record GapsAsk (m : ℕ) (offsets : List ℕ) : Type 0 where
   pub few : m ≤ 1002001
-  pub long : m < length offsets
-  pub rises : (c : ℕ) → c < m → getD offsets c 0 ≤ getD offsets (suc c) 0
+  pub items : List ℕ
+  pub fits : CellsFit m offsets items
   pub short : (c : ℕ) → c < m → gap offsets c ≤ 65536
 
 -- the tests of the cells' lists, and the longest of them

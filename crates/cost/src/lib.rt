@@ -10,7 +10,7 @@ ghost use lib.Dec.{leb};
 ghost use Rattle.tables.specs.Tables.{tables};
 ghost use Rattle.seek.specs.Inside.{tri};
 ghost use Rattle.cost.specs.Cost.{costAnswer};
-ghost use Rattle.cost.specs.Inside.{OffsetsAsk, CellsCost, CostAsks};
+ghost use Rattle.cost.specs.Inside.{GapsAsk, CellsCost, CostAsks};
 
 // The tests of a full visit, and the lines of the longest list.
 pub struct Cost {
@@ -48,7 +48,7 @@ fn triangle(k: u32) -> u64
 
 // The lists of the cells.
 fn of_cells(cells: usize, offsets: &[u32]) -> Cost
-    requires { ⌜ OffsetsAsk cells (now offsets) ⌝ }
+    requires { ⌜ GapsAsk cells (now offsets) ⌝ }
     ensures { λ r. ⌜ CellsCost cells (now (offsets .entry)) r ⌝ }
 {
     let mut tests: u64 = 0;

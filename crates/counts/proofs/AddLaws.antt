@@ -15,17 +15,17 @@ use borrow.Author.Tests.{le-leb, lt-leb, leb-true, eqb-true, eq-eqb, ne-eqb}
 use lib.Dec.{leb, eqb}
 use lib.ListN.{length, getD, set, replicate, length-set, length-replicate}
 use lib.Seq.{getD-set-same, getD-set-other, ext-getD, take-length}
+use Rattle.slices.proofs.Clearing.{zeros-at}
 use Rattle.refusals.specs.declared.Refusal.{Refusal}
 use Rattle.refusals.specs.declared.Check.{Check}
 use Rattle.refusals.specs.declared.Check.the-variants.{Fine, Refused}
 use Rattle.refusals.specs.Refusals.{refusal, unless, andThen, eachFrom, Answer, refused, gives, _then_, _into_, clears, leftBy, leftIn}
-use Rattle.refusals.proofs.Checks.{unless-fine, andThen-left, andThen-right, andThen-fine, andThen-refused, each-good, each-bad, each-over, each-says}
+use Rattle.refusals.proofs.Checks.{unless-fine, andThen-left, andThen-right, andThen-fine, andThen-refused, each-good, each-bad, each-over, each-says, each-fine}
 use Rattle.refusals.proofs.Answers.{then-fine, then-refused, then-passed, into-passed, apart}
 use Rattle.refusals.proofs.Leaving.{Clearing, clearing-unless, clearing-then, clearing-each, left-same}
 use Rattle.tables.specs.Lists.{tabulate}
-use Rattle.tables.proofs.Laws.{take-tabulate}
+use Rattle.tables.proofs.Laws.{take-tabulate, length-tabulate, getD-tabulate}
 use Rattle.counts.specs.Adding.{sumAt, sumsCheck, addCheck, added, addOf, SumIs, SmallCounts, zeros, Agree}
-use Rattle.counts.proofs.Lists.{length-tabulate, getD-tabulate, each-passes, getD-zeros}
 
 pub sum-at : (a b : List ℕ) (c : ℕ) → sumAt a b c ≡ getD a c 0 + getD b c 0
 unfolding sumAt
@@ -105,7 +105,7 @@ module _ (a b : List ℕ) where
   pub adds-gives : Adds a b → addOf a b ≡ gives (added a b)
   unfolding addOf addCheck unless andThen sumsCheck _then_
   adds-gives h =
-      rw (eq-eqb (length b) (length a) (h .same), each-passes (λ c. leb (sumAt a b c) 65536) 13 (length a) 0 (λ c _ l. le-leb (sumAt a b c) 65536 (h .within c (omega arith))))
+      rw (eq-eqb (length b) (length a) (h .same), each-fine (λ c. leb (sumAt a b c) 65536) 13 (length a) 0 (λ c _ l. le-leb (sumAt a b c) 65536 (h .within c (omega arith))))
 
   gives-adds : (t : List ℕ) → addOf a b ≡ gives t → Adds a b × (t ≡ added a b)
   unfolding addOf addCheck
@@ -161,7 +161,7 @@ commutes a b = go (ℕ-discrete (length b) (length a))
 
 sum-zero : (a : List ℕ) → sumAt a (zeros (length a)) ≡ (λ (c : ℕ). getD a c 0)
 unfolding sumAt
-sum-zero a = fun-ext (λ c. rw (getD-zeros (length a) c) (omega arith))
+sum-zero a = fun-ext (λ c. rw (zeros-at (length a) c) (omega arith))
 
 pub identity : (a : List ℕ) → SmallCounts a → addOf a (zeros (length a)) ≡ gives a
 unfolding SmallCounts added

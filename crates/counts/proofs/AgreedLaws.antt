@@ -2,13 +2,13 @@
 --     agreed-fits               it is fit, in either sizing, for every number of lines that 64 bits can say
 --     agreed-first              from the bounds and the number of some lines it is the first grid that a build of them tries
 -- Assumes nothing.
-use mathlib.Core.Path.{_≡_, refl, sym, ap, _∙_, subst}
-use mathlib.Core.Bool.{Bool, true, false, cond, _&&_}
+use mathlib.Core.Path.{_≡_, sym, ap, _∙_, subst}
+use mathlib.Core.Bool.{Bool, true, cond, _&&_}
 use mathlib.Core.List.{List}
 use Prim.Native.Nat.{ℕ, zero, suc, _-_, _≤_, _<_, _^_}
 use native.Mathlib.Omega.{arith}
 use lib.Dec.{T}
-use lib.Ieee.{Float, nan, inf, fin, binary64, sub, lt, le, isNan}
+use lib.Ieee.{Float, nan, inf, fin, binary64, sub, lt, le}
 use lib.ListN.{getD}
 use Rattle.numbers.specs.Order.{leastOf, greatestOf}
 use Rattle.numbers.proofs.FloatOrder.{number, float-le-trans, not-under, le-number}
@@ -17,31 +17,24 @@ use Rattle.grid.specs.declared.Segment.{Segment}
 use Rattle.grid.specs.Domain.{Lines, count, segmentBy, coordinate, point, segment, fit}
 use Rattle.grid.proofs.Bools.{and-left, and-right}
 use Rattle.grid.proofs.Fine.{LinesFit}
+use Rattle.grid.proofs.Floats.{coordinate-number}
 use Rattle.sizing.specs.declared.Sizing.{Sizing}
 use Rattle.sizing.specs.declared.Extent.{Extent}
 use Rattle.sizing.specs.Bounds.{lowest, highest, reach, whole, extentOf}
 use Rattle.sizing.specs.Size.{firstSize}
 use Rattle.sizing.specs.Counts.{gridOf, emptyGrid}
-use Rattle.numbers.proofs.Extremes.{least-one, greatest-one, least-under, greatest-over}
-use Rattle.sizing.proofs.Reach.{Lie, Coordinate, coordinate-says, Spans, difference, lowest-below, highest-above}
+use Rattle.numbers.proofs.Extremes.{least-one, greatest-one, least-under, greatest-over, no-nan}
+use Rattle.sizing.proofs.Reach.{Lie, coordinate-says, Spans, difference, lowest-below, highest-above}
 use Rattle.sizing.proofs.FitLaws.{Within, first-tried, empty-fits, whole-count, lie-x, lie-y}
 use Rattle.counts.specs.Agreed.{boundsOf, agreedOn}
 
 -- ---- the bounds of two corners that obey the coordinate rule
 
-number-of : (v : Float) → coordinate v ≡ true → T (number v)
-number-of v h = go v (coordinate-says v h)
-  where
-    go : (v : Float) → Coordinate v → T (number v)
-    go nan c = absurd (c .fine)
-    go (inf s) c = tt
-    go (fin s m e) c = tt
-
 -- on one axis
 corners-span : (a b : Float) → coordinate a ≡ true → coordinate b ≡ true → Spans (sub binary64 (greatestOf b a) (leastOf a b))
 corners-span a b h k =
-    let p = number-of a h in
-    let q = number-of b k in
+    let p = coordinate-number a h in
+    let q = coordinate-number b k in
     difference (leastOf a b) (greatestOf b a) (coordinate-says (leastOf a b) (least-one (λ (v : Float). coordinate v ≡ true) a b h k))
     (coordinate-says (greatestOf b a) (greatest-one (λ (v : Float). coordinate v ≡ true) b a k h))
     (float-le-trans (leastOf a b) a (greatestOf b a) (least-under a b p q .0) (greatest-over b a q p .1))
@@ -73,12 +66,6 @@ agreed-fits z c zero h l = empty-fits
 agreed-fits z c (suc n) h l = first-tried z (boundsOf c) (suc n) (corners-within c h) (omega arith) (omega arith) .fits
 
 -- ---- the bounds of lines, as corners
-
-no-nan : (v : Float) → T (number v) → isNan v ≡ false
-unfolding isNan
-no-nan nan p = absurd p
-no-nan (inf s) p = refl
-no-nan (fin s m e) p = refl
 
 lower-number : (x y : Float) → T (le x y) → T (number x)
 unfolding le

@@ -8,18 +8,19 @@ use borrow.Author.Tests.{leb-true, le-leb, eq-eqb}
 use lib.Dec.{leb, eqb}
 use lib.ListN.{length, getD, replicate, length-append, length-replicate, List·getD-append}
 use lib.Seq.{getD-append-add}
+use Rattle.slices.proofs.Clearing.{zeros-at}
 use Rattle.refusals.specs.declared.Check.{Check}
 use Rattle.refusals.specs.declared.Check.the-variants.{Fine}
 use Rattle.refusals.specs.Refusals.{unless, andThen}
-use Rattle.refusals.proofs.Checks.{unless-fine, andThen-left, andThen-right, each-says}
+use Rattle.refusals.proofs.Checks.{unless-fine, andThen-left, andThen-right, each-says, each-fine}
 use Rattle.grid.specs.declared.Grid.{Grid}
 use Rattle.grid.specs.Domain.{Lines, count, Alike, lineFits, fit, lengthsCheck, countCheck, coordinatesCheck, scratchCheck, linesCheck, gridCheck}
 use Rattle.grid.proofs.Fine.{LinesFit, lines-fine}
 use Rattle.walk.specs.declared.Mode.{Mode}
 use Rattle.tables.specs.Lists.{tabulate}
+use Rattle.tables.proofs.Laws.{length-tabulate, getD-tabulate}
 use Rattle.fill.specs.OnGrid.{gridCells, walkOn, completes, listOn, countsOn}
 use Rattle.fill.specs.Checks.{onGridCheck, roomCheck, turnsCheck, triedCheck, countingCheck}
-use Rattle.counts.proofs.Lists.{each-passes, length-tabulate, getD-tabulate, getD-zeros}
 
 -- ---- what passes 3, 2, 1, 8, 4 and 7
 
@@ -59,10 +60,10 @@ module _ (mode : Mode) (g : Grid) (ls : Lines) (room scratch : ℕ) where
         eq-eqb _ _ (h .same .«end-x»),
         eq-eqb _ _ (h .same .«end-y»),
         le-leb (count ls) 65536 (h .few),
-        each-passes (lineFits ls) 1 (count ls) 0 (λ k _ l. h .each k (omega arith)),
+        each-fine (lineFits ls) 1 (count ls) 0 (λ k _ l. h .each k (omega arith)),
         h .fits,
         le-leb (gridCells g + 1) room (h .roomy),
-        each-passes (λ i. completes (walkOn mode g ls i)) 7 (count ls) 0 (λ k _ l. h .ended k (omega arith)),
+        each-fine (λ i. completes (walkOn mode g ls i)) 7 (count ls) 0 (λ k _ l. h .ended k (omega arith)),
       )
 
 -- ---- the table of a function of the cells, in a slice of a length, and zero beyond
@@ -82,7 +83,7 @@ module _ (f : ℕ → ℕ) (g : Grid) (room : ℕ) where
       let e : c ≡ length (tabulate f (gridCells g)) + (c - gridCells g) = omega (arith, length-tabulate f (gridCells g)) in
       ap (λ (k : ℕ). getD (tableWith f g room) k 0) e
       ∙ getD-append-add (tabulate f (gridCells g)) (replicate (room - gridCells g) 0) (c - gridCells g) 0
-      ∙ getD-zeros (room - gridCells g) (c - gridCells g)
+      ∙ zeros-at (room - gridCells g) (c - gridCells g)
 
 pub counts-with : (mode : Mode) (g : Grid) (ls : Lines) (room : ℕ) → countsOn mode g ls room ≡ tableWith (λ c. length (listOn mode g ls c)) g room
 unfolding countsOn

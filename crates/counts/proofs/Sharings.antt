@@ -25,12 +25,11 @@ use Rattle.grid.specs.declared.Grid.{Grid}
 use Rattle.grid.specs.Domain.{Lines, count, segmentAt, Alike, lineFits, fit}
 use Rattle.walk.specs.declared.Mode.{Mode}
 use Rattle.tables.specs.Lists.{long, local, only, linesAt, globalLines, sum}
-use Rattle.tables.proofs.Laws.{sum-same, sum-most, lines-few}
+use Rattle.tables.proofs.Laws.{sum-same, sum-most, lines-few, length-tabulate, sum-add}
 use Rattle.fill.specs.OnGrid.{gridCells, walkOn, completes, visited, cellsOn, listOn, globalsOn, total, countsOn, oneIf}
 use Rattle.fill.specs.Checks.{countingCheck}
 use Rattle.counts.specs.Adding.{addOf, added, sumAt, Agree}
 use Rattle.counts.specs.Sharing.{entries, taken, Benches, bench, both, timesCounted, timesOn, Shared, tableOf, tableBy, globalsOnAll, listedBy}
-use Rattle.counts.proofs.Lists.{length-tabulate}
 use Rattle.counts.proofs.AddLaws.{sum-at, Adds, adds-gives, length-added, getD-added, agree-by}
 use Rattle.counts.proofs.Passing.{Passes, fine-passes, passes-fine, tableWith, length-table, table-in, table-out, counts-with}
 
@@ -55,11 +54,6 @@ over-places : (f : ℕ → ℕ) (is : List ℕ) → sum (λ k. f (getD is k 0)) 
 unfolding over sum
 over-places f [] = refl
 over-places f (i ∷ is) = sum-first (λ k. f (getD (i ∷ is) k 0)) (length is) ∙ ap (λ (n : ℕ). f i + n) (over-places f is)
-
-sum-adds : (f g : ℕ → ℕ) (n : ℕ) → sum (λ k. f k + g k) n ≡ sum f n + sum g n
-unfolding sum
-sum-adds f g zero = refl
-sum-adds f g (suc n) = omega (arith, sum-adds f g n)
 
 -- a sum to which x alone contributes
 sum-only : (f : ℕ → ℕ) (x n : ℕ) → x < n → sum (λ i. oneIf (eqb i x) * f i) n ≡ f x
@@ -87,7 +81,7 @@ over-times f n (x ∷ xs) h =
     let l : x < n = first (decLt x n) in
     let ih = over-times f n xs (λ i k. let z = h i k in omega arith) in
     ap₂ _+_ (sym (sum-only f x n l)) ih
-    ∙ sym (sum-adds (λ i. oneIf (eqb i x) * f i) (λ i. timesCounted i xs * f i) n)
+    ∙ sym (sum-add (λ i. oneIf (eqb i x) * f i) (λ i. timesCounted i xs * f i) n)
     ∙ sum-same (λ i. oneIf (eqb i x) * f i + timesCounted i xs * f i) (λ i. (oneIf (eqb i x) + timesCounted i xs) * f i) n (λ i _. sym (add-mul (oneIf (eqb i x)) (timesCounted i xs) (f i)))
   where
     first : Dec (x < n) → x < n
@@ -99,7 +93,7 @@ unfolding overOn timesOn
 over-all f n (bench is) h = over-times f n is h
 over-all f n (both a b) h =
     ap₂ _+_ (over-all f n a (λ i k. let z = h i k in omega arith)) (over-all f n b (λ i k. let z = h i k in omega arith))
-    ∙ sym (sum-adds (λ i. timesOn i a * f i) (λ i. timesOn i b * f i) n)
+    ∙ sym (sum-add (λ i. timesOn i a * f i) (λ i. timesOn i b * f i) n)
     ∙ sum-same (λ i. timesOn i a * f i + timesOn i b * f i) (λ i. (timesOn i a + timesOn i b) * f i) n (λ i _. sym (add-mul (timesOn i a) (timesOn i b) (f i)))
 
 -- a sum over the lines of all benches is a sum over all lines
@@ -381,7 +375,7 @@ module _ (mode : Mode) (g : Grid) (ls : Lines) where
   unfolding listedBy overOn total
   listed-by (bench is) = sum-same (λ c. length (listOn mode g (taken ls is) c)) (λ c. over (lists mode g ls c) is) (gridCells g) (λ c _. taken-listed mode g ls is c)
   listed-by (both a b) =
-      ap₂ _+_ (listed-by a) (listed-by b) ∙ sym (sum-adds (λ c. overOn (lists mode g ls c) a) (λ c. overOn (lists mode g ls c) b) (gridCells g))
+      ap₂ _+_ (listed-by a) (listed-by b) ∙ sym (sum-add (λ c. overOn (lists mode g ls c) a) (λ c. overOn (lists mode g ls c) b) (gridCells g))
 
   module _ (bs : Benches) (h : Shared (count ls) bs) where
     pub globals-shared : globalsOnAll mode g ls bs ≡ length (globalsOn mode g ls)

@@ -11,7 +11,8 @@ use Prim.Native.Nat.{ℕ, suc, _+_, _-_, _≤_, _<_}
 use native.Mathlib.Omega.{arith}
 use borrow.Author.Tests.{leb-true, le-leb}
 use lib.Dec.{leb}
-use lib.ListN.{length, getD, replicate, length-append, length-replicate}
+use lib.ListN.{length, getD, replicate}
+use Rattle.slices.proofs.Clearing.{length-filled}
 use Rattle.refusals.specs.declared.Check.{Check}
 use Rattle.refusals.specs.declared.Check.the-variants.{Fine, Refused}
 use Rattle.refusals.specs.Refusals.{unless, andThen, Answer, gives, _then_, _into_, answerBy, leftIn, zeroBeyond}
@@ -87,9 +88,6 @@ module _ (mode : Mode) (g : Grid) (ls : Lines) (offsets items globals scratch : 
         le-leb (length (globalsOn mode g ls)) globals (f .listed),
       )
 
-length-globe : (xs : List ℕ) (n : ℕ) → length xs ≤ n → length (xs ++ replicate (n - length xs) 0) ≡ n
-length-globe xs n l = rw (length-append, length-replicate) (omega arith)
-
 module _ {mode : Mode} {g : Grid} {ls : Lines} {o t gs s : List ℕ} {r : Tabled} {o′ t′ gs′ s′ : List ℕ} {items globals : ℕ} (h : TablesAre mode g ls o t gs s r o′ t′ gs′ s′ (tablesOf mode g ls (length o) (length t) (length gs) (length s))) (ok : r ≡ tabled.Tables items globals) where
   passed : (k : Check) → r ≡ answerBy tabled.Refused (λ g. tabled.Tables (total mode g ls) (length (globalsOn mode g ls))) (k then gives g) → (k ≡ Fine) × (globals ≡ length (globalsOn mode g ls))
   unfolding _then_ answerBy
@@ -123,7 +121,7 @@ module _ {mode : Mode} {g : Grid} {ls : Lines} {o t gs s : List ℕ} {r : Tabled
       let l : suc (gridCells g) ≤ length o = omega (arith, f .passes .roomy) in
       let p : length o′ ≡ length o = ap length x ∙ length-offsets (listOn mode g ls) (gridCells g) (length o) l in
       let q : length t′ ≡ length t = ap length y ∙ length-items (listOn mode g ls) (gridCells g) (length t) (f .space) in
-      let v : length gs′ ≡ length gs = ap length z ∙ length-globe (globalsOn mode g ls) (length gs) (f .listed) in
+      let v : length gs′ ≡ length gs = ap length z ∙ length-filled (globalsOn mode g ls) (length gs) (f .listed) in
       record {
         grid-fit = f .passes .fits;
         few = f .passes .few;

@@ -14,6 +14,7 @@ ghost use Rattle.counts.specs.OnGrid.{CountingIs, tabledBy, tablesOf, Ta
 use fill::Filled;
 use grid::Grid;
 use refusals::Refusal;
+use slices::wide;
 use walk::Mode;
 
 // The sum of all counts, and how many lines are global, which are counted in no cell; or the refusal that is due.
@@ -38,12 +39,6 @@ fn cell_count(grid: Grid) -> usize
     ensures { λ r. ⌜ r ≡ gridCells grid ⌝ }
 {
     (grid.rows as usize) * (grid.cols as usize)
-}
-
-fn wide(n: u32) -> usize
-    ensures { λ r. ⌜ r ≡ n ⌝ }
-{
-    n as usize
 }
 
 // The sum of the first `cells` counts.

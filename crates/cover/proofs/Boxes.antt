@@ -4,7 +4,7 @@ use mathlib.Core.Path.{_≡_, refl, sym, ap, ap₂, _∙_}
 use mathlib.Core.Logic.{inl, inr}
 use mathlib.Core.Bool.{Bool, true, false, true≢false}
 use Prim.Native.Nat.{ℕ, _+_, _*_, _≤_, _<_}
-use native.Mathlib.Nat.{mul-comm, mul-assoc, mul-left-comm, add-mul, mul-add, mul-le-mul-right, mul-lt-mul-of-pos-right, mul-pos}
+use native.Mathlib.Nat.{mul-comm, mul-assoc, mul-left-comm, add-mul, mul-add, mul-lt-mul-of-pos-right, mul-pos}
 use native.Mathlib.Omega.{arith}
 use lib.IntN.{ℤ}
 use lib.Dec.{T}
@@ -13,12 +13,12 @@ use lib.Ieee.Scale.{finite}
 use lib.Ieee.Positive.{den, den-pos}
 use Rattle.slices.proofs.Laws.{le-or}
 use Rattle.numbers.specs.Order.{leastOf, greatestOf}
-use Rattle.numbers.proofs.FloatOrder.{number, plus, minus, le→cross, cross→le, at-most, not-under}
+use Rattle.numbers.proofs.FloatOrder.{plus, minus, le→cross, cross→le, at-most, not-under, finite-number}
 use Rattle.numbers.proofs.Extremes.{least-one, greatest-one, least-under, greatest-over}
 use Rattle.grid.specs.declared.Segment.{Segment}
 use Rattle.grid.specs.Boxes.{boxOf, overlaps}
 use Rattle.grid.specs.Points.{Exactly, SharePoint}
-use Rattle.cover.proofs.Offsets.{meanP, meanN, meanD}
+use Rattle.cover.proofs.Offsets.{meanP, meanN, meanD, spread-le}
 use Rattle.cover.proofs.Meeting.{Same}
 use Rattle.cover.proofs.WholePoints.{meet-of}
 
@@ -29,11 +29,6 @@ exact-finite nan z n h = absurd h
 exact-finite (inf s) z n h = absurd h
 exact-finite (fin s m e) z n h = tt
 
-pub finite-number : (x : Float) → T (finite x) → T (number x)
-finite-number nan p = absurd p
-finite-number (inf s) p = absurd p
-finite-number (fin s m e) p = tt
-
 -- a value below another, by fractions
 strictly : (m n : Float) → T (finite m) → T (finite n) → lt m n ≡ true → plus m * den n + minus n * den m < plus n * den m + minus m * den n
 strictly m n p q h = elim (le-or (plus n * den m + minus m * den n) (plus m * den n + minus n * den m)) [
@@ -41,13 +36,10 @@ strictly m n p q h = elim (le-or (plus n * den m + minus m * den n) (plus m * de
   | inr k ↦ k
 ]
 
-spread-le : (a b c d k : ℕ) → a + b ≤ c + d → a * k + b * k ≤ c * k + d * k
-spread-le a b c d k h = let t : (a + b) * k ≤ (c + d) * k = mul-le-mul-right k h in omega arith
-
 spread-lt : (a b c d k : ℕ) → 0 < k → a + b < c + d → a * k + b * k < c * k + d * k
 spread-lt a b c d k K h = let t : (a + b) * k < (c + d) * k = mul-lt-mul-of-pos-right h K in omega arith
 
-spread-eq : (a b c d k : ℕ) → a + b ≡ c + d → a * k + b * k ≡ c * k + d * k
+pub spread-eq : (a b c d k : ℕ) → a + b ≡ c + d → a * k + b * k ≡ c * k + d * k
 spread-eq a b c d k h = let t : (a + b) * k ≡ (c + d) * k = ap (λ (z : ℕ). z * k) h in omega arith
 
 -- the parts of a point with the weights v and w, and of a value that it is compared with

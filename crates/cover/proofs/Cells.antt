@@ -1,6 +1,6 @@
 -- The cells of the rule as a list: what is listed is in it, it increases, and it stays in the grid. Assumes nothing.
-use mathlib.Core.Path.{_≡_, refl, sym, ap, _∙_, subst}
-use mathlib.Core.Bool.{Bool, true, false, _||_}
+use mathlib.Core.Path.{_≡_, sym, subst}
+use mathlib.Core.Bool.{true, or-true}
 use mathlib.Core.List.{List, [], _∷_, _++_, append-nil}
 use Prim.Native.Nat.{ℕ, zero, suc, _+_, _-_, _*_, _≤_, _<_}
 use native.Mathlib.Nat.{add-zero, le-refl, mul-le-mul-right}
@@ -8,7 +8,7 @@ use native.Mathlib.Numerals.{add-one}
 use native.Mathlib.Omega.{arith}
 use lib.Dec.{eqb}
 use Rattle.slices.specs.Lists.{elem, Below, Rising}
-use Rattle.slices.proofs.Members.{any-append, elem-head, below-elem}
+use Rattle.slices.proofs.Members.{elem-head, below-elem, elem-left, elem-right}
 use Rattle.slices.proofs.Distinct.{rising-low}
 use Rattle.cover.specs.declared.Ends.{Ends}
 use Rattle.cover.specs.Rule.{run, firstRow, lastRow, firstCol, lastCol, rowCells, rowsFrom, cellsBetween}
@@ -17,18 +17,8 @@ use Rattle.cover.proofs.Covers.{Listed}
 
 -- ---- what is listed is in the list
 
-or-true : (p : Bool) → p || true ≡ true
-or-true true = refl
-or-true false = refl
-
 elem-tail : (v x : ℕ) (xs : List ℕ) → elem v xs ≡ true → elem v (x ∷ xs) ≡ true
 elem-tail v x xs h = rw h (or-true (eqb v x))
-
-elem-left : (v : ℕ) (xs ys : List ℕ) → elem v xs ≡ true → elem v (xs ++ ys) ≡ true
-elem-left v xs ys h = any-append (eqb v) xs ys ∙ ap (λ (b : Bool). b || elem v ys) h
-
-elem-right : (v : ℕ) (xs ys : List ℕ) → elem v ys ≡ true → elem v (xs ++ ys) ≡ true
-elem-right v xs ys h = any-append (eqb v) xs ys ∙ ap (λ (b : Bool). elem v xs || b) h ∙ or-true (elem v xs)
 
 in-run : (n k i : ℕ) → i < n → elem (k + i) (run n k) ≡ true
 unfolding run

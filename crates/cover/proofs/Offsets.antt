@@ -8,12 +8,12 @@ use native.Mathlib.Nat.{le-trans, le-of-eq, le-antisymm, mul-comm, mul-assoc, mu
 use native.Mathlib.Omega.{arith}
 use lib.IntN.{pos}
 use lib.Dec.{T, lit<}
-use lib.Ieee.{Float, nan, inf, fin, Format, binary32, binary64, round, neg, sub, div, toUnsigned}
+use lib.Ieee.{Float, nan, inf, fin, Format, round, neg, sub, div, toUnsigned}
 use lib.Ieee.Scale.{finite, round-same}
 use lib.Ieee.Positive.{num, den, den-pos, positive}
 use Rattle.numbers.proofs.Values.{neg-round}
-use Rattle.numbers.proofs.FloatOrder.{plus, minus, Cross}
-use Rattle.numbers.proofs.FloatSum.{Rounds, over, short, add-rounds}
+use Rattle.numbers.proofs.FloatOrder.{plus, minus, Cross, neg-finite}
+use Rattle.numbers.proofs.FloatSum.{Rounds, over, short, add-rounds, zero-is}
 use Rattle.numbers.proofs.FloatQuotient.{num-pos}
 use Rattle.numbers.proofs.FloatQuotient as signed
 use Rattle.numbers.proofs.FloatFractions.{clear, round-clear, div-own}
@@ -33,22 +33,11 @@ neg-parts (inf s) = (refl, refl, refl)
 neg-parts (fin true m e) = (refl, refl, refl)
 neg-parts (fin false m e) = (refl, refl, refl)
 
-neg-finite : (m : Float) → T (finite m) → T (finite (neg m))
-unfolding neg
-neg-finite nan p = absurd p
-neg-finite (inf s) p = absurd p
-neg-finite (fin s m e) p = tt
-
 sub-rounds : (f : Format) (x m : Float) → T (finite x) → T (finite m) → Rounds f (sub f x m) (plus x * den m + minus m * den x) (minus x * den m + plus m * den x) (den x * den m)
 unfolding sub
 sub-rounds f x m p q =
     let k = neg-parts m in
     rw (← k .0, ← k .1, ← k .2) (add-rounds f x (neg m) p (neg-finite m q))
-
-zero-is : (f : Format) → round f false 0 1 ≡ fin false 0 (pos 0)
-unfolding round
-zero-is binary32 = refl
-zero-is binary64 = refl
 
 pub none : (f : Format) (c : ℕ) → 0 < c → round f false 0 c ≡ fin false 0 (pos 0)
 none f c C = round-same f false 0 c 0 1 C (lit< tt) (omega arith) ∙ zero-is f
@@ -160,8 +149,8 @@ pub record Off (m : Float) (P N D U c : ℕ) : Type 0 where
 spread : (p q n r u k : ℕ) → p + q ≡ n + r + u → p * k + q * k ≡ n * k + r * k + u * k
 spread p q n r u k h = let t : (p + q) * k ≡ (n + r + u) * k = ap (λ (z : ℕ). z * k) h in omega arith
 
-spread2 : (p q n r k : ℕ) → p + q ≤ n + r → p * k + q * k ≤ n * k + r * k
-spread2 p q n r k h = let t : (p + q) * k ≤ (n + r) * k = mul-le-mul-right k h in omega arith
+pub spread-le : (p q n r k : ℕ) → p + q ≤ n + r → p * k + q * k ≤ n * k + r * k
+spread-le p q n r k h = let t : (p + q) * k ≤ (n + r) * k = mul-le-mul-right k h in omega arith
 
 line-up : (p q n r u p' q' n' r' u' x y x' y' : ℕ) → p + q ≡ n + r + u → p' + q' ≡ n' + r' + u' → q ≡ q' → r ≡ r' → x + y' ≤ x' + y → p ≡ x → n ≡ y → p' ≡ x' → n' ≡ y' → u ≤ u'
 line-up p q n r u p' q' n' r' u' x y x' y' a b c d e f g h k = omega arith
@@ -181,7 +170,7 @@ le-off dm lm pm P N D U c P' N' D' U' c' M X X' a b e =
     (spread (P * dm * c) (lm * D * c) (N * dm * c) (pm * D * c) (U * (D * dm)) k a)
     (spread (P' * dm * c') (lm * D' * c') (N' * dm * c') (pm * D' * c') (U' * (D' * dm)) k' b)
     (simp (mul-assoc, mul-comm, mul-left-comm)) (simp (mul-assoc, mul-comm, mul-left-comm))
-    (spread2 (P * D') (N' * D) (P' * D) (N * D') j e)
+    (spread-le (P * D') (N' * D) (P' * D) (N * D') j e)
     (simp (mul-assoc, mul-comm, mul-left-comm)) (simp (mul-assoc, mul-comm, mul-left-comm)) (simp (mul-assoc, mul-comm, mul-left-comm)) (simp (mul-assoc, mul-comm, mul-left-comm)) in
     let l : U * c' * (D * D' * dm) ≡ U * (D * dm) * k = simp (mul-assoc, mul-comm, mul-left-comm) in
     let r : U' * (D' * dm) * k' ≡ U' * c * (D * D' * dm) = simp (mul-assoc, mul-comm, mul-left-comm) in

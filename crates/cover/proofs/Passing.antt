@@ -2,7 +2,7 @@
 -- So a line between the sides of such a grid passes. Assumes nothing.
 use mathlib.Core.Path.{_≡_, refl, sym, ap, _∙_, subst}
 use mathlib.Core.Logic.{inl, inr}
-use mathlib.Core.Bool.{Bool, true, false}
+use mathlib.Core.Bool.{true, false}
 use Prim.Native.Nat.{ℕ, zero, suc, _+_, _-_, _*_, _^_, _≤_, _<_}
 use native.Mathlib.Nat.{le-trans, le-of-eq, le-of-lt, mul-assoc, mul-one, one-mul, mul-le-mul-right, le-of-mul-le-mul-right, mul-lt-mul-of-pos-right, lt-of-mul-lt-mul-right, mul-pos, lt-irrefl}
 use native.Mathlib.Omega.{arith}
@@ -16,6 +16,7 @@ use lib.Ieee.Order.{round-mono}
 use lib.Ieee.Back.{round-whole}
 use lib.Ieee.Scale.{finite, grid}
 use lib.Ieee.Positive.{num, den, den-pos, positive, value→cross, positive-of-value}
+use lib.Ieee.Bits.{is-true}
 use Rattle.slices.proofs.Laws.{le-or}
 use Rattle.numbers.proofs.Values.{fits-says, pow-le-back, round-back}
 use Rattle.numbers.proofs.FloatOrder.{plus, minus, Cross}
@@ -439,10 +440,6 @@ pub record Extends (a : Axis) (high : Float) : Type 0 where
   pub high-known : T (finite high)
   pub order : T (le (a .low) high)
   pub few : T (le (div binary64 (add binary64 (sub binary64 high (a .low)) bit) (a .size)) (round binary64 false 4004 1))
-
-is-true : (b : Bool) → T b → b ≡ true
-is-true true t = refl
-is-true false t = absurd t
 
 pub axis-near : (a : Axis) (high v : Float) → Extends a high → T (le (a .low) v) → T (le v high) → nearOn a v ≡ true
 unfolding nearOn unitsOn unitOn

@@ -25,7 +25,7 @@ use Rattle.sizing.specs.Counts.{gridOf}
 use Rattle.sizing.proofs.Reach.{Lie, lowest-obeys, highest-obeys, lowest-below, highest-above}
 use Rattle.sizing.proofs.Width.{stretched, stretched-is}
 use Rattle.sizing.proofs.CountLaws.{Across}
-use Rattle.sizing.proofs.FitLaws.{Within, Tried, whole-count, lie-x, lie-y, lines-within, first-tried, again-tried}
+use Rattle.sizing.proofs.FitLaws.{Within, Tried, whole-count, lie-x, lie-y, lines-within, first-tried, again-tried, power-within}
 use Rattle.cover.proofs.Passing.{Extends, line-passes}
 use Rattle.cover_laws.specs.Builds.{LinesPass, AllPass}
 
@@ -74,12 +74,6 @@ module _ (starts ends : List Float) (n m : ℕ) (e : n ≡ suc m) (h : Lie start
   high-side i l = subst (λ (p : ℕ). T (le (getD starts i nan) (highest starts ends p)) × T (le (getD ends i nan) (highest starts ends p))) (sym e) (highest-above starts ends m h i l)
 
 -- ---- the lines, on the grid of a size that is tried
-
-power-within : (k : ℕ) → k ≤ 2 → 2 ^ k ≤ 4
-power-within zero h = omega arith
-power-within (suc zero) h = omega arith
-power-within (suc (suc zero)) h = omega arith
-power-within (suc (suc (suc k))) h = absurd (omega arith)
 
 module _ (ls : Lines) (f : LinesFit ls) (k : ℕ) (s : Size) (t : Tried (extentOf ls) k s) where
   some-pass : (m : ℕ) → whole ls ≡ suc m → count ls ≡ suc m → LinesPass (gridOf (extentOf ls) s) ls

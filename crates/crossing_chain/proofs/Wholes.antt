@@ -1,5 +1,5 @@
 -- A float as a whole number: what the tests of `whole_of` say. `Within v` says that v is finite and of magnitude at most 2^29. Assumes nothing.
-use mathlib.Core.Path.{_≡_, refl, sym, ap, _∙_, subst}
+use mathlib.Core.Path.{_≡_, refl, sym, ap, _∙_}
 use mathlib.Core.Bool.{Bool, true, false, cond, _&&_, _||_, Bool·beq, true≢false, false≢true}
 use mathlib.Core.List.{List, [], _∷_, _++_, map}
 use mathlib.Core.Logic.{_⊎_, inl, inr}
@@ -16,6 +16,7 @@ use lib.Ieee.{Float, nan, inf, fin, binary64, up, down, lt, le, eq, ofInt, toSig
 use lib.Ieee.Exact.{HasValue}
 use lib.Ieee.Fits.{down-pos}
 use lib.Ieee.Back.{round-whole}
+use Rattle.numbers.proofs.Tests.{holds, or-left}
 use Rattle.grid.proofs.Bools.{and-left, and-right}
 use mir.Syntax.{w32, w64}
 use mir.Val.{SFits}
@@ -200,23 +201,16 @@ cut-none (fin s m e) w h =
 
 -- ---- what the machine asks
 
-holds : (b : Bool) → b ≡ true → T b
-holds b e = subst T (sym e) tt
-
-or-true : (a b : Bool) → a ≡ true → T (a || b)
-or-true true b e = tt
-or-true false b e = absurd (false≢true e)
-
 pub cut-asks : (v : Float) → Within v → T (le (fin true 1 (pos 63)) v) × T (lt v (fin false 1 (pos 63)))
 unfolding le lt
 cut-asks nan w = absurd w
 cut-asks (inf s) w = absurd w
 cut-asks (fin true m e) w =
     let p = down-pos e in
-    (or-true (ltb (m * up e * 1) (1 * 2 ^ 63 * down e)) _ (lt-ltb (m * up e * 1) (1 * 2 ^ 63 * down e) (omega arith)), holds _ (lt-ltb 0 (m * up e * 1 + 1 * 2 ^ 63 * down e) (omega arith)))
+    (or-left (ltb (m * up e * 1) (1 * 2 ^ 63 * down e)) _ (holds _ (lt-ltb (m * up e * 1) (1 * 2 ^ 63 * down e) (omega arith))), holds _ (lt-ltb 0 (m * up e * 1 + 1 * 2 ^ 63 * down e) (omega arith)))
 cut-asks (fin false m e) w =
     let p = down-pos e in
-    (or-true (ltb 0 (1 * 2 ^ 63 * down e + m * up e * 1)) _ (lt-ltb 0 (1 * 2 ^ 63 * down e + m * up e * 1) (omega arith)), holds _ (lt-ltb (m * up e * 1) (1 * 2 ^ 63 * down e) (omega arith)))
+    (or-left (ltb 0 (1 * 2 ^ 63 * down e + m * up e * 1)) _ (holds _ (lt-ltb 0 (1 * 2 ^ 63 * down e + m * up e * 1) (omega arith))), holds _ (lt-ltb (m * up e * 1) (1 * 2 ^ 63 * down e) (omega arith)))
 
 signed-fits : (s : Bool) (q : ℕ) → q ≤ 536870912 → SFits w32 (signed s q) × SFits w64 (signed s q)
 signed-fits false q h = (record { sfits = omega arith }, record { sfits = omega arith })

@@ -7,14 +7,14 @@ ghost use Rattle.samples.specs.Samples.{samples, sampleCount};
 ghost use Rattle.samples.specs.Sharing.{shares};
 ghost use Rattle.tables.specs.Tables.{listIn};
 ghost use Rattle.tables.specs.Lists.{linesAt};
+ghost use Rattle.tables.specs.InsideFit.{CellIn};
 ghost use Rattle.tables.specs.InsidePasses.{CanCount, Counted};
-ghost use Rattle.by_line.specs.Inside.{CellListAsks};
 ghost use Rattle.first_tests.specs.InsideScan.{RowsAsk, RowsDone, CellsAsk, CellsDone};
 ghost use Rattle.first_tests.specs.InsideMarked.{MarkedRows};
 
 // The list of a cell: a part of the items.
 fn list_of<'a>(offsets: &[u32], items: &'a [u32], cell: usize) -> &'a [u32]
-    requires { ⌜ CellListAsks (now offsets) (now items) cell ⌝ }
+    requires { ⌜ CellIn (now offsets) (now items) cell ⌝ }
     ensures { λ r. ⌜ now r ≡ listIn (now (offsets .entry)) (now (items .entry)) cell ⌝ }
 {
     let from = offsets[cell] as usize;

@@ -18,8 +18,8 @@ use Rattle.tables.specs.Fit.{TablesFit}
 use Rattle.tables.proofs.Facts.{check-facts}
 use Rattle.seek.specs.Tests.{Pair, testsOf}
 use Rattle.visit.specs.Batches.{firsts, seconds}
-use Rattle.visit_laws.specs.Words.{oneWhere, times}
-use Rattle.visit_laws.proofs.Often.{one-true, one-false}
+use Rattle.visit.specs.Words.{oneWhere, times}
+use Rattle.visit.proofs.Often.{one-true, one-false}
 use Rattle.once_laws.proofs.Once.{each-once}
 use Rattle.samples.specs.Samples.{Samples, sampleCount, wholeAt, raisedAt, allSamples, sampled, sampleLinesCheck}
 use Rattle.samples.specs.Sharing.{sharing, shares}

@@ -10,7 +10,7 @@ use Rattle.grid.specs.Domain as domain
 use Rattle.grid.specs.Points.{WholeShare, InParts}
 use Rattle.tables.specs.Tables.{Tables}
 use Rattle.seek.specs.Tests.{testsOf}
-use Rattle.visit_laws.specs.Words.{times}
+use Rattle.visit.specs.Words.{times}
 use Rattle.lent.specs.declared.OnceAnswer.the-variants.{Pairs}
 use Rattle.first_tests.specs.Firsts.{PairsAre}
 use Rattle.samples.specs.Samples.{Samples, sampleCount, wholeAt}

@@ -20,8 +20,8 @@ use Rattle.visit.specs.Batches.{made, overlapping, handed, firsts, seconds}
 use Rattle.visit.specs.Entries.{batchTests, tallyOf, pairsLeft, BatchIs}
 use Rattle.visit.proofs.EntryLaws.{batch-given, tally-given}
 use Rattle.visit.proofs.Clauses.{made-none, made-hit, made-miss, over-hit, over-miss}
-use Rattle.visit_laws.specs.Words.{laid, bookmarkAfter, testsSum}
-use Rattle.visit_laws.proofs.EndToEnd.{laid-whole, tests-add}
+use Rattle.visit.specs.Words.{laid, bookmarkAfter, testsSum}
+use Rattle.visit.proofs.EndToEnd.{laid-whole, tests-add}
 use Rattle.demands.specs.Calls.{Call, EndToEnd, FullVisit, firstsOf, secondsOf, testsIn}
 
 -- ---- one call

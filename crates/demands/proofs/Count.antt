@@ -10,8 +10,8 @@ use Rattle.tables.specs.Tables.{Tables, cells, listOf, globalsOf}
 use Rattle.tables.specs.Stands.{Stands}
 use Rattle.tables.proofs.Standing.{lines-are}
 use Rattle.seek.specs.Tests.{testsOf}
-use Rattle.visit_laws.specs.Words.{halfDown, sumBelow}
-use Rattle.visit_laws.proofs.Number.{tests-number}
+use Rattle.visit.specs.Words.{halfDown, sumBelow}
+use Rattle.visit.proofs.Number.{tests-number}
 
 module _ {W : ℕ → List ℕ} {n : ℕ} {g : Grid} {t : Tables} (s : Stands W n g t) where
   -- G is the number of globals that is lent with the tables

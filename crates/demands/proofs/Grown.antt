@@ -13,6 +13,7 @@ use lib.ListN.{length, getD, length-append, List·getD-append}
 use lib.Seq.{getD-at}
 use Rattle.refusals.specs.declared.Check.the-variants.{Fine}
 use Rattle.refusals.specs.Refusals.{unless, andThen, eachFrom, Answer, refused, gives, answerBy, leftIn, zeroBeyond}
+use Rattle.refusals.proofs.Checks.{each-fine}
 use Rattle.grid.specs.declared.Grid.{Grid}
 use Rattle.grid.specs.declared.Segment.{Segment}
 use Rattle.grid.specs.Domain.{Lines, lines, count, Alike, segmentAt, segmentBy, segment, lineFits, fit, lengthsCheck, countCheck, coordinatesCheck, linesCheck}
@@ -29,7 +30,6 @@ use Rattle.fill.specs.OnGrid.{gridCells, walkOn, visited, cellsOn, listOn, glob
 use Rattle.fill.specs.Fill.{Filling, crowded, made, fillingOf, filledOf, writtenIn, FillIs}
 use Rattle.build.specs.declared.Plan.{Plan}
 use Rattle.build.proofs.Theorems.{build-stands, walks-end, lines-passed, grid-fits}
-use Rattle.straight.proofs.Builds.{each-fine}
 use Rattle.added.specs.declared.Added.the-variants as added
 use Rattle.added.specs.Added.{cleared}
 use Rattle.added.proofs.Theorems.{Success, success, offsets-laid, items-laid, globals-laid, found-laid, add-stands, stands-alike}

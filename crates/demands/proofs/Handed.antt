@@ -17,8 +17,8 @@ use Rattle.seek.specs.Tests.{Pair, testsOf}
 use Rattle.visit.specs.Overlap.{overlap}
 use Rattle.visit.specs.Batches.{made, overlapping, firsts, seconds}
 use Rattle.visit.specs.Entries.{tallyOf, BatchIs}
-use Rattle.visit_laws.specs.Words.{halfDown, sumBelow, oneWhere, testOfBoth, times}
-use Rattle.visit_laws.proofs.Often.{handed-often, handed-never}
+use Rattle.visit.specs.Words.{halfDown, sumBelow, oneWhere, testOfBoth, times}
+use Rattle.visit.proofs.Often.{handed-often, handed-never}
 use Rattle.demands.specs.Words.{due}
 use Rattle.demands.specs.Calls.{Call, FullVisit, firstsOf, secondsOf, testsIn, handedOut}
 use Rattle.demands.proofs.Refusals.{batch-made}

@@ -2,7 +2,7 @@
 -- tested, `Count` how many tests there are, `Calls` what the calls of a full visit hand out, `Handed` how often that is two lines, `Whole` the
 -- demand itself. `Grown` has the demand after a build, or one followed by added lines, `Build` the case of none, `Points` that in the covering mode nothing is
 -- dropped, and `Seven` that a build in it is never refused by 7; these alone speak of a build, with the last law of `Once`, which has what
--- `once::pairs_once` hands out.
+-- `once::pairs_once` hands out. `Table` has the measured points of document 01, as a single claim.
 pub mod Listed
 pub mod Refusals
 pub mod Often
@@ -15,3 +15,4 @@ pub mod Build
 pub mod Points
 pub mod Seven
 pub mod Once
+pub mod Table

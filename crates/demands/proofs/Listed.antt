@@ -13,8 +13,8 @@ use Rattle.tables.specs.Tables.{Tables, cells, listOf, globalsOf}
 use Rattle.tables.specs.Lists.{only, sum}
 use Rattle.tables.specs.Stands.{Stands}
 use Rattle.tables.proofs.Standing.{listed, global, few-lists}
-use Rattle.visit_laws.specs.Words.{oneWhere, countBelow, Apart}
-use Rattle.visit_laws.proofs.Number.{sum-zero, sum-suc}
+use Rattle.visit.specs.Words.{oneWhere, countBelow, Apart}
+use Rattle.visit.proofs.Number.{sum-zero, sum-suc}
 use Rattle.demands.specs.Words.{isGlobal, visits}
 
 -- a line that is global is in no list of those that are not

@@ -11,10 +11,10 @@ use Rattle.tables.specs.Tables.{Tables, cells, listOf}
 use Rattle.tables.specs.Stands.{Stands}
 use Rattle.tables.proofs.Standing.{lines-are}
 use Rattle.seek.specs.Tests.{testsOf}
-use Rattle.visit_laws.specs.Words.{oneWhere, countBelow, times, Different}
-use Rattle.visit_laws.proofs.Number.{sum-zero, sum-suc}
-use Rattle.visit_laws.proofs.Often.{tests-no-global, tests-global, tests-most}
-use Rattle.visit_laws.proofs.Different.{tests-different}
+use Rattle.visit.specs.Words.{oneWhere, countBelow, times, Different}
+use Rattle.visit.proofs.Number.{sum-zero, sum-suc}
+use Rattle.visit.proofs.Often.{tests-no-global, tests-global, tests-most}
+use Rattle.visit.proofs.Different.{tests-different}
 use Rattle.demands.specs.Words.{isGlobal, visits, sharedCells, due}
 use Rattle.demands.proofs.Listed.{listed-line, global-line, apart, few-cells}
 

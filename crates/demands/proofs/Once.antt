@@ -19,8 +19,8 @@ use Rattle.seek.specs.Tests.{Pair, testsOf}
 use Rattle.visit.specs.Batches.{overlapping, firsts, seconds}
 use Rattle.seek.specs.Bookmarks.{visitCheck}
 use Rattle.seek.proofs.Standing.{stands}
-use Rattle.visit_laws.specs.Words.{oneWhere, times}
-use Rattle.visit_laws.proofs.Often.{one-true, handed-often}
+use Rattle.visit.specs.Words.{oneWhere, times}
+use Rattle.visit.proofs.Often.{one-true, handed-often}
 use Rattle.lent.specs.declared.OnceAnswer.the-variants as answer
 use Rattle.once.specs.Once.{onceOf, onceBy}
 use Rattle.once_laws.proofs.Once.{once-as-visit}

@@ -20,8 +20,8 @@ use Rattle.walk.proofs.Reaching.{covering-given}
 use Rattle.tables.specs.Tables.{Tables}
 use Rattle.fill.specs.OnGrid.{walkOn, visited, cellsOn}
 use Rattle.visit.specs.Overlap.{overlap}
-use Rattle.visit_laws.specs.Words.{oneWhere, countBelow}
-use Rattle.visit_laws.proofs.Number.{sum-suc}
+use Rattle.visit.specs.Words.{oneWhere, countBelow}
+use Rattle.visit.proofs.Number.{sum-suc}
 use Rattle.demands.specs.Words.{isGlobal, visits, sharedCells, due}
 use Rattle.demands.specs.Points.{Cross, NothingDropped}
 use Rattle.demands.specs.Grown.{Grown}

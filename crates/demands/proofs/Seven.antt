@@ -6,6 +6,7 @@ use Prim.Native.Nat.{ℕ}
 use lib.ListN.{length}
 use Rattle.refusals.specs.declared.Check.the-variants.{Fine}
 use Rattle.refusals.specs.Refusals.{refusal}
+use Rattle.refusals.proofs.Checks.{each-fine}
 use Rattle.grid.specs.declared.Grid.{Grid}
 use Rattle.grid.specs.Domain.{Lines, count, segmentAt}
 use Rattle.walk.specs.declared.Mode.the-variants.{Covering}
@@ -16,7 +17,7 @@ use Rattle.build.specs.declared.Plan.{Plan}
 use Rattle.build.specs.declared.Built.{Built}
 use Rattle.build.specs.declared.Built.the-variants as built
 use Rattle.build.specs.Build.{endOf, BuildIs}
-use Rattle.straight.proofs.Builds.{each-fine, not-7-by}
+use Rattle.straight.proofs.Builds.{not-7-by}
 
 -- every walk of the covering mode ends
 turns-fine : (g : Grid) (ls : Lines) → turnsCheck Covering g ls ≡ Fine

@@ -13,7 +13,7 @@ use Rattle.visit.specs.declared.Tally.{Tally}
 use Rattle.visit.specs.declared.BatchAnswer.the-variants as batch
 use Rattle.seek.specs.Tests.{testsOf}
 use Rattle.visit.specs.Entries.{BatchIs}
-use Rattle.visit_laws.specs.Words.{oneWhere}
+use Rattle.visit.specs.Words.{oneWhere}
 
 -- one call that was not refused: the two outputs before and after it, and its answer
 pub record Call : Type 0 where

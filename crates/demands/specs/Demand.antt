@@ -14,7 +14,7 @@ use Rattle.seek.specs.Tests.{Pair, testsOf}
 use Rattle.visit.specs.Overlap.{overlap}
 use Rattle.visit.specs.Batches.{overlapping, firsts, seconds}
 use Rattle.visit.specs.Entries.{testOf, testAt}
-use Rattle.visit_laws.specs.Words.{halfDown, sumBelow, times, Different}
+use Rattle.visit.specs.Words.{halfDown, sumBelow, times, Different}
 use Rattle.demands.specs.Words.{isGlobal, visits, due}
 use Rattle.demands.specs.Calls.{Call, FullVisit, firstsOf, secondsOf, testsIn, handedOut}
 

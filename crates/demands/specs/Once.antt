@@ -8,7 +8,7 @@ use lib.ListN.{take}
 use Rattle.grid.specs.declared.Grid.{Grid}
 use Rattle.grid.specs.Domain.{Lines}
 use Rattle.tables.specs.Tables.{Tables}
-use Rattle.visit_laws.specs.Words.{oneWhere}
+use Rattle.visit.specs.Words.{oneWhere}
 use Rattle.lent.specs.declared.OnceAnswer.the-variants.{Pairs}
 use Rattle.first_tests.specs.Firsts.{PairsAre}
 use Rattle.once.specs.Once.{onceBy}

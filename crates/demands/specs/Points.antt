@@ -7,7 +7,7 @@ use Rattle.grid.specs.Domain.{Lines, count, segmentAt}
 use Rattle.grid.specs.Points.{SharePoint}
 use Rattle.tables.specs.Tables.{Tables}
 use Rattle.seek.specs.Tests.{testsOf}
-use Rattle.visit_laws.specs.Words.{times}
+use Rattle.visit.specs.Words.{times}
 use Rattle.demands.specs.Calls.{Call, FullVisit, firstsOf, secondsOf, handedOut}
 
 -- two different lines of ls share an exact point

@@ -6,7 +6,7 @@ use Prim.Native.Nat.{ℕ, _*_}
 use Rattle.slices.specs.Lists.{elem}
 use Rattle.grid.specs.declared.Grid.{Grid}
 use Rattle.tables.specs.Lists.{long}
-use Rattle.visit_laws.specs.Words.{countBelow}
+use Rattle.visit.specs.Words.{countBelow}
 
 -- line k is global: its walk visits more than 2,048 distinct cells
 abbrev pub isGlobal : (ℕ → List ℕ) → ℕ → Bool

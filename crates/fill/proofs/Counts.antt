@@ -2,13 +2,14 @@
 use mathlib.Core.Path.{_≡_, refl, sym, ap, _∙_, subst}
 use mathlib.Core.Bool.{Bool, true, false}
 use mathlib.Core.List.{List}
-use Prim.Native.Nat.{ℕ, zero, suc, _+_, _-_, _≤_, _<_, _^_}
+use Prim.Native.Nat.{ℕ, _+_, _-_, _≤_, _<_, _^_}
 use native.Mathlib.Numerals.{add-one}
 use native.Mathlib.Omega.{arith}
 use borrow.Author.Tests.{le-leb, lt-leb, leb-true}
-use lib.ListN.{length, getD, replicate, length-append}
+use lib.ListN.{length, replicate, length-append}
 use mir.Val.{Fits}
 use mir.Syntax.{w64}
+use Rattle.slices.proofs.Clearing.{zeros-at}
 use Rattle.refusals.specs.declared.Refusal.{Refusal}
 use Rattle.refusals.specs.declared.Check.{Check}
 use Rattle.refusals.specs.declared.Check.the-variants.{Fine, Refused}
@@ -118,11 +119,6 @@ module _ (g : Grid) (room n : ℕ) (e : n ≡ gridCells g) where
   pub room-fine : n + 1 ≤ room → Fine ≡ roomCheck g room
   unfolding roomCheck unless
   room-fine l = let k : gridCells g + 1 ≤ room = omega arith in rw (le-leb (gridCells g + 1) room k)
-
-pub zeros-at : (n k : ℕ) → getD (replicate {A = ℕ} n 0) k 0 ≡ 0
-zeros-at zero k = refl
-zeros-at (suc n) zero = refl
-zeros-at (suc n) (suc k) = zeros-at n k
 
 -- cleared offsets count no line
 pub counted-clear : (mode : Mode) (g : Grid) (ls : Lines) (o o′ : List ℕ) → o′ ≡ replicate (length o) 0 → length o′ ≡ length o → roomCheck g (length o) ≡ Fine → CountedTo mode g ls 0 o′

@@ -7,6 +7,7 @@ use native.Mathlib.Omega.{arith}
 use borrow.Author.Tests.{le-leb, lt-leb}
 use lib.ListN.{length, getD, replicate, take}
 use Rattle.slices.specs.Slices.{clearedFrom}
+use Rattle.slices.proofs.Clearing.{zeros-at}
 use Rattle.refusals.specs.declared.Refusal.{Refusal}
 use Rattle.refusals.specs.declared.Check.{Check}
 use Rattle.refusals.specs.declared.Check.the-variants.{Fine, Refused}
@@ -26,7 +27,6 @@ use Rattle.fill.specs.Fill.{moreThan, Filling, crowded, made, filledOf, 
 use Rattle.fill.specs.Inside.{localOn, PlaceAsks, AllPlaced, Summed, ShiftedBack, FillAsks, LayAsks}
 use Rattle.fill.proofs.Walks.{all-walks}
 use Rattle.fill.proofs.Lines.{total-small}
-use Rattle.fill.proofs.Counts.{zeros-at}
 
 -- ---- where the second pass begins
 

@@ -8,8 +8,8 @@ use native.Mathlib.Numerals.{add-one}
 use native.Mathlib.Omega.{arith}
 use lib.ListN.{length, getD, take, drop, length-drop}
 use lib.Seq.{take-length}
-use Rattle.slices.specs.Lists.{Below, Rising}
-use Rattle.slices.proofs.Members.{below-at}
+use Rattle.slices.proofs.Members.{below-at, below-drop}
+use Rattle.slices.proofs.Distinct.{length-rising}
 use Rattle.tables.specs.Tables.{listIn}
 use Rattle.tables.specs.Lists.{linesAt}
 use Rattle.tables.specs.InsidePasses.{Counted, CanCount}
@@ -48,11 +48,6 @@ rows-all : (pl : Place) (xs : List ℕ) → rowsTo pl xs (length xs) ≡ pairs p
 unfolding rowsTo
 rows-all pl [] = sym (pairs-nil pl)
 rows-all pl (a ∷ bs) = rw (pairs-cons, rows-all pl bs)
-
-below-drop : (n : ℕ) (xs : List ℕ) (i : ℕ) → Below n xs → Below n (drop i xs)
-below-drop n xs zero b = b
-below-drop n [] (suc i) b = tt
-below-drop n (x ∷ xs) (suc i) b = below-drop n xs i (b .1)
 
 pub record Rows (chosen : ℕ → ℕ → Bool) (N : ℕ) (xs starts listing counts fs₀ ss₀ : List ℕ) (hits₀ : ℕ) (fs ss : List ℕ) (hits i : ℕ) : Type 0 where
   pub asks : RowsAsk N xs starts listing counts hits₀
@@ -130,11 +125,6 @@ cells-more cols offsets items (suc left) c =
     let e : c + suc left ≡ suc c + left = omega arith in
     rw (e, cells-suc cols offsets items left c, cells-suc cols offsets items (suc left) c, append-assoc)
     (ap (λ (l : List Pair). pairs (placeOf cols c) (listIn offsets items c) ++ l) (cells-more cols offsets items left (suc c)))
-
--- a list that increases below n has at most n entries
-length-rising : (low n : ℕ) (xs : List ℕ) → low ≤ n → Rising low xs → Below n xs → length xs + low ≤ n
-length-rising low n [] h r b = omega arith
-length-rising low n (x ∷ xs) h r b = omega (arith, r .0, length-rising (suc x) n xs (b .0) (r .1) (b .1))
 
 pub record Cells (chosen : ℕ → ℕ → Bool) (N m : ℕ) (offsets items starts listing counts₀ fs₀ ss₀ counts fs ss : List ℕ) (hits c : ℕ) : Type 0 where
   pub asks : CellsAsk N m offsets items starts listing counts₀

@@ -1,6 +1,6 @@
 -- The scans by marks: what the bits that two marks have in common decide of a test. Assumes nothing.
 use mathlib.Core.Path.{_≡_, refl, sym, _∙_}
-use mathlib.Core.Bool.{Bool, true, false, cond, _&&_}
+use mathlib.Core.Bool.{Bool, true, false, cond, and-true, and-false}
 use mathlib.Core.List.{List}
 use Prim.Native.Nat.{ℕ, zero, suc, _+_, _*_, _≤_, _<_, _^_}
 use native.Mathlib.Decide.{decLe, decLt}
@@ -22,18 +22,10 @@ use Rattle.first_tests.proofs.Lists.{Rows, rows-begin, row-scan, rows-n
 
 -- ---- a row
 
-and-false : (b : Bool) → (b && false) ≡ false
-and-false true = refl
-and-false false = refl
-
 -- two lines that met before are not handed out
 keep-met : (chosen : ℕ → ℕ → Bool) (W : ℕ → List ℕ) (c a b : ℕ) → metBelow W c a b ≡ true → false ≡ keepAt chosen W c a b
 unfolding keepAt
 keep-met chosen W c a b e = rw e (sym (and-false (chosen a b)))
-
-and-true : (b : Bool) → (b && true) ≡ b
-and-true true = refl
-and-true false = refl
 
 -- two that did not are handed out where the decision is yes
 keep-apart : (chosen : ℕ → ℕ → Bool) (W : ℕ → List ℕ) (c a b : ℕ) → metBelow W c a b ≡ false → chosen a b ≡ keepAt chosen W c a b

@@ -12,9 +12,10 @@ use Rattle.tables.specs.Tables.{Tables, tables, cells, listOf, globalsOf}
 use Rattle.seek.specs.declared.Place.the-variants.{Global}
 use Rattle.seek.specs.Tests.{pair, placeOf, testsOf}
 use Rattle.seek.proofs.Lengths.{length-increasing}
-use Rattle.seek.proofs.Standing.{globals-fit, has-columns}
+use Rattle.tables.proofs.Parts.{fit-cells, fit-globals}
+use Rattle.seek.proofs.Standing.{has-columns}
 use Rattle.by_line.proofs.Turns.{counted-none}
-use Rattle.by_line.proofs.Room.{Passed, passed, list-asks, table-walks, by-line-total}
+use Rattle.by_line.proofs.Room.{Passed, passed, table-walks, by-line-total}
 use Rattle.first_tests.specs.Firsts.{through, isFirst, keeps}
 use Rattle.first_tests.specs.InsideScan.{HandedOut, keepAt, PlaceAsks, CellsAsk, CellsDone, GlobalsAsk, GlobalsDone, RunAsks}
 use Rattle.first_tests.proofs.Writes.{grown-then}
@@ -49,7 +50,7 @@ module _ {g : Grid} {n : ℕ} {offsets items globals : List ℕ} {k : ℕ} {star
       record {
         table =
             record {
-              lists = list-asks t (s .fits);
+              fits = fit-cells t (s .fits);
               walks = table-walks t (s .fits);
               few-lines = omega (arith, s .few);
               few-cells = omega (arith, s .shape .counts .cells);
@@ -78,7 +79,7 @@ module _ {g : Grid} {n : ℕ} {offsets items globals : List ℕ} {k : ℕ} {star
           lines = refl;
           few = s .few;
           most = omega (arith, length-increasing n (globalsOf t) (s .fits .globals), length-take-le k globals (s .fits .counted), s .few);
-          fits = globals-fit t (s .fits);
+          fits = fit-globals t (s .fits);
           small = omega (arith, d .few);
         }
 

@@ -16,9 +16,10 @@ use Rattle.seek.specs.declared.Place.{Place}
 use Rattle.seek.specs.declared.Place.the-variants.{Global}
 use Rattle.seek.specs.Tests.{Pair, pair, withEach, pairs, placeOf, cellTests, others, globalTests}
 use Rattle.visit.specs.Batches.{firsts, seconds}
-use Rattle.seek.specs.Inside.{tri, GlobalsFit}
+use Rattle.tables.specs.InsideFit.{GlobalsFit}
+use Rattle.seek.specs.Inside.{tri}
 use Rattle.by_line.specs.ByLine.{cellsListing}
-use Rattle.by_line.specs.Inside.{TableAsks}
+use Rattle.by_line.specs.Inside.{TurnAsks}
 use Rattle.by_line.specs.First.{metBelow}
 use Rattle.first_tests.specs.Firsts.{keptBy}
 
@@ -98,7 +99,7 @@ pub record RowsDone (chosen : ℕ → ℕ → Bool) (N : ℕ) (starts listing co
 -- ---- the cells
 
 pub record CellsAsk (N m : ℕ) (offsets items starts listing counts : List ℕ) : Type 0 where
-  pub table : TableAsks m N offsets items
+  pub table : TurnAsks m N offsets items
   pub few-cells : m ≤ 1002001
   pub few-lines : N ≤ 65536
   pub listed : Listed (listIn offsets items) m N starts listing 0 counts

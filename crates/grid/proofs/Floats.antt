@@ -7,6 +7,7 @@ use lib.Ieee.Scale.{finite}
 use lib.Ieee.Positive.{positive, between}
 use Rattle.numbers.specs.Order.{magnitudeOf}
 use Rattle.numbers.proofs.Tests.{holds}
+use Rattle.numbers.proofs.FloatOrder.{number, finite-number}
 use Rattle.grid.specs.Domain.{coordinate, sizeFits}
 use Rattle.grid.proofs.Bools.{and-left, and-right}
 
@@ -15,6 +16,9 @@ unfolding coordinate magnitudeOf le lt eq round
 coordinate-finite nan h = holds false h
 coordinate-finite (inf s) h = holds false h
 coordinate-finite (fin s m e) h = tt
+
+pub coordinate-number : (v : Float) → coordinate v ≡ true → T (number v)
+coordinate-number v h = finite-number v (coordinate-finite v h)
 
 -- from a quarter of 1e-6 to 2e9
 pub size-bounds : (v : Float) → sizeFits v ≡ true → T (le (round binary64 false 1 4000000) v) × T (le v (round binary64 false 2000000000 1))

@@ -4,3 +4,4 @@ pub mod Fine
 pub mod Shapes
 pub mod Floats
 pub mod Saying
+pub mod Wholes

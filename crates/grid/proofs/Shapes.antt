@@ -1,14 +1,15 @@
--- What a fit grid's counts say. Assumes nothing.
+-- What a fit grid's counts say, and the number of a cell. Assumes nothing.
 use mathlib.Core.Path.{_≡_, refl, sym}
-use mathlib.Core.Bool.{Bool, true, false, _&&_, _||_}
-use Prim.Native.Nat.{ℕ, _*_, _^_, _≤_, _<_}
+use mathlib.Core.Bool.{Bool, true, false, _&&_, _||_, or-false}
+use Prim.Native.Nat.{ℕ, _+_, _*_, _/_, _%_, _^_, _≤_, _<_}
 use native.Mathlib.Nat.{mul-le-mul-left, mul-le-mul-right, le-trans}
 use native.Mathlib.Omega.{arith}
 use borrow.Author.Tests.{eqb-true, leb-true, ne-eqb}
+use lib.Arith.{digits-lt, digits-div, digits-mod}
 use lib.Dec.{leb, eqb}
 use Rattle.grid.specs.declared.Grid.{Grid}
 use Rattle.grid.specs.Domain.{coordinate, point, counts, shape, sizeFits, sizesFit, fit}
-use Rattle.grid.proofs.Bools.{and-left, and-right, or-false}
+use Rattle.grid.proofs.Bools.{and-left, and-right}
 
 -- two numbers of 32 bits have a product of 64
 pub wide-product : (a b : ℕ) → a < 2 ^ 32 → b < 2 ^ 32 → a * b < 2 ^ 64
@@ -17,6 +18,16 @@ wide-product a b h k =
     let q : b ≤ 4294967295 = omega arith in
     let u : a * b ≤ 4294967295 * 4294967295 = le-trans (mul-le-mul-right b p) (mul-le-mul-left 4294967295 q) in
     omega arith
+
+-- the number of the cell at a row and a column: it is below the number of cells, and says both
+pub cell-inside : (rows cols r c : ℕ) → r < rows → c < cols → r * cols + c < rows * cols
+cell-inside rows cols r c h k = digits-lt h k
+
+pub col-of : (cols r c : ℕ) → c < cols → (r * cols + c) % cols ≡ c
+col-of cols r c h = digits-mod r h
+
+pub row-of : (cols r c : ℕ) → c < cols → (r * cols + c) / cols ≡ r
+row-of cols r c h = digits-div r h
 
 count-within : (a : ℕ) → counts a ≡ true → a ≤ 4004
 count-within a h = leb-true _ _ (and-right (leb 1 a) (leb a 4004) h)

@@ -1,24 +1,10 @@
 // Lists as they are.
 use slices::least;
+use slices::less_one;
+use slices::wide;
 ghost use mathlib.Core.Path.{_≡_};
-ghost use Prim.Native.Nat.{_-_};
 ghost use Rattle.listed.specs.Lists.{listBy};
 ghost use Rattle.listed.specs.Places.{isBrief, NextCell};
-
-fn wide(x: u32) -> usize
-    ensures { λ r. ⌜ r ≡ x ⌝ }
-{
-    x as usize
-}
-
-fn less_one(n: usize) -> usize
-    ensures { λ r. ⌜ r ≡ n - 1 ⌝ }
-{
-    if n == 0 {
-        return 0;
-    }
-    n - 1
-}
 
 // The list of a cell: empty where the offsets do not tell of it, it is no part of the items, or does not increase below the number of lines.
 pub fn list_of<'a>(lines: usize, offsets: &[u32], items: &'a [u32], cell: usize) -> &'a [u32]

@@ -12,8 +12,8 @@ use borrow.Author.Tests.{le-leb, leb-true, eq-eqb, eqb-true}
 use Rattle.refusals.specs.declared.Check.the-variants.{Fine}
 use Rattle.refusals.specs.Refusals.{unless}
 use Rattle.refusals.proofs.Checks.{unless-fine}
+use Rattle.grid.proofs.Bools.{and-says}
 use Rattle.wkb.specs.Bytes.{Point, Patterns}
-use Rattle.wkb.proofs.Fields.{both}
 use Rattle.wkb.proofs.Chains.{Some}
 use Rattle.members.specs.Held.{pointsOf, chainsOf, isLength, allLengths, sumOf, heldCheck}
 
@@ -128,7 +128,7 @@ module _ {A B : Type 0} (f : A → B) where
 
 pub length-is : (n : ℕ) → isLength n ≡ true → (1 ≤ n) × (n ≤ 1024)
 unfolding isLength
-length-is n h = let a = both (leb 1 n) (leb n 1024) h in (leb-true 1 n (a .0), leb-true n 1024 (a .1))
+length-is n h = let a = and-says (leb 1 n) (leb n 1024) h in (leb-true 1 n (a .0), leb-true n 1024 (a .1))
 
 pub is-length : (n : ℕ) → 1 ≤ n → n ≤ 1024 → isLength n ≡ true
 unfolding isLength
@@ -136,7 +136,7 @@ is-length n h k = rw (le-leb 1 n h, le-leb n 1024 k)
 
 pub all-first : (n : ℕ) (ns : List ℕ) → allLengths (n ∷ ns) ≡ true → ((1 ≤ n) × (n ≤ 1024)) × (allLengths ns ≡ true)
 unfolding allLengths
-all-first n ns h = let a = both (isLength n) (allLengths ns) h in (length-is n (a .0), a .1)
+all-first n ns h = let a = and-says (isLength n) (allLengths ns) h in (length-is n (a .0), a .1)
 
 -- ---- members whose bytes can be written
 
@@ -179,9 +179,9 @@ pub record Held (m n : ℕ) (ns : List ℕ) : Type 0 where
 pub held-says : (m n : ℕ) (ns : List ℕ) → heldCheck m n ns ≡ Fine → Held m n ns
 unfolding heldCheck
 held-says m n ns h =
-    let a = both (eqb m n) _ (unless-fine _ _ _ h) in
-    let b = both (leb (length ns) 4294967295) _ (a .1) in
-    let c = both (allLengths ns) (eqb (sumOf ns) m) (b .1) in
+    let a = and-says (eqb m n) _ (unless-fine _ _ _ h) in
+    let b = and-says (leb (length ns) 4294967295) _ (a .1) in
+    let c = and-says (allLengths ns) (eqb (sumOf ns) m) (b .1) in
     record {
       alike = sym (eqb-true m n (a .0));
       most = leb-true (length ns) 4294967295 (b .0);

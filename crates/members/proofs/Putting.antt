@@ -10,7 +10,7 @@ use lib.ListN.{length, take, drop, getD, set, replicate, length-append}
 use lib.Seq.{take-suc, length-take-le}
 use Rattle.wkb.specs.declared.Order.the-variants.{Little}
 use Rattle.wkb.specs.Bytes.{orderByte, littleBytes, wordBytes, Point, pointBytes, pointsBytes, lineBytes, Members, none, more, multiHead, MultiLineString, multiBytes}
-use Rattle.wkb.proofs.Words.{length-word}
+use Rattle.wkb.proofs.Words.{length-word, length-little}
 use Rattle.wkb.specs.Inside.{PutIn}
 use Rattle.wkb.proofs.LineStrings.{length-points-bytes, length-line}
 use Rattle.wkb.proofs.Stores.{put-one, put-more, put-then}
@@ -38,10 +38,6 @@ put-four at v s h =
 pub eight : (v : ℕ) → littleBytes 4 v ++ littleBytes 4 (v / 4294967296) ≡ littleBytes 8 v
 unfolding littleBytes
 eight v = let e : v / 4294967296 ≡ v / 256 / 256 / 256 / 256 = omega arith in rw e
-
-length-little : (k v : ℕ) → length (littleBytes k v) ≡ k
-unfolding wordBytes
-length-little k v = length-word Little k v
 
 pub put-eight : {at : ℕ} (v : ℕ) {s₀ s₁ s₂ : List ℕ} → PutIn at (littleBytes 4 v) s₀ s₁ → PutIn (at + 4) (littleBytes 4 (v / 4294967296)) s₁ s₂ → PutIn at (littleBytes 8 v) s₀ s₂
 put-eight {at} v {s₀} {s₁} {s₂} p q =

@@ -26,14 +26,14 @@ use Rattle.members.proofs.Held.{Held, held-says, held-fine, is-length, 
 
 -- ---- pieces
 
-members-points : {p q m n : ℕ} → read.Members p m ≡ read.Members q n → p ≡ q
+pub members-points : {p q m n : ℕ} → read.Members p m ≡ read.Members q n → p ≡ q
 members-points e = cc
 
-members-count : {p q m n : ℕ} → read.Members p m ≡ read.Members q n → m ≡ n
+pub members-count : {p q m n : ℕ} → read.Members p m ≡ read.Members q n → m ≡ n
 members-count e = cc
 
 -- what stands at the start is taken from it
-start : (xs : List ℕ) (n k : ℕ) → length xs ≡ n → take n (zeroBeyond 0 k xs) ≡ xs
+pub start : (xs : List ℕ) (n k : ℕ) → length xs ≡ n → take n (zeroBeyond 0 k xs) ≡ xs
 unfolding zeroBeyond
 start xs n k e = take-at xs _ n e
 

@@ -21,6 +21,7 @@ use Rattle.wkb.specs.Reading.{nought}
 use Rattle.wkb.specs.Multi.{startsOf, endsOf}
 use Rattle.wkb.proofs.LineStrings.{gives-same}
 use Rattle.wkb.proofs.Chains.{length-starts}
+use Rattle.wkb.proofs.MultiReadings.{count-same}
 use Rattle.members.specs.Held.{pointsOf, chainsOf, allLengths, sumOf, heldCheck}
 use Rattle.members.specs.Writing.{fitCheck, bytesIn, written, writtenOf, bytesLeft, WrittenAs}
 use Rattle.members.specs.Lining.{linedWithin, lining, linedOf, endsLeft, linesLeft, LinedAs}
@@ -48,10 +49,6 @@ fit-clears room n r e = clearing-unless (leb n room) 5 n refl .says r e
 held-same : (m n : ℕ) (ns : List ℕ) (r : Refusal) → heldCheck m n ns ≡ check.Refused r → clears (r .number) ≡ false
 unfolding heldCheck clears
 held-same m n ns r e = clearing-unless _ 3 0 refl .says r e
-
-count-same : (n : ℕ) (r : Refusal) → countCheck n ≡ check.Refused r → clears (r .number) ≡ false
-unfolding countCheck clears
-count-same n r e = clearing-unless (leb n 65536) 2 n refl .says r e
 
 alike-same : (ls : Lines) (r : Refusal) → lengthsCheck ls ≡ check.Refused r → clears (r .number) ≡ false
 unfolding lengthsCheck clears

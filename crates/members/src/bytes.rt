@@ -67,7 +67,7 @@ fn put_members(x: &[u64], y: &[u64], lengths: &[u32], s: &mut [u8])
     let mut from = 0;
     let mut k = 0;
     while k < lengths.len() {
-        let n = crate::wide(lengths[k]);
+        let n = slices::wide(lengths[k]);
         put_member(x, y, from, n, s, at);
         at = at + 9 + 16 * n;
         from = from + n;

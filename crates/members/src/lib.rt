@@ -6,6 +6,7 @@ pub mod write;
 
 use refusals::Check;
 use refusals::Refusal;
+use slices::wide;
 ghost use mathlib.Core.Path.{_≡_};
 ghost use mathlib.Core.Bool.{_&&_};
 ghost use Prim.Native.Nat.{_<_};
@@ -31,12 +32,6 @@ fn is_length(n: u32) -> bool
     ensures { λ r. ⌜ r ≡ isLength n ⌝ }
 {
     (1 <= n) & (n <= 1024)
-}
-
-fn wide(n: u32) -> usize
-    ensures { λ r. ⌜ r ≡ n ⌝ }
-{
-    n as usize
 }
 
 // Each length is one that a member may have, and they add up to the points.

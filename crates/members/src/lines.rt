@@ -40,7 +40,7 @@ fn put_ends(from: &[u64], lengths: &[u32], skip: usize, s: &mut [f64])
     let mut to = 0;
     let mut k = 0;
     while k < lengths.len() {
-        let n = crate::wide(lengths[k]);
+        let n = slices::wide(lengths[k]);
         put_floats(from, at + skip, n - 1, s, to);
         at = at + n;
         to = to + (n - 1);

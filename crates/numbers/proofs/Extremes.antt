@@ -20,7 +20,7 @@ module _ (P : Float → Type 0) (a b : Float) (x : P a) (y : P b) where
   unfolding greatestOf
   greatest-one = one-of-three P (lt a b) (isNan a) a b x y
 
-no-nan : (a : Float) → T (number a) → isNan a ≡ false
+pub no-nan : (a : Float) → T (number a) → isNan a ≡ false
 unfolding isNan
 no-nan nan p = absurd p
 no-nan (inf s) p = refl

@@ -164,7 +164,7 @@ neg-zero-add f m e (inf s) h p = absurd p
 neg-zero-add f m e (fin true n d) h p = absurd p
 neg-zero-add f m e (fin false n d) h p = neg-zero-sum f m e n d h (ltb→lt 0 n p)
 
-first-zero : (m u : ℕ) → 0 < u → m * u ≡ 0 → m ≡ 0
+pub first-zero : (m u : ℕ) → 0 < u → m * u ≡ 0 → m ≡ 0
 first-zero m u U h = eq-of-mul-eq-mul-right u U m 0 (h ∙ sym (zero-mul u))
 
 -- a value with a set sign that is at least zero is minus zero

@@ -1,7 +1,7 @@
 -- The order of floats that are no NaN: it is total and transitive, and `lt` is its strict part. Finite values are compared as signed
 -- fractions: x is (plus x - minus x) / den x, where one of the two parts is 0. Assumes nothing.
 use mathlib.Core.Path.{_≡_, refl, sym, subst}
-use mathlib.Core.Logic.{_⊎_, inl, inr}
+use mathlib.Core.Logic.{inl, inr}
 use mathlib.Core.Bool.{Bool, true, false, not, _&&_, _||_, true≢false}
 use Prim.Native.Nat.{ℕ, _+_, _*_, _≤_, _<_}
 use native.Mathlib.Nat.{mul-le-mul-right, le-of-mul-le-mul-right}
@@ -11,6 +11,7 @@ use lib.Ieee.{Float, nan, inf, fin, up, down, neg, below, level, lt, le, eq}
 use lib.Ieee.Fits.{and-l, and-r, and-i, eq→eqb}
 use lib.Ieee.Scale.{finite}
 use lib.Ieee.Positive.{den, den-pos}
+use Rattle.numbers.proofs.Tests.{or-cases, or-left}
 
 -- ---- values that are no NaN
 
@@ -19,19 +20,18 @@ number nan = false
 number (inf s) = true
 number (fin s m e) = true
 
+pub finite-number : (x : Float) → T (finite x) → T (number x)
+finite-number nan p = absurd p
+finite-number (inf s) p = absurd p
+finite-number (fin s m e) p = tt
+
+pub neg-finite : (x : Float) → T (finite x) → T (finite (neg x))
+unfolding neg
+neg-finite nan p = absurd p
+neg-finite (inf s) p = absurd p
+neg-finite (fin s m e) p = tt
+
 -- ---- the order of signed numbers: ±a ≤ ±b
-
-or-split : (a b : Bool) → T (a || b) → T a ⊎ T b
-or-split true b t = inl tt
-or-split false b t = inr t
-
-or-l : (a b : Bool) → T a → T (a || b)
-or-l true b t = tt
-or-l false b t = absurd t
-
-or-r : (a b : Bool) → T b → T (a || b)
-or-r true b t = tt
-or-r false b t = t
 
 -- the part of ±a above zero, and the part below
 abbrev pub above : Bool → ℕ → ℕ
@@ -47,10 +47,10 @@ abbrev signed : Bool → ℕ → Bool → ℕ → Bool
 signed s a t b = below s a t b || level s a t b
 
 signed-to : (s : Bool) (a : ℕ) (t : Bool) (b : ℕ) → T (signed s a t b) → above s a + under t b ≤ above t b + under s a
-signed-to false a false b h = elim (or-split (ltb a b) (eqb a b && true) h) [ inl u ↦ omega (arith, ltb→lt a b u) | inr u ↦ omega (arith, eqb→eq a b (and-l (eqb a b) true u)) ]
+signed-to false a false b h = elim (or-cases (ltb a b) (eqb a b && true) h) [ inl u ↦ omega (arith, ltb→lt a b u) | inr u ↦ omega (arith, eqb→eq a b (and-l (eqb a b) true u)) ]
 signed-to false a true b h = omega (arith, eqb→eq a b (and-l (eqb a b) (eqb a 0) h), eqb→eq a 0 (and-r (eqb a b) (eqb a 0) h))
 signed-to true a false b h = omega arith
-signed-to true a true b h = elim (or-split (ltb b a) (eqb a b && true) h) [ inl u ↦ omega (arith, ltb→lt b a u) | inr u ↦ omega (arith, eqb→eq a b (and-l (eqb a b) true u)) ]
+signed-to true a true b h = elim (or-cases (ltb b a) (eqb a b && true) h) [ inl u ↦ omega (arith, ltb→lt b a u) | inr u ↦ omega (arith, eqb→eq a b (and-l (eqb a b) true u)) ]
 
 is-eqb : (a b : ℕ) → a ≡ b → T (eqb a b)
 is-eqb a b h = eq→eqb h
@@ -114,7 +114,7 @@ cross→le (fin s m e) (fin t n d) p q h =
 
 -- ---- transitive
 
-through : (p n d p' n' d' p'' n'' d'' : ℕ) → 0 < d' → p * d' + n' * d ≤ p' * d + n * d' → p' * d'' + n'' * d' ≤ p'' * d' + n' * d''
+pub through : (p n d p' n' d' p'' n'' d'' : ℕ) → 0 < d' → p * d' + n' * d ≤ p' * d + n * d' → p' * d'' + n'' * d' ≤ p'' * d' + n' * d''
     → p * d'' + n'' * d ≤ p'' * d + n * d''
 through p n d p' n' d' p'' n'' d'' D h k =
     let a : (p * d' + n' * d) * d'' ≤ (p' * d + n * d') * d'' = mul-le-mul-right d'' h in
@@ -237,7 +237,7 @@ le-neg (fin s m e) (fin t n d) h =
 
 pub lt-le : (x y : Float) → lt x y ≡ true → T (le x y)
 unfolding le
-lt-le x y h = or-l (lt x y) (eq x y) (subst T (sym h) tt)
+lt-le x y h = or-left (lt x y) (eq x y) (subst T (sym h) tt)
 
 pub le-self : (x : Float) → T (number x) → T (le x x)
 unfolding le lt eq

@@ -16,7 +16,7 @@ use Rattle.numbers.proofs.FloatOrder.{number, above, under, plus, minus
 
 -- ---- the sign of a rounded fraction
 
-zero-is : (f : Format) → round f false 0 1 ≡ fin false 0 (pos 0)
+pub zero-is : (f : Format) → round f false 0 1 ≡ fin false 0 (pos 0)
 unfolding round
 zero-is binary32 = refl
 zero-is binary64 = refl

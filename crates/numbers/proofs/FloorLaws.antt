@@ -36,7 +36,7 @@ clamped-below (fin false m e) count h = least (m * up e / down e) count h
     least : (x c : ℕ) → 0 < c → min x (c - 1) < c
     least x c h = omega arith
 
-clamped-is : (v : Float) (a c count : ℕ) → 0 < c → HasValue v false a c → clampedFloor v count ≡ min (a / c) (count - 1)
+pub clamped-is : (v : Float) (a c count : ℕ) → 0 < c → HasValue v false a c → clampedFloor v count ≡ min (a / c) (count - 1)
 unfolding clampedFloor
 clamped-is nan a c count C h = absurd h
 clamped-is (inf s) a c count C h = absurd h

@@ -4,19 +4,17 @@ use Prim.Native.Nat.{ℕ, zero, suc, _+_, _-_, _*_, _<_}
 use native.Mathlib.Nat.{mul-one, one-mul, zero-mul}
 use native.Mathlib.Omega.{arith}
 use mathlib.Core.Bool.{Bool, true, false, not, cond, _&&_, _||_, Bool·beq, true≢false}
-use mathlib.Core.Logic.{_⊎_, inl, inr}
+use mathlib.Core.Logic.{inl, inr}
 use lib.IntN.{ℤ, pos}
 use lib.Dec.{T, T-not, ltb, eqb, eqb-refl, eqb→eq, ltb→lt, lt→ltb}
 use lib.Ieee.{Float, nan, inf, fin, binary64, up, down, round, sub, lt, le, ne, isNan, fits}
 use lib.Ieee.Fits.{down-pos, and-l}
+use lib.Ieee.Bits.{is-true}
 use Rattle.numbers.specs.Order.{leastOf, greatestOf, magnitudeOf}
 use Rattle.numbers.proofs.Values.{round-back}
+use Rattle.numbers.proofs.Tests.{or-cases, or-left, or-right}
 
 -- ---- `least` and `greatest`
-
-is-true : (b : Bool) → T b → b ≡ true
-is-true true t = refl
-is-true false t = absurd t
 
 -- only a NaN differs from itself
 pub self-differs : (v : Float) → ne v v ≡ isNan v
@@ -62,18 +60,6 @@ fits-sign : (s t : Bool) (m : ℕ) (e : ℤ) → T (fits binary64 (fin s m e)) �
 unfolding fits
 fits-sign s t zero e h = h
 fits-sign s t (suc m) e h = h
-
-or-cases : (a b : Bool) → T (a || b) → T a ⊎ T b
-or-cases true b t = inl tt
-or-cases false b t = inr t
-
-or-left : (a b : Bool) → T a → T (a || b)
-or-left true b t = tt
-or-left false b t = absurd t
-
-or-right : (a b : Bool) → T b → T (a || b)
-or-right true b t = tt
-or-right false b t = t
 
 -- x / d is not above zero, so it is zero
 no-more : (x d : ℕ) → T (ltb (x * 1) (0 * d) || eqb (x * 1) (0 * d) && true) → x * 1 ≡ 0

@@ -36,7 +36,7 @@ sum-at f true (fin true m e) (fin false n g) a c b d C D h k = absurd (true≢fa
 sum-at f false (fin false m e) (fin true n g) a c b d C D h k = absurd (true≢false (k .0))
 
 -- the larger less the smaller
-sub-mul : (a b k : ℕ) → (a - b) * k ≡ a * k - b * k
+pub sub-mul : (a b k : ℕ) → (a - b) * k ≡ a * k - b * k
 sub-mul a b k = mul-comm (a - b) k ∙ mul-sub k a b ∙ ap (λ (z : ℕ). z - k * b) (mul-comm k a) ∙ ap (λ (z : ℕ). a * k - z) (mul-comm k b)
 
 less : (x e a c y g b d : ℕ) → x * c ≡ a * e → y * d ≡ b * g → (x * g - y * e) * (c * d) ≡ (a * d - b * c) * (e * g)

@@ -20,6 +20,19 @@ holds b e = subst T (sym e) tt
 pub fails : (b : Bool) → b ≡ false → T (not b)
 fails b e = subst (λ (x : Bool). T (not x)) (sym e) tt
 
+-- one of two tests passes
+pub or-cases : (a b : Bool) → T (a || b) → T a ⊎ T b
+or-cases true b t = inl tt
+or-cases false b t = inr t
+
+pub or-left : (a b : Bool) → T a → T (a || b)
+or-left true b t = tt
+or-left false b t = absurd t
+
+pub or-right : (a b : Bool) → T b → T (a || b)
+or-right true b t = tt
+or-right false b t = t
+
 nothing : (x y : ℕ) → T (ltb (0 * y) (0 * x * 1)) → ⊥
 nothing x y t = let h : 0 * y < 0 * x * 1 = ltb→lt (0 * y) (0 * x * 1) t in omega arith
 
@@ -84,10 +97,6 @@ pub not-under-whole : (v w : Float) (n : ℕ) → T (positive v) → HasValue w 
 not-under-whole v w n p h t = subst (λ (x : ℕ). n * den v ≤ x) (mul-one (num v)) (not-lt-says v w (num v) (den v) n 1 (den-pos v) (zero-lt-suc 0) (own-value v p) h t)
 
 -- x = a / c is at most y = b / d
-or-cases : (a b : Bool) → T (a || b) → T a ⊎ T b
-or-cases true b t = inl tt
-or-cases false b t = inr t
-
 pub le-says : (m : ℕ) (e : ℤ) (n : ℕ) (g : ℤ) → T (le (fin false m e) (fin false n g)) → m * up e * down g ≤ n * up g * down e
 unfolding le
 le-says m e n g t = elim (or-cases (ltb A B) (eqb A B && true) t) [ inl l ↦ le-of-lt (ltb→lt A B l) | inr r ↦ le-of-eq (eqb→eq A B (and-l (eqb A B) true r)) ]

@@ -15,11 +15,12 @@ use Rattle.seek.specs.declared.Place.{Place}
 use Rattle.seek.specs.declared.Place.the-variants.{Global}
 use Rattle.seek.specs.Tests.{Pair, withEach, pairs, placeOf, cellTests, others, globalTests, testsOf}
 use Rattle.seek.proofs.Clauses.{with-nil, with-cons, pairs-nil, pairs-cons, cells-zero, cells-suc, globals-zero, globals-suc}
-use Rattle.seek.proofs.Standing.{globals-fit, has-columns}
-use Rattle.visit_laws.specs.Words.{oneWhere, sumBelow, countBelow, testOfBoth, times, Different}
-use Rattle.visit_laws.proofs.Number.{sum-zero, sum-suc}
-use Rattle.visit_laws.proofs.Often.{one-true, one-false, times-cons, times-append, cell-times, cells-shared, globals-all}
-use Rattle.visit_laws.proofs.Different.{tests-different}
+use Rattle.tables.proofs.Parts.{fit-globals}
+use Rattle.seek.proofs.Standing.{has-columns}
+use Rattle.visit.specs.Words.{oneWhere, sumBelow, countBelow, testOfBoth, times, Different}
+use Rattle.visit.proofs.Number.{sum-zero, sum-suc}
+use Rattle.visit.proofs.Often.{one-true, one-false, times-cons, times-append, cell-times, cells-shared, globals-all}
+use Rattle.visit.proofs.Different.{tests-different}
 use Rattle.by_line.specs.First.{someBelow, metBelow}
 use Rattle.first_tests.specs.Firsts.{through, isFirst}
 use Rattle.first_tests.proofs.Lists.{cells-more}
@@ -137,7 +138,7 @@ module _ (t : Tables) (f : TablesFit t) where
 
   globals-once : AtMostOnce (t .lines) (globalTests (t .lines) (t .globals) (t .«global_count») 0)
   unfolding AtMostOnce
-  globals-once x y d m k = rw (globals-all (t .lines) (t .«global_count») (t .globals) (globals-fit t f) x y d m k) (one-most _)
+  globals-once x y d m k = rw (globals-all (t .lines) (t .«global_count») (t .globals) (fit-globals t f) x y d m k) (one-most _)
 
   -- THE LAW
   pub tests-first : FirstsAfter t [] (testsOf t)

@@ -2,47 +2,26 @@
 -- overlap, exactly if the plain visit hands them out. Of any tables that fit, and any decision that asks not which line is the first. Assumes
 -- nothing.
 use mathlib.Core.Path.{_≡_, refl, sym, ap, _∙_}
-use mathlib.Core.Bool.{Bool, true, false, not, _&&_, _||_}
+use mathlib.Core.Bool.{Bool, true, false, not, _&&_, and-true, and-false}
 use mathlib.Core.List.{List, [], _∷_, _++_}
 use Prim.Native.Nat.{ℕ, _+_}
 use native.Mathlib.Nat.{add-zero, zero-add}
 use native.Mathlib.Omega.{arith}
-use borrow.Author.Tests.{eqb-true, ne-eqb, lt-ltb}
+use borrow.Author.Tests.{ne-eqb, lt-ltb}
 use lib.Dec.{eqb, ltb}
 use Rattle.grid.specs.Domain.{Lines}
-use Rattle.grid.proofs.Bools.{and-left, and-right}
 use Rattle.tables.specs.Tables.{Tables}
 use Rattle.tables.specs.Fit.{TablesFit}
 use Rattle.seek.specs.Tests.{Pair, testsOf}
 use Rattle.visit.specs.Overlap.{overlap}
 use Rattle.visit.specs.Batches.{keepIf, overlapping}
-use Rattle.visit_laws.specs.Words.{oneWhere, testOfBoth, times, Different}
-use Rattle.visit_laws.proofs.Often.{one-true, one-false, times-nil, times-cons, times-append, times-swap, overlap-swap, handed-often, handed-never}
-use Rattle.visit_laws.proofs.Different.{tests-different}
+use Rattle.visit.specs.Words.{oneWhere, testOfBoth, times, Different}
+use Rattle.visit.proofs.Often.{one-true, one-false, times-nil, times-cons, times-append, times-swap, overlap-swap, of-both, handed-often, handed-never}
+use Rattle.visit.proofs.Different.{tests-different}
 use Rattle.first_tests.specs.Firsts.{keeps, keptBy, firstTests}
 use Rattle.once.specs.Once.{onceOf}
 use Rattle.once_laws.specs.Words.{FirstsAfter, EachOnce}
 use Rattle.once_laws.proofs.First.{tests-first}
-
--- ---- either line first
-
-module _ {A : Type 0} (f : ℕ → ℕ → A) (swap : (a b : ℕ) → f a b ≡ f b a) (a b : ℕ) where
-  either : (p : Pair) → testOfBoth a b p ≡ true → f (p .first) (p .second) ≡ f a b
-  unfolding testOfBoth
-  either p h = go (eqb (p .first) a && eqb (p .second) b) refl h
-    where
-      go : (x : Bool) → (eqb (p .first) a && eqb (p .second) b) ≡ x → (x || (eqb (p .first) b && eqb (p .second) a)) ≡ true → f (p .first) (p .second) ≡ f a b
-      go true e k =
-          rw (
-            eqb-true (p .first) a (and-left (eqb (p .first) a) (eqb (p .second) b) e),
-            eqb-true (p .second) b (and-right (eqb (p .first) a) (eqb (p .second) b) e),
-          )
-      go false e k =
-          rw (
-            eqb-true (p .first) b (and-left (eqb (p .first) b) (eqb (p .second) a) k),
-            eqb-true (p .second) a (and-right (eqb (p .first) b) (eqb (p .second) a) k),
-          )
-          (swap b a)
 
 -- ---- what is kept
 
@@ -68,19 +47,11 @@ kept-different n keep (p ∷ ps) d = go (keep p) (kept-different n keep ps (d .1
     go true h = (d .0, h)
     go false h = h
 
-and-none : (x : Bool) → (x && false) ≡ false
-and-none true = refl
-and-none false = refl
-
-and-all : (x : Bool) → (x && true) ≡ x
-and-all true = refl
-and-all false = refl
-
 module _ (chosen : ℕ → ℕ → Bool) (swap : (a b : ℕ) → chosen a b ≡ chosen b a) (t : Tables) (a b : ℕ) where
   kept-once : (bs ps : List Pair) → FirstsAfter t bs ps
       → times a b (keptBy (keeps chosen t) ps) ≡ oneWhere (chosen a b && (eqb (times a b bs) 0 && ltb 0 (times a b ps)))
   unfolding keeps
-  kept-once bs [] f = rw (kept-nil (keeps chosen t), times-nil) (rw (and-none (eqb (times a b bs) 0), and-none (chosen a b)) (sym one-false))
+  kept-once bs [] f = rw (kept-nil (keeps chosen t), times-nil) (rw (and-false (eqb (times a b bs) 0), and-false (chosen a b)) (sym one-false))
   kept-once bs (p ∷ ps) f = go (testOfBoth a b p) refl (kept-once (bs ++ (p ∷ [])) ps (f .1))
     where
       more : times a b (bs ++ (p ∷ [])) ≡ times a b bs + oneWhere (testOfBoth a b p)
@@ -88,8 +59,8 @@ module _ (chosen : ℕ → ℕ → Bool) (swap : (a b : ℕ) → chosen a b ≡ 
 
       here : testOfBoth a b p ≡ true → keeps chosen t p ≡ (chosen a b && eqb (times a b bs) 0)
       here e =
-          let c : chosen (p .first) (p .second) ≡ chosen a b = either chosen swap a b p e in
-          let u : times (p .first) (p .second) bs ≡ times a b bs = either (λ x y. times x y bs) (λ x y. times-swap x y bs) a b p e in
+          let c : chosen (p .first) (p .second) ≡ chosen a b = of-both chosen swap a b p e in
+          let u : times (p .first) (p .second) bs ≡ times a b bs = of-both (λ x y. times x y bs) (λ x y. times-swap x y bs) a b p e in
           rw (c, f .0, u)
 
       go : (x : Bool) → testOfBoth a b p ≡ x
@@ -97,13 +68,13 @@ module _ (chosen : ℕ → ℕ → Bool) (swap : (a b : ℕ) → chosen a b ≡ 
           → times a b (keptBy (keeps chosen t) (p ∷ ps)) ≡ oneWhere (chosen a b && (eqb (times a b bs) 0 && ltb 0 (times a b (p ∷ ps))))
       go true e h =
           let m : eqb (times a b (bs ++ (p ∷ []))) 0 ≡ false = ne-eqb (times a b (bs ++ (p ∷ []))) 0 (λ q. omega (arith, more, ap oneWhere e, one-true)) in
-          let z : times a b (keptBy (keeps chosen t) ps) ≡ 0 = h ∙ rw (m, and-none (chosen a b), one-false) in
+          let z : times a b (keptBy (keeps chosen t) ps) ≡ 0 = h ∙ rw (m, and-false (chosen a b), one-false) in
           let s : ltb 0 (times a b (p ∷ ps)) ≡ true = lt-ltb 0 (times a b (p ∷ ps)) (omega (arith, times-cons a b p ps, ap oneWhere e, one-true)) in
-          kept-times a b (keeps chosen t) p ps ∙ rw (z, add-zero, e, here e, s, and-all (eqb (times a b bs) 0)) (ap oneWhere (and-all (chosen a b && eqb (times a b bs) 0)))
+          kept-times a b (keeps chosen t) p ps ∙ rw (z, add-zero, e, here e, s, and-true (eqb (times a b bs) 0)) (ap oneWhere (and-true (chosen a b && eqb (times a b bs) 0)))
       go false e h =
           let m : times a b (bs ++ (p ∷ [])) ≡ times a b bs = more ∙ rw (e, one-false, add-zero) in
           let s : times a b (p ∷ ps) ≡ times a b ps = times-cons a b p ps ∙ rw (e, one-false, zero-add) in
-          kept-times a b (keeps chosen t) p ps ∙ rw (e, and-none (keeps chosen t p), one-false, zero-add, s) (h ∙ rw m)
+          kept-times a b (keeps chosen t) p ps ∙ rw (e, and-false (keeps chosen t p), one-false, zero-add, s) (h ∙ rw m)
 
 -- ---- THE LAWS
 

@@ -6,7 +6,7 @@ use mathlib.Core.List.{List, [], _∷_, _++_}
 use lib.Dec.{eqb, ltb}
 use Rattle.tables.specs.Tables.{Tables}
 use Rattle.seek.specs.Tests.{Pair, testsOf}
-use Rattle.visit_laws.specs.Words.{oneWhere, times, Different}
+use Rattle.visit.specs.Words.{oneWhere, times, Different}
 use Rattle.first_tests.specs.Firsts.{isFirst, firstTests}
 
 -- each of some tests, which are made after others, counts as the first exactly if none of those before it is a test of its two lines, either of

@@ -1,6 +1,6 @@
 -- On an axis of a fit grid a larger index has no smaller low edge and no smaller high edge. So "low <= p" holds of the indexes up to
 -- some index, and "p < high" of those from some index on. Assumes nothing.
-use mathlib.Core.Path.{_≡_, refl, sym, ap, subst}
+use mathlib.Core.Path.{_≡_, refl, ap, subst}
 use mathlib.Core.Bool.{Bool, true, false, true≢false}
 use Prim.Native.Nat.{ℕ, _*_, _≤_}
 use native.Mathlib.Nat.{mul-pos, mul-le-mul-right, le-trans}
@@ -16,23 +16,16 @@ use lib.Ieee.Scale.{round-same, finite}
 use lib.Ieee.Positive.{num, den, den-pos, positive, positive-finite}
 use Rattle.numbers.proofs.FloatOrder.{number, float-le-trans, at-most, not-under}
 use Rattle.numbers.proofs.FloatSum.{round-number, add-number, add-mono, add-swap}
+use Rattle.numbers.proofs.Tests.{holds}
 use Rattle.grid.specs.declared.Axis.{Axis}
 use Rattle.grid.specs.Axes.{lowOn, highOn}
 use Rattle.grid.specs.Domain.{coordinate, sizeFits}
-use Rattle.grid.proofs.Floats.{coordinate-finite, size-positive}
+use Rattle.grid.proofs.Floats.{coordinate-finite, size-positive, coordinate-number}
 
 -- ---- what the domain says of the floats
 
-holds : (b : Bool) → b ≡ true → T b
-holds b h = subst T (sym h) tt
-
 clash : (b : Bool) → b ≡ false → T b → ⊥
 clash b h t = subst T h t
-
-pub coordinate-number : (v : Float) → coordinate v ≡ true → T (number v)
-coordinate-number nan h = coordinate-finite nan h
-coordinate-number (inf s) h = tt
-coordinate-number (fin s m e) h = tt
 
 -- ---- i x size is i * size, rounded
 

@@ -7,6 +7,7 @@ use native.Mathlib.Nat.{zero-add, mod-lt, mod-eq-of-lt, div-eq-of-lt, div-add-mo
 use native.Mathlib.Omega.{arith}
 use lib.Dec.{eqb}
 use borrow.Author.Tests.{eqb-true, eqb-false}
+use Rattle.grid.proofs.Bools.{and-off}
 use Rattle.own.specs.declared.Found.the-variants.{At, Nowhere}
 use Rattle.own.specs.Owner.{orElse, firstFrom}
 
@@ -92,10 +93,6 @@ module _ (test : ℕ → Bool) (n : ℕ) where
   none-first h = rw zero-add at (from-none test n 0 h)
 
 -- ---- in row order
-
-pub and-off : (a b : Bool) → b ≡ false → (a && b) ≡ false
-and-off true b h = h
-and-off false b h = refl
 
 module _ (A B : ℕ → Bool) (cols rows : ℕ) where
   -- cell k passes if its column and its row do

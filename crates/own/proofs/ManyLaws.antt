@@ -19,14 +19,14 @@ use Rattle.grid.specs.declared.Grid.{Grid}
 use Rattle.grid.specs.Axes.{xAxis, yAxis}
 use Rattle.grid.specs.Domain.{coordinate, point, fit}
 use Rattle.grid.proofs.Bools.{and-left, and-right}
-use Rattle.grid.proofs.Shapes.{fit-says}
+use Rattle.grid.proofs.Shapes.{fit-says, cell-inside, col-of, row-of}
 use Rattle.own.specs.declared.Owner.{Owner}
 use Rattle.own.specs.declared.Owner.the-variants.{Cell, Seam, Outside}
 use Rattle.own.specs.Owner.{ownerOf}
 use Rattle.own.specs.Cases.{Case}
 use Rattle.own.specs.Many.{ownerNumber, ownerBy, ownersOf, pointFits, pointsCheck, OwnersAre}
 use Rattle.own.specs.Inside.{PointAskable}
-use Rattle.own.proofs.ThreeCases.{its-case, row-of, col-of, number-of}
+use Rattle.own.proofs.ThreeCases.{its-case}
 
 -- ---- the numbers
 
@@ -36,7 +36,7 @@ module _ (g : Grid) (few : g .rows * g .cols ≤ 4294967294) (x y : Float) where
   pub told : (o : Owner) → Case g x y o → ownerBy (g .cols) (ownerNumber (g .cols) o) ≡ o
   unfolding ownerBy ownerNumber
   told (Cell row col) h =
-      let n = number-of (g .rows) (g .cols) row col (h .inRow) (h .inCol) in
+      let n = cell-inside (g .rows) (g .cols) row col (h .inRow) (h .inCol) in
       let u = ne-eqb (row * g .cols + col) 4294967294 (λ e. omega arith) in
       let v = ne-eqb (row * g .cols + col) 4294967295 (λ e. omega arith) in
       rw (u, v) (ap₂ Cell (row-of (g .cols) row col (h .inCol)) (col-of (g .cols) row col (h .inCol)))
@@ -52,7 +52,7 @@ apart g few x y x′ y′ o o′ h k e = sym (told g few x y o h) ∙ ap (ownerB
 pub cell-below : (g : Grid) (x y : Float) (row col : ℕ) → Cell row col ≡ ownerOf g x y → row * g .cols + col < g .rows * g .cols
 cell-below g x y row col e =
     let h = subst (Case g x y) (sym e) (its-case g x y) in
-    number-of (g .rows) (g .cols) row col (h .inRow) (h .inCol)
+    cell-inside (g .rows) (g .cols) row col (h .inRow) (h .inCol)
 
 -- and a cell's number fits wherever the number of its owner does
 pub cell-fits : (cols : ℕ) (o : Owner) (row col limit : ℕ) → o ≡ Cell row col → ownerNumber cols o < limit → row * cols + col < limit
@@ -61,7 +61,7 @@ cell-fits cols o row col limit e h = rw e at h
 
 number-below : (g : Grid) (x y : Float) → g .rows * g .cols ≤ 1002001 → (o : Owner) → Case g x y o → ownerNumber (g .cols) o < 4294967296
 unfolding ownerNumber
-number-below g x y few (Cell row col) h = let n = number-of (g .rows) (g .cols) row col (h .inRow) (h .inCol) in omega arith
+number-below g x y few (Cell row col) h = let n = cell-inside (g .rows) (g .cols) row col (h .inRow) (h .inCol) in omega arith
 number-below g x y few Seam h = omega arith
 number-below g x y few Outside h = omega arith
 

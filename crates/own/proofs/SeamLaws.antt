@@ -8,18 +8,21 @@ use native.Mathlib.Omega.{arith}
 use borrow.Author.Tests.{eq-eqb, ltb-true, ltb-false}
 use lib.Dec.{T, eqb, ltb}
 use lib.Ieee.{Float, lt, le, eq}
+use lib.Ieee.Bits.{is-true}
 use Rattle.refusals.specs.declared.Check.the-variants.{Fine}
 use Rattle.grid.specs.declared.Grid.{Grid}
 use Rattle.grid.specs.declared.Axis.{Axis}
 use Rattle.grid.specs.Axes.{xAxis, yAxis, lowOn, highOn}
+use Rattle.grid.proofs.Floats.{coordinate-number}
+use Rattle.grid.proofs.Bools.{and-off}
 use Rattle.numbers.proofs.FloatOrder.{at-most, not-under}
 use Rattle.own.specs.declared.Found.{Found}
 use Rattle.own.specs.declared.Found.the-variants.{At, Nowhere}
 use Rattle.own.specs.Own.{ownsOn, ownsPoint, pointOnGridCheck}
 use Rattle.own.specs.Owner.{firstFrom, firstOwning, Searchable}
 use Rattle.own.specs.Cases.{Nobody, WithinGrid, Parted, InGap}
-use Rattle.own.proofs.Edges.{high-number, coordinate-number, over-before, under-after}
-use Rattle.own.proofs.Firsts.{None, none-first, at-first, and-off}
+use Rattle.own.proofs.Edges.{high-number, over-before, under-after}
+use Rattle.own.proofs.Firsts.{None, none-first, at-first}
 use Rattle.own.proofs.Halving.{behind, under}
 use Rattle.own.proofs.Owners.{searchable}
 
@@ -31,10 +34,6 @@ not-below l false n e h k = refl
 
 not-at-last : (l t n e : Bool) → l ≡ true → n ≡ true → (l && (t || (n && e))) ≡ false → (t || e) ≡ false
 not-at-last l t n e h m k = sym (rw (h, m)) ∙ k
-
-is-true : (b : Bool) → T b → b ≡ true
-is-true true t = refl
-is-true false t = absurd t
 
 -- ---- one axis
 

@@ -2,14 +2,15 @@
 -- does. Assumes nothing.
 use mathlib.Core.Path.{_≡_, refl, sym, ap, ap₂, _∙_}
 use mathlib.Core.Bool.{Bool, true, false, true≢false, _&&_, cond}
-use Prim.Native.Nat.{ℕ, zero, suc, _+_, _-_, _*_, _/_, _%_, _≤_, _<_}
-use native.Mathlib.Nat.{mod-lt, mod-eq-of-lt, div-eq-of-lt, div-add-mod', div-lt-iff-lt-mul, mul-add-div-right, mul-add-mod-self-right, mul-le-mul-right}
+use Prim.Native.Nat.{ℕ, zero, suc, _+_, _-_, _*_, _/_, _%_, _<_}
+use native.Mathlib.Nat.{mod-lt, div-add-mod', div-lt-iff-lt-mul}
 use native.Mathlib.Omega.{arith}
 use lib.Ieee.{Float, le}
 use Rattle.grid.specs.declared.Grid.{Grid}
 use Rattle.grid.specs.declared.Axis.{Axis}
 use Rattle.grid.specs.Axes.{xAxis, yAxis, lowOn, highOn}
 use Rattle.grid.proofs.Bools.{and-left, and-right}
+use Rattle.grid.proofs.Shapes.{cell-inside, col-of, row-of}
 use Rattle.own.specs.declared.Found.{Found}
 use Rattle.own.specs.declared.Found.the-variants.{At, Nowhere}
 use Rattle.own.specs.declared.Owner.{Owner}
@@ -21,15 +22,6 @@ use Rattle.own.proofs.Firsts.{First, None, first-at, first-none, at-fir
 use Rattle.own.proofs.EndLaws.{no-ends, two-ends}
 
 -- ---- a cell by its number in row order
-
-pub col-of : (cols r c : ℕ) → c < cols → (r * cols + c) % cols ≡ c
-col-of cols r c h = mul-add-mod-self-right r cols c ∙ mod-eq-of-lt h
-
-pub row-of : (cols r c : ℕ) → c < cols → (r * cols + c) / cols ≡ r
-row-of cols r c h = let some : 0 < cols = omega arith in let e = div-eq-of-lt h in let u = mul-add-div-right some r c in omega arith
-
-pub number-of : (rows cols r c : ℕ) → r < rows → c < cols → r * cols + c < rows * cols
-number-of rows cols r c h k = let m : suc r * cols ≤ rows * cols = mul-le-mul-right cols h in omega arith
 
 some-of : (rows cols k : ℕ) → k < rows * cols → 0 < cols
 some-of rows zero k h = absurd (omega arith)
@@ -61,7 +53,7 @@ module _ (g : Grid) (x y : Float) where
   unfolding cell
   owner-first row col h = record {
     from = omega arith;
-    within = number-of (g .rows) (g .cols) row col (h .inRow) (h .inCol);
+    within = cell-inside (g .rows) (g .cols) row col (h .inRow) (h .inCol);
     passes = cell-at row col (h .inCol) ∙ h .owns;
     before = λ j l m.
         let e = div-add-mod' j (g .cols) in
@@ -69,7 +61,7 @@ module _ (g : Grid) (x y : Float) where
   }
 
   nobody : None cell 0 (g .rows * g .cols) → Nobody g x y
-  nobody h row col l m = sym (cell-at row col m) ∙ h (row * g .cols + col) (omega arith) (number-of (g .rows) (g .cols) row col l m)
+  nobody h row col l m = sym (cell-at row col m) ∙ h (row * g .cols + col) (omega arith) (cell-inside (g .rows) (g .cols) row col l m)
 
   none : Nobody g x y → None cell 0 (g .rows * g .cols)
   unfolding cell

@@ -1,7 +1,8 @@
 -- Laws of checks: of a test, of two in a row, and of a search for the first place that fails.
 --   unless-fine      a check that finds nothing has passed its test
 --   andThen-..       two in a row, by what the first finds; and both find nothing where the two do
---   each-..          the search, place by place; each-says: where it finds nothing, each place passed
+--   each-..          the search, place by place; each-fine, each-says: it finds nothing where, and only where, each place
+--                    passes
 -- Assumes nothing.
 use mathlib.Core.Path.{_≡_, refl}
 use mathlib.Core.Bool.{Bool, true, false}
@@ -57,6 +58,11 @@ module _ (ok : ℕ → Bool) (number n i : ℕ) where
   pub each-over : n ≤ i → eachFrom ok number (n - i) i ≡ Fine
   unfolding eachFrom
   each-over l = let e : n - i ≡ 0 = omega arith in rw e
+
+pub each-fine : (ok : ℕ → Bool) (number left i : ℕ) → ((k : ℕ) → i ≤ k → k < i + left → ok k ≡ true) → eachFrom ok number left i ≡ Fine
+unfolding eachFrom unless andThen
+each-fine ok number zero i h = refl
+each-fine ok number (suc left) i h = rw (h i (omega arith) (omega arith)) (each-fine ok number left (suc i) (λ k l m. h k (omega arith) (omega arith)))
 
 pub each-says : (ok : ℕ → Bool) (number left i k : ℕ) → eachFrom ok number left i ≡ Fine → i ≤ k → k < i + left → ok k ≡ true
 unfolding eachFrom

@@ -1,10 +1,12 @@
 -- From values that are stored, and from an `out` that is short, to the promise of a reply. Assumes nothing.
 use Prim.Native.Nat.{ℕ, _≤_, _<_}
-use mathlib.Core.Path.{_≡_, refl, subst, _∙_}
+use mathlib.Core.Path.{_≡_, refl, sym, subst, _∙_}
+use mathlib.Core.Bool.{Bool, true, false}
 use mathlib.Core.List.{List, [], _∷_, _++_}
 use native.Mathlib.Omega.{arith}
 use lib.ListN.{length, drop, set}
-use borrow.Author.Tests.{le-leb, lt-leb}
+use lib.Dec.{leb}
+use borrow.Author.Tests.{le-leb, lt-leb, leb-true, leb-false}
 use Rattle.replies.specs.Replies.{Reply, unlessShort, Replies}
 use Rattle.replies.specs.Inside.{Handed}
 
@@ -50,6 +52,14 @@ stored-eight (x ∷ y ∷ z ∷ u ∷ v ∷ w ∷ t ∷ s ∷ xs) a b c d e f g 
 
 -- ---- promises
 
+-- a number is at most another, or above it
+pub by-size : (n m : ℕ) {P : Type 0} → (n ≤ m → P) → (m < n → P) → P
+by-size n m {P} f g = go (leb n m) refl
+  where
+    go : (b : Bool) → leb n m ≡ b → P
+    go true e = f (leb-true n m e)
+    go false e = g (leb-false n m e)
+
 -- `out` has the words of a result, or is short
 pub enough : {A : Type 0} (n : ℕ) (out : List ℕ) (before then : A) → n ≤ length out → then ≡ unlessShort n out before then
 unfolding unlessShort
@@ -81,3 +91,10 @@ bare-replies n number out h = handed-replies n h (record { number = refl; words 
 -- the same answer by another name, where all is said of it
 pub replied : (n : ℕ) {a b : Reply} {out : List ℕ} {r : ℕ} {out′ : List ℕ} → b ≡ a → Replies n b out r out′ → Replies n a out r out′
 replied n {a} {b} {out} {r} {out′} e d = subst (λ (a : Reply). Replies n a out r out′) e d
+
+-- handed over for a result of fewer words, the promise for one of more
+pub wider : (m n : ℕ) {a : Reply} {out : List ℕ} {r : ℕ} {out′ : List ℕ} → m ≤ length out → n ≤ length out → Replies m a out r out′ → Replies n a out r out′
+wider m n {out = out} h k d = record {
+  number = d .number ∙ sym (enough m out _ _ h) ∙ enough n out _ _ k;
+  words = d .words ∙ sym (enough m out _ _ h) ∙ enough n out _ _ k;
+}

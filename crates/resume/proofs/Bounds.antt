@@ -13,7 +13,7 @@ use Rattle.slices.proofs.Distinct.{rising-at}
 use Rattle.tables.specs.Fit.{Increasing}
 use Rattle.seek.specs.declared.Place.the-variants.{Global}
 use Rattle.seek.specs.Tests.{Pair, withEach, others, globalTests}
-use Rattle.seek.specs.Inside.{GlobalsFit}
+use Rattle.tables.specs.InsideFit.{GlobalsFit}
 use Rattle.seek.specs.Cursors.{globalsRest, LineFits}
 use Rattle.visit.specs.Inside.{GlobalAsks}
 use Rattle.seek.proofs.Clauses.{length-with, others-zero, others-in, others-out, globals-zero, globals-suc, grest-zero, grest-suc, left-suc}

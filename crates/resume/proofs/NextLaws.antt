@@ -25,7 +25,7 @@ use Rattle.visit.specs.Inside.{TestsMoved}
 use Rattle.visit.proofs.Clauses.{made-full, handed-full, handed-none}
 use Rattle.visit.proofs.Moves.{none-made, none-handed}
 use Rattle.slices.specs.Slices.{clearedFrom}
-use Rattle.refusals.specs.Refusals.{clears, zeroBeyond, _then_, answerBy, leftIn}
+use Rattle.refusals.specs.Refusals.{clears, _then_, answerBy, leftIn}
 use Rattle.refusals.specs.Refusals as refusals-words
 use Rattle.refusals.proofs.Leaving.{numbers-below, clearing-unless, clearing-then}
 use Rattle.grid.specs.declared.Grid.{Grid}
@@ -37,7 +37,7 @@ use Rattle.through.specs.Runs.{outputsLinesCheck, withinFit, alsoIf, runs, runT
 use Rattle.through.specs.Inside.{Goes}
 use Rattle.listed.proofs.CellLaws.{from-done}
 use Rattle.through.proofs.Bounds.{cells-few}
-use Rattle.through.proofs.RunLaws.{lent-fine}
+use Rattle.through.proofs.RunLaws.{lent-fine, cleared}
 use Rattle.through.proofs.Onward.{counts, ends-on, goes-on}
 use Rattle.resume.specs.declared.Cursor.{Cursor}
 use Rattle.resume.specs.declared.Went.{Went}
@@ -253,10 +253,6 @@ module _ (ls : Lines) (cols m : ℕ) (offsets items globals : List ℕ) (c : Cur
             }
 
 -- ---- what `go` and `next` come to
-
-cleared : (xs ys out : List ℕ) (n hits : ℕ) → ys ≡ clearedFrom hits xs → take hits xs ≡ out → length xs ≡ n → length out ≡ hits → ys ≡ zeroBeyond 0 n out
-unfolding clearedFrom zeroBeyond
-cleared xs ys out n hits e p l h = e ∙ rw (p, l, h)
 
 module _ (ls : Lines) (g : Grid) (offsets items globals : List ℕ) (count-of : ℕ) (c : Cursor) (fs ss : List ℕ) where
   module _ (m : ℕ) (em : m ≡ cellsToLook (beside ls g offsets items globals count-of)) (listed : List ℕ) (el : listed ≡ globalsAs (beside ls g offsets items globals count-of)) where

@@ -36,16 +36,13 @@ use Rattle.resume.specs.AsTheyAre.{cellsToLook, listAs, globalsAs}
 use Rattle.resume.specs.Cursors.{cursor, spotOf, cursorOf, leftFrom}
 use Rattle.resume.specs.Answers.{startAnswer}
 use Rattle.resume.specs.Inside.{SpotAsks}
+use Rattle.resume.proofs.CursorLaws.{cursor-end}
 
 -- ---- `start`, by what one test at the bookmark is
 
 cursor-first : (t : Tables) (p : Pair) (ps : List Pair) → cursorOf t (p ∷ ps) ≡ spotOf t (p .place) (p .first) (p .second)
 unfolding cursorOf
 cursor-first t p ps = refl
-
-cursor-none : (t : Tables) → cursorOf t [] ≡ cursor (cellsToLook t + length (globalsAs t)) 0 0
-unfolding cursorOf
-cursor-none t = refl
 
 refused-by : (ls : Lines) (t : Tables) (r : Refusal) (x : Answer (List Pair)) → answer.Refused r ≡ answerBy answer.Refused (nextTest ls) x
     → start.Refused r ≡ answerBy start.Refused (λ rest. start.At (cursorOf t rest)) x
@@ -65,7 +62,7 @@ end-by : (ls : Lines) (t : Tables) (a : Answer (List Pair)) → answer.End ≡ a
     → start.At (cursor (cellsToLook t + length (globalsAs t)) 0 0) ≡ answerBy start.Refused (λ rest. start.At (cursorOf t rest)) a
 unfolding answerBy nextTest
 end-by ls t (refused s) h = let z : _≡_ {A = ℕ} 0 1 = cc in absurd (omega arith)
-end-by ls t (gives []) h = ap start.At (sym (cursor-none t))
+end-by ls t (gives []) h = ap start.At (sym (cursor-end t))
 end-by ls t (gives (p ∷ ps)) h = let z : _≡_ {A = ℕ} 0 1 = cc in absurd (omega arith)
 
 -- ---- each test of a full visit stands in a cell or at a position within the globals

@@ -10,16 +10,12 @@ use lib.ListN.{length, getD, take, set, replicate, length-append, length-replica
 use lib.Seq.{getD-set-other}
 use Rattle.refusals.specs.Refusals.{zeroBeyond}
 use Rattle.slices.specs.Slices.{clearedFrom}
+use Rattle.slices.proofs.Clearing.{zeros-at}
 use Rattle.resume.specs.Inside.{ZeroAfter}
 
 -- a store behind the pairs, or the last of them
 pub zero-set : (hits more v : ℕ) (xs : List ℕ) → ZeroAfter hits xs → ZeroAfter (hits + more) (set xs hits v)
 zero-set hits more v xs z = record { each = λ u h. getD-set-other xs hits u v 0 (λ e. omega arith) ∙ z .each u (omega arith) }
-
-zeros-at : (n k : ℕ) → getD (replicate {A = ℕ} n 0) k 0 ≡ 0
-zeros-at zero k = refl
-zeros-at (suc n) zero = refl
-zeros-at (suc n) (suc k) = zeros-at n k
 
 beyond-at : (xs : List ℕ) (n u : ℕ) → length xs ≤ u → getD (xs ++ replicate {A = ℕ} n 0) u 0 ≡ 0
 beyond-at [] n u h = zeros-at n u

@@ -1,23 +1,8 @@
 // How many cells are looked at, and the globals as they are.
 use slices::least;
+use slices::less_one;
 ghost use mathlib.Core.Path.{_≡_};
-ghost use Prim.Native.Nat.{_-_};
 ghost use Rattle.resume.specs.AsTheyAre.{cellsLookedAt, globalsBy};
-
-pub(crate) fn wide(x: u32) -> usize
-    ensures { λ r. ⌜ r ≡ x ⌝ }
-{
-    x as usize
-}
-
-fn less_one(n: usize) -> usize
-    ensures { λ r. ⌜ r ≡ n - 1 ⌝ }
-{
-    if n == 0 {
-        return 0;
-    }
-    n - 1
-}
 
 // How many cells of a grid are looked at, where there are so many offsets.
 pub(crate) fn reach(cells: usize, told: usize) -> usize

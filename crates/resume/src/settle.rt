@@ -1,6 +1,5 @@
 // The first test at or after a place: among the globals, and in all.
 use crate::Cursor;
-use crate::lists;
 use grid::Grid;
 use listed::CellAt;
 ghost use mathlib.Core.Path.{_≡_};
@@ -101,7 +100,7 @@ pub(crate) fn cursor_at(
         return Cursor {
             place: reach + a,
             i: 0,
-            j: lists::wide(d),
+            j: slices::wide(d),
         };
     }
     Cursor {

@@ -2,9 +2,9 @@
 use crate::Cursor;
 use crate::StartAnswer;
 use crate::lists;
-use crate::lists::wide;
 use grid::Grid;
 use seek::Place;
+use slices::wide;
 use visit::TestAnswer;
 ghost use mathlib.Core.Path.{_≡_};
 ghost use Rattle.grid.specs.Domain.{lines};

@@ -12,7 +12,8 @@ use Rattle.grid.proofs.Bools.{and-left, and-right, and-both}
 use Rattle.samples.specs.declared.Raised.{Raised}
 use Rattle.samples.specs.Samples.{sample, lifted, raised, raisedOf, allSamples, sampled}
 use Rattle.samples.specs.Sharing.{leftSum, rightSum, aside, boxesOverlap, sharing}
-use Rattle.samples.proofs.Wholes.{Is, one-number, same-number, is-point}
+use Rattle.grid.proofs.Wholes.{Is, one-number, same-number}
+use Rattle.samples.proofs.Wholes.{is-point}
 use Rattle.samples.proofs.Plane.{Weighted, Overlap, Straddle, First, yes, roles, overlap-of, straddles}
 use Rattle.samples.proofs.Raising.{raised-is, sampled-raised}
 

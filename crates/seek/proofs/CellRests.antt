@@ -10,7 +10,7 @@ use Rattle.tables.specs.Tables.{listIn}
 use Rattle.seek.specs.declared.Place.{Place}
 use Rattle.seek.specs.Tests.{Pair, pair, withEach, pairs, placeOf, cellTests}
 use Rattle.seek.specs.Cursors.{restIn, cellsRest}
-use Rattle.seek.specs.Inside.{CellsFit}
+use Rattle.tables.specs.InsideFit.{CellsFit}
 use Rattle.seek.proofs.Clauses.{left-suc, with-nil, with-cons, pairs-nil, pairs-cons, cells-suc, cells-zero, rest-suc, rest-zero}
 
 -- ---- one list

@@ -16,7 +16,8 @@ use Rattle.seek.specs.declared.PairAnswer.the-variants as answer
 use Rattle.seek.specs.Tests.{Pair, pair, withEach, placeOf, others, globalTests}
 use Rattle.seek.specs.Bookmarks.{firstOf}
 use Rattle.seek.specs.Cursors.{globalsRest, LineFits, rankOf, atTest, atFirst}
-use Rattle.seek.specs.Inside.{CellsFit, GlobalsFit, stopOf, PairAtAsks, pairOf}
+use Rattle.tables.specs.InsideFit.{CellsFit, GlobalsFit}
+use Rattle.seek.specs.Inside.{stopOf, PairAtAsks, pairOf}
 use Rattle.seek.proofs.Clauses.{left-suc, with-cons, others-out}
 use Rattle.seek.proofs.CellRests.{length-list}
 use Rattle.seek.proofs.GlobalRests.{grest-at, stop-most, free}

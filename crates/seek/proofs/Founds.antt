@@ -17,14 +17,16 @@ use Rattle.seek.specs.declared.Place.the-variants.{Global}
 use Rattle.seek.specs.declared.Cursor.{Cursor}
 use Rattle.seek.specs.Tests.{Pair, withEach, pairs, placeOf, cellTests, others, globalTests, testsOf}
 use Rattle.seek.specs.Bookmarks.{visitCheck}
-use Rattle.seek.specs.Inside.{tri, CellsFit, GlobalsFit, CellSought, RowSought, GlobalSought, LineSought, SoughtAsks, PairAtAsks, SoughtAt}
+use Rattle.tables.specs.InsideFit.{CellsFit, GlobalsFit}
+use Rattle.seek.specs.Inside.{tri, CellSought, RowSought, GlobalSought, LineSought, SoughtAsks, PairAtAsks, SoughtAt}
 use Rattle.seek.specs.Cursors.{cellsRest, globalsRest, restIn, restOf, PlaceFits, LineFits, atFirst, CursorIs}
 use Rattle.seek.proofs.Clauses.{left-suc, length-with, drop-with, with-cons, pairs-cons, cells-zero, cells-suc, globals-zero, globals-suc}
 use Rattle.seek.proofs.CellRests.{length-list, rest-at, cells-done}
 use Rattle.seek.proofs.GlobalRests.{grest-at, globals-begin, globals-done}
 use Rattle.seek.proofs.FirstTests.{first-in-cell, first-at-global, first-at-end, reads-cell, reads-global, reads-end}
 use Rattle.seek.proofs.Lengths.{lines-count, length-pairs}
-use Rattle.seek.proofs.Standing.{Stands, stands, globals-fit}
+use Rattle.tables.proofs.Parts.{fit-globals}
+use Rattle.seek.proofs.Standing.{Stands, stands}
 use Rattle.seek.proofs.Clauses.{regroup}
 use Rattle.seek.proofs.Passed.{here, m-fits, m-few, lines-few}
 
@@ -48,7 +50,7 @@ module _ (ls : Lines) (g : Grid) (offsets items globals : List ℕ) (k : ℕ) (f
   table = m-fits ls g offsets items globals k fine m e
 
   pub table-globals : GlobalsFit (count ls) k globals
-  table-globals = globals-fit (beside ls g offsets items globals k) ((here ls g offsets items globals k fine) .tables)
+  table-globals = fit-globals (beside ls g offsets items globals k) ((here ls g offsets items globals k fine) .tables)
 
   stood : (c : Cursor) → c .i < c .j → (c .cell < m → c .j < getD offsets (suc (c .cell)) 0 - getD offsets (c .cell) 0) → PairAtAsks m offsets items globals k c
   stood c l f = record { table = table; few = m-few ls g offsets items globals k fine m e; long = table-globals .long; later = l; inside = f }

@@ -15,7 +15,8 @@ use Rattle.slices.specs.Lists.{elem}
 use Rattle.slices.proofs.Members.{elem-at}
 use Rattle.seek.specs.declared.Place.the-variants.{Global}
 use Rattle.seek.specs.Tests.{Pair, pair, withEach, others, globalTests}
-use Rattle.seek.specs.Inside.{numbers, GlobalsFit, stopIf, stopOf}
+use Rattle.tables.specs.InsideFit.{GlobalsFit}
+use Rattle.seek.specs.Inside.{numbers, stopIf, stopOf}
 use Rattle.seek.specs.Cursors.{globalsRest, LineFits}
 use Rattle.seek.proofs.Clauses.{left-suc, with-nil, with-append, globals-suc, globals-zero, grest-suc, grest-zero, others-zero, others-in}
 use Rattle.seek.proofs.OtherLines.{elem-none, others-run}

@@ -8,16 +8,19 @@ use native.Mathlib.Omega.{arith}
 use lib.ListN.{length, getD, take, drop, length-append}
 use lib.Seq.{length-take-le}
 use Rattle.slices.specs.Lists.{Below, Rising}
+use Rattle.slices.proofs.Distinct.{length-rising}
 use Rattle.grid.specs.declared.Grid.{Grid}
 use Rattle.grid.specs.Domain.{Lines, count}
 use Rattle.tables.specs.Tables.{Tables, cells, listIn, globalsOf, beside}
 use Rattle.tables.specs.Fit.{TablesFit, Increasing}
 use Rattle.seek.specs.declared.Place.{Place}
 use Rattle.seek.specs.Tests.{Pair, withEach, pairs, placeOf, cellTests, others, globalTests, testsOf}
-use Rattle.seek.specs.Inside.{tri, GlobalsFit}
+use Rattle.tables.specs.InsideFit.{GlobalsFit}
+use Rattle.seek.specs.Inside.{tri}
 use Rattle.seek.proofs.Clauses.{length-with, pairs-nil, pairs-cons, cells-zero, cells-suc, globals-zero, globals-suc}
 use Rattle.seek.proofs.OtherLines.{others-count, rising-take, below-take}
-use Rattle.seek.proofs.Standing.{Stands, globals-fit}
+use Rattle.tables.proofs.Parts.{fit-globals}
+use Rattle.seek.proofs.Standing.{Stands}
 
 pub tri-suc : (n : ℕ) → tri (suc n) ≡ n + tri n
 unfolding tri
@@ -65,10 +68,9 @@ length-globals n m globals t (suc left) p h =
 
 -- ---- all of them fit 64 bits
 
--- a list that strictly increases below n has at most n entries
-length-rising : (low n : ℕ) (xs : List ℕ) → low ≤ n → Rising low xs → Below n xs → length xs + low ≤ n
-length-rising low n [] h r b = omega arith
-length-rising low n (x ∷ xs) h r b = omega (arith, r .0, length-rising (suc x) n xs (b .0) (r .1) (b .1))
+-- a list of at most 65,536 lines has fewer than 2 ^ 31 tests
+pub tri-few : (k : ℕ) → k ≤ 65536 → tri k ≤ 2147450880
+tri-few k h = omega (arith, tri-mono k 65536 h, tri-twice 65536)
 
 pub length-increasing : (n : ℕ) (xs : List ℕ) → Increasing n xs → length xs ≤ n
 length-increasing n xs i = omega (arith, length-rising 0 n xs (omega arith) (i .rises) (i .below))
@@ -97,7 +99,7 @@ total-fits ls g offsets items globals m s =
     let c = cells-most (g .cols) offsets items n (cells t) 0 (λ x a b. length-increasing n (listIn offsets items x) (s .tables .lists .lists x (omega arith))) in
     let k : length (take m globals) ≤ n = length-increasing n (take m globals) (s .tables .globals) in
     let i : m ≤ n = omega (arith, length-take-le m globals (s .tables .counted)) in
-    let d = length-globals n m globals (globals-fit t (s .tables)) m 0 (omega arith) in
+    let d = length-globals n m globals (fit-globals t (s .tables)) m 0 (omega arith) in
     fits (g .rows * g .cols) m n _ (length (cellTests (g .cols) offsets items (cells t) 0)) (length (globalTests n globals m 0))
     (s .grid .counts .cells) (s .lines .few) i c (omega (arith, tri-zero))
     (length-append (cellTests (g .cols) offsets items (cells t) 0) (globalTests n globals m 0))

@@ -13,7 +13,7 @@ use borrow.Author.Tests.{eq-eqb, ne-eqb}
 use Rattle.slices.specs.Lists.{elem, Below, Rising}
 use Rattle.slices.specs.Slices.{consUnless}
 use Rattle.slices.proofs.Members.{elem-head}
-use Rattle.slices.proofs.Distinct.{rising-low}
+use Rattle.slices.proofs.Distinct.{head-alone}
 use Rattle.seek.specs.Tests.{others}
 use Rattle.seek.specs.Inside.{numbers}
 use Rattle.seek.proofs.Clauses.{others-zero, others-suc, others-in, others-out, numbers-zero, numbers-suc}
@@ -44,12 +44,6 @@ others-jump d left k xs h = ap (drop d) (others-run d left k xs h) ∙ drop-at (
 
 -- ---- how many they are, of a list that rises
 
-elem-below : (k : ℕ) (xs : List ℕ) → Rising (suc k) xs → elem k xs ≡ false
-elem-below k [] r = refl
-elem-below k (x ∷ xs) r =
-    let e : eqb k x ≡ false = ne-eqb k x (λ e. omega (arith, r .0)) in
-    rw e (elem-below k xs (rising-low (suc k) (suc x) xs (omega (arith, r .0)) (r .1)))
-
 others-past : (x : ℕ) (xs : List ℕ) (left k : ℕ) → x < k → others (x ∷ xs) left k ≡ others xs left k
 others-past x xs zero k h = simp others-zero
 others-past x xs (suc left) k h =
@@ -68,7 +62,7 @@ count-cons left k x xs r hit miss (yes e) =
 count-cons left k x xs r hit miss (no e) =
     let h : suc k ≤ x = omega (arith, r .0, e) in
     let r₁ : Rising (suc k) (x ∷ xs) = (h, r .1) in
-    rw (others-out (x ∷ xs) left k (elem-below k (x ∷ xs) r₁)) (omega (arith, miss r₁))
+    rw (others-out (x ∷ xs) left k (head-alone k (x ∷ xs) r₁)) (omega (arith, miss r₁))
 
 pub others-count : (left k n : ℕ) (xs : List ℕ) → n ≡ k + left → Rising k xs → Below n xs → length (others xs left k) + length xs ≡ left
 others-count zero k n [] e r b = rw others-zero (omega arith)

@@ -18,9 +18,10 @@ use Rattle.seek.specs.declared.Place.the-variants.{Global}
 use Rattle.seek.specs.declared.PairAnswer.the-variants as answer
 use Rattle.seek.specs.Tests.{Pair, withEach, pairs, placeOf, cellTests, others, globalTests, testsOf}
 use Rattle.seek.specs.Bookmarks.{visitCheck, bookmarkCheck, testsFrom, firstOf, pairAt}
-use Rattle.seek.specs.Inside.{GlobalsFit}
+use Rattle.tables.specs.InsideFit.{GlobalsFit}
 use Rattle.seek.proofs.Clauses.{with-nil, with-cons, pairs-nil, pairs-cons, cells-zero, cells-suc, globals-zero, globals-suc, others-zero, others-in, others-out}
-use Rattle.seek.proofs.Standing.{stands, lists-below, globals-fit}
+use Rattle.tables.proofs.Parts.{fit-globals}
+use Rattle.seek.proofs.Standing.{stands, lists-below}
 
 -- the lines of each test are below n
 abbrev Within : ℕ → List Pair → Type 0
@@ -73,7 +74,7 @@ unfolding testsOf
 tests-lines t f =
     append (t .lines) (cellTests (t .cols) (t .offsets) (t .items) (cells t) 0) (globalTests (t .lines) (t .globals) (t .«global_count») 0)
     (lists (t .lines) (t .cols) (t .offsets) (t .items) (cells t) 0 (λ x l. lists-below t f x (omega arith)))
-    (globals-lines (t .lines) (t .«global_count») (t .globals) (globals-fit t f) (t .«global_count») 0 (omega arith))
+    (globals-lines (t .lines) (t .«global_count») (t .globals) (fit-globals t f) (t .«global_count») 0 (omega arith))
 
 -- where a test stands at a bookmark, the lines passed their checks, and both of the test are among them
 pub record LinesOf (ls : Lines) (n x y : ℕ) : Type 0 where

@@ -11,8 +11,9 @@ use Rattle.grid.specs.declared.Grid.{Grid}
 use Rattle.grid.specs.Domain.{Lines, count}
 use Rattle.tables.specs.Tables.{listIn, beside}
 use Rattle.seek.specs.Bookmarks.{visitCheck}
-use Rattle.seek.specs.Inside.{CellsFit}
-use Rattle.seek.proofs.Standing.{Stands, stands, cells-fit, lists-below, has-columns}
+use Rattle.tables.specs.InsideFit.{CellsFit}
+use Rattle.tables.proofs.Parts.{fit-cells}
+use Rattle.seek.proofs.Standing.{Stands, stands, lists-below, has-columns}
 use Rattle.seek.proofs.Lengths.{length-increasing}
 
 -- what stands, for m cells as the code counts them
@@ -28,7 +29,7 @@ module _ (ls : Lines) (g : Grid) (offsets items globals : List ℕ) (count-of : 
 
   module _ (m : ℕ) (e : m ≡ g .rows * g .cols) where
     pub m-fits : CellsFit m offsets items
-    m-fits = rw e (cells-fit (beside ls g offsets items globals count-of) (here .tables))
+    m-fits = rw e (fit-cells (beside ls g offsets items globals count-of) (here .tables))
 
     pub m-below : (c : ℕ) → c < m → Below (count ls) (listIn offsets items c)
     m-below c l = lists-below (beside ls g offsets items globals count-of) (here .tables) c (rw e at l)

@@ -3,11 +3,9 @@ use mathlib.Core.Path.{_≡_, refl, sym, ap, _∙_}
 use mathlib.Core.Bool.{Bool, true, false, _&&_}
 use mathlib.Core.List.{List, []}
 use Prim.Native.Nat.{ℕ, zero, suc, _+_, _-_, _*_, _≤_, _<_, _^_}
-use native.Mathlib.Nat.{mul-le-mul-right, suc-mul}
-use native.Mathlib.Numerals.{add-one}
 use native.Mathlib.Omega.{arith}
 use lib.ListN.{length, getD, take, drop}
-use lib.Seq.{slice, length-slice}
+use lib.Seq.{length-slice}
 use lib.Dec.{ltb}
 use borrow.Author.Tests.{ltb-true}
 use Rattle.refusals.specs.declared.Refusal.{Refusal}
@@ -19,15 +17,15 @@ use Rattle.refusals.proofs.Checks.{unless-fine, andThen-refused, andThen-fine, 
 use Rattle.grid.specs.declared.Grid.{Grid}
 use Rattle.grid.specs.Domain.{cellCheck}
 use Rattle.grid.proofs.Bools.{and-left, and-right}
-use Rattle.tables.specs.Tables.{Tables, cells, listOf}
+use Rattle.grid.proofs.Shapes.{cell-inside}
+use Rattle.tables.specs.Tables.{Tables, cells, partIn}
 use Rattle.tables.specs.Fit.{TablesFit, standingCheck}
 use Rattle.tables.proofs.Facts.{part-slice}
 use Rattle.tables.proofs.Checking.{standing-says}
 use Rattle.seek.specs.declared.Place.{Place}
 use Rattle.seek.specs.declared.Place.the-variants.{Cell, Global}
-use Rattle.seek.specs.Inside.{CellsFit}
 use Rattle.seek.specs.Places.{placeCheck, listCheck, listAt, partAt}
-use Rattle.seek.proofs.Standing.{cells-fit}
+use Rattle.tables.proofs.Parts.{fit-cells, part-fits}
 
 -- ---- the checks
 
@@ -72,12 +70,6 @@ global-place g t p h =
       inside = ltb-true p (t .«global_count») (unless-fine (ltb p (t .«global_count»)) 9 p (andThen-right _ _ h));
     }
 
--- a cell of the grid has a number below the number of cells
-pub cell-inside : (rows cols row col : ℕ) → row < rows → col < cols → row * cols + col < rows * cols
-cell-inside rows cols row col h k =
-    let u : suc row * cols ≤ rows * cols = mul-le-mul-right cols h in
-    omega (arith, suc-mul row cols)
-
 -- ---- the part
 
 module _ (g : Grid) (t : Tables) (pl : Place) where
@@ -107,25 +99,11 @@ module _ (g : Grid) (t : Tables) (rows : t .rows ≡ g .rows) (cols : t .cols �
   number-in : r * k + l < cells t
   number-in = rw (rows, cols) number
 
-  pub number-next : r * k + l + 1 < length (t .offsets)
-  number-next = omega (arith, number-in, facts .table .long)
-
-  module _ (from to : ℕ) (ef : from ≡ getD (t .offsets) (r * k + l) 0) (et : to ≡ getD (t .offsets) (r * k + l + 1) 0) where
-    to-is : to ≡ getD (t .offsets) (suc (r * k + l)) 0
-    to-is = et ∙ rw add-one
-
-    pub cell-from : from ≤ to
-    cell-from = omega (arith, ef, to-is, (cells-fit t (facts .table)) .rises (r * k + l) number-in)
-
-    pub cell-to : to ≤ length (t .items)
-    cell-to = omega (arith, to-is, (cells-fit t (facts .table)) .within (suc (r * k + l)) number-in)
-
-    pub part-cell : take (to - from) (drop from (t .items)) ≡ partAt g t pl
-    unfolding listAt
-    part-cell =
-        let n : r * k + l ≡ row * t .cols + col = rw (er, ek, el, cols) in
-        part-slice from to (t .items)
-        ∙ rw (ef, to-is, n, e) (part-fine g t (Cell row col) at-cell)
+  pub part-cell : {s : List ℕ} → s ≡ partIn (t .offsets) (t .items) (r * k + l) → s ≡ partAt g t pl
+  unfolding listAt
+  part-cell q =
+      let n : r * k + l ≡ row * t .cols + col = rw (er, ek, el, cols) in
+      q ∙ part-fits (fit-cells t (facts .table)) (r * k + l) number-in ∙ rw (n, e) (part-fine g t (Cell row col) at-cell)
 
 -- the globals from a position on
 module _ (g : Grid) (t : Tables) (pl : Place) (h : listCheck g t pl ≡ Fine) (p : ℕ) (e : pl ≡ Global p) where
@@ -174,7 +152,7 @@ unfolding listAt
 cell-ends g t rows cols row col h =
     let p = cell-place g t row col h in
     let k : row * t .cols + col < cells t = rw (rows, cols) (cell-inside (g .rows) (g .cols) row col (p .rows) (p .cols)) in
-    let c = cells-fit t (p .table) in
+    let c = fit-cells t (p .table) in
     let low = c .rises (row * t .cols + col) k in
     let high = c .within (suc (row * t .cols + col)) k in
     omega (arith, length-slice (getD (t .offsets) (row * t .cols + col) 0) (getD (t .offsets) (suc (row * t .cols + col)) 0) (t .items) high)

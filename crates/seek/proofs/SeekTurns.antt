@@ -12,7 +12,8 @@ use Rattle.tables.specs.Tables.{listIn}
 use Rattle.seek.specs.declared.Place.{Place}
 use Rattle.seek.specs.declared.Place.the-variants.{Global}
 use Rattle.seek.specs.Tests.{Pair, withEach, pairs, placeOf, cellTests, others, globalTests}
-use Rattle.seek.specs.Inside.{tri, numbers, stopOf, CellsFit, CellSought, RowSought, GlobalsFit, GlobalSought, LineSought, SoughtAsks}
+use Rattle.tables.specs.InsideFit.{CellsFit, GlobalsFit}
+use Rattle.seek.specs.Inside.{tri, numbers, stopOf, CellSought, RowSought, GlobalSought, LineSought, SoughtAsks}
 use Rattle.seek.specs.Cursors.{LineFits}
 use Rattle.seek.proofs.Clauses.{left-suc, drop-past, length-with, drop-with, pairs-cons, cells-suc, globals-suc}
 use Rattle.seek.proofs.CellRests.{length-list}

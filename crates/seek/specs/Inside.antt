@@ -8,6 +8,7 @@ use lib.Dec.{leb, ltb}
 use Rattle.grid.specs.declared.Grid.{Grid}
 use Rattle.grid.specs.Domain.{Lines}
 use Rattle.tables.specs.Tables.{Tables, cells}
+use Rattle.tables.specs.InsideFit.{CellsFit, GlobalsFit}
 use Rattle.seek.specs.declared.Place.{Place}
 use Rattle.seek.specs.declared.Place.the-variants.{Global}
 use Rattle.seek.specs.declared.Cursor.{Cursor}
@@ -18,20 +19,6 @@ use Rattle.seek.specs.declared.bookmarks.Sought.the-variants as sought
 use Rattle.seek.specs.Tests.{Pair, pairs, placeOf, cellTests, others, globalTests, testsOf}
 use Rattle.seek.specs.Bookmarks.{firstOf}
 use Rattle.seek.specs.Cursors.{LineFits, CursorIs}
-
--- ---- tables that fit
-
--- cells + 1 offsets that never fall and stay within the items
-pub record CellsFit (m : ℕ) (offsets items : List ℕ) : Type 0 where
-  pub long : m < length offsets
-  pub rises : (c : ℕ) → c < m → getD offsets c 0 ≤ getD offsets (suc c) 0
-  pub within : (c : ℕ) → c ≤ m → getD offsets c 0 ≤ length items
-
--- the first m entries increase below n
-pub record GlobalsFit (n m : ℕ) (globals : List ℕ) : Type 0 where
-  pub long : m ≤ length globals
-  pub rises : (a b : ℕ) → a < b → b < m → getD globals a 0 < getD globals b 0
-  pub below : (a : ℕ) → a < m → getD globals a 0 < n
 
 -- ---- runs of lines
 

@@ -3,10 +3,10 @@ use crate::Cursor;
 use crate::PairAnswer;
 use crate::Place;
 use crate::SeekAnswer;
-use crate::lists::wide;
 use grid::Grid;
 use refusals::Check;
 use refusals::Refusal;
+use slices::wide;
 ghost use mathlib.Core.Path.{_≡_};
 ghost use Prim.Native.Nat.{_*_, _<_};
 ghost use Rattle.tables.specs.Tables.{beside};
@@ -14,7 +14,8 @@ ghost use Rattle.refusals.specs.declared.Check.the-variants.{Fine};
 ghost use Rattle.grid.specs.Domain.{lines};
 ghost use Rattle.seek.specs.Bookmarks.{visitCheck, pairAt};
 ghost use Rattle.seek.specs.Cursors.{FindIs};
-ghost use Rattle.seek.specs.Inside.{tri, CellsFit, CellSought, RowSought, GlobalsFit, GlobalSought, SoughtAsks, LineSought, SeekIs, PairAtAsks, pairOf};
+ghost use Rattle.tables.specs.InsideFit.{CellsFit, GlobalsFit};
+ghost use Rattle.seek.specs.Inside.{tri, CellSought, RowSought, GlobalSought, SoughtAsks, LineSought, SeekIs, PairAtAsks, pairOf};
 
 pub(crate) enum Sought {
     At(Cursor),

@@ -2,15 +2,10 @@
 use crate::Place;
 use grid::Grid;
 use refusals::Check;
+use slices::wide;
 ghost use mathlib.Core.Path.{_≡_};
 ghost use Rattle.tables.specs.Tables.{tables};
 ghost use Rattle.seek.specs.Places.{placeCheck, listCheck, partAt};
-
-pub(crate) fn wide(x: u32) -> usize
-    ensures { λ r. ⌜ r ≡ x ⌝ }
-{
-    x as usize
-}
 
 // Refusal 9, of a place beyond its end.
 fn check_place(grid: Grid, global_count: usize, place: Place) -> Check
@@ -60,9 +55,7 @@ pub fn list_at<'a>(
     match place {
         Place::Cell { row, col } => {
             let cell = wide(row) * wide(grid.cols) + wide(col);
-            let from = wide(offsets[cell]);
-            let to = wide(offsets[cell + 1]);
-            &items[from..to]
+            tables::list_of(offsets, items, cell)
         }
         Place::Global(p) => &globals[p..global_count],
     }

@@ -2,7 +2,7 @@
 -- So no caller sees refusal 8 on a grid that a build returns. `all-fit` says it in one statement, for whoever tries them; which sizing it was is asked for
 -- the first size alone. Assumes nothing.
 use mathlib.Core.Path.{_≡_, refl, sym, ap, _∙_, subst}
-use mathlib.Core.Bool.{Bool, true, false, _&&_}
+use mathlib.Core.Bool.{true, false, _&&_}
 use Prim.Native.Nat.{ℕ, zero, suc, _+_, _-_, _*_, _^_, _≤_, _<_}
 use native.Mathlib.Nat.{le-trans, mul-le-mul, mul-le-mul-left, pow-succ'}
 use native.Mathlib.Numerals.{add-one}
@@ -13,6 +13,7 @@ use lib.ListN.{getD}
 use lib.IntN.{negsuc}
 use lib.Ieee.{Float, nan, fin, binary64, round, div, le}
 use lib.Ieee.Positive.{num, den}
+use lib.Ieee.Bits.{is-true}
 use Rattle.numbers.specs.Order.{magnitudeOf}
 use Rattle.numbers.specs.Ceiling.{ceilingOf}
 use Rattle.grid.specs.Domain.{Lines, count, coordinate, point, segment, lineFits, counts, shape, sizeFits, sizesFit, fit}
@@ -32,10 +33,6 @@ use Rattle.sizing.proofs.Width.{stretched}
 use Rattle.sizing.proofs.Halving.{Sized}
 use Rattle.sizing.proofs.CountLaws.{count-exact, count-most, count-some, count-twice, half-across}
 use Rattle.sizing.proofs.SizeLaws.{SizedOn, first-sized}
-
-holds : (b : Bool) → T b → b ≡ true
-holds true t = refl
-holds false t = absurd t
 
 -- ---- the bounds of lines that pass the checks
 
@@ -107,7 +104,7 @@ size-fits j s z few =
     let s+ = nonneg-of-positive s (z .above) in
     let a : 4722366482869645 * den s ≤ num s * 2 ^ 74 = le-trans (z .least) (mul-le-mul-left (num s) (mul-le-mul-left (2 ^ 72) few)) in
     let b : num s * 1 ≤ 2000000000 * den s = let m = z .most in omega arith in
-    rw (quarter-is, 2e9-is) (and-both (le quarter s) (le s 2e9) (holds (le quarter s) (cross→le quarter s tt s+ a)) (holds (le s 2e9) (cross→le s 2e9 s+ tt b)))
+    rw (quarter-is, 2e9-is) (and-both (le quarter s) (le s 2e9) (is-true (le quarter s) (cross→le quarter s tt s+ a)) (is-true (le s 2e9) (cross→le s 2e9 s+ tt b)))
 
 module _ (e : Extent) (w : Within e) (j : ℕ) (s : Size) (z : SizedOn e j s) (few : j ≤ 4) where
   abbrev cols : ℕ
@@ -150,7 +147,7 @@ pub record Tried (e : Extent) (k : ℕ) (s : Size) : Type 0 where
   pub sized : SizedOn e (2 ^ k) s
   pub fits : fit (gridOf e s) ≡ true
 
-power-within : (k : ℕ) → k ≤ 2 → 2 ^ k ≤ 4
+pub power-within : (k : ℕ) → k ≤ 2 → 2 ^ k ≤ 4
 power-within zero h = omega arith
 power-within (suc zero) h = omega arith
 power-within (suc (suc zero)) h = omega arith

@@ -14,9 +14,10 @@ use lib.Ieee.Fits.{down-pos}
 use lib.Ieee.Scale.{finite}
 use Rattle.numbers.specs.Order.{leastOf, greatestOf, magnitudeOf}
 use Rattle.numbers.proofs.OrderLaws.{magnitude-finite, magnitude-within}
-use Rattle.numbers.proofs.FloatOrder.{number, float-le-trans, at-most, le-neg}
+use Rattle.numbers.proofs.FloatOrder.{number, float-le-trans, at-most, le-neg, neg-finite}
 use Rattle.numbers.proofs.FloatSum.{zero-le, add-mono, add-swap}
 use Rattle.grid.specs.Domain.{coordinate}
+use Rattle.grid.proofs.Floats.{coordinate-number}
 use Rattle.sizing.specs.Bounds.{picked, lowest, highest, reach}
 use Rattle.sizing.proofs.Constants.{nought, 1e9, 1e9-is, 2e9, top, top-is, bottom-is}
 use Rattle.numbers.proofs.Extremes.{least-one, greatest-one, least-under, greatest-over}
@@ -27,11 +28,6 @@ pub record Coordinate (v : Float) : Type 0 where
   pub fine : T (finite v)
   pub above : T (le (neg 1e9) v)
   pub below : T (le v 1e9)
-
-number-of : (v : Float) → T (finite v) → T (number v)
-number-of nan t = absurd t
-number-of (inf s) t = absurd t
-number-of (fin s m e) t = tt
 
 pub coordinate-says : (v : Float) → coordinate v ≡ true → Coordinate v
 unfolding coordinate
@@ -49,9 +45,6 @@ Lie starts ends n = (i : ℕ) → i < n → (coordinate (getD starts i nan) ≡ 
 -- v is a coordinate of one of the first n lines
 abbrev pub Among : List Float → List Float → ℕ → Float → Type 0
 Among starts ends n v = (i : ℕ) × (i < n) × ((v ≡ getD starts i nan) ⊎ (v ≡ getD ends i nan))
-
-number-at : (v : Float) → coordinate v ≡ true → T (number v)
-number-at v h = number-of v (coordinate-says v h .fine)
 
 module _ (pick : Float → Float → Float) (none : Float) (R : Float → Float → Type 0)
     (through : (x y z : Float) → R x y → R y z → R x z)
@@ -76,7 +69,7 @@ module _ (pick : Float → Float → Float) (none : Float) (R : Float → Float 
   picked-number : (n : ℕ) → Lie starts ends n → T (number (all n))
   unfolding picked
   picked-number zero h = start
-  picked-number (suc n) h = one (λ (v : Float). T (number v)) (all n) (here n) (picked-number n (fewer-lie n h)) (number-at (here n) (here-obeys n h))
+  picked-number (suc n) h = one (λ (v : Float). T (number v)) (all n) (here n) (picked-number n (fewer-lie n h)) (coordinate-number (here n) (here-obeys n h))
 
   pub picked-obeys : (n : ℕ) → Lie starts ends (suc n) → coordinate (all (suc n)) ≡ true
   unfolding picked
@@ -87,9 +80,9 @@ module _ (pick : Float → Float → Float) (none : Float) (R : Float → Float 
   unfolding picked
   picked-before zero h i l = absurd (omega arith)
   picked-before (suc n) h i l =
-      let o = before (all n) (here n) (picked-number n (fewer-lie n h)) (number-at (here n) (here-obeys n h)) in
+      let o = before (all n) (here n) (picked-number n (fewer-lie n h)) (coordinate-number (here n) (here-obeys n h)) in
       let k = h n (omega arith) in
-      let p = before (getD starts n nan) (getD ends n nan) (number-at (getD starts n nan) (k .0)) (number-at (getD ends n nan) (k .1)) in
+      let p = before (getD starts n nan) (getD ends n nan) (coordinate-number (getD starts n nan) (k .0)) (coordinate-number (getD ends n nan) (k .1)) in
       let m : i ≤ n = omega arith in
       elim (eq-or-lt-of-le m) [
         | inl e ↦ subst (λ (j : ℕ). R (all (suc n)) (getD starts j nan) × R (all (suc n)) (getD ends j nan)) (sym e)
@@ -120,7 +113,7 @@ below-top v h = go (lt v top) refl
 
     go : (b : Bool) → lt v top ≡ b → b ≡ true
     go true e = refl
-    go false e = absurd (unfold le in float-le-trans top v 1e9 (at-most top v tt (number-at v h) e) (c .below))
+    go false e = absurd (unfold le in float-le-trans top v 1e9 (at-most top v tt (coordinate-number v h) e) (c .below))
 
 above-bottom : (v : Float) → coordinate v ≡ true → lt (neg top) v ≡ true
 above-bottom v h = go (lt (neg top) v) refl
@@ -130,7 +123,7 @@ above-bottom v h = go (lt (neg top) v) refl
 
     go : (b : Bool) → lt (neg top) v ≡ b → b ≡ true
     go true e = refl
-    go false e = absurd (unfold le neg in float-le-trans (neg 1e9) v (neg top) (c .above) (at-most v (neg top) (number-at v h) (unfold neg in tt) e))
+    go false e = absurd (unfold le neg in float-le-trans (neg 1e9) v (neg top) (c .above) (at-most v (neg top) (coordinate-number v h) (unfold neg in tt) e))
 
 least-first : (v : Float) → coordinate v ≡ true → leastOf top v ≡ v
 unfolding leastOf
@@ -208,12 +201,6 @@ nothing-left (fin s m e) t = go s
     go : (s : Bool) → T (le nought (sum binary64 s (m * up e * down e) (not s) (m * up e * down e) (down e * down e)))
     go true = unfold sum in rw irr (zero-le binary64 (m * up e * down e - m * up e * down e) (down e * down e) C+)
     go false = unfold sum in rw irr (zero-le binary64 (m * up e * down e - m * up e * down e) (down e * down e) C+)
-
-neg-finite : (v : Float) → T (finite v) → T (finite (neg v))
-unfolding neg
-neg-finite nan t = absurd t
-neg-finite (inf s) t = absurd t
-neg-finite (fin s m e) t = tt
 
 pub difference : (lo hi : Float) → Coordinate lo → Coordinate hi → T (le lo hi) → Spans (sub binary64 hi lo)
 unfolding sub

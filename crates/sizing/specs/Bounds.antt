@@ -1,10 +1,9 @@
 -- Document 01, "The build": the bounds over all endpoints. Definitions only.
 use Prim.Native.Nat.{ℕ, zero, suc, _-_, _*_, _^_, min}
-use mathlib.Core.Bool.{true, false}
 use mathlib.Core.List.{List}
 use lib.ListN.{length, getD}
-use lib.Ieee.{Float, nan, binary64, round}
-use Rattle.numbers.specs.Arithmetic.{_-₆₄_}
+use lib.Ieee.{Float, nan}
+use Rattle.numbers.specs.Arithmetic.{_-₆₄_, decimal, minusDecimal}
 use Rattle.numbers.specs.Order.{leastOf, greatestOf}
 use Rattle.grid.specs.Domain.{Lines}
 use Rattle.sizing.specs.declared.Extent.{Extent}
@@ -18,11 +17,11 @@ picked pick none starts ends (suc i) = pick (picked pick none starts ends i) (pi
 -- the least and the greatest coordinate of the first n lines; of no lines they are the largest finite value, (2 ^ 53 - 1) * 2 ^ 971, and its negative
 unfoldable pub lowest : List Float → List Float → ℕ → Float
 unfolding picked
-lowest starts ends n = picked leastOf (round binary64 false ((2 ^ 53 - 1) * 2 ^ 971) 1) starts ends n
+lowest starts ends n = picked leastOf (decimal ((2 ^ 53 - 1) * 2 ^ 971) 1) starts ends n
 
 unfoldable pub highest : List Float → List Float → ℕ → Float
 unfolding picked
-highest starts ends n = picked greatestOf (round binary64 true ((2 ^ 53 - 1) * 2 ^ 971) 1) starts ends n
+highest starts ends n = picked greatestOf (minusDecimal ((2 ^ 53 - 1) * 2 ^ 971) 1) starts ends n
 
 -- how far they are apart: the greatest less the least
 unfoldable pub reach : List Float → List Float → ℕ → Float

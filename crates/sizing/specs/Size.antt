@@ -1,8 +1,7 @@
 -- The first size of the cells, in either sizing, and half of a size. Each float step rounds once, in the written order. Definitions only.
 use Prim.Native.Nat.{ℕ}
 use mathlib.Core.Bool.{cond}
-use lib.IntN.{pos}
-use lib.Ieee.{Float, binary64, ofInt, lt}
+use lib.Ieee.{Float, lt}
 use Rattle.numbers.specs.Arithmetic.{_*₆₄_, _/₆₄_, wholeFloat, decimal}
 use Rattle.numbers.specs.Order.{greatestOf}
 use Rattle.numbers.specs.Root.{root}
@@ -40,7 +39,7 @@ lengthOn width s = largest (width /₆₄ s) width
 unfoldable pub firstSize : Sizing → Extent → ℕ → Size
 unfolding squareSide lengthOn
 firstSize Square e n = let side = squareSide e n in record { «cell_width» = side; «cell_height» = side }
-firstSize Axes e n = let s = root (ofInt binary64 (pos n)) in record { «cell_width» = lengthOn (e .width) s; «cell_height» = lengthOn (e .height) s }
+firstSize Axes e n = let s = root (wholeFloat n) in record { «cell_width» = lengthOn (e .width) s; «cell_height» = lengthOn (e .height) s }
 
 -- half of a length, and of a size
 unfoldable pub half : Float → Float

@@ -3,9 +3,9 @@ use mathlib.Core.Path.{_≡_, refl, sym, ap, _∙_}
 use Prim.Native.Nat.{ℕ, zero, suc, _<_, suc-le-suc}
 use native.Mathlib.Nat.{zero-lt-suc, not-suc-le-zero, le-of-suc-le-suc}
 use native.Mathlib.Omega.{arith}
-use mathlib.Core.Bool.{Bool, true, false, _||_, true≢false}
+use mathlib.Core.Bool.{Bool, true, false, _||_, true≢false, or-true}
 use mathlib.Core.List.{List, [], _∷_, _++_}
-use lib.ListN.{length, getD}
+use lib.ListN.{length, getD, drop}
 use lib.Dec.{eqb, leb}
 use borrow.Author.Tests.{eq-eqb, eqb-true}
 use Rattle.slices.specs.Slices.{sorted, insert, insertIf, after, consUnless, distinctOf}
@@ -72,14 +72,17 @@ elem-one-of-each v l = any-one-of-each (eqb v) l
 pub elem-head : (x : ℕ) (l : List ℕ) → elem x (x ∷ l) ≡ true
 elem-head x l = rw (eq-eqb x x refl)
 
-or-true : (a : Bool) → a || true ≡ true
-or-true true = refl
-or-true false = refl
-
 pub elem-at : (l : List ℕ) (k : ℕ) → k < length l → elem (getD l k 0) l ≡ true
 elem-at [] k h = absurd (not-suc-le-zero h)
 elem-at (x ∷ l) zero h = elem-head x l
 elem-at (x ∷ l) (suc k) h = ap (λ (b : Bool). eqb (getD l k 0) x || b) (elem-at l k (le-of-suc-le-suc h)) ∙ or-true (eqb (getD l k 0) x)
+
+-- a member of either part is one of the whole
+pub elem-left : (v : ℕ) (xs ys : List ℕ) → elem v xs ≡ true → elem v (xs ++ ys) ≡ true
+elem-left v xs ys h = any-append (eqb v) xs ys ∙ ap (λ (b : Bool). b || elem v ys) h
+
+pub elem-right : (v : ℕ) (xs ys : List ℕ) → elem v ys ≡ true → elem v (xs ++ ys) ≡ true
+elem-right v xs ys h = any-append (eqb v) xs ys ∙ ap (λ (b : Bool). elem v xs || b) h ∙ or-true (elem v xs)
 
 -- a place at which v stands
 pub record Place (v : ℕ) (l : List ℕ) : Type 0 where
@@ -115,6 +118,11 @@ below-at n l k b h = below-elem n (getD l k 0) l b (elem-at l k h)
 pub below-append : (n : ℕ) (xs ys : List ℕ) → Below n xs → Below n ys → Below n (xs ++ ys)
 below-append n [] ys a b = b
 below-append n (x ∷ xs) ys a b = (a .0, below-append n xs ys (a .1) b)
+
+pub below-drop : (n : ℕ) (l : List ℕ) (k : ℕ) → Below n l → Below n (drop k l)
+below-drop n l zero b = b
+below-drop n [] (suc k) b = tt
+below-drop n (x ∷ l) (suc k) b = below-drop n l k (b .1)
 
 pub below-one-of-each : (n : ℕ) (l : List ℕ) → Below n l → Below n (distinctOf (sorted l))
 below-one-of-each n l b = below-of n (distinctOf (sorted l)) (λ v e. below-elem n v l b (sym (elem-one-of-each v l) ∙ e))

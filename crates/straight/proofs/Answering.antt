@@ -21,7 +21,7 @@ use Rattle.grid.specs.declared.Grid.{Grid}
 use Rattle.grid.specs.declared.Segment.{Segment}
 use Rattle.grid.specs.Axes.{xAxis, yAxis, indexOn, sideOn}
 use Rattle.grid.specs.Domain.{shape}
-use Rattle.grid.proofs.Bools.{and-left, and-right, and-both}
+use Rattle.grid.proofs.Bools.{and-left, and-right, and-both, or-says, both-ways, or-left, or-right}
 use Rattle.grid.proofs.Shapes.{Shape, shape-says}
 use Rattle.walk.specs.declared.Mode.{Mode}
 use Rattle.walk.specs.declared.Neighbour.{Neighbour}
@@ -37,7 +37,7 @@ use Rattle.walk.proofs.Answer.{segment-is}
 use Rattle.walk.proofs.Visits.{turns-visit}
 use Rattle.straight.specs.Sentence.{between, nextTo, besideOn, sentence, verticalBy, horizontalBy, verticalIn, horizontalIn}
 use Rattle.straight.proofs.Walking.{stateBy, rayBy, cellBy, Inside, stepBy, Ahead, stops, along, at, Finite, walked-all}
-use Rattle.straight.proofs.Listed.{by-facts, or-cases, or-left, or-right, heldIndex, runIndex, besideBy, adds, cell-by, beside-by, stops-are, any-map, any-same, any-and, any-adds, any-one, any-none, pushed-said, those-rising, those-are}
+use Rattle.straight.proofs.Listed.{heldIndex, runIndex, besideBy, adds, cell-by, beside-by, stops-are, any-map, any-same, any-and, any-adds, any-one, any-none, pushed-said, those-rising, those-are}
 
 -- ---- a line by the axis that it keeps to
 
@@ -176,13 +176,13 @@ between-end : (j e k : ℕ) → eqb k e ≡ true → between j e k ≡ true
 between-end j e k h = between-swap j e k ∙ between-start e j k h
 
 between-one : (j e k : ℕ) → j ≡ e → between j e k ≡ eqb k j
-between-one j e k h = by-facts (between j e k) (eqb k j) (λ t. elim (or-cases (leb j k && leb k e) (leb e k && leb k j) t) [
+between-one j e k h = both-ways (between j e k) (eqb k j) (λ t. elim (or-says (leb j k && leb k e) (leb e k && leb k j) t) [
   | inl p ↦ eq-eqb k j (omega (arith, leb-true j k (and-left (leb j k) (leb k e) p), leb-true k e (and-right (leb j k) (leb k e) p)))
   | inr p ↦ eq-eqb k j (omega (arith, leb-true e k (and-left (leb e k) (leb k j) p), leb-true k j (and-right (leb e k) (leb k j) p)))
 ]) (between-start j e k)
 
 between-within : (j e k c : ℕ) → j < c → e < c → between j e k ≡ true → k < c
-between-within j e k c p q h = elim (or-cases (leb j k && leb k e) (leb e k && leb k j) h) [
+between-within j e k c p q h = elim (or-says (leb j k && leb k e) (leb e k && leb k j) h) [
   | inl t ↦ omega (arith, leb-true k e (and-right (leb j k) (leb k e) t))
   | inr t ↦ omega (arith, leb-true k j (and-right (leb e k) (leb k j) t))
 ]

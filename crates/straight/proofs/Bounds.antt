@@ -32,12 +32,6 @@ pub record Room (f : Format) (q k : ℕ) : Type 0 where
 
 -- ---- rounding keeps a bound
 
-pub neg-fine : (v : Float) → T (finite v) → T (finite (neg v))
-unfolding neg
-neg-fine nan t = t
-neg-fine (inf s) t = t
-neg-fine (fin s m e) t = tt
-
 neg-bounded : (q k : ℕ) (v : Float) → Bounded q k v → Bounded q k (neg v)
 unfolding neg
 neg-bounded q k nan b = absurd (b .fine)

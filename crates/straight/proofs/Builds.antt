@@ -14,7 +14,7 @@ use Rattle.refusals.specs.declared.Refusal.{Refusal}
 use Rattle.refusals.specs.declared.Check.{Check}
 use Rattle.refusals.specs.declared.Check.the-variants.{Fine, Refused}
 use Rattle.refusals.specs.Refusals.{refusal, unless, andThen, eachFrom, Answer, refused, gives, _then_, _into_, answerBy}
-use Rattle.refusals.proofs.Checks.{andThen-right}
+use Rattle.refusals.proofs.Checks.{andThen-right, each-fine}
 use Rattle.grid.specs.declared.Grid.{Grid}
 use Rattle.grid.specs.Domain.{Lines, count, segmentAt, lineFits, fit, scratchCheck, linesCheck, lengthsCheck, countCheck, coordinatesCheck}
 use Rattle.grid.proofs.Bools.{and-right}
@@ -97,11 +97,6 @@ spared-if false x y s t = t
 ends-of : (o : Outcome) → ((why : Refusal) → o ≡ refused why → ⊥) → completes o ≡ true
 ends-of (refused why) h = absurd (h why refl)
 ends-of (gives xs) h = refl
-
-pub each-fine : (ok : ℕ → Bool) (n left i : ℕ) → ((k : ℕ) → i ≤ k → k < i + left → ok k ≡ true) → eachFrom ok n left i ≡ Fine
-unfolding eachFrom unless andThen
-each-fine ok n zero i h = refl
-each-fine ok n (suc left) i h = rw (h i (omega arith) (omega arith)) (each-fine ok n left (suc i) (λ k l m. h k (omega arith) (omega arith)))
 
 -- ---- from walks that end on every grid that can be tried, to the choice of a grid
 

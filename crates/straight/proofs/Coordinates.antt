@@ -3,22 +3,22 @@
 use mathlib.Core.Path.{_≡_, refl, sym, ap, _∙_, subst}
 use mathlib.Core.Logic.{_⊎_, inl, inr}
 use Prim.Native.Nat.{ℕ, zero, suc, _+_, _-_, _*_, _^_, _≤_, _<_}
-use native.Mathlib.Nat.{mul-pos, zero-lt-suc, lt-irrefl}
+use native.Mathlib.Nat.{mul-pos, zero-lt-suc}
 use native.Mathlib.Omega.{arith}
-use mathlib.Core.Bool.{Bool, true, false, _||_, true≢false}
+use mathlib.Core.Bool.{Bool, true, false, true≢false}
 use lib.IntN.{ℤ, pos, negsuc}
 use lib.Dec.{T, eqb, eqb→eq}
 use lib.Pow.{pow-lt}
 use lib.Ieee.{Float, nan, inf, fin, binary64, low, up, down, level, round, neg, sum, add, sub, lt, le, eq, fits}
 use lib.Ieee.Fits.{up-pos, down-pos, div-fits}
 use lib.Ieee.Scale.{finite, round-same}
-use lib.Ieee.Positive.{den, den-pos, positive, positive-finite, between}
+use lib.Ieee.Positive.{den, den-pos, positive-finite}
 use borrow.Author.Tests.{eqb-true, eq-eqb}
 use Rattle.numbers.specs.Order.{magnitudeOf}
 use Rattle.numbers.specs.Away.{roundAway}
 use Rattle.numbers.proofs.Values.{value-unique}
-use Rattle.numbers.proofs.Tests.{holds, le-says}
-use Rattle.numbers.proofs.FloatOrder.{number, plus, minus, le→cross, float-le-trans, at-most, not-under, lt-le, le-number}
+use Rattle.numbers.proofs.Tests.{holds, le-says, or-right}
+use Rattle.numbers.proofs.FloatOrder.{number, plus, minus, le→cross, float-le-trans, at-most, not-under, lt-le, le-number, neg-finite, finite-number}
 use Rattle.numbers.proofs.FloatSum.{Rounds, over, short, add-rounds, add-mono}
 use Rattle.numbers.proofs.FloatQuotient.{div-mono}
 use Rattle.numbers.proofs.FloorLaws.{clamped-mono}
@@ -28,11 +28,13 @@ use Rattle.grid.specs.declared.Side.the-variants.{Above}
 use Rattle.grid.specs.Axes.{scaledOn, indexOn, nearWhole, sideOf, sideOn}
 use Rattle.grid.specs.Domain.{coordinate, sizeFits}
 use Rattle.grid.proofs.Bools.{and-left, and-right}
+use Rattle.grid.proofs.Floats.{size-positive}
 use Rattle.sizing.proofs.Constants.{1e9-is, 2e9-is, quarter, quarter-is}
 use Rattle.numbers.proofs.FloatFractions as Plain
+use Rattle.numbers.proofs.FloatFractions.{first-zero}
 use Rattle.turns.specs.Turns.{nought, signOf}
 use Rattle.straight.proofs.Answering.{Keeps, Goes}
-use Rattle.straight.proofs.Bounds.{Bounded, Room, Apart, neg-fine, sub-bounded}
+use Rattle.straight.proofs.Bounds.{Bounded, Room, Apart, sub-bounded}
 use Rattle.straight.proofs.Units.{Units, units-le, parts-neg, den-neg, sub-over, sub-under}
 
 -- ---- the domain
@@ -45,13 +47,6 @@ coordinate-bounded (fin s m e) h =
     let k =
     le-says m e 1953125 (pos 9) (subst (λ (z : Float). T (le (fin false m e) z)) 1e9-is (holds (le (fin false m e) (round binary64 false 1000000000 1)) h)) in
     record { fine = tt; most = omega arith }
-
-pub size-positive : (v : Float) → sizeFits v ≡ true → T (positive v)
-unfolding sizeFits round
-size-positive v h =
-    let lo = round binary64 false 1 4000000 in
-    let hi = round binary64 false 2000000000 1 in
-    between lo v hi tt tt (holds (le lo v) (and-left (le lo v) (le v hi) h)) (holds (le v hi) (and-right (le lo v) (le v hi) h))
 
 pub size-bounded : (v : Float) → sizeFits v ≡ true → Bounded 2000000000 0 v
 unfolding sizeFits
@@ -94,7 +89,7 @@ module _ (a : Axis) (fit : Fits a) where
   scaled-mono x y p q h =
       div-mono binary64 (sub binary64 x (a .low)) (sub binary64 y (a .low)) (a .size) (distance-bounded x p .fine) (distance-bounded y q .fine)
       (size-positive (a .size) (fit .size))
-      (add-mono binary64 x y (neg (a .low)) (neg-fine (a .low) (coordinate-bounded (a .low) (fit .low) .fine)) h)
+      (add-mono binary64 x y (neg (a .low)) (neg-finite (a .low) (coordinate-bounded (a .low) (fit .low) .fine)) h)
 
   pub index-mono : (x y : Float) → coordinate x ≡ true → coordinate y ≡ true → T (le x y) → indexOn a x ≤ indexOn a y
   unfolding indexOn
@@ -105,10 +100,6 @@ module _ (a : Axis) (fit : Fits a) where
 pub record Zero (v : Float) : Type 0 where
   pub sign : Bool
   pub is : v ≡ fin sign 0 (pos 0)
-
-no-digits : (m u : ℕ) → 0 < u → m * u ≡ 0 → m ≡ 0
-no-digits zero u U h = refl
-no-digits (suc m) u U h = absurd (lt-irrefl 0 (subst (λ (k : ℕ). 0 < k) h (mul-pos (zero-lt-suc m) U)))
 
 zero-fits : (s : Bool) (m : ℕ) (e : ℤ) → m ≡ 0 → T (fits binary64 (fin s m e)) → Zero (fin s m e)
 unfolding fits
@@ -146,25 +137,21 @@ same-value (fin false m e) (fin false n d) p q h k =
 same-value (fin true m e) (fin false n d) p q h k =
     let b = le→cross (fin false n d) (fin true m e) tt tt k in
     inr (
-      zero-fits true m e (no-digits m (up e * down d) (mul-pos (up-pos e) (down-pos d)) (omega arith)) p,
-      zero-fits false n d (no-digits n (up d * down e) (mul-pos (up-pos d) (down-pos e)) (omega arith)) q,
+      zero-fits true m e (first-zero m (up e * down d) (mul-pos (up-pos e) (down-pos d)) (omega arith)) p,
+      zero-fits false n d (first-zero n (up d * down e) (mul-pos (up-pos d) (down-pos e)) (omega arith)) q,
     )
 same-value (fin false m e) (fin true n d) p q h k =
     let b = le→cross (fin false m e) (fin true n d) tt tt h in
     inr (
-      zero-fits false m e (no-digits m (up e * down d) (mul-pos (up-pos e) (down-pos d)) (omega arith)) p,
-      zero-fits true n d (no-digits n (up d * down e) (mul-pos (up-pos d) (down-pos e)) (omega arith)) q,
+      zero-fits false m e (first-zero m (up e * down d) (mul-pos (up-pos e) (down-pos d)) (omega arith)) p,
+      zero-fits true n d (first-zero n (up d * down e) (mul-pos (up-pos d) (down-pos e)) (omega arith)) q,
     )
 
 -- ---- equal coordinates
 
-or-true : (p q : Bool) → q ≡ true → T (p || q)
-or-true true q h = tt
-or-true false q h = holds q h
-
 eq-le : (x y : Float) → eq x y ≡ true → T (le x y)
 unfolding le
-eq-le x y h = or-true (lt x y) (eq x y) h
+eq-le x y h = or-right (lt x y) (eq x y) (holds (eq x y) h)
 
 eq-back : (x y : Float) → eq x y ≡ true → eq y x ≡ true
 unfolding eq
@@ -264,7 +251,7 @@ no-difference x y p q h k =
     let same : P ≡ N =
     ap (λ (z : ℕ). plus y * z + plus (neg x) * den y) d ∙ ap (λ (z : ℕ). plus y * den x + z * den y) (n .0) ∙ omega (arith, a, b)
     ∙ sym (ap (λ (z : ℕ). minus y * z + minus (neg x) * den y) d ∙ ap (λ (z : ℕ). minus y * den x + z * den y) (n .1)) in
-    go P N (den y * den (neg x)) (mul-pos (den-pos y) (den-pos (neg x))) same (add-rounds binary64 y (neg x) q (neg-fine x p))
+    go P N (den y * den (neg x)) (mul-pos (den-pos y) (den-pos (neg x))) same (add-rounds binary64 y (neg x) q (neg-finite x p))
   where
     go : (P N C : ℕ) → 0 < C → P ≡ N → Rounds binary64 (add binary64 y (neg x)) P N C → eq (add binary64 y (neg x)) nought ≡ true
     go P N C pC e (over l r) = ap (λ (z : Float). eq z nought) r ∙ nothing false (P - N) C pC (omega arith)
@@ -289,11 +276,6 @@ module _ (a : Axis) (fit : Fits a) (start end : Float) (p : coordinate start ≡
   d-number : T (number d)
   unfolding d
   d-number = finite-number d (sub-bounded binary64 1000000000 1000000000 0 end start few (coordinate-bounded end q) (coordinate-bounded start p) .fine)
-    where
-      finite-number : (v : Float) → T (finite v) → T (number v)
-      finite-number nan t = t
-      finite-number (inf s) t = tt
-      finite-number (fin s m e) t = tt
 
   not-zero-up : lt nought d ≡ true → eq d nought ≡ true → ⊥
   not-zero-up h k = true≢false (sym h ∙ not-under d nought (eq-le d nought k))

@@ -21,7 +21,7 @@ use Rattle.grid.specs.declared.Grid.{Grid}
 use Rattle.grid.specs.declared.Segment.{Segment}
 use Rattle.grid.specs.Axes.{xAxis, yAxis}
 use Rattle.grid.specs.Domain.{coordinate, point, segment, fit, segmentCheck, gridCheck}
-use Rattle.grid.proofs.Bools.{and-left, and-right}
+use Rattle.grid.proofs.Bools.{and-left, and-right, or-says}
 use Rattle.grid.proofs.Shapes.{fit-says, fit-shape}
 use Rattle.walk.specs.declared.Mode.{Mode}
 use Rattle.walk.specs.declared.Mode.the-variants.{Rust}
@@ -34,7 +34,7 @@ use Rattle.walk.proofs.Checked.{entry-spares}
 use Rattle.walk.proofs.Reaching.{segment-turns, segment-covers, entry-turns}
 use Rattle.straight.specs.Sentence.{those, verticalBy, horizontalBy, verticalCells, horizontalCells, verticalIn, horizontalIn}
 use Rattle.straight.specs.Lines.{vertical, horizontal, straight, InFormat, GridInFormat}
-use Rattle.straight.proofs.Listed.{or-cases, rust-vertical, rust-horizontal}
+use Rattle.straight.proofs.Listed.{rust-vertical, rust-horizontal}
 use Rattle.straight.proofs.Answering.{cellsBy, answer}
 use Rattle.straight.proofs.Units.{Units, units-of}
 use Rattle.straight.proofs.Coordinates.{Fits, coordinate-bounded, keeps, goes}
@@ -125,7 +125,7 @@ module _ (mode : Mode) (g : Grid) (line : Segment) (ok : fit g ≡ true) (in-dom
     where
       go : (b : Bool) → turning mode ≡ b → ⊥
       go false t = apart r (segment-covers mode g line t)
-      go true t = elim (or-cases (vertical line) (horizontal line) e) [
+      go true t = elim (or-says (vertical line) (horizontal line) e) [
         | inl v ↦ apart r (vertical-in t v)
         | inr l ↦ apart r (horizontal-in t m l)
       ]

@@ -1,18 +1,19 @@
 -- Members of the lists: of a walk's indices, of what a cell adds, of the list that the sentence describes. Assumes nothing.
 use mathlib.Core.Path.{_≡_, refl, sym, ap, _∙_, subst}
-use mathlib.Core.Logic.{_⊎_, inl, inr}
+use mathlib.Core.Logic.{inl, inr}
 use Prim.Native.Nat.{ℕ, zero, suc, _+_, _-_, _*_, _/_, _%_, _≤_, _<_}
 use native.Mathlib.Nat.{add-comm, suc-mul, mul-le-mul-right, div-add-mod', div-lt-iff-lt-mul, mod-lt, mod-eq-of-lt, div-eq-of-lt, add-mul-mod-self-right, mul-add-div-right}
 use native.Mathlib.Omega.{arith}
 use native.Mathlib.Decide.{ℕ-discrete}
-use mathlib.Core.Bool.{Bool, true, false, not, cond, _&&_, _||_, true≢false, Bool·beq}
+use mathlib.Core.Bool.{Bool, true, false, not, cond, _&&_, _||_, true≢false, Bool·beq, or-false}
 use mathlib.Core.List.{List, [], _∷_, _++_, map, flatMap, append-nil}
 use lib.Dec.{leb, ltb, eqb}
 use borrow.Author.Tests.{ltb-true, ltb-false, leb-true, eqb-true, lt-ltb, le-ltb, le-leb, eq-eqb, ne-eqb}
 use Rattle.slices.specs.Lists.{any, elem, Below, Rising}
 use Rattle.slices.proofs.Members.{any-append, elem-head, below-append}
 use Rattle.slices.proofs.Laws.{le-or}
-use Rattle.grid.proofs.Bools.{and-left, and-right, and-both, or-false}
+use Rattle.grid.proofs.Bools.{and-left, and-right, and-both, or-says, both-ways, or-left, or-right}
+use Rattle.tables.proofs.Lists.{rising-end}
 use Rattle.turns.specs.Pushes.{keptIf}
 use lib.Ieee.{Float}
 use Rattle.grid.specs.declared.Axis.{Axis}
@@ -29,22 +30,6 @@ use Rattle.straight.specs.Sentence.{between, lowerOn, nextTo, besideOn, 
 use Rattle.straight.proofs.Walking.{cellBy, Inside, Ahead, path, stops}
 
 -- ---- truth by cases
-
-pub by-facts : (p q : Bool) → (p ≡ true → q ≡ true) → (q ≡ true → p ≡ true) → p ≡ q
-by-facts true q f g = sym (f refl)
-by-facts false true f g = g refl
-by-facts false false f g = refl
-
-pub or-cases : (p q : Bool) → (p || q) ≡ true → (p ≡ true) ⊎ (q ≡ true)
-or-cases true q h = inl refl
-or-cases false q h = inr h
-
-pub or-left : (p q : Bool) → p ≡ true → (p || q) ≡ true
-or-left p q h = rw h
-
-pub or-right : (p q : Bool) → q ≡ true → (p || q) ≡ true
-or-right true q h = refl
-or-right false q h = h
 
 -- a formula of n truths that every choice makes true is a law: tried one by one
 abbrev Formula : ℕ → Type 0
@@ -86,7 +71,7 @@ range-between true j e k r = or-left (leb j k && leb k e) (leb e k && leb k j) (
 range-between false j e k r = or-right (leb j k && leb k e) (leb e k && leb k j) (and-both (leb e k) (leb k j) (le-leb e k (r .0)) (le-leb k j (r .1)))
 
 between-range : (up : Bool) (n j e k : ℕ) → Ahead up n j e → between j e k ≡ true → Range up j e k
-between-range up n j e k a h = elim (or-cases (leb j k && leb k e) (leb e k && leb k j) h) [
+between-range up n j e k a h = elim (or-says (leb j k && leb k e) (leb e k && leb k j) h) [
   | inl p ↦ go up a (leb-true j k (and-left (leb j k) (leb k e) p)) (leb-true k e (and-right (leb j k) (leb k e) p))
   | inr p ↦ back up a (leb-true e k (and-left (leb e k) (leb k j) p)) (leb-true k j (and-right (leb e k) (leb k j) p))
 ]
@@ -102,11 +87,11 @@ between-range up n j e k a h = elim (or-cases (leb j k && leb k e) (leb e k && l
 path-within : (up : Bool) (n j e k : ℕ) → Ahead up n j e → elem k (path up n j) ≡ true → Range up j e k
 unfolding path
 path-within up zero j e k a h = absurd (true≢false (sym h))
-path-within true (suc n) j e k a h = elim (or-cases (eqb k (suc j)) (elem k (path true n (suc j))) h) [
+path-within true (suc n) j e k a h = elim (or-says (eqb k (suc j)) (elem k (path true n (suc j))) h) [
   | inl p ↦ let q = eqb-true k (suc j) p in (omega arith, omega arith)
   | inr p ↦ let q = path-within true n (suc j) e k (omega arith) p in (omega arith, q .1)
 ]
-path-within false (suc n) j e k a h = elim (or-cases (eqb k (j - 1)) (elem k (path false n (j - 1))) h) [
+path-within false (suc n) j e k a h = elim (or-says (eqb k (j - 1)) (elem k (path false n (j - 1))) h) [
   | inl p ↦ let q = eqb-true k (j - 1) p in (omega arith, omega arith)
   | inr p ↦ let q = path-within false n (j - 1) e k (omega arith) p in (q .0, omega arith)
 ]
@@ -125,7 +110,7 @@ path-meets false (suc n) j e k a r = elim (ℕ-discrete k j) [
 ]
 
 pub stops-are : (up : Bool) (n j e k : ℕ) → Ahead up n j e → elem k (stops up n j e) ≡ between j e k
-stops-are up n j e k a = by-facts (elem k (stops up n j e)) (between j e k) to of
+stops-are up n j e k a = both-ways (elem k (stops up n j e)) (between j e k) to of
   where
     ends : Range up j e j × Range up j e e
     ends = go up a
@@ -135,11 +120,11 @@ stops-are up n j e k a = by-facts (elem k (stops up n j e)) (between j e k) to o
         go false a = ((omega arith, omega arith), (omega arith, omega arith))
 
     to : elem k (stops up n j e) ≡ true → between j e k ≡ true
-    to h = elim (or-cases (eqb k j) (elem k (path up n j ++ (e ∷ []))) h) [
+    to h = elim (or-says (eqb k j) (elem k (path up n j ++ (e ∷ []))) h) [
       | inl p ↦ range-between up j e k (subst (Range up j e) (sym (eqb-true k j p)) (ends .0))
-      | inr p ↦ elim (or-cases (elem k (path up n j)) (eqb k e || false) (sym (any-append (eqb k) (path up n j) (e ∷ [])) ∙ p)) [
+      | inr p ↦ elim (or-says (elem k (path up n j)) (eqb k e || false) (sym (any-append (eqb k) (path up n j) (e ∷ [])) ∙ p)) [
         | inl q ↦ range-between up j e k (path-within up n j e k a q)
-        | inr q ↦ elim (or-cases (eqb k e) false q) [
+        | inr q ↦ elim (or-says (eqb k e) false q) [
           | inl r ↦ range-between up j e k (subst (Range up j e) (sym (eqb-true k e r)) (ends .1))
           | inr r ↦ absurd (true≢false (sym r))
         ]
@@ -147,7 +132,7 @@ stops-are up n j e k a = by-facts (elem k (stops up n j e)) (between j e k) to o
     ]
 
     of : between j e k ≡ true → elem k (stops up n j e) ≡ true
-    of h = elim (or-cases (eqb k j) (elem k (path up n j)) (path-meets up n j e k a (between-range up n j e k a h))) [
+    of h = elim (or-says (eqb k j) (elem k (path up n j)) (path-meets up n j e k a (between-range up n j e k a h))) [
       | inl p ↦ or-left (eqb k j) _ p
       | inr p ↦ or-right (eqb k j) _ (any-append (eqb k) (path up n j) (e ∷ []) ∙ or-left (elem k (path up n j)) _ p)
     ]
@@ -181,7 +166,7 @@ and-swap p q = beq-same _ _ (tried 2 (λ p q. Bool·beq (p && q) (q && p)) refl 
 -- ---- a cell by its column and row
 
 suc-eqb : (m n : ℕ) → eqb (suc m) (suc n) ≡ eqb m n
-suc-eqb m n = by-facts (eqb (suc m) (suc n)) (eqb m n)
+suc-eqb m n = both-ways (eqb (suc m) (suc n)) (eqb m n)
     (λ h. eq-eqb m n (let p : suc m ≡ suc n = eqb-true (suc m) (suc n) h in omega arith))
     (λ h. eq-eqb (suc m) (suc n) (ap suc (eqb-true m n h)))
 
@@ -201,7 +186,7 @@ module _ (cols : ℕ) (some : 0 < cols) where
 
   module _ (u : ℕ) where
     cell-is : (col row : ℕ) → col < cols → eqb u (row * cols + col) ≡ (eqb (u % cols) col && eqb (u / cols) row)
-    cell-is col row h = by-facts (eqb u (row * cols + col)) (eqb (u % cols) col && eqb (u / cols) row)
+    cell-is col row h = both-ways (eqb u (row * cols + col)) (eqb (u % cols) col && eqb (u / cols) row)
         (λ p. let e = eqb-true u (row * cols + col) p in
         and-both (eqb (u % cols) col) (eqb (u / cols) row) (eq-eqb (u % cols) col (ap (λ (z : ℕ). z % cols) e ∙ column col row h))
         (eq-eqb (u / cols) row (ap (λ (z : ℕ). z / cols) e ∙ row-of col row h)))
@@ -278,7 +263,7 @@ module _ (cols rows : ℕ) (some : 0 < cols) where
       rw (p, inside) (go (ltb (suc row) rows))
     where
       inside : ltb (suc row * cols + col) (rows * cols) ≡ ltb (suc row) rows
-      inside = by-facts (ltb (suc row * cols + col) (rows * cols)) (ltb (suc row) rows)
+      inside = both-ways (ltb (suc row * cols + col) (rows * cols)) (ltb (suc row) rows)
           (λ e. let l = ltb-true (suc row * cols + col) (rows * cols) e in
           elim (le-or rows (suc row)) [
             | inl d ↦ absurd (omega (arith, mul-le-mul-right cols d))
@@ -378,14 +363,14 @@ any-adds p p₁ f g (x ∷ xs) = ap (λ (b : Bool). adds p p₁ (f x) (g x) || b
 -- all entries are j
 pub any-one : (f : ℕ → Bool) (j : ℕ) (xs : List ℕ) → ((x : ℕ) → elem x xs ≡ true → x ≡ j) → any f xs ≡ true → f j ≡ true
 any-one f j [] h e = absurd (true≢false (sym e))
-any-one f j (x ∷ xs) h e = elim (or-cases (f x) (any f xs) e) [
+any-one f j (x ∷ xs) h e = elim (or-says (f x) (any f xs) e) [
   | inl p ↦ subst (λ (y : ℕ). f y ≡ true) (h x (elem-head x xs)) p
   | inr p ↦ any-one f j xs (λ y d. h y (or-right (eqb y x) (elem y xs) d)) p
 ]
 
 pub any-none : (f : ℕ → Bool) (xs : List ℕ) → ((x : ℕ) → f x ≡ false) → any f xs ≡ true → ⊥
 any-none f [] h e = true≢false (sym e)
-any-none f (x ∷ xs) h e = elim (or-cases (f x) (any f xs) e) [
+any-none f (x ∷ xs) h e = elim (or-says (f x) (any f xs) e) [
   | inl p ↦ true≢false (sym p ∙ h x)
   | inr p ↦ any-none f xs h p
 ]
@@ -438,10 +423,6 @@ those-below f (suc n) = below-append (suc n) (those f n) (keptIf (f n) n) (wider
     last true = unfold keptIf in (omega arith, tt)
     last false = unfold keptIf in tt
 
-rising-last : (a n : ℕ) (xs : List ℕ) → a ≤ n → Rising a xs → Below n xs → Rising a (xs ++ (n ∷ []))
-rising-last a n [] h r b = (h, tt)
-rising-last a n (x ∷ xs) h r b = (r .0, rising-last (suc x) n xs (b .0) (r .1) (b .1))
-
 pub those-rising : (f : ℕ → Bool) (n : ℕ) → Rising 0 (those f n)
 unfolding those
 those-rising f zero = tt
@@ -451,7 +432,7 @@ those-rising f (suc n) = go (f n) (those-rising f n)
     none xs h = rw append-nil h
 
     go : (b : Bool) → Rising 0 (those f n) → Rising 0 (those f n ++ keptIf b n)
-    go true ih = unfold keptIf in rising-last 0 n (those f n) (omega arith) ih (those-below f n)
+    go true ih = unfold keptIf in rising-end 0 n (those f n) ih (those-below f n) (omega arith)
     go false ih = unfold keptIf in none (those f n) ih
 
 pub those-are : (f : ℕ → Bool) (n u : ℕ) → elem u (those f n) ≡ (ltb u n && f u)

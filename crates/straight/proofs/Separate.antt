@@ -23,10 +23,11 @@ use Rattle.slices.proofs.Laws.{le-or}
 use Rattle.grid.specs.declared.Axis.{Axis}
 use Rattle.grid.specs.Axes.{scaledOn, indexOn}
 use Rattle.grid.specs.Domain.{coordinate}
+use Rattle.grid.proofs.Floats.{size-positive}
 use Rattle.straight.proofs.Bounds.{Apart, parts-le}
 use Rattle.straight.proofs.Units.{Units, units-le, sub-units, sub-over, sub-under}
 use Rattle.straight.proofs.Steady.{alike}
-use Rattle.straight.proofs.Coordinates.{Fits, distance-bounded, size-positive, size-apart, same-index}
+use Rattle.straight.proofs.Coordinates.{Fits, distance-bounded, size-apart, same-index}
 
 -- ---- multiples of G = 2 ^ g units, or few units
 

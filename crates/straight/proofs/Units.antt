@@ -3,7 +3,7 @@
 use mathlib.Core.Path.{_≡_, refl, sym, ap, _∙_, subst}
 use mathlib.Core.Logic.{_⊎_, inl, inr}
 use Prim.Native.Nat.{ℕ, zero, suc, _+_, _-_, _*_, _^_, _≤_, _<_}
-use native.Mathlib.Nat.{le-trans, le-of-eq, lt-of-lt-of-le, lt-of-le-of-lt, mul-pos, mul-comm, mul-right-comm, mul-le-mul-right, mul-lt-mul-of-pos-right, le-of-mul-le-mul-right, lt-of-mul-lt-mul-right, mul-sub}
+use native.Mathlib.Nat.{le-trans, le-of-eq, lt-of-lt-of-le, lt-of-le-of-lt, mul-pos, mul-comm, mul-right-comm, mul-le-mul-right, mul-lt-mul-of-pos-right, le-of-mul-le-mul-right, lt-of-mul-lt-mul-right}
 use native.Mathlib.Omega.{arith}
 use mathlib.Core.Bool.{Bool, true, false}
 use lib.Dec.{T}
@@ -14,9 +14,9 @@ use lib.Ieee.Scale.{finite, overflow, round-same}
 use lib.Ieee.Order.{round-mono}
 use lib.Ieee.Positive.{den, den-pos}
 use Rattle.numbers.proofs.Values.{fits-says, on-grid, neg-round}
-use Rattle.numbers.proofs.FloatOrder.{plus, minus, cross→le, le-neg}
+use Rattle.numbers.proofs.FloatOrder.{plus, minus, cross→le, le-neg, neg-finite}
 use Rattle.numbers.proofs.FloatSum.{Rounds, over, short, add-rounds}
-use Rattle.straight.proofs.Bounds.{neg-fine}
+use Rattle.numbers.proofs.Sums.{sub-mul}
 
 -- the size has at most prec digits and then zeros
 pub record Units (f : Format) (v : Float) : Type 0 where
@@ -117,9 +117,6 @@ module _ (f : Format) {x y : Float} (a : Units f x) (b : Units f y) where
 
 -- ---- a difference
 
-sub-mul : (m n k : ℕ) → (m - n) * k ≡ m * k - n * k
-sub-mul m n k = mul-comm (m - n) k ∙ mul-sub k m n ∙ ap (λ (z : ℕ). z - k * n) (mul-comm k m) ∙ ap (λ (z : ℕ). m * k - z) (mul-comm k n)
-
 module _ (f : Format) (z : Float) (P N C P' N' C' : ℕ) (pC : 0 < C) (pC' : 0 < C') (e : P * C' ≡ P' * C) (e' : N * C' ≡ N' * C) where
   less-by : (P - N) * C' ≡ (P' - N') * C
   less-by = sub-mul P N C' ∙ ap (λ (x : ℕ). x - N * C') e ∙ ap (λ (x : ℕ). P' * C - x) e' ∙ sym (sub-mul P' N' C)
@@ -154,7 +151,7 @@ module _ (f : Format) {x y : Float} (a : Units f x) (b : Units f y) where
   unfolding sub
   sub-units =
       let n = parts-neg y in
-      let r = add-rounds f x (neg y) (a .fine) (neg-fine y (b .fine)) in
+      let r = add-rounds f x (neg y) (a .fine) (neg-finite y (b .fine)) in
       let s = subst (λ (d : ℕ). Rounds f (sub f x y) (plus x * d + plus (neg y) * den x) (minus x * d + minus (neg y) * den x) (den x * d)) (den-neg y) r in
       rounds-same f (sub f x y) (plus x * den y + plus (neg y) * den x) (minus x * den y + minus (neg y) * den x) (den x * den y) (a .more + b .less)
       (a .less + b .more) (2 ^ low f)

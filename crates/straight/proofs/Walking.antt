@@ -3,7 +3,7 @@
 use mathlib.Core.Path.{_≡_, refl, ap, _∙_}
 use Prim.Native.Nat.{ℕ, zero, suc, _+_, _-_, _*_, _≤_, _<_}
 use native.Mathlib.Omega.{arith}
-use mathlib.Core.Bool.{Bool, true, false, not, cond, _&&_}
+use mathlib.Core.Bool.{Bool, true, false, not, cond, and-true}
 use mathlib.Core.Logic.{inl, inr}
 use mathlib.Core.List.{List, [], _∷_, _++_, map}
 use lib.IntN.{ℤ, pos, negsuc, predℤ, _+ℤ_, +ℤ-one, -ℤ-one}
@@ -137,10 +137,6 @@ along v i e hs hd step delta = rayBy v (record { step = hs; «t_delta» = hd; en
 abbrev pub at : Bool → ℕ → ℤ → Float → State
 at v i z t = stateBy v (record { index = pos i; «t_max» = infinite }) (record { index = z; «t_max» = t })
 
-and-true : (b : Bool) → (b && true) ≡ b
-and-true true = refl
-and-true false = refl
-
 module _ (i e : ℕ) (hs : ℤ) (hd : Float) (step : ℤ) (delta : Float) (j : ℕ) (t : Float) where
   arrived-is : (v : Bool) → arrivedOf (along v i e hs hd step delta) (at v i (pos j) t) ≡ eqb j e
   unfolding arrivedOf sameInt
@@ -206,21 +202,19 @@ module _ (v : Bool) (cols rows i e : ℕ) (hs : ℤ) (hd : Float) (step : ℤ) (
   ray : Ray
   ray = along v i e hs hd step delta
 
-  stopped : (left : ℕ) (s : State) (b : Bool) → b ≡ false → turns left b cols rows ray s ≡ gives []
+  stopped : (left : ℕ) (s : State) → goingOf ray s ≡ false → turns left cols rows ray s ≡ gives []
   unfolding turns
-  stopped zero s b h = rw h
-  stopped (suc left) s b h = rw h
+  stopped zero s h = rw h
+  stopped (suc left) s h = rw h
 
-  more : (left : ℕ) (s : State) (b : Bool) → b ≡ true
-      → turns (suc left) b cols rows ray s ≡ before (pushedOf (turnOf ray s) cols rows ray s)
-      (turns left (goingOf ray (nextOf ray s)) cols rows ray (nextOf ray s))
+  more : (left : ℕ) (s : State) → goingOf ray s ≡ true → turns (suc left) cols rows ray s ≡ before (pushedOf (turnOf ray s) cols rows ray s) (turns left cols rows ray (nextOf ray s))
   unfolding turns
-  more left s b h = rw h
+  more left s h = rw h
 
   turned-all : (n left j : ℕ) (t : Float) → n ≤ left → (0 < n → step ≡ stepBy up) → Ahead up n j e → Inside v cols rows i j → (v ≡ false → Finite n t delta)
-      → turns left (goingOf ray (at v i (pos j) t)) cols rows ray (at v i (pos j) t) ≡ gives (map (cellBy v cols i) (path up n j))
+      → turns left cols rows ray (at v i (pos j) t) ≡ gives (map (cellBy v cols i) (path up n j))
   unfolding ray path
-  turned-all zero left j t l s a k f = stopped left (at v i (pos j) t) (goingOf ray (at v i (pos j) t)) (there i e hs hd step delta j t v (ahead-none up j e a))
+  turned-all zero left j t l s a k f = stopped left (at v i (pos j) t) (there i e hs hd step delta j t v (ahead-none up j e a))
   turned-all (suc n) zero j t l s a k f = absurd (omega arith)
   turned-all (suc n) (suc left) j t l s a k f =
       let w = at v i (pos j) t in
@@ -232,7 +226,7 @@ module _ (v : Bool) (cols rows i e : ℕ) (hs : ℤ) (hd : Float) (step : ℤ) (
       (inside-at v cols rows i j e k last up n a) in
       let q : nextOf ray w ≡ at v i (pos (beyond up j)) (add binary64 t delta) =
       next-is i e hs hd step delta j t v fine off ∙ ap (λ (x : ℤ). at v i x (add binary64 t delta)) z in
-      more left w (goingOf ray w) (goes-on i e hs hd step delta j t v fine off)
+      more left w (goes-on i e hs hd step delta j t v fine off)
       ∙ rw (p, q)
       (ap (before (cellBy v cols i (beyond up j) ∷ []))
       (turned-all n left (beyond up j) (add binary64 t delta) (omega arith) (λ h. s (omega arith)) (ahead-next n j e up a)

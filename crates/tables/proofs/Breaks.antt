@@ -1,10 +1,11 @@
--- The flat check of the lists: lists laid end to end all increase below a number exactly where the breaks are as many as the lists that begin with one
+-- The check of the lists: lists laid end to end all increase below a number exactly where the breaks are as many as the lists that begin with one
 -- whose entry is below it. List by list the begins are no more than the breaks, and as many exactly where the list increases. Assumes nothing.
 use mathlib.Core.Path.{_≡_, refl, sym, ap, _∙_}
 use mathlib.Core.Bool.{Bool, true, false, cond, _&&_, _||_}
 use mathlib.Core.List.{List, [], _∷_}
 use Prim.Native.Nat.{ℕ, zero, suc, _+_, _-_, _^_, _≤_, _<_}
 use native.Mathlib.Numerals.{add-one}
+use native.Mathlib.Decide.{ℕ-discrete}
 use native.Mathlib.Omega.{arith}
 use lib.ListN.{length, getD}
 use lib.Seq.{slice, slice-empty, slice-cons, length-slice}
@@ -14,7 +15,7 @@ use Rattle.grid.proofs.Bools.{and-left, and-right}
 use Rattle.tables.specs.Tables.{listIn}
 use Rattle.tables.specs.Fit.{increases, every}
 use Rattle.tables.specs.Lists.{sum}
-use Rattle.tables.specs.Inside.{fallsAt, breakAt, beginOf, beginBy, beginAt, LaidOut, BeginsAsk}
+use Rattle.tables.specs.Inside.{fallsAt, breakAt, beginOf, beginBy, beginAt, oneAtLeast, LaidOut, BeginsAsk, BreaksTo, BreaksMore, BeginsTo, BeginsMore}
 use Rattle.tables.proofs.Facts.{not-true, every-says, says-every}
 use Rattle.tables.proofs.Climbing.{none-increase}
 
@@ -163,12 +164,17 @@ below-none (x ∷ xs) h = absurd (omega (arith, ltb-true x 0 (and-left (ltb x 0)
 -- ---- lists that are laid out
 
 module _ (m : ℕ) (offsets xs : List ℕ) (laid : LaidOut m offsets xs) where
-  within-from : (d c : ℕ) → c + d ≡ m → getD offsets c 0 ≤ length xs
-  within-from zero c e = let z : c ≡ m = omega arith in rw z (omega (arith, laid .last))
-  within-from (suc d) c e = omega (arith, laid .rises c (omega arith), within-from d (suc c) (omega arith))
+  climbs-by : (d c : ℕ) → c + d ≤ m → getD offsets c 0 ≤ getD offsets (c + d) 0
+  climbs-by zero c l = let e : c + 0 ≡ c = omega arith in rw e (omega arith)
+  climbs-by (suc d) c l =
+      let e : c + suc d ≡ suc (c + d) = omega arith in
+      rw e (omega (arith, climbs-by d c (omega arith), laid .rises (c + d) (omega arith)))
+
+  pub laid-climbs : (c d : ℕ) → c ≤ d → d ≤ m → getD offsets c 0 ≤ getD offsets d 0
+  laid-climbs c d h k = let e : c + (d - c) ≡ d = omega arith in rw e at (climbs-by (d - c) c (omega arith))
 
   pub laid-within : (c : ℕ) → c ≤ m → getD offsets c 0 ≤ length xs
-  laid-within c l = within-from (m - c) c (omega arith)
+  laid-within c l = omega (arith, laid-climbs c m l (omega arith), laid .last)
 
   -- a list begins at an item, where there is one
   pub begin-inside : 0 < length xs → (c : ℕ) → c < m → beginOf (getD offsets c 0) (getD offsets (suc c) 0) < length xs
@@ -237,53 +243,110 @@ module _ (m : ℕ) (o : List ℕ) where
   pub offsets-all : (all : Bool) (c : ℕ) → m ≤ c → OffsetsSeen m o all c → all ≡ every m (λ c. leb (getD o c 0) (getD o (suc c) 0))
   offsets-all all c l s = let e : c ≡ m = omega (arith, s .at) in rw (← e) (s .says)
 
-pub record BreaksSeen (most : ℕ) (xs : List ℕ) (many k : ℕ) : Type 0 where
-  pub begun : 0 < k
-  pub within : k ≤ length xs
-  pub small : length xs < 2 ^ 32
-  pub is : many ≡ sum (breakAt most xs) k
-  pub few : many ≤ k
-
 module _ (most : ℕ) (xs : List ℕ) where
-  pub breaks-first : 0 < length xs → length xs < 2 ^ 32 → BreaksSeen most xs 1 1
+  pub breaks-first : 0 < length xs → length xs < 2 ^ 32 → BreaksTo most xs 1 1
   unfolding sum breakAt
   breaks-first h l = record { begun = omega arith; within = omega arith; small = l; is = rw (le-leb (getD xs 0 0) (getD xs 0 0) (omega arith)); few = omega arith }
 
-  pub breaks-more : (many k one : ℕ) → k < length xs → one ≡ cond (leb (getD xs k 0) (getD xs (k - 1) 0) || ltb most (getD xs k 0)) 1 0
-      → BreaksSeen most xs many k → BreaksSeen most xs (many + one) (k + 1)
+  pub breaks-more : (many k to one : ℕ) → k < to → one ≡ cond (leb (getD xs k 0) (getD xs (k - 1) 0) || ltb most (getD xs k 0)) 1 0
+      → BreaksMore most xs many k to → BreaksMore most xs (many + one) (k + 1) to
   unfolding sum breakAt
-  breaks-more many k one h e s =
+  breaks-more many k to one h e s =
       record {
-        begun = omega arith;
-        within = omega arith;
-        small = s .small;
-        is = rw (add-one, e, s .is);
-        few = omega (arith, s .few, e, one-at-most (leb (getD xs k 0) (getD xs (k - 1) 0) || ltb most (getD xs k 0)));
+        seen = record {
+          begun = omega arith;
+          within = omega (arith, s .inside);
+          small = s .seen .small;
+          is = rw (add-one, e, s .seen .is);
+          few = omega (arith, s .seen .few, e, one-at-most (leb (getD xs k 0) (getD xs (k - 1) 0) || ltb most (getD xs k 0)));
+        };
+        up = omega arith;
+        inside = s .inside;
       }
 
-  pub breaks-all : (many k : ℕ) → length xs ≤ k → BreaksSeen most xs many k → many ≡ sum (breakAt most xs) (length xs)
-  breaks-all many k l s = let e : k ≡ length xs = omega (arith, s .within) in rw (← e) (s .is)
-
-pub record BeginsSeen (most m : ℕ) (o xs : List ℕ) (many c : ℕ) : Type 0 where
-  pub asks : BeginsAsk m o xs
-  pub at : c ≤ m
-  pub is : many ≡ sum (beginAt most o xs) c
-  pub few : many ≤ c
+  pub breaks-all : (many k to : ℕ) → to ≤ k → BreaksMore most xs many k to → BreaksTo most xs many to
+  breaks-all many k to l s = let e : k ≡ to = omega (arith, s .up) in rw (← e) (s .seen)
 
 module _ (most m : ℕ) (o xs : List ℕ) where
-  pub begins-none : BeginsAsk m o xs → BeginsSeen most m o xs 0 0
+  pub begins-none : BeginsAsk m o xs → BeginsTo most m o xs 0 0
   unfolding sum
   begins-none h = record { asks = h; at = omega arith; is = refl; few = omega arith }
 
-  pub begins-more : (many c one : ℕ) → c < m → one ≡ beginBy most xs (getD o c 0) (getD o (c + 1) 0) → BeginsSeen most m o xs many c → BeginsSeen most m o xs (many + one) (c + 1)
+  pub begins-more : (many c to one : ℕ) → c < to → one ≡ beginBy most xs (getD o c 0) (getD o (c + 1) 0) → BeginsMore most m o xs many c to → BeginsMore most m o xs (many + one) (c + 1) to
   unfolding sum beginBy
-  begins-more many c one h e s =
+  begins-more many c to one h e s =
       record {
-        asks = s .asks;
-        at = omega arith;
-        is = rw (e, s .is, add-one);
-        few = omega (arith, s .few, e, one-at-most (ltb (getD o c 0) (getD o (c + 1) 0) && (fallsAt xs (beginOf (getD o c 0) (getD o (c + 1) 0)) && leb (getD xs (beginOf (getD o c 0) (getD o (c + 1) 0)) 0) most)));
+        seen = record {
+          asks = s .seen .asks;
+          at = omega (arith, s .inside);
+          is = rw (e, s .seen .is, add-one);
+          few = omega (arith, s .seen .few, e, one-at-most (ltb (getD o c 0) (getD o (c + 1) 0) && (fallsAt xs (beginOf (getD o c 0) (getD o (c + 1) 0)) && leb (getD xs (beginOf (getD o c 0) (getD o (c + 1) 0)) 0) most)));
+        };
+        up = omega arith;
+        inside = s .inside;
       }
 
-  pub begins-all : (many c : ℕ) → m ≤ c → BeginsSeen most m o xs many c → many ≡ sum (beginAt most o xs) m
-  begins-all many c l s = let e : c ≡ m = omega (arith, s .at) in rw (← e) (s .is)
+  pub begins-all : (many c to : ℕ) → to ≤ c → BeginsMore most m o xs many c to → BeginsTo most m o xs many to
+  begins-all many c to l s = let e : c ≡ to = omega (arith, s .up) in rw (← e) (s .seen)
+
+-- ---- blocks of cells
+
+pub one-some : (n : ℕ) → 0 < n → oneAtLeast n ≡ n
+unfolding oneAtLeast
+one-some n h = rw (ne-eqb n 0 (λ e. omega arith))
+
+pub one-none : (n : ℕ) → n ≡ 0 → oneAtLeast n ≡ 1
+unfolding oneAtLeast
+one-none n h = rw (eq-eqb n 0 h)
+
+one-up : (a b : ℕ) → a ≤ b → oneAtLeast a ≤ oneAtLeast b
+one-up a b h = go (ℕ-discrete a 0) (ℕ-discrete b 0)
+  where
+    go : Dec (a ≡ 0) → Dec (b ≡ 0) → oneAtLeast a ≤ oneAtLeast b
+    go (yes e) (yes f) = omega (arith, one-none a e, one-none b f)
+    go (yes e) (no f) = omega (arith, one-none a e, one-some b (omega (arith, f)))
+    go (no e) (yes f) = absurd (e (omega arith))
+    go (no e) (no f) = omega (arith, one-some a (omega (arith, e)), one-some b (omega (arith, f)))
+
+one-within : (n l : ℕ) → n ≤ l → 0 < l → oneAtLeast n ≤ l
+one-within n l h k = omega (arith, one-up n l h, one-some l k)
+
+-- the cells before `cell`, and the entries before k, were looked at
+pub record BlocksSeen (most m : ℕ) (o xs : List ℕ) (breaks begins cell k : ℕ) : Type 0 where
+  pub lists : BeginsTo most m o xs begins cell
+  pub entries : BreaksTo most xs breaks k
+  pub reach : k ≡ oneAtLeast (getD o cell 0)
+
+module _ (most m : ℕ) (o xs : List ℕ) where
+  pub blocks-none : BeginsAsk m o xs → BlocksSeen most m o xs 1 0 0 1
+  blocks-none h =
+      record {
+        lists = begins-none most m o xs h;
+        entries = breaks-first most xs (h .some) (h .laid .small);
+        reach = sym (one-none (getD o 0 0) (h .laid .first));
+      }
+
+  -- the block from `cell` to before `next`
+  module _ {breaks begins cell k next to : ℕ} (s : BlocksSeen most m o xs breaks begins cell k) (up : cell ≤ next) (inside : next ≤ m) (e : to ≡ oneAtLeast (getD o next 0)) where
+    pub block-entries : BreaksMore most xs breaks k to
+    block-entries =
+        record {
+          seen = s .entries;
+          up = omega (arith, s .reach, e, one-up (getD o cell 0) (getD o next 0) (laid-climbs m o xs (s .lists .asks .laid) cell next up inside));
+          inside = omega (arith, e, one-within (getD o next 0) (length xs) (laid-within m o xs (s .lists .asks .laid) next inside) (s .lists .asks .some));
+        }
+
+    pub block-lists : BeginsMore most m o xs begins cell next
+    block-lists = record { seen = s .lists; up = up; inside = inside }
+
+    pub block-seen : {breaks′ begins′ : ℕ} → BreaksTo most xs breaks′ to → BeginsTo most m o xs begins′ next → BlocksSeen most m o xs breaks′ begins′ next to
+    block-seen a b = record { lists = b; entries = a; reach = e }
+
+  pub blocks-all : {breaks begins cell k : ℕ} → m ≤ cell → BlocksSeen most m o xs breaks begins cell k
+      → (breaks ≡ sum (breakAt most xs) (length xs)) × (begins ≡ sum (beginAt most o xs) m)
+  blocks-all {breaks} {begins} {cell} {k} l s =
+      let laid = s .lists .asks .laid in
+      let z : cell ≡ m = omega (arith, s .lists .at) in
+      let r : getD o cell 0 ≡ length xs = ap (λ (c : ℕ). getD o c 0) z ∙ laid .last in
+      let q : k ≡ length xs = s .reach ∙ ap oneAtLeast r ∙ one-some (length xs) (s .lists .asks .some) in
+      (rw (← q) (s .entries .is), rw (← z) (s .lists .is))

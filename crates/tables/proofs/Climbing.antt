@@ -1,6 +1,6 @@
 -- A list whose entries rise, looked at entry by entry: it increases below every number that its last entry is below. Assumes nothing.
 use mathlib.Core.Path.{_≡_, refl, ap, subst, _∙_}
-use mathlib.Core.Bool.{Bool, true, false, _&&_}
+use mathlib.Core.Bool.{Bool, true, false, _&&_, and-true}
 use mathlib.Core.List.{List, [], _∷_}
 use Prim.Native.Nat.{ℕ, zero, suc, _+_, _-_, _≤_, _<_}
 use native.Mathlib.Numerals.{add-one}
@@ -37,10 +37,6 @@ climb-more xs all p i h k n =
     k n
     ∙ ap (λ (l : List ℕ). all && (ltb p n && increases (suc p) n l)) e
     ∙ lower all (ltb p v) (ltb v n) (ltb p n) (increases (suc v) n (drop (i + 1) xs)) (λ s t. lt-ltb p n (omega (arith, ltb-true p v s, ltb-true v n t)))
-
-and-true : (a : Bool) → (a && true) ≡ a
-and-true true = refl
-and-true false = refl
 
 climb-last : (xs : List ℕ) (all : Bool) (p i : ℕ) → length xs ≤ i → Climb xs all p i → (n : ℕ) → increases 0 n xs ≡ (all && ltb p n)
 unfolding increases

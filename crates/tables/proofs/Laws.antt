@@ -217,7 +217,7 @@ turn {W} {n} {cells} {i} {s} {r} {j} h l =
 pub line-done : {W : ℕ → List ℕ} {n cells i : ℕ} {s : List ℕ} {r : ℕ} → Line W n cells i s r → (j : ℕ) → j ≡ r → soFar W i j ≡ linesAt W (i + 1)
 line-done {W} {n} {cells} {i} h j e = so-far-all W i j (h .walks .rises i (h .in-lines)) (e ∙ h .size)
 
-length-only : (b : Bool) (i : ℕ) → length (only b i) ≤ 1
+pub length-only : (b : Bool) (i : ℕ) → length (only b i) ≤ 1
 length-only true i = omega arith
 length-only false i = omega arith
 
@@ -237,10 +237,15 @@ unfolding sum
 sum-split k g h e zero = omega arith
 sum-split k g h e (suc n) = omega (arith, sum-split k g h e n, e n)
 
-sum-zero : (g : ℕ → ℕ) (n : ℕ) → ((c : ℕ) → c < n → g c ≡ 0) → sum g n ≡ 0
+pub sum-zero : (g : ℕ → ℕ) (n : ℕ) → ((c : ℕ) → c < n → g c ≡ 0) → sum g n ≡ 0
 unfolding sum
 sum-zero g zero h = refl
 sum-zero g (suc n) h = omega (arith, sum-zero g n (λ c l. h c (omega arith)), h n (omega arith))
+
+pub sum-add : (g h : ℕ → ℕ) (n : ℕ) → sum (λ c. g c + h c) n ≡ sum g n + sum h n
+unfolding sum
+sum-add g h zero = refl
+sum-add g h (suc n) = omega (arith, sum-add g h n)
 
 sum-one : (x i n : ℕ) → sum (λ c. length (only (eqb c x) i)) n ≤ 1
 unfolding sum
@@ -387,12 +392,12 @@ table-of {W} {n} {cells} {o} {o'} {t} w fits space h first mid high =
 
 -- ---- reading a table
 
-length-tabulate : (g : ℕ → ℕ) (n : ℕ) → length (tabulate g n) ≡ n
+pub length-tabulate : (g : ℕ → ℕ) (n : ℕ) → length (tabulate g n) ≡ n
 unfolding tabulate
 length-tabulate g zero = refl
 length-tabulate g (suc n) = rw (length-append, length-tabulate g n) (omega arith)
 
-getD-tabulate : (g : ℕ → ℕ) (n c : ℕ) → c < n → getD (tabulate g n) c 0 ≡ g c
+pub getD-tabulate : (g : ℕ → ℕ) (n c : ℕ) → c < n → getD (tabulate g n) c 0 ≡ g c
 unfolding tabulate
 getD-tabulate g zero c l = absurd (omega arith)
 getD-tabulate g (suc n) c l = go (λ q. getD-tabulate g n c q) (decLt c n)
@@ -403,7 +408,7 @@ getD-tabulate g (suc n) c l = go (λ q. getD-tabulate g n c q) (decLt c n)
         let e : n ≡ c = omega arith in
         getD-at (tabulate g n) (g n) [] 0 c (length-tabulate g n ∙ e) ∙ ap g e
 
-length-concat : (F : ℕ → List ℕ) (n : ℕ) → length (concat F n) ≡ start F n
+pub length-concat : (F : ℕ → List ℕ) (n : ℕ) → length (concat F n) ≡ start F n
 unfolding concat sum
 length-concat F zero = refl
 length-concat F (suc n) = rw (length-append, length-concat F n)

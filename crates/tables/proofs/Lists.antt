@@ -86,7 +86,7 @@ below-more : (n : ℕ) (xs : List ℕ) → Below n xs → Below (suc n) xs
 below-more n [] h = tt
 below-more n (x ∷ xs) h = (omega arith, below-more n xs (h .1))
 
-rising-end : (low n : ℕ) (xs : List ℕ) → Rising low xs → Below n xs → low ≤ n → Rising low (xs ++ (n ∷ []))
+pub rising-end : (low n : ℕ) (xs : List ℕ) → Rising low xs → Below n xs → low ≤ n → Rising low (xs ++ (n ∷ []))
 rising-end low n [] h b l = (l, tt)
 rising-end low n (x ∷ xs) h b l = (h .0, rising-end (suc x) n xs (h .1) (b .1) (omega arith))
 

@@ -1,4 +1,4 @@
--- What the private functions ask and promise: the flat check of the lists. An entry breaks a list if it is not above the one before it, or above the
+-- What the private functions ask and promise: the check of the lists. An entry breaks a list if it is not above the one before it, or above the
 -- most that an entry may be. Lists laid end to end all rise exactly where each break stands where a list begins, so that two counts tell: that of all
 -- breaks, and that of the breaks at which a list begins and whose entry is at most the most. Definitions only.
 use Prim.Native.Nat.{ℕ, suc, _-_, _≤_, _<_, _^_}
@@ -6,7 +6,8 @@ use mathlib.Core.Path.{_≡_}
 use mathlib.Core.Bool.{Bool, cond, _&&_, _||_}
 use mathlib.Core.List.{List}
 use lib.ListN.{length, getD}
-use lib.Dec.{leb, ltb}
+use lib.Dec.{leb, ltb, eqb}
+use Rattle.tables.specs.Lists.{sum}
 
 -- whether an entry is not above the one before it; the first one has none before it, and is not
 abbrev pub fallsAt : List ℕ → ℕ → Bool
@@ -41,3 +42,36 @@ pub record LaidOut (m : ℕ) (offsets items : List ℕ) : Type 0 where
 pub record BeginsAsk (m : ℕ) (offsets items : List ℕ) : Type 0 where
   pub laid : LaidOut m offsets items
   pub some : 0 < length items
+
+-- ---- the two counts, as far as they have come
+
+-- the first k entries, of which there is one
+pub record BreaksTo (most : ℕ) (xs : List ℕ) (many k : ℕ) : Type 0 where
+  pub begun : 0 < k
+  pub within : k ≤ length xs
+  pub small : length xs < 2 ^ 32
+  pub is : many ≡ sum (breakAt most xs) k
+  pub few : many ≤ k
+
+-- ... and those up to a further one
+pub record BreaksMore (most : ℕ) (xs : List ℕ) (many from to : ℕ) : Type 0 where
+  pub seen : BreaksTo most xs many from
+  pub up : from ≤ to
+  pub inside : to ≤ length xs
+
+-- the lists of the first c cells
+pub record BeginsTo (most m : ℕ) (offsets xs : List ℕ) (many c : ℕ) : Type 0 where
+  pub asks : BeginsAsk m offsets xs
+  pub at : c ≤ m
+  pub is : many ≡ sum (beginAt most offsets xs) c
+  pub few : many ≤ c
+
+-- ... and those up to a further one
+pub record BeginsMore (most m : ℕ) (offsets xs : List ℕ) (many from to : ℕ) : Type 0 where
+  pub seen : BeginsTo most m offsets xs many from
+  pub up : from ≤ to
+  pub inside : to ≤ m
+
+-- n, and 1 in place of 0
+unfoldable pub oneAtLeast : ℕ → ℕ
+oneAtLeast n = cond (eqb n 0) 1 n

@@ -1,21 +1,16 @@
 // Standing tables, and the check that they fit.
 use grid::Grid;
 use refusals::Check;
+use slices::wide;
 ghost use mathlib.Core.Path.{_≡_};
 ghost use Prim.Native.Nat.{ℕ, _-_, _<_, _≤_};
 ghost use mathlib.Core.Bool.{_&&_};
 ghost use lib.ListN.{length, getD, take};
 ghost use lib.Dec.{leb, ltb};
-ghost use Rattle.tables.specs.Tables.{tables};
+ghost use Rattle.tables.specs.Tables.{tables, partIn};
 ghost use Rattle.tables.specs.Fit.{increases, listsFit, tablesFit, standingCheck};
 
 mod rising;
-
-fn wide(x: u32) -> usize
-    ensures { λ r. ⌜ r ≡ x ⌝ }
-{
-    x as usize
-}
 
 // Each entry of a list is above the one before it: then it increases below every number that its last entry is below. All are looked at and none is
 // a branch, in 32 bits, so that several are looked at at once.
@@ -43,8 +38,29 @@ pub fn is_increasing(lines: usize, list: &[u32]) -> bool
     rises(list) & (last < lines)
 }
 
-// The offsets, and then all lists at once.
-fn fit_at_once(cells: usize, lines: usize, offsets: &[u32], items: &[u32]) -> bool
+// The list of a cell, of tables as they are: empty where the offsets do not tell of it, or it is no part of the items.
+pub fn list_of<'a>(offsets: &[u32], items: &'a [u32], cell: usize) -> &'a [u32]
+    ensures { λ r. ⌜ now r ≡ partIn (now (offsets .entry)) (now (items .entry)) cell ⌝ }
+{
+    if offsets.len() <= cell {
+        return &items[0..0];
+    }
+    if offsets.len() <= cell + 1 {
+        return &items[0..0];
+    }
+    let begin = wide(offsets[cell]);
+    let end = wide(offsets[cell + 1]);
+    if end < begin {
+        return &items[0..0];
+    }
+    if items.len() < end {
+        return &items[0..0];
+    }
+    &items[begin..end]
+}
+
+// The offsets, and the lists between them.
+fn lists_fit(cells: usize, lines: usize, offsets: &[u32], items: &[u32]) -> bool
     requires { ⌜ cells < length (now offsets) ⌝ }
     ensures { λ r. ⌜ r ≡ listsFit cells lines (now (offsets .entry)) (now (items .entry)) ⌝ }
 {
@@ -59,46 +75,6 @@ fn fit_at_once(cells: usize, lines: usize, offsets: &[u32], items: &[u32]) -> bo
         return rising::lists_rise(cells, lines, offsets, &items[..total]);
     }
     false
-}
-
-// List by list: one pass over the offsets and the items between them.
-fn fit_each(cells: usize, lines: usize, offsets: &[u32], items: &[u32]) -> bool
-    requires { ⌜ cells < length (now offsets) ⌝ }
-    ensures { λ r. ⌜ r ≡ listsFit cells lines (now (offsets .entry)) (now (items .entry)) ⌝ }
-{
-    if offsets[0] != 0 {
-        return false;
-    }
-    let mut cell = 0;
-    while cell < cells {
-        let from = wide(offsets[cell]);
-        let to = wide(offsets[cell + 1]);
-        if to < from {
-            return false;
-        }
-        if items.len() < to {
-            return false;
-        }
-        if is_increasing(lines, &items[from..to]) {
-            cell = cell + 1;
-        } else {
-            return false;
-        }
-    }
-    true
-}
-
-// The offsets, and the lists between them: all at once where lists are short, since the end of each would be a branch that cannot be foreseen. Where they
-// are long, the second look at where each begins would bring nearly all items from memory once more.
-fn lists_fit(cells: usize, lines: usize, offsets: &[u32], items: &[u32]) -> bool
-    requires { ⌜ cells < length (now offsets) ⌝ }
-    ensures { λ r. ⌜ r ≡ listsFit cells lines (now (offsets .entry)) (now (items .entry)) ⌝ }
-{
-    let total = wide(offsets[cells]);
-    if total / 16 < cells {
-        return fit_at_once(cells, lines, offsets, items);
-    }
-    fit_each(cells, lines, offsets, items)
 }
 
 // The global lines strictly increase, and are within their slice.

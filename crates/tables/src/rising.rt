@@ -1,14 +1,15 @@
-// The lists of all cells at once: whether each strictly increases below the number of lines. The items are looked at in one run, and then the entries
-// where lists begin, and no branch goes by a list.
+// The lists of all cells: whether each strictly increases below the number of lines. The items of a block of cells are looked at in one run, and then
+// those where its lists begin, which are still at hand: so all come from memory once, and no branch goes by a list.
+use slices::least;
+use slices::less_one;
 ghost use mathlib.Core.Path.{_≡_};
 ghost use mathlib.Core.Bool.{cond};
-ghost use Prim.Native.Nat.{ℕ, suc, _-_, _<_, _^_};
+ghost use Prim.Native.Nat.{ℕ, suc, _<_, _^_};
 ghost use lib.ListN.{length, getD};
 ghost use lib.Dec.{leb, ltb};
 ghost use Rattle.tables.specs.Tables.{listIn};
 ghost use Rattle.tables.specs.Fit.{increases, every};
-ghost use Rattle.tables.specs.Lists.{sum};
-ghost use Rattle.tables.specs.Inside.{breakAt, beginOf, beginBy, beginAt, LaidOut, BeginsAsk};
+ghost use Rattle.tables.specs.Inside.{beginOf, beginBy, oneAtLeast, LaidOut, BreaksTo, BreaksMore, BeginsTo, BeginsMore};
 
 fn one_if(b: bool) -> u32
     ensures { λ r. ⌜ r ≡ cond b 1 0 ⌝ }
@@ -17,15 +18,6 @@ fn one_if(b: bool) -> u32
         return 1;
     }
     0
-}
-
-fn less_one(n: usize) -> usize
-    ensures { λ r. ⌜ r ≡ n - 1 ⌝ }
-{
-    if n == 0 {
-        return 0;
-    }
-    n - 1
 }
 
 // Whether no offset of the cells is below the one before it.
@@ -42,14 +34,15 @@ pub(crate) fn never_fall(cells: usize, offsets: &[u32]) -> bool
     all
 }
 
-// How many entries break a list: the first, and each that is not above the one before it, or above the most.
-fn count_breaks(most: u32, items: &[u32]) -> u32
-    requires { ⌜ (0 < length (now items)) × (length (now items) < 2 ^ 32) ⌝ }
-    ensures { λ r. let xs = now (items .entry) in ⌜ r ≡ sum (breakAt most xs) (length xs) ⌝ }
+// How many of the first `to` entries break a list, where `many` of the first `from` do: the first of all, and each that is not above the one before it, or
+// above the most.
+fn count_breaks(most: u32, items: &[u32], from: usize, to: usize, many: u32) -> u32
+    requires { ⌜ BreaksMore most (now items) many «from» to ⌝ }
+    ensures { λ r. ⌜ BreaksTo most (now (items .entry)) r to ⌝ }
 {
-    let mut many: u32 = 1;
-    let mut k = 1;
-    while k < items.len() {
+    let mut many = many;
+    let mut k = from;
+    while k < to {
         many = many + one_if((items[k] <= items[k - 1]) | (most < items[k]));
         k = k + 1;
     }
@@ -75,19 +68,36 @@ fn begins(from: u32, to: u32, most: u32, items: &[u32]) -> u32
     one_if((from < to) & ((items[at] <= items[before]) & (items[at] <= most)))
 }
 
-// How many lists begin so.
-fn count_begins(cells: usize, most: u32, offsets: &[u32], items: &[u32]) -> usize
-    requires { ⌜ BeginsAsk cells (now offsets) (now items) ⌝ }
-    ensures { λ r. ⌜ r ≡ sum (beginAt most (now (offsets .entry)) (now (items .entry))) cells ⌝ }
+// How many of the first `to` lists begin so, where `many` of the first `from` do.
+fn count_begins(
+    cells: usize,
+    most: u32,
+    offsets: &[u32],
+    items: &[u32],
+    from: usize,
+    to: usize,
+    many: usize,
+) -> usize
+    requires { ⌜ BeginsMore most cells (now offsets) (now items) many «from» to ⌝ }
+    ensures { λ r. ⌜ BeginsTo most cells (now (offsets .entry)) (now (items .entry)) r to ⌝ }
 {
-    let mut many: usize = 0;
-    let mut c = 0;
-    while c < cells {
+    let mut many = many;
+    let mut c = from;
+    while c < to {
         let one = begins(offsets[c], offsets[c + 1], most, items);
         many = many + (one as usize);
         c = c + 1;
     }
     many
+}
+
+fn one_at_least(n: u32) -> usize
+    ensures { λ r. ⌜ r ≡ oneAtLeast n ⌝ }
+{
+    if n == 0 {
+        return 1;
+    }
+    n as usize
 }
 
 fn least_32(n: usize) -> u32
@@ -111,6 +121,17 @@ pub(crate) fn lists_rise(cells: usize, lines: usize, offsets: &[u32], items: &[u
         return false;
     }
     let most = least_32(lines - 1);
-    let breaks = count_breaks(most, items) as usize;
-    breaks == count_begins(cells, most, offsets, items)
+    let mut breaks: u32 = 1;
+    let mut begins: usize = 0;
+    let mut cell = 0;
+    let mut k = 1;
+    while cell < cells {
+        let next = cell + least(cells - cell, 256);
+        let to = one_at_least(offsets[next]);
+        breaks = count_breaks(most, items, k, to, breaks);
+        begins = count_begins(cells, most, offsets, items, cell, next, begins);
+        cell = next;
+        k = to;
+    }
+    (breaks as usize) == begins
 }

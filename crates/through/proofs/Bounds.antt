@@ -8,19 +8,15 @@ use lib.ListN.{length, getD, drop, length-append, length-drop}
 use lib.Dec.{ltb}
 use Rattle.seek.specs.declared.Place.{Place}
 use Rattle.seek.specs.Tests.{Pair, withEach, pairs, placeOf}
-use Rattle.seek.specs.Inside.{tri}
 use Rattle.seek.specs.Cursors.{restIn}
 use Rattle.seek.proofs.Clauses.{length-with}
-use Rattle.seek.proofs.Lengths.{tri-twice, tri-mono, length-pairs, length-increasing}
+use Rattle.seek.proofs.Lengths.{length-pairs, length-increasing, tri-few}
 use Rattle.listed.specs.Lists.{listBy, listFrom, testsOfCells, cellsFrom}
 use Rattle.listed.proofs.AsIs.{list-increases}
 use Rattle.listed.proofs.CellLaws.{of-zero, of-suc, from-zero, from-suc}
 
-tri-most : (k : ℕ) → k ≤ 65536 → tri k ≤ 2147450880
-tri-most k h = omega (arith, tri-mono k 65536 h, tri-twice 65536)
-
 pairs-most : (pl : Place) (xs : List ℕ) → length xs ≤ 65536 → length (pairs pl xs) ≤ 2147450880
-pairs-most pl xs h = omega (arith, length-pairs pl xs, tri-most (length xs) h)
+pairs-most pl xs h = omega (arith, length-pairs pl xs, tri-few (length xs) h)
 
 from-most : (pl : Place) (xs : List ℕ) (i j : ℕ) → length xs ≤ 65536 → length (listFrom pl xs i j) ≤ 4294967296
 unfolding listFrom restIn

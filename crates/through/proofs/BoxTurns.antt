@@ -10,7 +10,9 @@ use lib.Seq.{getD-set-same, getD-set-other}
 use lib.Dec.{T, leb}
 use lib.Ieee.{Float, nan, le}
 use lib.Ieee.Fits.{and-l, and-r, and-i}
+use lib.Ieee.Bits.{is-true}
 use Rattle.numbers.proofs.FloatOrder.{float-le-trans}
+use Rattle.numbers.proofs.Tests.{holds}
 use Rattle.slices.specs.Lists.{Below}
 use Rattle.slices.proofs.Members.{below-at}
 use Rattle.grid.specs.declared.Box.{Box}
@@ -229,21 +231,13 @@ module _ (ls : Lines) (xs : List ℕ) (flat : List Float) (u : ℕ) (flat′ : L
 
 -- ---- the box within all
 
-so : (b : Bool) → b ≡ true → T b
-so true e = tt
-so false e = absurd (true≢false (sym e))
-
-said : (b : Bool) → T b → b ≡ true
-said true h = refl
-said false h = absurd h
-
 each-of : (a b d e a′ b′ d′ e′ : Bool) → (T a → T a′) → (T b → T b′) → (T d → T d′) → (T e → T e′)
     → (a && (b && (d && e))) ≡ true → (a′ && (b′ && (d′ && e′))) ≡ true
 each-of a b d e a′ b′ d′ e′ p q s t h =
-    let k = so (a && (b && (d && e))) h in
+    let k = holds (a && (b && (d && e))) h in
     let l = and-r a (b && (d && e)) k in
     let m = and-r b (d && e) l in
-    said (a′ && (b′ && (d′ && e′)))
+    is-true (a′ && (b′ && (d′ && e′)))
     (and-i a′ (b′ && (d′ && e′)) (p (and-l a (b && (d && e)) k))
     (and-i b′ (d′ && e′) (q (and-l b (d && e) l)) (and-i d′ e′ (s (and-l d e m)) (t (and-r d e m)))))
 
@@ -256,7 +250,7 @@ within-one b inner other h =
     let y = le (inner .«max_x») (other .«max_x») in
     let z = le (other .«min_y») (inner .«min_y») in
     let w = le (inner .«max_y») (other .«max_y») in
-    let k = so (x && (y && (z && w))) h in
+    let k = holds (x && (y && (z && w))) h in
     let l = and-r x (y && (z && w)) k in
     let m = and-r y (z && w) l in
     each-of (le (inner .«min_x») (b .«max_x»)) (le (b .«min_x») (inner .«max_x»)) (le (inner .«min_y») (b .«max_y»)) (le (b .«min_y») (inner .«max_y»))
@@ -273,9 +267,9 @@ inner-none m bs r e = rw e (record { each = λ u h b k. absurd (true≢false (sy
 within-each : (b : Box) (bs : List Float) (m u : ℕ) → withinAll b bs m ≡ true → u < m → Dec (u ≡ m - 1) → isWithin b (boxIn bs u) ≡ true
 unfolding withinAll
 within-each b bs zero u e h d = absurd (omega arith)
-within-each b bs (suc m) u e h (yes q) = let k : u ≡ m = omega arith in rw k (said (isWithin b (boxIn bs m)) (and-r (withinAll b bs m) (isWithin b (boxIn bs m)) (so (withinAll b bs m && isWithin b (boxIn bs m)) e)))
+within-each b bs (suc m) u e h (yes q) = let k : u ≡ m = omega arith in rw k (is-true (isWithin b (boxIn bs m)) (and-r (withinAll b bs m) (isWithin b (boxIn bs m)) (holds (withinAll b bs m && isWithin b (boxIn bs m)) e)))
 within-each b bs (suc m) u e h (no q) =
-    within-each b bs m u (said (withinAll b bs m) (and-l (withinAll b bs m) (isWithin b (boxIn bs m)) (so (withinAll b bs m && isWithin b (boxIn bs m)) e))) (omega arith) (ℕ-discrete u (m - 1))
+    within-each b bs m u (is-true (withinAll b bs m) (and-l (withinAll b bs m) (isWithin b (boxIn bs m)) (holds (withinAll b bs m && isWithin b (boxIn bs m)) e))) (omega arith) (ℕ-discrete u (m - 1))
 
 -- what overlaps the box that was found overlaps each
 pub inner-says : (ends : Box) (m : ℕ) (bs : List Float) (r : Box) → r ≡ innerOf ends m bs → Inner m bs r
@@ -284,10 +278,10 @@ inner-says ends m bs r e = go (leb 8 m && (leb m 513 && (leb 2052 (length bs) &&
   where
     all-true : (leb 8 m && (leb m 513 && (leb 2052 (length bs) && withinAll ends bs m))) ≡ true → withinAll ends bs m ≡ true
     all-true h =
-        said (withinAll ends bs m)
+        is-true (withinAll ends bs m)
         (and-r (leb 2052 (length bs)) (withinAll ends bs m)
         (and-r (leb m 513) (leb 2052 (length bs) && withinAll ends bs m)
-        (and-r (leb 8 m) (leb m 513 && (leb 2052 (length bs) && withinAll ends bs m)) (so (leb 8 m && (leb m 513 && (leb 2052 (length bs) && withinAll ends bs m))) h))))
+        (and-r (leb 8 m) (leb m 513 && (leb 2052 (length bs) && withinAll ends bs m)) (holds (leb 8 m && (leb m 513 && (leb 2052 (length bs) && withinAll ends bs m))) h))))
 
     go : (b : Bool) → (leb 8 m && (leb m 513 && (leb 2052 (length bs) && withinAll ends bs m))) ≡ b → Inner m bs r
     go true h =

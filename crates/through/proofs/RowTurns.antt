@@ -7,7 +7,7 @@ use lib.ListN.{length, getD, take, drop, length-drop}
 use lib.Seq.{getD-take, getD-drop, length-take-le}
 use lib.Ieee.{Float, nan}
 use Rattle.slices.specs.Lists.{Below}
-use Rattle.slices.proofs.Members.{below-at}
+use Rattle.slices.proofs.Members.{below-at, below-drop}
 use Rattle.grid.specs.Domain.{Lines, count, Alike, segmentAt}
 use Rattle.grid.specs.Boxes.{boxOf}
 use Rattle.seek.specs.declared.Place.{Place}
@@ -29,11 +29,6 @@ part-at xs b many u h = getD-take many (drop b xs) u 0 h ∙ getD-drop b xs u 0
 
 pub part-long : (xs : List ℕ) (b many : ℕ) → b + many ≤ length xs → length (take many (drop b xs)) ≡ many
 part-long xs b many h = length-take-le many (drop b xs) (rw length-drop (omega arith))
-
-below-drop : (n : ℕ) (xs : List ℕ) (b : ℕ) → Below n xs → Below n (drop b xs)
-below-drop n xs zero w = w
-below-drop n [] (suc b) w = w
-below-drop n (x ∷ xs) (suc b) w = below-drop n xs b (w .1)
 
 below-take : (n : ℕ) (xs : List ℕ) (m : ℕ) → Below n xs → Below n (take m xs)
 below-take n xs zero w = tt

@@ -81,7 +81,7 @@ module _ (ls : Lines) (C C′ : List Pair) (t : ℕ) (fs ss fs₁ ss₁ : List �
       sym (length-take-le h fs₁ (omega (arith, g .moved .in-room, g .moved .first-long)))
       ∙ ap length all-firsts ∙ length-map (handed ls C (length fs)) (λ (p : Pair). p .first)
 
-cleared : (xs ys out : List ℕ) (n hits : ℕ) → ys ≡ clearedFrom hits xs → take hits xs ≡ out → length xs ≡ n → length out ≡ hits → ys ≡ zeroBeyond 0 n out
+pub cleared : (xs ys out : List ℕ) (n hits : ℕ) → ys ≡ clearedFrom hits xs → take hits xs ≡ out → length xs ≡ n → length out ≡ hits → ys ≡ zeroBeyond 0 n out
 unfolding clearedFrom zeroBeyond
 cleared xs ys out n hits e p l h = e ∙ rw (p, l, h)
 

@@ -15,6 +15,7 @@ use lib.Ieee.{Float, nan, le}
 use Rattle.grid.specs.declared.Box.{Box}
 use Rattle.grid.specs.Domain.{Lines, count, Alike, segmentAt}
 use Rattle.grid.specs.Boxes.{boxOf, overlaps}
+use Rattle.grid.proofs.Bools.{and-left, and-right}
 use Rattle.seek.specs.declared.Place.{Place}
 use Rattle.seek.specs.Tests.{Pair, pair, withEach}
 use Rattle.visit.specs.Overlap.{overlap}
@@ -86,14 +87,6 @@ pub record Asking (many : ℕ) (marks : List ℕ) (all : Bool) (u : ℕ) : Type 
 
 pub whole-start : (many : ℕ) (marks : List ℕ) → many ≤ length marks → Asking many marks true 0
 whole-start many marks a = record { inside = a; to = omega arith; so-far = λ e. record { each = λ t q. absurd (omega arith) } }
-
-and-left : (a b : Bool) → (a && b) ≡ true → a ≡ true
-and-left true b e = refl
-and-left false b e = e
-
-and-right : (a b : Bool) → (a && b) ≡ true → b ≡ true
-and-right true b e = e
-and-right false b e = absurd (true≢false (sym e))
 
 module _ (many : ℕ) (marks : List ℕ) (all : Bool) (u : ℕ) (s : Asking many marks all u) where
   pub whole-more : u < many → Asking many marks (all && eqb (getD marks u 0) 1) (u + 1)

@@ -1,7 +1,6 @@
 -- What a push adds, and a push that leaves out what is there already. Assumes nothing.
 use mathlib.Core.Path.{_≡_, refl, sym, _∙_, subst}
 use Prim.Native.Nat.{ℕ, zero, suc, _+_, _-_, _*_, _≤_, _<_}
-use native.Mathlib.Nat.{mul-le-mul-right, suc-mul}
 use native.Mathlib.Omega.{arith}
 use mathlib.Core.Bool.{Bool, true, false, cond, _&&_, _||_, true≢false}
 use mathlib.Core.List.{List, [], _∷_, _++_}
@@ -16,13 +15,6 @@ use Rattle.cover.proofs.Growing.{none, one}
 use Rattle.turns.specs.Pushes.{keptIf}
 use Rattle.turns.specs.Trails.{lastIs, unlessThere}
 use Rattle.turns.specs.InsideModular.{pushBy}
-
--- a cell's number is below the number of cells
-pub number : (x y cols rows : ℕ) → x < cols → y < rows → y * cols + x < rows * cols
-number x y cols rows h k =
-    let l : suc y * cols ≤ rows * cols = mul-le-mul-right cols k in
-    let e : suc y * cols ≡ y * cols + cols = suc-mul y cols in
-    omega arith
 
 module _ (cols rows col row : ℕ) where
   pub inside : col < cols → row < rows → pushBy cols rows col row ≡ (row * cols + col) ∷ []

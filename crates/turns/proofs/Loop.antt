@@ -84,28 +84,26 @@ pub going-is : (way : Way) (w : Walk) (k : Turn) (b : Bool) → k ≡ turnBy way
 unfolding goingBy
 going-is way w k b e f = rw (← e) (sym f)
 
--- ---- the laws of `turns`
+-- ---- the laws of `turnsBy`
 
-module _ (cols rows : ℕ) (way : Way) (w : Walk) (g : Bool) where
-  pub turns-stop : (n : ℕ) → g ≡ false → turnsBy n g cols rows way w ≡ gives []
+module _ (cols rows : ℕ) (way : Way) (w : Walk) where
+  turns-stop : (n : ℕ) → goingBy way w ≡ false → turnsBy n cols rows way w ≡ gives []
   unfolding turnsBy
   turns-stop zero e = rw e
   turns-stop (suc n) e = rw e
 
-  pub turns-over : g ≡ true → turnsBy 0 g cols rows way w ≡ refused (refusal 7 0)
+  turns-over : goingBy way w ≡ true → turnsBy 0 cols rows way w ≡ refused (refusal 7 0)
   unfolding turnsBy
   turns-over e = rw e
 
-  turns-suc : (n : ℕ) → g ≡ true
-      → turnsBy (suc n) g cols rows way w ≡ before (pushedBy (turnBy way w) cols rows way w) (turnsBy n (goingBy way (nextBy way w)) cols rows way (nextBy way w))
+  turns-suc : (n : ℕ) → goingBy way w ≡ true → turnsBy (suc n) cols rows way w ≡ before (pushedBy (turnBy way w) cols rows way w) (turnsBy n cols rows way (nextBy way w))
   unfolding turnsBy
   turns-suc n e = rw e
 
-  pub turns-more : (n : ℕ) → 0 < n → g ≡ true
-      → turnsBy n g cols rows way w ≡ before (pushedBy (turnBy way w) cols rows way w) (turnsBy (n - 1) (goingBy way (nextBy way w)) cols rows way (nextBy way w))
+  turns-more : (n : ℕ) → 0 < n → goingBy way w ≡ true → turnsBy n cols rows way w ≡ before (pushedBy (turnBy way w) cols rows way w) (turnsBy (n - 1) cols rows way (nextBy way w))
   turns-more n h e =
       let p : n ≡ suc (n - 1) = omega arith in
-      ap (λ (x : ℕ). turnsBy x g cols rows way w) p ∙ turns-suc (n - 1) e
+      ap (λ (x : ℕ). turnsBy x cols rows way w) p ∙ turns-suc (n - 1) e
 
 pub before-before : (a b : List ℕ) (o : Outcome) → before a (before b o) ≡ before (a ++ b) o
 unfolding before _into_
@@ -167,7 +165,7 @@ still-next way w p = rw (stays (turnBy way w .x) (way .x) (w .x) (p .x), stays (
 pub record Going (goal : Outcome) (n cols rows : ℕ) (way : Way) (left : ℕ) (w : Walk) (m : ℕ) (s : List ℕ) : Type 0 where
   pub size : n + 15000 ≤ length s
   pub room : m + 3 * left ≤ n + 15000
-  pub is : goal ≡ before (take m s) (turnsBy left (goingBy way w) cols rows way w)
+  pub is : goal ≡ before (take m s) (turnsBy left cols rows way w)
 
 module _ {goal : Outcome} {n cols rows : ℕ} {way : Way} {left : ℕ} {w : Walk} {m : ℕ} {s : List ℕ} (g : Going goal n cols rows way left w m s) where
   more : {m′ : ℕ} {s′ : List ℕ} → goingBy way w ≡ true → 0 < left → Appended s s′ m m′ (pushedBy (turnBy way w) cols rows way w)
@@ -177,9 +175,9 @@ module _ {goal : Outcome} {n cols rows : ℕ} {way : Way} {left : ℕ} {w : Walk
     room = omega (arith, g .room, p .count, at-most-three (turnBy way w) cols rows way w);
     is =
         g .is
-        ∙ ap (before (take m s)) (turns-more cols rows way w (goingBy way w) left h e)
-        ∙ before-before (take m s) (pushedBy (turnBy way w) cols rows way w) (turnsBy (left - 1) (goingBy way (nextBy way w)) cols rows way (nextBy way w))
-        ∙ ap (λ (l : List ℕ). before l (turnsBy (left - 1) (goingBy way (nextBy way w)) cols rows way (nextBy way w))) (sym (p .is));
+        ∙ ap (before (take m s)) (turns-more cols rows way w left h e)
+        ∙ before-before (take m s) (pushedBy (turnBy way w) cols rows way w) (turnsBy (left - 1) cols rows way (nextBy way w))
+        ∙ ap (λ (l : List ℕ). before l (turnsBy (left - 1) cols rows way (nextBy way w))) (sym (p .is));
   }
 
   -- one turn of the code
@@ -194,7 +192,7 @@ module _ {goal : Outcome} {n cols rows : ℕ} {way : Way} {left : ℕ} {w : Walk
   unfolding before _into_
   done e = record {
     ran =
-        subst (λ (o : Outcome). RanTo o (Done m) s) (sym (g .is ∙ ap (before (take m s)) (turns-stop cols rows way w (goingBy way w) left e)))
+        subst (λ (o : Outcome). RanTo o (Done m) s) (sym (g .is ∙ ap (before (take m s)) (turns-stop cols rows way w left e)))
         (omega (arith, g .room, g .size), sym (append-nil (take m s)));
     all = omega (arith, g .room);
   }
@@ -204,7 +202,7 @@ module _ {goal : Outcome} {n cols rows : ℕ} {way : Way} {left : ℕ} {w : Walk
   over e z = record {
     ran =
         subst (λ (o : Outcome). RanTo o Over s)
-        (sym (g .is ∙ ap (λ (l : ℕ). before (take m s) (turnsBy l (goingBy way w) cols rows way w)) z ∙ ap (before (take m s)) (turns-over cols rows way w (goingBy way w) e)))
+        (sym (g .is ∙ ap (λ (l : ℕ). before (take m s) (turnsBy l cols rows way w)) z ∙ ap (before (take m s)) (turns-over cols rows way w e)))
         refl;
     all = tt;
   }
@@ -226,7 +224,7 @@ over-on (gives xs) s ys p = absurd p
 
 module _ (cols rows : ℕ) (way : Way) (w : Walk) {s₀ s₁ s₂ : List ℕ} {n : ℕ} {R : Ran}
     (g : Appended s₀ s₁ 0 n (pushBy cols rows (w .x .index) (w .y .index)))
-    (p : Runs (before (take n s₁) (turnsBy 5000 (goingBy way w) cols rows way w)) n R s₂) where
+    (p : Runs (before (take n s₁) (turnsBy 5000 cols rows way w)) n R s₂) where
   ran : (r : Ran) → R ≡ r → RanTo (onwardBy cols rows way w) r s₂
   ran r e = subst (λ (k : Ran). RanTo (onwardBy cols rows way w) k s₂) e (rw (g .is) at (p .ran))
 

@@ -7,6 +7,7 @@ use lib.Dec.{T}
 use lib.Ieee.{Float, nan, inf, fin, binary64, add, sub, mul, lt, le, eq, isNan}
 use Rattle.numbers.specs.Order.{leastOf, greatestOf, magnitudeOf}
 use Rattle.numbers.proofs.FloatOrder.{number, float-le-trans, at-most, not-under, lt-le, le-number}
+use Rattle.numbers.proofs.Extremes.{no-nan}
 use Rattle.turns.specs.declared.Turn.{Turn}
 use Rattle.turns.specs.Turns.{nought, one, infinite, finiteOf, toleranceOf, nearOf, stop, both, single, furtherOf}
 use Rattle.turns.specs.Inside.{wide, plainly}
@@ -44,12 +45,6 @@ own-size (inf true) h = absurd (true≢false (sym h))
 own-size (inf false) h = refl
 own-size (fin true m e) h = absurd (true≢false (sym h))
 own-size (fin false m e) h = refl
-
-no-nan : (v : Float) → T (number v) → isNan v ≡ false
-unfolding isNan
-no-nan nan h = absurd h
-no-nan (inf s) h = refl
-no-nan (fin s m e) h = refl
 
 -- ---- the tolerance, where x < y and x is above 0
 

@@ -2,7 +2,7 @@
 use mathlib.Core.Path.{_≡_, refl, sym, ap, _∙_, subst}
 use Prim.Native.Nat.{ℕ, zero, suc, _+_, _*_, _≤_, _<_}
 use native.Mathlib.Omega.{arith}
-use mathlib.Core.Bool.{Bool, true, false, _&&_}
+use mathlib.Core.Bool.{Bool, true, false, cond, _&&_}
 use mathlib.Core.List.{List, [], _++_}
 use lib.ListN.{length, length-append}
 use lib.Dec.{ltb}
@@ -12,13 +12,14 @@ use Rattle.slices.proofs.Members.{below-append}
 use Rattle.refusals.specs.declared.Refusal.{Refusal}
 use Rattle.refusals.specs.Refusals.{refusal, refused, gives, _into_}
 use Rattle.grid.proofs.Bools.{and-left, and-right}
+use Rattle.grid.proofs.Shapes.{cell-inside}
 use Rattle.turns.specs.declared.Walk.{Walk}
 use Rattle.turns.specs.declared.Way.{Way}
 use Rattle.turns.specs.Turns.{Ray, State, turnOf}
 use Rattle.turns.specs.Pushes.{keptIf, pushOf, pushedOf, Outcome, before, followedBy, nextOf, goingOf, turns, walkedOf}
 use Rattle.turns.specs.InsideModular.{turnBy, steppedBy, movedBy, pushBy, sidesBy, pushedBy, nextBy, goingBy, turnsBy, walkedBy}
 use Rattle.turns.specs.Inside.{Straight, Still}
-use Rattle.turns.proofs.Grows.{number, at-most-one}
+use Rattle.turns.proofs.Grows.{at-most-one}
 use Rattle.turns.proofs.Loop.{at-most-three, one-way, turn-lean, far-of, straight-next, still-next}
 
 -- ---- an outcome from its parts
@@ -61,7 +62,7 @@ module _ (cols rows : ℕ) where
   unfolding pushBy
   push-below col row =
       kept-below (rows * cols) (ltb col cols && ltb row rows) (row * cols + col)
-      (λ e. number col row cols rows (ltb-true col cols (and-left (ltb col cols) (ltb row rows) e)) (ltb-true row rows (and-right (ltb col cols) (ltb row rows) e)))
+      (λ e. cell-inside rows cols row col (ltb-true row rows (and-right (ltb col cols) (ltb row rows) e)) (ltb-true col cols (and-left (ltb col cols) (ltb row rows) e)))
 
   sides-below : (b : Bool) (way : Way) (w : Walk) → Below (rows * cols) (sidesBy b cols rows way w)
   unfolding sidesBy
@@ -81,13 +82,10 @@ module _ (cols rows : ℕ) where
 -- ---- the turns: inside, three a turn, one a turn along an axis, none at a point
 
 -- a point that is not at its end never comes there
-still-refused : (left : ℕ) (g : Bool) (cols rows : ℕ) (way : Way) (w : Walk) → Still way w → g ≡ goingBy way w → g ≡ true → turnsBy left g cols rows way w ≡ refused (refusal 7 0)
+still-refused : (left cols rows : ℕ) (way : Way) (w : Walk) → Still way w → goingBy way w ≡ true → turnsBy left cols rows way w ≡ refused (refusal 7 0)
 unfolding turnsBy before _into_
-still-refused zero g cols rows way w s e t = rw t
-still-refused (suc left) g cols rows way w s e t =
-    let n = still-next way w s in
-    let i : turnsBy left (goingBy way (nextBy way w)) cols rows way (nextBy way w) ≡ refused (refusal 7 0) = rw n (still-refused left (goingBy way w) cols rows way w s refl (sym e ∙ t)) in
-    rw (t, i)
+still-refused zero cols rows way w s t = rw t
+still-refused (suc left) cols rows way w s t = rw (t, still-next way w s, still-refused left cols rows way w s t)
 
 record Pushed (n left : ℕ) (way : Way) (w : Walk) (xs : List ℕ) : Type 0 where
   inside : Below n xs
@@ -98,22 +96,34 @@ record Pushed (n left : ℕ) (way : Way) (w : Walk) (xs : List ℕ) : Type 0 whe
 none-pushed : (n left : ℕ) (way : Way) (w : Walk) (xs : List ℕ) → [] ≡ xs → Pushed n left way w xs
 none-pushed n left way w xs e = rw (← e) (record { inside = tt; all = omega arith; few = λ s. omega arith; least = λ s. omega arith })
 
-turns-pushed : (left : ℕ) (g : Bool) (cols rows : ℕ) (way : Way) (w : Walk) (xs : List ℕ) → g ≡ goingBy way w → turnsBy left g cols rows way w ≡ gives xs → Pushed (rows * cols) left way w xs
+turns-pushed : (left cols rows : ℕ) (way : Way) (w : Walk) (xs : List ℕ) → turnsBy left cols rows way w ≡ gives xs → Pushed (rows * cols) left way w xs
 unfolding turnsBy
-turns-pushed zero false cols rows way w xs g e = none-pushed (rows * cols) 0 way w xs (same-cells [] xs e)
-turns-pushed zero true cols rows way w xs g e = absurd (no-cells (refusal 7 0) xs e)
-turns-pushed (suc left) false cols rows way w xs g e = none-pushed (rows * cols) (suc left) way w xs (same-cells [] xs e)
-turns-pushed (suc left) true cols rows way w xs g e =
-    let ps = pushedBy (turnBy way w) cols rows way w in
-    let b = before-found ps (turnsBy left (goingBy way (nextBy way w)) cols rows way (nextBy way w)) xs e in
-    let h = turns-pushed left (goingBy way (nextBy way w)) cols rows way (nextBy way w) (b .ys) refl (b .rest) in
-    let l : length xs ≡ length ps + length (b .ys) = ap length (b .whole) ∙ length-append ps (b .ys) in
-    record {
-      inside = subst (λ (z : List ℕ). Below (rows * cols) z) (sym (b .whole)) (below-append (rows * cols) ps (b .ys) (turn-below cols rows way w) (h .inside));
-      all = omega (arith, l, h .all, at-most-three (turnBy way w) cols rows way w);
-      few = λ s. omega (arith, l, h .few (straight-next way w s), one-way (turnBy way w) cols rows way w (turn-lean way w (far-of way w s)));
-      least = λ s. absurd (no-cells (refusal 7 0) xs (sym (still-refused (suc left) true cols rows way w s g refl) ∙ e));
-    }
+turns-pushed zero cols rows way w xs e = go (goingBy way w) e
+  where
+    go : (g : Bool) → cond g (refused (refusal 7 0)) (gives []) ≡ gives xs → Pushed (rows * cols) 0 way w xs
+    go false e = none-pushed (rows * cols) 0 way w xs (same-cells [] xs e)
+    go true e = absurd (no-cells (refusal 7 0) xs e)
+turns-pushed (suc left) cols rows way w xs e = go (goingBy way w) refl (turns-pushed left cols rows way (nextBy way w)) e
+  where
+    ps : List ℕ
+    ps = pushedBy (turnBy way w) cols rows way w
+
+    rest : Outcome
+    rest = turnsBy left cols rows way (nextBy way w)
+
+    go : (g : Bool) → goingBy way w ≡ g → ((ys : List ℕ) → rest ≡ gives ys → Pushed (rows * cols) left way (nextBy way w) ys) → cond g (before ps rest) (gives []) ≡ gives xs
+        → Pushed (rows * cols) (suc left) way w xs
+    go false t f d = none-pushed (rows * cols) (suc left) way w xs (same-cells [] xs d)
+    go true t f d =
+        let b = before-found ps rest xs d in
+        let h = f (b .ys) (b .rest) in
+        let l : length xs ≡ length ps + length (b .ys) = ap length (b .whole) ∙ length-append ps (b .ys) in
+        record {
+          inside = subst (λ (z : List ℕ). Below (rows * cols) z) (sym (b .whole)) (below-append (rows * cols) ps (b .ys) (turn-below cols rows way w) (h .inside));
+          all = omega (arith, l, h .all, at-most-three (turnBy way w) cols rows way w);
+          few = λ s. omega (arith, l, h .few (straight-next way w s), one-way (turnBy way w) cols rows way w (turn-lean way w (far-of way w s)));
+          least = λ s. absurd (no-cells (refusal 7 0) xs (sym (still-refused (suc left) cols rows way w s t) ∙ e));
+        }
 
 -- the walk, with its first and its last cell
 pub walked-pushed : (cols rows : ℕ) (way : Way) (w : Walk) (xs : List ℕ) → walkedBy cols rows way w ≡ gives xs
@@ -122,9 +132,9 @@ unfolding walkedBy
 walked-pushed cols rows way w xs e =
     let f = pushBy cols rows (w .x .index) (w .y .index) in
     let l = pushBy cols rows (way .x .end) (way .y .end) in
-    let a = followed-found (before f (turnsBy 5000 (goingBy way w) cols rows way w)) l xs e in
-    let b = before-found f (turnsBy 5000 (goingBy way w) cols rows way w) (a .ys) (a .rest) in
-    let p = turns-pushed 5000 (goingBy way w) cols rows way w (b .ys) refl (b .rest) in
+    let a = followed-found (before f (turnsBy 5000 cols rows way w)) l xs e in
+    let b = before-found f (turnsBy 5000 cols rows way w) (a .ys) (a .rest) in
+    let p = turns-pushed 5000 cols rows way w (b .ys) (b .rest) in
     let m : length xs ≡ (length f + length (b .ys)) + length l =
     ap length (a .whole) ∙ length-append (a .ys) l ∙ ap (λ (k : ℕ). k + length l) (ap length (b .whole) ∙ length-append f (b .ys)) in
     let u = at-most-one cols rows (w .x .index) (w .y .index) in
@@ -148,18 +158,24 @@ unfolding followedBy _into_
 followed-refused (refused y) ps why d = d
 followed-refused (gives ys) ps why d = absurd (no-cells why (ys ++ ps) (sym d))
 
-turns-refused : (left : ℕ) (g : Bool) (cols rows : ℕ) (r : Ray) (s : State) (why : Refusal) → turns left g cols rows r s ≡ refused why → why ≡ refusal 7 0
+-- where there is a turn
+cond-refused : (g : Bool) (o : Outcome) (why : Refusal) → cond g o (gives []) ≡ refused why → o ≡ refused why
+cond-refused true o why e = e
+cond-refused false o why e = absurd (no-cells why [] (sym e))
+
+turns-refused : (left cols rows : ℕ) (r : Ray) (s : State) (why : Refusal) → turns left cols rows r s ≡ refused why → why ≡ refusal 7 0
 unfolding turns
-turns-refused zero false cols rows r s why e = absurd (no-cells why [] (sym e))
-turns-refused zero true cols rows r s why e = cc
-turns-refused (suc left) false cols rows r s why e = absurd (no-cells why [] (sym e))
-turns-refused (suc left) true cols rows r s why e =
-    turns-refused left (goingOf r (nextOf r s)) cols rows r (nextOf r s) why
-    (before-refused (pushedOf (turnOf r s) cols rows r s) (turns left (goingOf r (nextOf r s)) cols rows r (nextOf r s)) why e)
+turns-refused zero cols rows r s why e =
+    let d = cond-refused (goingOf r s) (refused (refusal 7 0)) why e in
+    cc
+turns-refused (suc left) cols rows r s why e =
+    let ps = pushedOf (turnOf r s) cols rows r s in
+    let o = turns left cols rows r (nextOf r s) in
+    turns-refused left cols rows r (nextOf r s) why (before-refused ps o why (cond-refused (goingOf r s) (before ps o) why e))
 
 pub walked-refused : (cols rows : ℕ) (r : Ray) (s : State) (why : Refusal) → walkedOf cols rows r s ≡ refused why → why ≡ refusal 7 0
 unfolding walkedOf
 walked-refused cols rows r s why e =
     let f = pushOf cols rows (s .x .index) (s .y .index) in
-    let t = turns 5000 (goingOf r s) cols rows r s in
-    turns-refused 5000 (goingOf r s) cols rows r s why (before-refused f t why (followed-refused (before f t) (pushOf cols rows (r .x .end) (r .y .end)) why e))
+    let t = turns 5000 cols rows r s in
+    turns-refused 5000 cols rows r s why (before-refused f t why (followed-refused (before f t) (pushOf cols rows (r .x .end) (r .y .end)) why e))

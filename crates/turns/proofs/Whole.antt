@@ -151,26 +151,19 @@ module _ (cols rows : ℕ) (wide : cols ≤ 4004) (high : rows ≤ 4004) {r : Ra
   unfolding goingOf goingBy
   going-is left o = ap goesOf (turn-is left o)
 
-  turns-are : (left : ℕ) (g : Bool) (s : State) (w : Walk) → On left s w → turns left g cols rows r s ≡ turnsBy left g cols rows way w
+  turns-are : (left : ℕ) (s : State) (w : Walk) → On left s w → turns left cols rows r s ≡ turnsBy left cols rows way w
   unfolding turns turnsBy
-  turns-are zero false s w o = refl
-  turns-are zero true s w o = refl
-  turns-are (suc left) false s w o = refl
-  turns-are (suc left) true s w o =
-      let n = next-on left o in
+  turns-are zero s w o = rw (going-is zero o)
+  turns-are (suc left) s w o =
       let p : pushedOf (turnOf r s) cols rows r s ≡ pushedBy (turnBy way w) cols rows way w =
       ap (λ (k : Turn). pushedOf k cols rows r s) (turn-is (suc left) o) ∙ pushed-is left (turnBy way w) o in
-      let q : turns left (goingOf r (nextOf r s)) cols rows r (nextOf r s) ≡ turnsBy left (goingBy way (nextBy way w)) cols rows way (nextBy way w) =
-      ap (λ (b : Bool). turns left b cols rows r (nextOf r s)) (going-is left n) ∙ turns-are left (goingBy way (nextBy way w)) (nextOf r s) (nextBy way w) n in
-      ap (λ (l : List ℕ). before l (turns left (goingOf r (nextOf r s)) cols rows r (nextOf r s))) p ∙ ap (before (pushedBy (turnBy way w) cols rows way w)) q
+      rw (going-is (suc left) o, p, turns-are left (nextOf r s) (nextBy way w) (next-on left o))
 
   onward-are : (s : State) (w : Walk) → On 5000 s w → onwardOf cols rows r s ≡ onwardBy cols rows way w
   onward-are s w o =
       let f : pushOf cols rows (s .x .index) (s .y .index) ≡ pushBy cols rows (w .x .index) (w .y .index) =
       push-is cols rows 5000 5000 (s .x .index) (s .y .index) (w .x .index) (w .y .index) wide high (o .x .index) (o .y .index) in
-      let t : turns 5000 (goingOf r s) cols rows r s ≡ turnsBy 5000 (goingBy way w) cols rows way w =
-      ap (λ (b : Bool). turns 5000 b cols rows r s) (going-is 5000 o) ∙ turns-are 5000 (goingBy way w) s w o in
-      ap (λ (l : List ℕ). before l (turns 5000 (goingOf r s) cols rows r s)) f ∙ ap (before (pushBy cols rows (w .x .index) (w .y .index))) t
+      ap₂ before f (turns-are 5000 s w o)
 
   end-is : pushOf cols rows (r .x .end) (r .y .end) ≡ pushBy cols rows (way .x .end) (way .y .end)
   end-is =

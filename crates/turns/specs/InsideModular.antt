@@ -7,7 +7,7 @@ use mathlib.Core.List.{List, [], _++_}
 use lib.Dec.{ltb, eqb}
 use lib.Ieee.{Float, lt}
 use Rattle.numbers.specs.Arithmetic.{_+₆₄_, _-₆₄_}
-use Rattle.refusals.specs.Refusals.{refusal, refused, gives, _into_}
+use Rattle.refusals.specs.Refusals.{refusal, refused, gives}
 use Rattle.grid.specs.declared.Axis.{Axis}
 use Rattle.grid.specs.declared.Grid.{Grid}
 use Rattle.grid.specs.declared.Segment.{Segment}
@@ -71,15 +71,12 @@ nextBy way w = movedBy (turnBy way w) way w
 unfoldable pub goingBy : Way → Walk → Bool
 goingBy way w = goesOf (turnBy way w)
 
-unfoldable pub turnsBy : ℕ → Bool → ℕ → ℕ → Way → Walk → Outcome
-unfolding before _into_
-turnsBy zero false cols rows way w = gives []
-turnsBy zero true cols rows way w = refused (refusal 7 0)
-turnsBy (suc left) false cols rows way w = gives []
-turnsBy (suc left) true cols rows way w = before (pushedBy (turnBy way w) cols rows way w) (turnsBy left (goingBy way (nextBy way w)) cols rows way (nextBy way w))
+unfoldable pub turnsBy : ℕ → ℕ → ℕ → Way → Walk → Outcome
+turnsBy zero cols rows way w = cond (goingBy way w) (refused (refusal 7 0)) (gives [])
+turnsBy (suc left) cols rows way w = cond (goingBy way w) (before (pushedBy (turnBy way w) cols rows way w) (turnsBy left cols rows way (nextBy way w))) (gives [])
 
 abbrev pub onwardBy : ℕ → ℕ → Way → Walk → Outcome
-onwardBy cols rows way w = before (pushBy cols rows (w .x .index) (w .y .index)) (turnsBy 5000 (goingBy way w) cols rows way w)
+onwardBy cols rows way w = before (pushBy cols rows (w .x .index) (w .y .index)) (turnsBy 5000 cols rows way w)
 
 unfoldable pub walkedBy : ℕ → ℕ → Way → Walk → Outcome
 walkedBy cols rows way w = followedBy (onwardBy cols rows way w) (pushBy cols rows (way .x .end) (way .y .end))

@@ -1,7 +1,7 @@
 -- Document 01, "The walk": what the turns push. A push that drops a cell equal to the last is left out here: it changes nothing in the answer,
 -- which has no cell twice (`dropping` in walk/proofs/Faithful.antt). Definitions only.
 use Prim.Native.Nat.{ℕ, zero, suc, _+_, _*_}
-use mathlib.Core.Bool.{Bool, true, false, _&&_}
+use mathlib.Core.Bool.{Bool, true, false, cond, _&&_}
 use mathlib.Core.List.{List, [], _∷_, _++_}
 use lib.IntN.{ℤ, pos, negsuc}
 use lib.Dec.{ltb}
@@ -50,21 +50,14 @@ nextOf r s = movedOf (turnOf r s) r s
 unfoldable pub goingOf : Ray → State → Bool
 goingOf r s = goesOf (turnOf r s)
 
--- The pushes of the turns from a state on, with so many turns left; refusal 7 where one more would be made. The Bool is whether there is a turn:
--- it is matched on, so that a walk that stops is computed no further. `from` puts it in.
-unfoldable pub turns : ℕ → Bool → ℕ → ℕ → Ray → State → Outcome
-unfolding before _into_
-turns zero false cols rows r s = gives []
-turns zero true cols rows r s = refused (refusal 7 0)
-turns (suc left) false cols rows r s = gives []
-turns (suc left) true cols rows r s = before (pushedOf (turnOf r s) cols rows r s) (turns left (goingOf r (nextOf r s)) cols rows r (nextOf r s))
-
-abbrev pub from : ℕ → ℕ → ℕ → Ray → State → Outcome
-from left cols rows r s = turns left (goingOf r s) cols rows r s
+-- the pushes of the turns from a state on, while there is a turn, with so many left; refusal 7 where one more would be made
+unfoldable pub turns : ℕ → ℕ → ℕ → Ray → State → Outcome
+turns zero cols rows r s = cond (goingOf r s) (refused (refusal 7 0)) (gives [])
+turns (suc left) cols rows r s = cond (goingOf r s) (before (pushedOf (turnOf r s) cols rows r s) (turns left cols rows r (nextOf r s))) (gives [])
 
 -- the start cell is pushed; the turns, 5,000 at most
 abbrev pub onwardOf : ℕ → ℕ → Ray → State → Outcome
-onwardOf cols rows r s = before (pushOf cols rows (s .x .index) (s .y .index)) (from 5000 cols rows r s)
+onwardOf cols rows r s = before (pushOf cols rows (s .x .index) (s .y .index)) (turns 5000 cols rows r s)
 
 -- after the loop the end cell is pushed
 unfoldable pub walkedOf : ℕ → ℕ → Ray → State → Outcome

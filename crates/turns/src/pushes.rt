@@ -10,7 +10,7 @@ ghost use Prim.Native.Nat.{_+_, _*_, _≤_, _<_};
 ghost use lib.ListN.{length, take};
 ghost use Rattle.cover.specs.Inside.{Appended};
 ghost use Rattle.turns.specs.Pushes.{before};
-ghost use Rattle.turns.specs.InsideModular.{movedBy, pushBy, sidesBy, pushedBy, goingBy, turnsBy, troddenBy};
+ghost use Rattle.turns.specs.InsideModular.{movedBy, pushBy, sidesBy, pushedBy, turnsBy, troddenBy};
 ghost use Rattle.turns.specs.Trails.{lastIs, unlessThere};
 ghost use Rattle.turns.specs.Inside.{RanTo, Runs};
 
@@ -95,7 +95,7 @@ fn stride(s: &mut [u32], n: usize, cols: u32, rows: u32, way: Way, w: Walk, k: T
 // The turns from a state on, 5,000 of them allowed.
 fn run(s: &mut [u32], n: usize, cols: u32, rows: u32, way: Way, start: Walk) -> Ran
     requires { ⌜ n + 15000 ≤ length (now s) ⌝ ∗ ⌜ rows * cols ≤ 1002001 ⌝ }
-    ensures { λ r. ⌜ Runs (before (take n (now (s .entry))) (turnsBy 5000 (goingBy way start) cols rows way start)) n r (now (s .exit)) ⌝ }
+    ensures { λ r. ⌜ Runs (before (take n (now (s .entry))) (turnsBy 5000 cols rows way start)) n r (now (s .exit)) ⌝ }
 {
     let mut w = start;
     let mut m = n;

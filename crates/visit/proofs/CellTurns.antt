@@ -7,7 +7,7 @@ use native.Mathlib.Omega.{arith}
 use lib.ListN.{length, getD}
 use Rattle.tables.specs.Tables.{listIn}
 use Rattle.seek.specs.Cursors.{cellsRest, PlaceFits}
-use Rattle.seek.specs.Inside.{CellsFit}
+use Rattle.tables.specs.InsideFit.{CellsFit}
 use Rattle.seek.proofs.CellRests.{length-list, cells-done, next-row, next-cell}
 use Rattle.visit.specs.Inside.{CellAsks, CellIs}
 

@@ -6,7 +6,8 @@ use native.Mathlib.Nat.{suc-mul}
 use native.Mathlib.Numerals.{add-one}
 use native.Mathlib.Omega.{arith}
 use lib.ListN.{length, getD}
-use Rattle.seek.specs.Inside.{GlobalsFit, stopOf}
+use Rattle.tables.specs.InsideFit.{GlobalsFit}
+use Rattle.seek.specs.Inside.{stopOf}
 use Rattle.seek.specs.Cursors.{globalsRest, LineFits}
 use Rattle.seek.proofs.Clauses.{left-suc}
 use Rattle.seek.proofs.GlobalRests.{stop-in, stop-out, globals-done, k-most, pass-same, pass-fits, next-same, next-fits}

@@ -21,7 +21,7 @@ use Rattle.seek.specs.Cursors.{cellsRest, globalsRest, restOf}
 use Rattle.visit.specs.Inside.{TestsMoved, PlacesWritten, RunAsks, CellsAsk, CellsRan, GlobalsAsk, GlobalsRan, RanAll}
 use Rattle.visit.proofs.Clauses.{made-full, handed-full}
 use Rattle.visit.proofs.Moves.{none-made, none-handed}
-use Rattle.seek.proofs.Standing.{globals-fit}
+use Rattle.tables.proofs.Parts.{fit-globals}
 use Rattle.seek.proofs.Passed.{here, m-fits, m-below, m-wide, m-few, m-few-both}
 
 -- ---- a run
@@ -66,7 +66,7 @@ module _ (ls : Lines) (g : Grid) (offsets items globals : List ℕ) (count-of : 
         record {
           fine = (here ls g offsets items globals count-of (a .ready .fine)) .lines-fine;
           place = record {
-            table = globals-fit (beside ls g offsets items globals count-of) ((here ls g offsets items globals count-of (a .ready .fine)) .tables);
+            table = fit-globals (beside ls g offsets items globals count-of) ((here ls g offsets items globals count-of (a .ready .fine)) .tables);
             place = a .ready .fits .in-globals;
           };
           outputs = record { same = first-moved .second-long ∙ a .same ∙ sym (first-moved .first-long); in-room = omega (arith, first-moved .in-room, first-moved .first-long) };

@@ -10,11 +10,13 @@ use Rattle.grid.specs.Domain.{Lines, count, segmentAt, linesCheck}
 use Rattle.grid.specs.Boxes.{boxOf}
 use Rattle.tables.specs.Tables.{Tables, listIn}
 use Rattle.seek.specs.declared.Place.{Place}
+use Rattle.seek.specs.declared.Place.the-variants.{Global}
 use Rattle.seek.specs.declared.Cursor.{Cursor}
-use Rattle.seek.specs.Tests.{Pair, withEach}
+use Rattle.seek.specs.Tests.{Pair, withEach, placeOf}
 use Rattle.visit.specs.Places.{numberIn, numberOf}
 use Rattle.seek.specs.Cursors.{cellsRest, globalsRest, restOf, PlaceFits, LineFits, Ready}
-use Rattle.seek.specs.Inside.{CellsFit, GlobalsFit, numbers, stopOf}
+use Rattle.tables.specs.InsideFit.{CellsFit, GlobalsFit}
+use Rattle.seek.specs.Inside.{numbers, stopOf}
 use Rattle.visit.specs.declared.cursor.CellAt.{CellAt}
 use Rattle.visit.specs.declared.cursor.CellAt.the-variants as cellat
 use Rattle.visit.specs.declared.cursor.GlobalAt.{GlobalAt}
@@ -169,6 +171,42 @@ pub record InLines (ls : Lines) (row : Row) (k stop : ℕ) (fs ss : List ℕ) (h
   pub handed-at : (later : List Pair)
       → HandedAt ls (row .place) (withEach (row .place) (row .first) (numbers (stop - k) k) ++ later) (withEach (row .place) (row .first) (numbers (stop - r .k) (r .k)) ++ later) (length fs) hits (r .hits)
   pub some : hits < length fs → k < stop → k < r .k
+
+-- ---- rows with their places
+
+-- the entries from `from` to before `to`
+abbrev pub part : List ℕ → ℕ → ℕ → List ℕ
+part xs from to = take (to - from) (drop from xs)
+
+-- a list as a part of the items, and two of its entries
+pub record CellRowAsks (ls : Lines) (cols cell : ℕ) (items : List ℕ) (from to i j : ℕ) (fs ss : List ℕ) (hits : ℕ) : Type 0 where
+  pub fine : linesCheck ls ≡ Fine
+  pub wide : 0 < cols
+  pub few : cell < 2 ^ 32
+  pub rises : from ≤ to
+  pub within : to ≤ length items
+  pub below : Below (count ls) (part items from to)
+  pub one : i < length (part items from to)
+  pub at : j ≤ length (part items from to)
+  pub outputs : OutputsAsk fs ss hits
+
+-- row i of the list xs of a cell, and its number beside what is handed out
+pub record InCellRow (ls : Lines) (cols cell : ℕ) (xs : List ℕ) (i j : ℕ) (fs ss ps : List ℕ) (hits : ℕ) (fs′ ss′ ps′ : List ℕ) (r : ListEnd) : Type 0 where
+  pub in-list : InList ls (rowOf ls (placeOf cols cell) (getD xs i 0)) xs j fs ss hits fs′ ss′ r
+  pub put : PutIs ps hits (r .hits) cell ps′
+
+pub record GlobalRowAsks (ls : Lines) (cells : ℕ) (globals : List ℕ) (p k stop : ℕ) (fs ss : List ℕ) (hits : ℕ) : Type 0 where
+  pub line : LineAsks ls (getD globals p 0)
+  pub one : p < length globals
+  pub few : cells + p < 2 ^ 32
+  pub below : stop ≤ count ls
+  pub at : k ≤ stop
+  pub outputs : OutputsAsk fs ss hits
+
+-- a run of global p, and the number of its place beside what is handed out
+pub record InGlobalRow (ls : Lines) (cells : ℕ) (globals : List ℕ) (p k stop : ℕ) (fs ss ps : List ℕ) (hits : ℕ) (fs′ ss′ ps′ : List ℕ) (r : LinesEnd) : Type 0 where
+  pub in-lines : InLines ls (rowOf ls (Global p) (getD globals p 0)) k stop fs ss hits fs′ ss′ r
+  pub put : PutIs ps hits (r .hits) (cells + p) ps′
 
 -- ---- runs
 

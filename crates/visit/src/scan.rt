@@ -14,7 +14,7 @@ ghost use Rattle.grid.specs.Domain.{lines};
 ghost use Rattle.seek.specs.Tests.{pair, withEach, placeOf};
 ghost use Rattle.visit.specs.Entries.{testOf};
 ghost use Rattle.seek.specs.Inside.{numbers};
-ghost use Rattle.visit.specs.Inside.{LineAsks, rowOf, nextStep, TestAsks, TestInAsks, TestBeforeAsks, ListAsks, InList, LinesAsk, InLines, PutIs, CellsAsk, CellsRan, GlobalsAsk, GlobalsRan};
+ghost use Rattle.visit.specs.Inside.{LineAsks, rowOf, nextStep, TestAsks, TestInAsks, TestBeforeAsks, ListAsks, InList, LinesAsk, InLines, PutIs, part, CellRowAsks, InCellRow, GlobalRowAsks, InGlobalRow, CellsAsk, CellsRan, GlobalsAsk, GlobalsRan};
 
 // The first line of a row, with its box.
 pub(crate) struct Row {
@@ -214,7 +214,99 @@ fn put_places(places: &mut [u32], mut from: usize, to: usize, number: u32)
     }
 }
 
-// From row to row through the cells. The items between two offsets are handed on as a part.
+// The row of entry i of a cell's list, from its entry j on, with the number of the cell beside each pair that it hands out. The list is the items
+// from `from` to before `to`, which are handed on as a part.
+fn scan_cell_row(
+    cols: u32,
+    cell: usize,
+    items: &[u32],
+    from: usize,
+    to: usize,
+    i: usize,
+    j: usize,
+    start_x: &[f64],
+    start_y: &[f64],
+    end_x: &[f64],
+    end_y: &[f64],
+    first: &mut [u32],
+    second: &mut [u32],
+    places: &mut [u32],
+    hits: usize,
+) -> ListEnd
+    requires { ⌜ CellRowAsks (lines (now «start_x») (now «start_y») (now «end_x») (now «end_y»)) cols cell (now items) «from» to i j (now first) (now second) hits ⌝ }
+    ensures { λ r. let ls = lines (now («start_x» .entry)) (now («start_y» .entry)) (now («end_x» .entry)) (now («end_y» .entry)) in
+        let fs = now (first .entry) in
+        let ss = now (second .entry) in
+        let ps = now (places .entry) in
+        ⌜ InCellRow ls cols cell (part (now (items .entry)) «from» to) i j fs ss ps hits (now (first .exit)) (now (second .exit)) (now (places .exit)) r ⌝ }
+{
+    let list = &items[from..to];
+    let number = cell as u32;
+    let row = row_of(
+        place_of(cols, number),
+        list[i],
+        start_x,
+        start_y,
+        end_x,
+        end_y,
+    );
+    let end = scan_list(
+        list,
+        row,
+        j,
+        start_x,
+        start_y,
+        end_x,
+        end_y,
+        first,
+        second,
+        hits,
+    );
+    put_places(places, hits, end.hits, number);
+    end
+}
+
+// The run of global p from line k to before `stop`, with the number of its place beside each pair that it hands out.
+fn scan_global_row(
+    cells: usize,
+    globals: &[u32],
+    p: usize,
+    k: u32,
+    stop: u32,
+    start_x: &[f64],
+    start_y: &[f64],
+    end_x: &[f64],
+    end_y: &[f64],
+    first: &mut [u32],
+    second: &mut [u32],
+    places: &mut [u32],
+    hits: usize,
+) -> LinesEnd
+    requires { ⌜ GlobalRowAsks (lines (now «start_x») (now «start_y») (now «end_x») (now «end_y»)) cells (now globals) p k stop (now first) (now second) hits ⌝ }
+    ensures { λ r. let ls = lines (now («start_x» .entry)) (now («start_y» .entry)) (now («end_x» .entry)) (now («end_y» .entry)) in
+        let fs = now (first .entry) in
+        let ss = now (second .entry) in
+        let ps = now (places .entry) in
+        ⌜ InGlobalRow ls cells (now (globals .entry)) p k stop fs ss ps hits (now (first .exit)) (now (second .exit)) (now (places .exit)) r ⌝ }
+{
+    let row = row_of(Place::Global(p), globals[p], start_x, start_y, end_x, end_y);
+    let end = scan_lines(
+        row,
+        k,
+        stop,
+        start_x,
+        start_y,
+        end_x,
+        end_y,
+        first,
+        second,
+        hits,
+    );
+    put_places(places, hits, end.hits, (cells + p) as u32);
+    end
+}
+
+// From row to row through the cells.
 pub(crate) fn run_cells(
     cols: u32,
     cells: usize,
@@ -251,19 +343,13 @@ pub(crate) fn run_cells(
         else {
             break;
         };
-        let list = &items[from..to];
-        let number = c as u32;
-        let row = row_of(
-            place_of(cols, number),
-            list[a],
-            start_x,
-            start_y,
-            end_x,
-            end_y,
-        );
-        let end = scan_list(
-            list,
-            row,
+        let end = scan_cell_row(
+            cols,
+            c,
+            items,
+            from,
+            to,
+            a,
             b,
             start_x,
             start_y,
@@ -271,9 +357,9 @@ pub(crate) fn run_cells(
             end_y,
             first,
             second,
+            places,
             hits,
         );
-        put_places(places, hits, end.hits, number);
         tests = tests + ((end.j - b) as u64);
         hits = end.hits;
         cell = c;
@@ -319,9 +405,10 @@ pub(crate) fn run_globals(
         else {
             break;
         };
-        let row = row_of(Place::Global(a), globals[a], start_x, start_y, end_x, end_y);
-        let end = scan_lines(
-            row,
+        let end = scan_global_row(
+            cells,
+            globals,
+            a,
             d,
             stop,
             start_x,
@@ -330,9 +417,9 @@ pub(crate) fn run_globals(
             end_y,
             first,
             second,
+            places,
             hits,
         );
-        put_places(places, hits, end.hits, (cells + a) as u32);
         tests = tests + ((end.k - d) as u64);
         hits = end.hits;
         p = a;

@@ -15,7 +15,7 @@ use Rattle.slices.specs.Lists.{Below}
 use Rattle.slices.proofs.Members.{below-at}
 use Rattle.grid.specs.declared.Grid.{Grid}
 use Rattle.grid.specs.Axes.{xAxis, yAxis, indexOn}
-use Rattle.grid.proofs.Shapes.{Shape}
+use Rattle.grid.proofs.Shapes.{Shape, cell-inside}
 use Rattle.walk.specs.declared.Mode.{Mode}
 use Rattle.walk.specs.declared.Neighbour.{Neighbour}
 use Rattle.walk.specs.declared.Neighbour.the-variants.{None, Lower, Upper}
@@ -24,7 +24,6 @@ use Rattle.cover.specs.Inside.{Appended}
 use Rattle.walk.specs.Inside.{Within, AllWithin, manyOf, share}
 use Rattle.turns.proofs.Floats.{index-le}
 use Rattle.cover.proofs.Growing.{none, then, same}
-use Rattle.turns.proofs.Grows.{number}
 use Rattle.walk.proofs.Flat.{flat-append, flat-le, cond-below}
 
 -- ---- the cell beside a cell
@@ -120,7 +119,7 @@ pub cell-below : (g : Grid) (x y : Float) → Shape (g .cols) (g .rows) → 0 < 
 unfolding cellOf
 cell-below g x y s h =
     let k = s .alike h in
-    number (indexOn (xAxis g) x) (indexOn (yAxis g) y) (g .cols) (g .rows) (omega (arith, index-le (xAxis g) x)) (omega (arith, index-le (yAxis g) y))
+    cell-inside (g .rows) (g .cols) (indexOn (yAxis g) y) (indexOn (xAxis g) x) (omega (arith, index-le (yAxis g) y)) (omega (arith, index-le (xAxis g) x))
 
 -- ---- of one cell
 

@@ -21,7 +21,7 @@ use Rattle.grid.specs.declared.Grid.{Grid}
 use Rattle.grid.specs.declared.Segment.{Segment}
 use Rattle.grid.specs.Axes.{xAxis, yAxis}
 use Rattle.grid.specs.Domain.{shape, fit}
-use Rattle.grid.proofs.Shapes.{Shape, shape-says, fit-shape}
+use Rattle.grid.proofs.Shapes.{Shape, shape-says, fit-shape, cell-inside}
 use Rattle.cover.specs.Covering.{coveringOf, everywhere}
 use Rattle.cover.proofs.Laws.{covering-rises, found-few, everywhere-all}
 use Rattle.walk.specs.declared.Mode.{Mode}
@@ -32,7 +32,6 @@ use Rattle.turns.specs.Pushes.{Outcome, walkedOf}
 use Rattle.walk.specs.Neighbours.{neighbourOn, alongOn, lowColOf, upColOf, lowRowOf, upRowOf, columnOf, rowOf, besideOf, lineOf, cellOf, endpointOf}
 use Rattle.walk.specs.Segment.{pushesOf, answered, byTurns, unlessNone, turnsOf, turning, segmentOf, everywhereIn}
 use Rattle.walk.specs.Inside.{share}
-use Rattle.turns.proofs.Grows.{number}
 use Rattle.walk.proofs.Flat.{flat-le, flat-below, cond-below}
 use Rattle.walk.proofs.Added.{beside-le, cell-below, end-le}
 use Rattle.walk.proofs.Room.{share-few}
@@ -48,7 +47,7 @@ next-below : (rows cols c : ℕ) → c < rows * cols → c % cols + 1 < cols →
 next-below rows cols c h k =
     let r : c / cols < rows = div-lt-iff-lt-mul {k = cols} {x = c} {y = rows} (omega arith) .1 h in
     let e : c / cols * cols + c % cols ≡ c = div-add-mod' c cols in
-    omega (arith, number (c % cols + 1) (c / cols) cols rows k r)
+    omega (arith, cell-inside rows cols (c / cols) (c % cols + 1) r k)
 
 module _ (rows cols : ℕ) where
   abbrev n : ℕ

@@ -1,11 +1,11 @@
 -- The lists of the block: those of a row stand side by side in the items, so a line is in a row's part exactly if a cell of the row lists it, and in
 -- some row's part exactly if a cell of the block lists it. Assumes nothing.
 use mathlib.Core.Path.{_≡_, refl, sym, ap, ap₂, subst, _∙_}
-use mathlib.Core.Logic.{_⊎_, inl, inr, ⊎-elim}
+use mathlib.Core.Logic.{_⊎_, ⊎-elim}
 use mathlib.Core.Bool.{Bool, true, false, cond, _&&_, _||_, true≢false}
 use mathlib.Core.List.{List, [], _∷_, _++_}
 use Prim.Native.Nat.{ℕ, zero, suc, _+_, _-_, _*_, _/_, _%_, _≤_, _<_}
-use native.Mathlib.Nat.{mod-lt, mod-eq-of-lt, div-eq-of-lt, div-add-mod', mul-add-div-right, mul-add-mod-self-right, mul-le-mul-right}
+use native.Mathlib.Nat.{mod-lt, div-add-mod', mul-le-mul-right}
 use native.Mathlib.Omega.{arith}
 use borrow.Author.Tests.{le-leb, leb-true, eqb-true, eqb-false}
 use lib.Dec.{leb, eqb}
@@ -13,31 +13,13 @@ use lib.ListN.{length, getD, take, drop}
 use lib.Seq.{slice, slice-empty}
 use Rattle.slices.specs.Lists.{elem}
 use Rattle.slices.proofs.Members.{any-append}
-use Rattle.grid.proofs.Bools.{and-left, and-right, and-both}
+use Rattle.grid.proofs.Bools.{and-left, and-right, and-both, or-says, both-ways, or-left, or-right}
+use Rattle.grid.proofs.Shapes.{col-of, row-of}
 use Rattle.tables.specs.Tables.{listIn}
 use Rattle.tables.specs.Fit.{ListsFit}
 use Rattle.window.specs.Window.{within, some}
 use Rattle.window.specs.Inside.{rowPart}
 use Rattle.window.proofs.Marking.{anyFrom}
-
--- ---- Bools
-
-pub or-says : (a b : Bool) → (a || b) ≡ true → (a ≡ true) ⊎ (b ≡ true)
-or-says true b h = inl refl
-or-says false b h = inr h
-
-pub or-right : (a b : Bool) → b ≡ true → (a || b) ≡ true
-or-right true b h = refl
-or-right false b h = h
-
-or-left : (a b : Bool) → a ≡ true → (a || b) ≡ true
-or-left a b h = rw h
-
-pub both-ways : (a b : Bool) → (a ≡ true → b ≡ true) → (b ≡ true → a ≡ true) → a ≡ b
-both-ways true true f g = refl
-both-ways true false f g = absurd (true≢false (sym (f refl)))
-both-ways false true f g = absurd (true≢false (sym (g refl)))
-both-ways false false f g = refl
 
 -- ---- a number that passes
 
@@ -126,12 +108,6 @@ module _ (offsets items : List ℕ) where
       ∙ ap (λ (b : Bool). b || elem v (listIn offsets items (s + n))) (side-by-side v s n below))
 
 -- ---- cells by row and column
-
-pub col-of : (cols r c : ℕ) → c < cols → (r * cols + c) % cols ≡ c
-col-of cols r c h = mul-add-mod-self-right r cols c ∙ mod-eq-of-lt h
-
-pub row-of : (cols r c : ℕ) → c < cols → (r * cols + c) / cols ≡ r
-row-of cols r c h = let some : 0 < cols = omega arith in let e = div-eq-of-lt h in let u = mul-add-div-right some r c in omega arith
 
 pub row-fits : (rows cols r : ℕ) → r < rows → r * cols + cols ≤ rows * cols
 row-fits rows cols r h = let m : suc r * cols ≤ rows * cols = mul-le-mul-right cols h in omega arith

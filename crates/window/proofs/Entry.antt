@@ -1,6 +1,6 @@
 -- The query case by case: its checks in their order, which lines are met, and the answer. Assumes nothing.
 use mathlib.Core.Path.{_≡_, refl, sym, ap, ap₂, subst, _∙_}
-use mathlib.Core.Bool.{Bool, true, false, not, cond, _&&_, _||_, true≢false}
+use mathlib.Core.Bool.{Bool, true, false, cond, _&&_, _||_}
 use mathlib.Core.List.{List, []}
 use Prim.Native.Nat.{ℕ, _+_, _-_, _*_, _≤_, _<_}
 use native.Mathlib.Nat.{sub-zero}
@@ -193,13 +193,3 @@ module _ (ls : Lines) (g : Grid) (t : Tables) (w : Box) (few : count ls ≤ 6553
     pub met-all : inOrder w ≡ true → (out now : List ℕ) (r : ℕ) → Wrote (those (met ls w marks) (count ls)) out r now → Wrote (linesIn ls g t w) out r now
     unfolding linesIn
     met-all order out now r h = subst (λ (xs : List ℕ). Wrote xs out r now) (those-same (met ls w marks) (mayEnter ls g t w) (count ls) (met-is order)) h
-
--- ---- a test and its opposite
-
-pub not-set : (b : Bool) → not b ≡ true → b ≡ false
-not-set true h = absurd (true≢false (sym h))
-not-set false h = refl
-
-pub set : (b : Bool) → not b ≡ false → b ≡ true
-set true h = refl
-set false h = absurd (true≢false h)

@@ -1,6 +1,6 @@
 -- The numbers that pass a test, in order, and a list written over the start of another. Assumes nothing.
 use mathlib.Core.Path.{_≡_, refl, sym, ap, ap₂, subst, _∙_}
-use mathlib.Core.Bool.{Bool, true, false, _&&_}
+use mathlib.Core.Bool.{Bool, true, false, _&&_, and-true, and-false}
 use mathlib.Core.List.{List, [], _∷_, _++_, append-nil}
 use Prim.Native.Nat.{ℕ, zero, suc, _+_, _-_, _≤_, _<_}
 use native.Mathlib.Omega.{arith}
@@ -13,29 +13,16 @@ use Rattle.grid.specs.declared.Box.{Box}
 use Rattle.grid.specs.Boxes.{boxOf, overlaps}
 use Rattle.grid.specs.Domain.{Lines, segmentAt}
 use Rattle.tables.specs.Lists.{only}
+use Rattle.tables.proofs.Laws.{length-only}
 use Rattle.window.specs.Window.{those}
 use Rattle.window.specs.Inside.{met, listWritten, Wrote, WroteOne, countIf, setIf}
 
--- ---- Bools
-
-and-true : (b : Bool) → (b && true) ≡ b
-and-true true = refl
-and-true false = refl
-
-and-false : (b : Bool) → (b && false) ≡ false
-and-false true = refl
-and-false false = refl
-
 -- ---- those that pass
-
-only-short : (b : Bool) (i : ℕ) → length (only b i) ≤ 1
-only-short true i = omega arith
-only-short false i = omega arith
 
 pub those-few : (f : ℕ → Bool) (n : ℕ) → length (those f n) ≤ n
 unfolding those
 those-few f zero = omega arith
-those-few f (suc n) = let a = length-append (those f n) (only (f n) n) in omega (arith, those-few f n, only-short (f n) n)
+those-few f (suc n) = let a = length-append (those f n) (only (f n) n) in omega (arith, those-few f n, length-only (f n) n)
 
 pub those-same : (f g : ℕ → Bool) (n : ℕ) → ((i : ℕ) → i < n → f i ≡ g i) → those f n ≡ those g n
 unfolding those

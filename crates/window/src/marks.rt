@@ -1,6 +1,7 @@
 // Marks of lines, 1 for each that is met.
 use grid::Box;
 use grid::Grid;
+use slices::wide;
 ghost use mathlib.Core.Path.{_≡_};
 ghost use Prim.Native.Nat.{_-_, _≤_};
 ghost use mathlib.Core.Bool.{true};
@@ -11,12 +12,6 @@ ghost use Rattle.tables.specs.Tables.{tables};
 ghost use Rattle.tables.specs.Fit.{TablesFit};
 ghost use Rattle.window.specs.Window.{listed};
 ghost use Rattle.window.specs.Inside.{markedWith, markedRows, Block, LinesMarked};
-
-fn wide(n: u32) -> usize
-    ensures { λ r. ⌜ r ≡ n ⌝ }
-{
-    n as usize
-}
 
 // Marks the lines of a list.
 pub(crate) fn mark_list(marks: &mut [u8], list: &[u32])

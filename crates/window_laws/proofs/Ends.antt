@@ -5,31 +5,22 @@ use mathlib.Core.List.{List, [], _++_}
 use Prim.Native.Nat.{ℕ, _+_, _*_, _<_}
 use native.Mathlib.Omega.{arith}
 use borrow.Author.Tests.{lt-ltb}
-use lib.Dec.{eqb, ltb}
+use lib.Dec.{ltb}
 use lib.Ieee.{Float}
 use Rattle.slices.specs.Lists.{elem}
-use Rattle.slices.proofs.Members.{any-append, elem-head}
+use Rattle.slices.proofs.Members.{elem-head, elem-left, elem-right}
 use Rattle.refusals.specs.Refusals.{refused, gives, _into_}
 use Rattle.grid.specs.declared.Grid.{Grid}
 use Rattle.grid.specs.declared.Segment.{Segment}
 use Rattle.grid.specs.Axes.{xAxis, yAxis, indexOn}
 use Rattle.walk.specs.declared.Mode.{Mode}
 use Rattle.turns.specs.Turns.{rayOf, startOf, strideOn, progressOn}
-use Rattle.turns.specs.Pushes.{Outcome, keptIf, pushOf, before, followedBy, from, walkedOf}
+use Rattle.turns.specs.Pushes.{Outcome, keptIf, pushOf, before, followedBy, turns, walkedOf}
 use Rattle.walk.specs.Segment.{pushesOf, answered, turning, segmentOf}
 use Rattle.turns.proofs.Pushed.{no-cells, same-cells}
 use Rattle.walk.proofs.Answer.{segment-is}
 use Rattle.walk.proofs.Visits.{segment-members}
-use Rattle.window.proofs.Blocks.{or-right}
 use Rattle.window.proofs.Corners.{index-below}
-
--- ---- lists
-
-pub in-first : (v : ℕ) (xs ys : List ℕ) → elem v xs ≡ true → elem v (xs ++ ys) ≡ true
-in-first v xs ys h = any-append (eqb v) xs ys ∙ rw h
-
-pub in-second : (v : ℕ) (xs ys : List ℕ) → elem v ys ≡ true → elem v (xs ++ ys) ≡ true
-in-second v xs ys h = any-append (eqb v) xs ys ∙ or-right (elem v xs) (elem v ys) h
 
 -- ---- what is pushed
 
@@ -39,9 +30,9 @@ unfolding before followedBy _into_
 in-walked S E walked (refused why) h v = absurd (no-cells why walked h)
 in-walked S E walked (gives ys) h v =
     let e : (S ++ ys) ++ E ≡ walked = same-cells ((S ++ ys) ++ E) walked h in
-    (λ k. subst (λ (xs : List ℕ). elem v xs ≡ true) e (in-first v (S ++ ys) E (in-first v S ys k)), λ k. subst (λ (xs : List ℕ). elem v xs ≡ true) e (in-second v (S ++ ys) E k))
+    (λ k. subst (λ (xs : List ℕ). elem v xs ≡ true) e (elem-left v (S ++ ys) E (elem-left v S ys k)), λ k. subst (λ (xs : List ℕ). elem v xs ≡ true) e (elem-right v (S ++ ys) E k))
 
-module _ (mode : Mode) (g : Grid) (line : Segment) (turns : turning mode ≡ true) (C : 0 < g .cols) (R : 0 < g .rows) (xs : List ℕ) (is : segmentOf mode g line ≡ gives xs) where
+module _ (mode : Mode) (g : Grid) (line : Segment) (by-turns : turning mode ≡ true) (C : 0 < g .cols) (R : 0 < g .rows) (xs : List ℕ) (is : segmentOf mode g line ≡ gives xs) where
   abbrev cellAt : Float → Float → ℕ
   cellAt x y = indexOn (yAxis g) y * g .cols + indexOn (xAxis g) x
 
@@ -56,7 +47,7 @@ module _ (mode : Mode) (g : Grid) (line : Segment) (turns : turning mode ≡ tru
       → (elem (cellAt (line .«start_x») (line .«start_y»)) walked ≡ true) × (elem (cellAt (line .«end_x») (line .«end_y»)) walked ≡ true)
   unfolding walkedOf pushOf startOf progressOn rayOf strideOn
   walked-ends walked e =
-      let T = from 5000 (g .cols) (g .rows) (rayOf g line) (startOf g line) in
+      let T = turns 5000 (g .cols) (g .rows) (rayOf g line) (startOf g line) in
       let S = pushOf (g .cols) (g .rows) (startOf g line .x .index) (startOf g line .y .index) in
       let E = pushOf (g .cols) (g .rows) (rayOf g line .x .end) (rayOf g line .y .end) in (
         in-walked S E walked T e (cellAt (line .«start_x») (line .«start_y»)) .0 (pushed (line .«start_x») (line .«start_y»)),
@@ -69,11 +60,11 @@ module _ (mode : Mode) (g : Grid) (line : Segment) (turns : turning mode ≡ tru
   listed-walked (refused why) e h = absurd (no-cells why xs h)
   listed-walked (gives walked) e h =
       let p = walked-ends walked e in
-      let m = segment-members mode g line turns walked xs columns e is in (
-        m (cellAt (line .«start_x») (line .«start_y»)) ∙ in-first (cellAt (line .«start_x») (line .«start_y»)) walked _ (p .0),
-        m (cellAt (line .«end_x») (line .«end_y»)) ∙ in-first (cellAt (line .«end_x») (line .«end_y»)) walked _ (p .1),
+      let m = segment-members mode g line by-turns walked xs columns e is in (
+        m (cellAt (line .«start_x») (line .«start_y»)) ∙ elem-left (cellAt (line .«start_x») (line .«start_y»)) walked _ (p .0),
+        m (cellAt (line .«end_x») (line .«end_y»)) ∙ elem-left (cellAt (line .«end_x») (line .«end_y»)) walked _ (p .1),
       )
 
   -- THE CELL OF EACH END IS LISTED
   pub ends-listed : (elem (cellAt (line .«start_x») (line .«start_y»)) xs ≡ true) × (elem (cellAt (line .«end_x») (line .«end_y»)) xs ≡ true)
-  ends-listed = listed-walked (walkedOf (g .cols) (g .rows) (rayOf g line) (startOf g line)) refl (sym (segment-is mode g line turns columns) ∙ is)
+  ends-listed = listed-walked (walkedOf (g .cols) (g .rows) (rayOf g line) (startOf g line)) refl (sym (segment-is mode g line by-turns columns) ∙ is)

@@ -10,7 +10,7 @@ use lib.Dec.{eqb}
 use lib.ListN.{length, take, replicate}
 use lib.Seq.{take-append-seam}
 use Rattle.slices.specs.Lists.{elem}
-use Rattle.slices.proofs.Members.{elem-head}
+use Rattle.slices.proofs.Members.{elem-head, elem-left, elem-right}
 use Rattle.refusals.specs.declared.Check.the-variants.{Fine}
 use Rattle.refusals.specs.Refusals.{Answer, refused, gives, _then_, answerBy, leftIn, zeroBeyond}
 use Rattle.refusals.proofs.Answers.{then-passed}
@@ -19,7 +19,8 @@ use Rattle.grid.specs.declared.Box.{Box}
 use Rattle.grid.specs.Axes.{xAxis, yAxis, indexOn}
 use Rattle.grid.specs.Boxes.{boxOf, overlaps}
 use Rattle.grid.specs.Domain.{Lines, count, segmentAt, linesCheck, gridCheck}
-use Rattle.grid.proofs.Bools.{and-both}
+use Rattle.grid.proofs.Bools.{and-both, or-right}
+use Rattle.grid.proofs.Shapes.{col-of, row-of}
 use Rattle.tables.specs.Tables.{Tables, cells, listOf, globalsOf}
 use Rattle.tables.specs.Lists.{long, only}
 use Rattle.tables.specs.Fit.{tablesCheck}
@@ -28,8 +29,7 @@ use Rattle.tables.proofs.Standing as standing
 use Rattle.window.specs.declared.Listing.{Listing}
 use Rattle.window.specs.declared.Listing.the-variants.{Listed}
 use Rattle.window.specs.Window.{inOrder, within, inBlock, listed, mayEnter, those, linesIn, windowCheck, outputRoomCheck, windowEnd, windowAnswer, WindowIs}
-use Rattle.window.proofs.Blocks.{or-right, some-has, within-has, col-of, row-of, row-fits}
-use Rattle.window_laws.proofs.Ends.{in-first, in-second}
+use Rattle.window.proofs.Blocks.{some-has, within-has, row-fits}
 
 -- ---- the cells of a line meet the block of a window
 
@@ -51,8 +51,8 @@ those-hold f zero i l h = absurd (omega arith)
 those-hold f (suc n) i l h = go (eqb i n) refl (λ k. those-hold f n i k h)
   where
     go : (b : Bool) → eqb i n ≡ b → (i < n → elem i (those f n) ≡ true) → elem i (those f n ++ only (f n) n) ≡ true
-    go true e rest = let d : i ≡ n = eqb-true i n e in in-second i (those f n) (only (f n) n) (rw (← d, h) (elem-head i []))
-    go false e rest = let d = eqb-false i n e in in-first i (those f n) (only (f n) n) (rest (omega arith))
+    go true e rest = let d : i ≡ n = eqb-true i n e in elem-right i (those f n) (only (f n) n) (rw (← d, h) (elem-head i []))
+    go false e rest = let d = eqb-false i n e in elem-left i (those f n) (only (f n) n) (rest (omega arith))
 
 module _ (g : Grid) (w : Box) (xs : List ℕ) (m : Meets g w xs) where
   abbrev cell : ℕ

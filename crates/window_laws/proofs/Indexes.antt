@@ -18,7 +18,7 @@ use lib.Ieee.Positive.{num, den}
 use Rattle.slices.proofs.Laws.{le-or}
 use Rattle.numbers.specs.Floor.{clampedFloor}
 use Rattle.numbers.proofs.Rounding.{over-by}
-use Rattle.numbers.proofs.FloorLaws.{clamped-part, clamped-last}
+use Rattle.numbers.proofs.FloorLaws.{clamped-is}
 use Rattle.numbers.proofs.FloatQuotient.{num-pos}
 use Rattle.numbers.proofs.FloatFractions.{nonneg-of-value, nonneg-of-positive, own-value, div-at, round-value, finite-under}
 use Rattle.cover.specs.Rule.{fineCell}
@@ -37,18 +37,6 @@ one-value : (x : Float) (a b c : ℕ) → HasValue x false a c → HasValue x fa
 one-value nan a b c h k = absurd h
 one-value (inf s) a b c h k = absurd h
 one-value (fin s m e) a b c h k = eq-of-mul-eq-mul-right (down e) (down-pos e) a b (sym (h .1) ∙ k .1)
-
--- the clamped floor of a / c
-clamped-at : (v : Float) (a c n : ℕ) → 0 < c → HasValue v false a c → clampedFloor v n ≡ min (a / c) (n - 1)
-clamped-at v a c n C h = elim (le-or (n * c) a) [
-  | inl k ↦ let x : n ≤ a / c = le-div-iff-mul-le C .1 k in clamped-last v a c n C h k ∙ omega arith
-  | inr k ↦
-      let p = clamped-part v a c n C h k in
-      let x : clampedFloor v n ≤ a / c = le-div-iff-mul-le C .1 (p .not-above) in
-      let y : a / c < clampedFloor v n + 1 = div-lt-iff-lt-mul C .1 (p .next-above) in
-      let z : a / c < n = div-lt-iff-lt-mul C .1 k in
-      omega arith
-]
 
 -- ---- over plain numbers
 
@@ -172,4 +160,4 @@ module _ (f : Format) (s d : Float) (z : Sized f d) (e : Scaled s d) (deep : 2 ^
   index-of-fine n =
       ap (λ (x : ℕ). min (x / 1048576) (n - 1)) (fine-is f d z p q Q fine bound ∙ ap (λ (x : ℕ). x / l) unit-grid)
       ∙ ap (λ (x : ℕ). min x (n - 1)) same-cell
-      ∙ sym (ap (λ (x : Float). clampedFloor x n) by-cell ∙ clamped-at (round f false A C) (grid f A C) l n L cell-value)
+      ∙ sym (ap (λ (x : Float). clampedFloor x n) by-cell ∙ clamped-is (round f false A C) (grid f A C) l n L cell-value)

@@ -1,5 +1,5 @@
 -- Values before and after an exact point on an axis, which has the whole weights v and w of two ends; and the way there from whole numbers. Assumes nothing.
-use mathlib.Core.Path.{_≡_, ap, subst}
+use mathlib.Core.Path.{_≡_, subst}
 use Prim.Native.Nat.{ℕ, _+_, _-_, _*_, _≤_, _<_}
 use native.Mathlib.Nat.{mul-comm, mul-assoc, mul-left-comm, mul-pos, mul-le-mul-right, le-of-mul-le-mul-right}
 use native.Mathlib.Omega.{arith}
@@ -9,11 +9,12 @@ use lib.Signed.{_≤ℤ_}
 use lib.Ieee.{Float, le}
 use lib.Ieee.Scale.{finite}
 use lib.Ieee.Positive.{den, den-pos}
-use Rattle.numbers.proofs.FloatOrder.{plus, minus, le→cross, cross→le}
+use Rattle.numbers.proofs.FloatOrder.{plus, minus, le→cross, cross→le, through}
 use Rattle.grid.specs.Points.{qTimes, Exactly}
 use Rattle.cover.proofs.Offsets.{meanP, meanN, meanD}
-use Rattle.cover.proofs.WholePoints.{over, under, Is, own, is-times, is-point, exact-is}
-use Rattle.cover.proofs.Boxes.{mean-most, mean-least}
+use Rattle.grid.proofs.Wholes.{over, under, Is, own, is-times}
+use Rattle.cover.proofs.WholePoints.{is-point, exact-is}
+use Rattle.cover.proofs.Boxes.{mean-most, mean-least, spread-eq}
 
 -- the value m is at most the point, and at least the point
 pub record Before (m : Float) (v w : ℕ) (x y : Float) : Type 0 where
@@ -23,13 +24,6 @@ pub record After (m : Float) (v w : ℕ) (x y : Float) : Type 0 where
   pub is : meanP v w x y * den m + minus m * meanD v w x y ≤ plus m * meanD v w x y + meanN v w x y * den m
 
 -- ---- what is before and what is after
-
-through : (p n d P N D p' n' d' : ℕ) → 0 < D → p * D + N * d ≤ P * d + n * D → P * d' + n' * D ≤ p' * D + N * d' → p * d' + n' * d ≤ p' * d + n * d'
-through p n d P N D p' n' d' Q h k =
-    let a : (p * D + N * d) * d' ≤ (P * d + n * D) * d' = mul-le-mul-right d' h in
-    let b : (P * d' + n' * D) * d ≤ (p' * D + N * d') * d = mul-le-mul-right d k in
-    let c : (p * d' + n' * d) * D ≤ (p' * d + n * d') * D = omega arith in
-    le-of-mul-le-mul-right c Q
 
 module _ (v w : ℕ) (x y : Float) (Q : 0 < v + w) where
   pub point-pos : 0 < meanD v w x y
@@ -93,9 +87,6 @@ from-weights os us oe ue oz uz v a h = omega arith
 to-weights : (os us oe ue oz uz v a : ℕ) → (v + a) * os + a * (oe + us) + (v + a) * uz ≤ (v + a) * oz + ((v + a) * us + a * (ue + os)) → v * os + a * oe + (v + a) * uz ≤ (v + a) * oz + (v * us + a * ue)
 to-weights os us oe ue oz uz v a h = omega arith
 
-times : (p b c m k : ℕ) → p + b ≡ c + m → p * k + b * k ≡ c * k + m * k
-times p b c m k h = let t : (p + b) * k ≡ (c + m) * k = ap (λ (z : ℕ). z * k) h in omega arith
-
 -- two sums of three terms, of which each is known by another name
 in-line : (m uz oz m⁻ x us os x⁻ y ue oe y⁻ A B C D E F G H I J L O : ℕ) → m + uz ≡ oz + m⁻ → x + us ≡ os + x⁻ → y + ue ≡ oe + y⁻
     → A ≡ oz → B ≡ us → C ≡ ue → D ≡ os → E ≡ oe → F ≡ uz → G ≡ m → H ≡ x⁻ → I ≡ y⁻ → J ≡ x → L ≡ y → O ≡ m⁻
@@ -122,7 +113,7 @@ module _ (X X⁻ dx os us Y Y⁻ dy oe ue M M⁻ dm oz uz n v a : ℕ) (N : 0 < 
       in-line (M * n * K) (dm * uz * K) (dm * oz * K) (M⁻ * n * K) (X * n * (v * dy * dm)) (dx * us * (v * dy * dm)) (dx * os * (v * dy * dm)) (X⁻ * n * (v * dy * dm))
       (Y * n * (a * dx * dm)) (dy * ue * (a * dx * dm)) (dy * oe * (a * dx * dm)) (Y⁻ * n * (a * dx * dm))
       ((v + a) * oz * k) (v * us * k) (a * ue * k) (v * os * k) (a * oe * k) ((v + a) * uz * k) (M * K * n) (v * (X⁻ * dy) * dm * n) (a * (Y⁻ * dx) * dm * n) (v * (X * dy) * dm * n) (a * (Y * dx) * dm * n) (M⁻ * K * n)
-      (times (M * n) (dm * uz) (dm * oz) (M⁻ * n) K hm) (times (X * n) (dx * us) (dx * os) (X⁻ * n) (v * dy * dm) hx) (times (Y * n) (dy * ue) (dy * oe) (Y⁻ * n) (a * dx * dm) hy)
+      (spread-eq (M * n) (dm * uz) (dm * oz) (M⁻ * n) K hm) (spread-eq (X * n) (dx * us) (dx * os) (X⁻ * n) (v * dy * dm) hx) (spread-eq (Y * n) (dy * ue) (dy * oe) (Y⁻ * n) (a * dx * dm) hy)
       (simp (mul-assoc, mul-comm, mul-left-comm)) (simp (mul-assoc, mul-comm, mul-left-comm)) (simp (mul-assoc, mul-comm, mul-left-comm)) (simp (mul-assoc, mul-comm, mul-left-comm))
       (simp (mul-assoc, mul-comm, mul-left-comm)) (simp (mul-assoc, mul-comm, mul-left-comm)) (simp (mul-assoc, mul-comm, mul-left-comm)) (simp (mul-assoc, mul-comm, mul-left-comm))
       (simp (mul-assoc, mul-comm, mul-left-comm)) (simp (mul-assoc, mul-comm, mul-left-comm)) (simp (mul-assoc, mul-comm, mul-left-comm)) (simp (mul-assoc, mul-comm, mul-left-comm))

@@ -13,7 +13,7 @@ use lib.Ieee.Order.{round-mono}
 use lib.Ieee.Scale.{finite}
 use lib.Ieee.Positive.{num, den, den-pos}
 use Rattle.numbers.specs.Floor.{clampedFloor}
-use Rattle.numbers.proofs.FloatOrder.{plus, minus, le→cross, at-most, lt-le, le-self}
+use Rattle.numbers.proofs.FloatOrder.{plus, minus, le→cross, at-most, lt-le, le-self, finite-number}
 use Rattle.numbers.proofs.FloatQuotient.{div-mono}
 use Rattle.numbers.proofs.FloorLaws.{clamped-mono}
 use Rattle.slices.specs.Lists.{elem}
@@ -22,9 +22,9 @@ use Rattle.grid.specs.declared.Grid.{Grid}
 use Rattle.grid.specs.declared.Segment.{Segment}
 use Rattle.grid.specs.Axes.{xAxis, yAxis, scaledOn, indexOn}
 use Rattle.grid.specs.Domain.{coordinate, fit}
-use Rattle.grid.proofs.Floats.{coordinate-finite}
+use Rattle.grid.proofs.Floats.{coordinate-finite, size-positive}
 use Rattle.grid.proofs.Shapes.{fit-says}
-use Rattle.straight.proofs.Coordinates.{Fits, size-positive, size-apart, distance-bounded, index-mono}
+use Rattle.straight.proofs.Coordinates.{Fits, size-apart, distance-bounded, index-mono}
 use Rattle.cover.specs.declared.Ends.{Ends}
 use Rattle.cover.specs.Fine.{unitOn}
 use Rattle.cover.specs.Covering.{passes, fineEnds, coveringOf}
@@ -33,7 +33,6 @@ use Rattle.cover.proofs.Cells.{listed}
 use Rattle.cover.proofs.Offsets.{Apart, Off, gap, none, sub-is, apart-of, off-le, mean-off, meanP, meanN, meanD}
 use Rattle.cover.proofs.ExactPoints.{cellAt, point-within}
 use Rattle.cover.proofs.Passing.{Scaled, unit-scaled}
-use Rattle.cover.proofs.Boxes.{finite-number}
 use Rattle.cover.proofs.Meeting.{Measure, Inside, firstOff, secondOff, over, over-pos, first-apart, second-apart, first-within, second-within, rowAt, colAt, line-covered}
 use Rattle.cover.proofs.Laws.{unit-sized, measured, onX, onY, ends-same, ready}
 use Rattle.cover.proofs.Entry.{covering-by-rule}

@@ -16,6 +16,7 @@ use Rattle.tables.specs.Tables.{beside}
 use Rattle.numbers.specs.Order.{leastOf, greatestOf}
 use Rattle.numbers.proofs.Extremes.{least-one, greatest-one, least-under, greatest-over}
 use Rattle.numbers.proofs.Tests.{holds}
+use Rattle.numbers.proofs.FloatOrder.{finite-number}
 use Rattle.slices.specs.Lists.{elem}
 use Rattle.refusals.specs.declared.Check.the-variants.{Fine}
 use Rattle.refusals.specs.Refusals.{gives}
@@ -26,12 +27,12 @@ use Rattle.grid.specs.declared.Segment.{Segment}
 use Rattle.grid.specs.Axes.{xAxis, yAxis, indexOn}
 use Rattle.grid.specs.Boxes.{boxOf, overlaps}
 use Rattle.grid.specs.Domain.{Lines, count, segmentAt, coordinate, point, segment, lineFits, fit}
-use Rattle.grid.proofs.Bools.{and-left, and-right}
+use Rattle.grid.proofs.Bools.{and-left, and-right, or-says}
 use Rattle.grid.proofs.Fine.{lines-fine}
 use Rattle.grid.proofs.Floats.{coordinate-finite}
 use Rattle.grid.proofs.Shapes.{fit-says}
 use Rattle.cover.specs.Covering.{passes, coveringOf}
-use Rattle.cover.proofs.Boxes.{exact-finite, finite-number}
+use Rattle.cover.proofs.Boxes.{exact-finite}
 use Rattle.cover.proofs.Cells.{in-all}
 use Rattle.cover.proofs.Entry.{covering-all}
 use Rattle.walk.specs.declared.Mode.the-variants.{Covering}
@@ -49,7 +50,7 @@ use Rattle.straight.proofs.Coordinates.{index-mono}
 use Rattle.window.specs.declared.Listing.{Listing}
 use Rattle.window.specs.declared.Listing.the-variants.{Listed}
 use Rattle.window.specs.Window.{inOrder, windowCheck, WindowIs}
-use Rattle.window.proofs.Blocks.{or-says, row-fits}
+use Rattle.window.proofs.Blocks.{row-fits}
 use Rattle.window.proofs.Corners.{index-below}
 use Rattle.window_laws.specs.Entering as entering
 use Rattle.window_laws.specs.Entering.{Enters, hasEnd, EnteringFound, EndingFound}

@@ -1,16 +1,17 @@
 -- What each field of the bytes decides: the refusal where it is cut or wrong; and that a look at a LineString finds nothing exactly where its
 -- fields are right. Assumes nothing.
-use mathlib.Core.Path.{_≡_, refl, sym, ap, _∙_, subst}
+use mathlib.Core.Path.{_≡_, refl, ap, _∙_}
 use mathlib.Core.Bool.{Bool, true, false, _&&_}
 use mathlib.Core.List.{List}
 use Prim.Native.Nat.{ℕ, _+_, _*_, _≤_, _<_}
 use native.Mathlib.Omega.{arith}
 use lib.ListN.{length, getD}
-use lib.Dec.{T, leb, eqb}
+use lib.Dec.{leb, eqb}
 use borrow.Author.Tests.{le-leb, lt-leb, eq-eqb, ne-eqb, leb-true, eqb-true}
 use Rattle.refusals.specs.declared.Check.the-variants.{Fine, Refused}
 use Rattle.refusals.specs.Refusals.{refusal, unless, andThen}
 use Rattle.refusals.proofs.Checks.{unless-fine, andThen-refused, andThen-fine, andThen-left, andThen-right}
+use Rattle.grid.proofs.Bools.{and-says}
 use Rattle.wkb.specs.declared.Order.{Order}
 use Rattle.wkb.specs.Bytes.{numberAt}
 use Rattle.wkb.specs.Reading.{fieldCheck, orderAt, typeAt, countAt, endAt, headCheck, lineCheck, endCheck}
@@ -104,10 +105,6 @@ head-passed type at bs h =
 
 -- ---- a LineString
 
-pub both : (s t : Bool) → (s && t) ≡ true → (s ≡ true) × (t ≡ true)
-both true t h = (refl, h)
-both false t h = let z : _≡_ {A = Bool} false true = h in absurd (subst T (sym z) tt)
-
 range-true : (n : ℕ) → 1 ≤ n → n ≤ 1024 → (leb 1 n && leb n 1024) ≡ true
 range-true n h k = rw (le-leb 1 n h, le-leb n 1024 k)
 
@@ -165,7 +162,7 @@ line-passed at bs h =
     let n = countAt at bs in
     let rest = andThen-right (headCheck 2 at bs) _ h in
     let count = fieldCheck bs (at + 5) (at + 9) (leb 1 n && leb n 1024) in
-    let range = both (leb 1 n) (leb n 1024) (field-passed bs (at + 5) (at + 9) _ (andThen-left _ _ rest) .1) in
+    let range = and-says (leb 1 n) (leb n 1024) (field-passed bs (at + 5) (at + 9) _ (andThen-left _ _ rest) .1) in
     record {
       head = head-passed 2 at bs (andThen-left _ _ h);
       some = leb-true 1 n (range .0);

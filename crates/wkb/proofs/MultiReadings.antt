@@ -54,7 +54,7 @@ pair-same : (m n : ℕ) (r : Refusal) → pairCheck m n ≡ check.Refused r → 
 unfolding pairCheck clears
 pair-same m n r e = clearing-unless (eqb m n) 3 0 refl .says r e
 
-count-same : (n : ℕ) (r : Refusal) → countCheck n ≡ check.Refused r → clears (r .number) ≡ false
+pub count-same : (n : ℕ) (r : Refusal) → countCheck n ≡ check.Refused r → clears (r .number) ≡ false
 unfolding countCheck clears
 count-same n r e = clearing-unless (leb n 65536) 2 n refl .says r e
 

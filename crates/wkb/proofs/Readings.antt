@@ -13,6 +13,7 @@ use Rattle.refusals.specs.Refusals.{refusal, unless, Answer, refused, gives, an
 use Rattle.refusals.proofs.Checks.{unless-fine}
 use Rattle.refusals.proofs.Answers.{then-refused, then-fine}
 use Rattle.refusals.proofs.Leaving.{left-same, clearing-unless}
+use Rattle.grid.proofs.Bools.{and-says}
 use Rattle.wkb.specs.Bytes.{Point, pointsAt}
 use Rattle.wkb.specs.Reading.{orderAt, countAt, lineAt, endAt, lineCheck, found, slicesCheck, outcome, readOf, pointsLeft, nought, ReadAs}
 use Rattle.wkb.specs.Inside.{numbersAt, LineAt}
@@ -20,7 +21,7 @@ use Rattle.wkb.specs.declared.Order.{Order}
 use Rattle.wkb.specs.declared.Read.the-variants.{Points, Refused}
 use Rattle.wkb.proofs.Words.{Small}
 use Rattle.wkb.proofs.Axes.{length-points, axis-x, axis-y}
-use Rattle.wkb.proofs.Fields.{both, end-right, end-more}
+use Rattle.wkb.proofs.Fields.{end-right, end-more}
 use Rattle.wkb.proofs.LineStrings.{sound, complete}
 
 -- ---- refusal 3 comes first
@@ -29,7 +30,7 @@ use Rattle.wkb.proofs.LineStrings.{sound, complete}
 pub slices-fine : (m n : ℕ) → slicesCheck m n ≡ check.Fine → (m ≡ n) × (1024 ≤ m)
 unfolding slicesCheck
 slices-fine m n h =
-    let a = both (eqb m n) (leb 1024 m) (unless-fine _ _ _ h) in
+    let a = and-says (eqb m n) (leb 1024 m) (unless-fine _ _ _ h) in
     (eqb-true m n (a .0), leb-true 1024 m (a .1))
 
 -- ---- what the look at the fields found

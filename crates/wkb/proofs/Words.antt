@@ -42,7 +42,7 @@ small-drop (suc k) (b ∷ bs) s = small-drop k bs (s .1)
 
 -- ---- the least significant byte first
 
-length-little : (k v : ℕ) → length (littleBytes k v) ≡ k
+pub length-little : (k v : ℕ) → length (littleBytes k v) ≡ k
 unfolding littleBytes
 length-little zero v = refl
 length-little (suc k) v = ap suc (length-little k (v / 256))

@@ -3,7 +3,8 @@ use mathlib.Core.Path.{_≡_, refl, sym, _∙_}
 use Prim.Native.Nat.{ℕ, _+_, _-_}
 use native.Mathlib.Omega.{arith}
 use lib.ListN.{length, getD, length-replicate}
-use Rattle.agreed.proofs.Tallying.{Going, going-none, going-end, going-past, going-apart, of-parts, ended, not-so, so}
+use borrow.Author.Tests.{not-false, not-true}
+use Rattle.agreed.proofs.Tallying.{Going, going-none, going-end, going-past, going-apart, of-parts, ended}
 use Rattle.agreed.proofs.agree_to.Statement.{statement}
 use Rattle.agreed.proofs.agree_to.Tie as tie
 
@@ -48,7 +49,7 @@ agree-to-spec =
     let s = c .before .before .before .before .before .before .before .before .before .before .size-at .result in
     let n = c .before .before .counts .ensures in
     let z = of-parts w at (c .before .before .before .before .before .before .before .before .before .before .size-at .ensures .0) (c .before .before .before .before .before .before .before .before .before .if1 .left) in
-    going-apart w at (at + 3) (at + 3 + getD w (at + 1) 0) (at + s) s (c .before .before .before .before .before .before .before .before .before .before .size-at .ensures .0) (c .before .before .before .before .before .before .before .before .before .if1 .left) refl refl refl (omega (arith, z, c .before .before .before .before .before .before .before .before .before .before .size-at .ensures .1)) (c .before .before .before .before .before .before .before .before .before .before .before .before .loop .inv .0) (λ a. n .0 .no (not-so (c .before .before .counts .result) (c .if2 .taken)) (refl, a)))
+    going-apart w at (at + 3) (at + 3 + getD w (at + 1) 0) (at + s) s (c .before .before .before .before .before .before .before .before .before .before .size-at .ensures .0) (c .before .before .before .before .before .before .before .before .before .if1 .left) refl refl refl (omega (arith, z, c .before .before .before .before .before .before .before .before .before .before .size-at .ensures .1)) (c .before .before .before .before .before .before .before .before .before .before .before .before .loop .inv .0) (λ a. n .0 .no (not-true (c .before .before .counts .result) (c .if2 .taken)) (refl, a)))
     (λ c. let z = of-parts (c .before .before .before .before .before .before .before .before .before .before .before .before .before .before .args .w .now) (c .before .before .before .before .before .before .before .before .before .before .before .before .loop .at) (c .before .before .before .before .before .before .before .before .before .before .size-at .ensures .0) (c .before .before .before .before .before .before .before .before .before .if1 .left) in omega (arith, z, c .before .before .before .before .before .before .before .before .before .before .size-at .ensures .1))
     (λ c.
     let w = c .before .before .before .before .before .before .before .before .before .before .before .before .before .before .args .w .now in
@@ -56,5 +57,5 @@ agree-to-spec =
     let s = c .before .before .before .before .before .before .before .before .before .before .size-at .result in
     let n = c .before .before .counts .ensures in
     let z = of-parts w at (c .before .before .before .before .before .before .before .before .before .before .size-at .ensures .0) (c .before .before .before .before .before .before .before .before .before .if1 .left) in
-    (going-past w at (at + 3) (at + 3 + getD w (at + 1) 0) (at + s) s (c .before .before .before .before .before .before .before .before .before .before .size-at .ensures .0) (c .before .before .before .before .before .before .before .before .before .if1 .left) refl refl refl (omega (arith, z, c .before .before .before .before .before .before .before .before .before .before .size-at .ensures .1)) (c .before .before .before .before .before .before .before .before .before .before .before .before .loop .inv .0) (n .0 .yes (so (c .before .before .counts .result) (c .if2 .left)) .1), n .1))
+    (going-past w at (at + 3) (at + 3 + getD w (at + 1) 0) (at + s) s (c .before .before .before .before .before .before .before .before .before .before .size-at .ensures .0) (c .before .before .before .before .before .before .before .before .before .if1 .left) refl refl refl (omega (arith, z, c .before .before .before .before .before .before .before .before .before .before .size-at .ensures .1)) (c .before .before .before .before .before .before .before .before .before .before .before .before .loop .inv .0) (n .0 .yes (not-false (c .before .before .counts .result) (c .if2 .left)) .1), n .1))
     (λ c. going-end (c .before .loop .inv .0) (ended (c .before .before .before .args .w .now) (c .before .loop .at) (omega arith))))

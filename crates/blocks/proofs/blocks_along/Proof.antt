@@ -5,7 +5,7 @@ use Rattle.blocks.proofs.blocks_along.Statement.{statement}
 use Rattle.blocks.proofs.blocks_along.Tie as tie
 use Rattle.blocks.proofs.blocks_along.Reads as reads
 use Rattle.blocks.proofs.blocks_along.Lts as lts
-use Rattle.blocks.proofs.wide.Reads as wide-reads
+use Rattle.slices.proofs.wide.Reads as wide-reads
 
 wide-requires : tie.Need-wide-requires
 wide-requires c κs = search needs

@@ -3,9 +3,8 @@ use mathlib.Core.Path.{sym, ap}
 use native.Mathlib.Omega.{arith}
 use borrow.Author.Needs.{needs}
 use Rattle.replies.specs.Answers.{ofCheck}
-use Rattle.replies.proofs.Handing.{replied}
+use Rattle.replies.proofs.Handing.{replied, wider}
 use Rattle.capi_clean.specs.Lent.{ofCleaned}
-use Rattle.capi_members.proofs.Handing.{wider}
 use Rattle.capi_clean.proofs.kept.Statement.{statement}
 use Rattle.capi_clean.proofs.kept.Tie as tie
 

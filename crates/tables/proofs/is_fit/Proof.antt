@@ -1,8 +1,9 @@
 -- `tables::is_fit` meets its contract. Assumes nothing.
 use mathlib.Core.Path.{_≡_, refl, sym, ap, _∙_}
 use native.Mathlib.Omega.{arith}
+use Rattle.grid.proofs.Shapes.{wide-product}
 use Rattle.tables.specs.Tables.{tables}
-use Rattle.tables.proofs.Turns.{tables-short, tables-lists, tables-rest, cells-fit}
+use Rattle.tables.proofs.Turns.{tables-short, tables-lists, tables-rest}
 use borrow.Author.Needs.{needs}
 use Rattle.tables.proofs.is_fit.Statement.{statement}
 use Rattle.tables.proofs.is_fit.Tie as tie
@@ -10,7 +11,7 @@ use Rattle.tables.proofs.is_fit.Reads as reads
 use Rattle.tables.proofs.is_fit.Lts as lts
 use Rattle.tables.proofs.globals_fit.Reads as globals-fit-reads
 use Rattle.tables.proofs.lists_fit.Reads as lists-fit-reads
-use Rattle.tables.proofs.wide.Reads as wide-reads
+use Rattle.slices.proofs.wide.Reads as wide-reads
 
 -- src/lib.rt:86:17
 wide-requires : tie.Need-wide-requires
@@ -22,7 +23,7 @@ wide-requires-2 c κs = search needs
 
 -- src/lib.rt:86:17
 mul-cells : tie.Need-mul-cells
-mul-cells c = record { fits = cells-fit (c .before .wide .result) (c .wide2 .result) (omega arith) (omega arith) }
+mul-cells c = record { fits = wide-product (c .before .wide .result) (c .wide2 .result) (omega arith) (omega arith) }
 
 -- src/lib.rt:88:9
 returns : tie.Need-returns

@@ -2,9 +2,10 @@
 use mathlib.Core.Path.{sym, _∙_}
 use native.Mathlib.Omega.{arith}
 use borrow.Author.Needs.{needs}
+use borrow.Author.Tests.{not-false, not-true}
 use Rattle.grid.specs.Domain.{lines}
 use Rattle.tables.specs.Tables.{beside}
-use Rattle.window.proofs.Entry.{refused-first, none-in, too-many, all-in, checked, out-of-order, not-set, set}
+use Rattle.window.proofs.Entry.{refused-first, none-in, too-many, all-in, checked, out-of-order}
 use Rattle.window.proofs.lines_in.Statement.{statement}
 use Rattle.window.proofs.lines_in.Tie as tie
 
@@ -38,14 +39,14 @@ returns-2 c =
     let a = c .before .before .before .before .before .before .before .before .before .before .before .before .before .before .before .before .before .args in
     let ls = lines (a .start-x .now) (a .start-y .now) (a .end-x .now) (a .end-y .now) in
     let t = beside ls (a .grid) (a .offsets .now) (a .items .now) (a .globals .now) (a .global-count) in
-    none-in ls (a .grid) t (a .window) (a .out .now) (sym (c .before .before .before .before .before .before .before .before .check-all .ensures) ∙ c .before .before .before .before .before .before .enum-told .given .1) (out-of-order ls (a .grid) t (a .window) (sym (c .before .before .before .before .before .is-in-order .ensures) ∙ not-set _ (c .before .before .before .before .if1 .taken))) _ (c .before .before .clear .ensures)
+    none-in ls (a .grid) t (a .window) (a .out .now) (sym (c .before .before .before .before .before .before .before .before .check-all .ensures) ∙ c .before .before .before .before .before .before .enum-told .given .1) (out-of-order ls (a .grid) t (a .window) (sym (c .before .before .before .before .before .is-in-order .ensures) ∙ not-true _ (c .before .before .before .before .if1 .taken))) _ (c .before .before .clear .ensures)
 
 write-found-requires : tie.Need-write-found-requires
 write-found-requires c κs =
     let a = c .before .before .before .before .before .before .before .before .before .before .before .before .before .before .args in
     let ls = lines (a .start-x .now) (a .start-y .now) (a .end-x .now) (a .end-y .now) in
     let t = beside ls (a .grid) (a .offsets .now) (a .items .now) (a .globals .now) (a .global-count) in
-    (checked ls (a .grid) t (a .window) (sym (c .before .before .before .before .before .check-all .ensures) ∙ c .before .before .before .enum-told .given .1), sym (c .before .before .is-in-order .ensures) ∙ set _ (c .before .if1 .left))
+    (checked ls (a .grid) t (a .window) (sym (c .before .before .before .before .before .check-all .ensures) ∙ c .before .before .before .enum-told .given .1), sym (c .before .before .is-in-order .ensures) ∙ not-false _ (c .before .if1 .left))
 
 clear-requires-2 : tie.Need-clear-requires-2
 clear-requires-2 c κs = search needs

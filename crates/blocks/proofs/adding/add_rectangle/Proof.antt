@@ -11,7 +11,7 @@ use Rattle.blocks.proofs.adding.add_rectangle.Reads as reads
 use Rattle.blocks.proofs.adding.add_rectangle.Lts as lts
 use Rattle.blocks.proofs.adding.add_part.Reads as add-part-reads
 use Rattle.blocks.proofs.blocks_along.Reads as blocks-along-reads
-use Rattle.blocks.proofs.wide.Reads as wide-reads
+use Rattle.slices.proofs.wide.Reads as wide-reads
 
 abbrev Inv-loop : tie.InvT-loop
 Inv-loop summary low high width row₀ sum₀ row sum = Upward width summary low high row sum

@@ -11,7 +11,7 @@ use Rattle.blocks.proofs.making.add_rows.Reads as reads
 use Rattle.blocks.proofs.making.add_rows.Lts as lts
 use Rattle.blocks.proofs.blocks_along.Reads as blocks-along-reads
 use Rattle.blocks.proofs.making.add_row.Reads as add-row-reads
-use Rattle.blocks.proofs.wide.Reads as wide-reads
+use Rattle.slices.proofs.wide.Reads as wide-reads
 
 abbrev Inv-loop : tie.InvT-loop
 Inv-loop offsets summary₀ cols rows width row₀ summary row = Downward cols rows offsets summary₀ summary row

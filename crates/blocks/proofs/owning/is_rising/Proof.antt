@@ -2,14 +2,14 @@
 use mathlib.Core.Path.{_∙_}
 use native.Mathlib.Omega.{arith}
 use borrow.Author.Needs.{needs}
-use Rattle.tables.proofs.Turns.{cells-fit}
+use Rattle.grid.proofs.Shapes.{wide-product}
 use Rattle.blocks.proofs.Owns.{rising-short, rising-is}
 use Rattle.blocks.proofs.owning.is_rising.Statement.{statement}
 use Rattle.blocks.proofs.owning.is_rising.Tie as tie
 use Rattle.blocks.proofs.owning.is_rising.Reads as reads
 use Rattle.blocks.proofs.owning.is_rising.Lts as lts
 use Rattle.blocks.proofs.owning.never_fall.Reads as never-fall-reads
-use Rattle.blocks.proofs.wide.Reads as wide-reads
+use Rattle.slices.proofs.wide.Reads as wide-reads
 
 wide-requires : tie.Need-wide-requires
 wide-requires c κs = search needs
@@ -18,7 +18,7 @@ wide-requires-2 : tie.Need-wide-requires-2
 wide-requires-2 c κs = search needs
 
 mul-cells : tie.Need-mul-cells
-mul-cells c = record { fits = cells-fit (c .before .wide .result) (c .wide2 .result) (omega arith) (omega arith) }
+mul-cells c = record { fits = wide-product (c .before .wide .result) (c .wide2 .result) (omega arith) (omega arith) }
 
 returns : tie.Need-returns
 returns c = let a = c .before .before .before .before .args in rising-short (a .grid) (a .offsets .now) (rw (← c .before .before .wide .ensures, ← c .before .wide2 .ensures) (c .if1 .taken))

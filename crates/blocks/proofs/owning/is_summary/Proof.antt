@@ -2,7 +2,8 @@
 use mathlib.Core.Path.{refl, sym, _∙_}
 use native.Mathlib.Omega.{arith}
 use borrow.Author.Needs.{needs}
-use Rattle.blocks.proofs.Owns.{not-set, set-so, unfit-none, falling-none, short-none, numbers-ask, room-for, same-is}
+use borrow.Author.Tests.{not-false, not-true}
+use Rattle.blocks.proofs.Owns.{unfit-none, falling-none, short-none, numbers-ask, room-for, same-is}
 use Rattle.blocks.proofs.owning.is_summary.Statement.{statement}
 use Rattle.blocks.proofs.owning.is_summary.Tie as tie
 use Rattle.blocks.proofs.owning.is_summary.Reads as reads
@@ -19,7 +20,7 @@ is-fit-requires c κs = search needs
 returns : tie.Need-returns
 returns c =
     let a = c .before .before .before .before .args in
-    unfit-none (a .grid) (a .offsets .now) (a .summary .now) (sym (c .before .is-fit .ensures) ∙ not-set _ (c .if1 .taken))
+    unfit-none (a .grid) (a .offsets .now) (a .summary .now) (sym (c .before .is-fit .ensures) ∙ not-true _ (c .if1 .taken))
 
 is-rising-requires : tie.Need-is-rising-requires
 is-rising-requires c κs = search needs
@@ -27,7 +28,7 @@ is-rising-requires c κs = search needs
 returns-2 : tie.Need-returns-2
 returns-2 c =
     let a = c .before .before .before .before .before .before .args in
-    falling-none (a .grid) (a .offsets .now) (a .summary .now) (sym (c .before .before .before .is-fit .ensures) ∙ set-so _ (c .before .before .if1 .left)) (sym (c .before .is-rising .ensures) ∙ not-set _ (c .if2 .taken))
+    falling-none (a .grid) (a .offsets .now) (a .summary .now) (sym (c .before .before .before .is-fit .ensures) ∙ not-false _ (c .before .before .if1 .left)) (sym (c .before .is-rising .ensures) ∙ not-true _ (c .if2 .taken))
 
 block-count-requires : tie.Need-block-count-requires
 block-count-requires c κs = search needs
@@ -35,7 +36,7 @@ block-count-requires c κs = search needs
 returns-3 : tie.Need-returns-3
 returns-3 c =
     let a = c .before .before .before .before .before .before .before .before .args in
-    short-none (a .grid) (a .offsets .now) (a .summary .now) (sym (c .before .before .before .before .before .is-fit .ensures) ∙ set-so _ (c .before .before .before .before .if1 .left)) (sym (c .before .before .before .is-rising .ensures) ∙ set-so _ (c .before .before .if2 .left)) (rw (← c .before .block-count .ensures) (c .if3 .taken))
+    short-none (a .grid) (a .offsets .now) (a .summary .now) (sym (c .before .before .before .before .before .is-fit .ensures) ∙ not-false _ (c .before .before .before .before .if1 .left)) (sym (c .before .before .before .is-rising .ensures) ∙ not-false _ (c .before .before .if2 .left)) (rw (← c .before .block-count .ensures) (c .if3 .taken))
 
 slice-aggregate-add-rows : tie.Need-slice-aggregate-add-rows
 slice-aggregate-add-rows c = search needs
@@ -43,7 +44,7 @@ slice-aggregate-add-rows c = search needs
 add-rows-requires : tie.Need-add-rows-requires
 add-rows-requires c κs =
     let a = c .before .before .before .before .before .before .before .before .before .args in
-    numbers-ask (a .grid) (a .offsets .now) (a .summary .now) (sym (c .before .before .before .before .before .before .is-fit .ensures) ∙ set-so _ (c .before .before .before .before .before .if1 .left)) (sym (c .before .before .before .before .is-rising .ensures) ∙ set-so _ (c .before .before .before .if2 .left)) _ refl
+    numbers-ask (a .grid) (a .offsets .now) (a .summary .now) (sym (c .before .before .before .before .before .before .is-fit .ensures) ∙ not-false _ (c .before .before .before .before .before .if1 .left)) (sym (c .before .before .before .before .is-rising .ensures) ∙ not-false _ (c .before .before .before .if2 .left)) _ refl
 
 slice-aggregate-are-same : tie.Need-slice-aggregate-are-same
 slice-aggregate-are-same c = search needs
@@ -52,13 +53,13 @@ are-same-requires : tie.Need-are-same-requires
 are-same-requires c κs =
     let a = c .before .before .before .before .before .before .before .before .before .before .before .before .args in
     let e = c .before .before .before .before .before .block-count .ensures in
-    (rw e (room-for (a .grid) (a .offsets .now) (a .summary .now) (sym (c .before .before .before .before .before .before .before .before .before .is-fit .ensures) ∙ set-so _ (c .before .before .before .before .before .before .before .before .if1 .left)) (sym (c .before .before .before .before .before .before .before .is-rising .ensures) ∙ set-so _ (c .before .before .before .before .before .before .if2 .left)) _ _ refl (c .before .before .add-rows .ensures)), omega arith)
+    (rw e (room-for (a .grid) (a .offsets .now) (a .summary .now) (sym (c .before .before .before .before .before .before .before .before .before .is-fit .ensures) ∙ not-false _ (c .before .before .before .before .before .before .before .before .if1 .left)) (sym (c .before .before .before .before .before .before .before .is-rising .ensures) ∙ not-false _ (c .before .before .before .before .before .before .if2 .left)) _ _ refl (c .before .before .add-rows .ensures)), omega arith)
 
 returns-4 : tie.Need-returns-4
 returns-4 c =
     let a = c .before .before .before .before .before .before .before .before .before .before .before .before .before .args in
     rw (c .before .before .before .before .before .before .block-count .ensures) at (c .are-same .ensures)
-    ∙ same-is (a .grid) (a .offsets .now) (a .summary .now) (sym (c .before .before .before .before .before .before .before .before .before .before .is-fit .ensures) ∙ set-so _ (c .before .before .before .before .before .before .before .before .before .if1 .left)) (sym (c .before .before .before .before .before .before .before .before .is-rising .ensures) ∙ set-so _ (c .before .before .before .before .before .before .before .if2 .left)) (rw (← c .before .before .before .before .before .before .block-count .ensures) (omega arith)) _ _ (c .before .before .before .add-rows .ensures)
+    ∙ same-is (a .grid) (a .offsets .now) (a .summary .now) (sym (c .before .before .before .before .before .before .before .before .before .before .is-fit .ensures) ∙ not-false _ (c .before .before .before .before .before .before .before .before .before .if1 .left)) (sym (c .before .before .before .before .before .before .before .before .is-rising .ensures) ∙ not-false _ (c .before .before .before .before .before .before .before .if2 .left)) (rw (← c .before .before .before .before .before .before .block-count .ensures) (omega arith)) _ _ (c .before .before .before .add-rows .ensures)
 
 pub is-summary-spec : {M : Type 1} → statement M
 is-summary-spec =

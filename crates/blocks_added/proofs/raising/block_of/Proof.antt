@@ -9,7 +9,7 @@ use Rattle.blocks_added.proofs.raising.block_of.Tie as tie
 use Rattle.blocks_added.proofs.raising.block_of.Reads as reads
 use Rattle.blocks_added.proofs.raising.block_of.Lts as lts
 use Rattle.blocks.proofs.blocks_along.Reads as blocks-along-reads
-use Rattle.blocks_added.proofs.raising.wide.Reads as wide-reads
+use Rattle.slices.proofs.wide.Reads as wide-reads
 
 div-wide : tie.Need-div-wide
 div-wide c = search needs

@@ -20,7 +20,7 @@ loop-holds : tie.Need-loop-holds Inv-loop μ-loop
 loop-holds c = counting-none (c .before .before .before .pre)
 
 list-of-requires : tie.Need-list-of-requires Inv-loop μ-loop
-list-of-requires c κs = c .before .loop .inv .table .lists _ (c .loop-test .taken)
+list-of-requires c κs = record { m = _; fits = c .before .loop .inv .table .fits; inside = c .loop-test .taken }
 
 count-list-requires : tie.Need-count-list-requires Inv-loop μ-loop
 count-list-requires c κs = counting-can (c .before .before .before .loop .inv) (c .before .before .loop-test .taken) (c .before .list-of .ensures)

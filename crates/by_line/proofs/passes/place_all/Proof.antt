@@ -20,7 +20,7 @@ loop-holds : tie.Need-loop-holds Inv-loop μ-loop
 loop-holds c = placing-none (c .before .before .before .before .pre)
 
 list-of-requires : tie.Need-list-of-requires Inv-loop μ-loop
-list-of-requires c κs = c .before .loop .inv .asks .table .lists _ (c .loop-test .taken)
+list-of-requires c κs = record { m = _; fits = c .before .loop .inv .asks .table .fits; inside = c .loop-test .taken }
 
 place-list-requires : tie.Need-place-list-requires Inv-loop μ-loop
 place-list-requires c κs = placing-can (c .before .before .before .before .loop .inv) (c .before .before .before .loop-test .taken) (c .before .before .list-of .ensures)

@@ -3,7 +3,7 @@ use Prim.Native.Nat.{ℕ, _+_, _*_, _^_, _≤_, _<_}
 use mathlib.Core.Path.{refl}
 use native.Mathlib.Omega.{arith}
 use native.Mathlib.Nat.{mul-le-mul-right}
-use Rattle.tables.proofs.Turns.{cells-fit}
+use Rattle.grid.proofs.Shapes.{wide-product}
 use Rattle.capi.proofs.visiting.cell_number.Statement.{statement}
 use Rattle.capi.proofs.visiting.cell_number.Tie as tie
 
@@ -14,7 +14,7 @@ number-fits a b d h k l =
     omega arith
 
 mul-result : tie.Need-mul-result
-mul-result c = record { fits = cells-fit (c .args .row) (c .args .cols) (c .fits .row .fits) (c .fits .cols .fits) }
+mul-result c = record { fits = wide-product (c .args .row) (c .args .cols) (c .fits .row .fits) (c .fits .cols .fits) }
 
 add-result : tie.Need-add-result
 add-result c = record { fits = number-fits (c .args .row) (c .args .cols) (c .args .col) (c .fits .row .fits) (c .fits .cols .fits) (c .fits .col .fits) }

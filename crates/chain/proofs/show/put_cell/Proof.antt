@@ -1,54 +1,51 @@
 -- `chain::show::put_cell` meets its contract. Assumes nothing.
-use native.Mathlib.Omega.{arith}
 use mathlib.Core.Path.{ap}
-use mathlib.Core.List.{List}
-use Prim.Native.Nat.{ℕ, _/_, _%_}
-use borrow.Author.Needs.{needs}
-use Rattle.tables.specs.Tables.{tables}
+use Prim.Native.Nat.{_/_, _%_}
 use Rattle.report.specs.Lines.{cellLine}
 use Rattle.report.proofs.Putting.{puts-text}
-use Rattle.chain.proofs.Showing.{PartOf, part-of}
+use Rattle.chain.proofs.Showing.{cell-cols, cell-list}
+use borrow.Author.Needs.{needs}
 use Rattle.chain.proofs.show.put_cell.Statement.{statement}
 use Rattle.chain.proofs.show.put_cell.Tie as tie
+use Rattle.chain.proofs.show.put_cell.Reads as reads
+use Rattle.chain.proofs.show.put_cell.Lts as lts
+use Rattle.slices.proofs.wide.Reads as wide-reads
+use Rattle.report.proofs.cell_line.Reads as cell-line-reads
+use Rattle.tables.proofs.list_of.Reads as list-of-reads
 
-part : (c : tie.After-struct-known2) → PartOf (tables (c .before .before .before .before .before .before .before .before .before .before .before .args .grid) (c .before .before .before .before .before .before .before .before .before .before .before .args .lines) (c .before .before .before .before .before .before .before .before .before .before .before .args .offsets .now) (c .before .before .before .before .before .before .before .before .before .before .before .args .items .now) (c .before .before .before .before .before .before .before .before .before .before .before .args .globals .now) (c .before .before .before .before .before .before .before .before .before .before .before .args .global-count)) (c .before .before .before .before .before .before .before .before .before .before .before .args .cell) (c .before .before .before .before .wide2 .result) (c .before .before .wide3 .result)
-part c = part-of _ _ (c .before .before .before .before .before .before .wide .result) _ _ (c .before .before .before .before .before .before .before .before .before .before .before .pre) (c .before .before .before .before .before .before .wide .ensures) (c .before .before .before .before .wide2 .ensures) (c .before .before .wide3 .ensures)
+wide-requires : tie.Need-wide-requires
+wide-requires c κs = search needs
 
-mul-cell-line : tie.Need-mul-cell-line
-mul-cell-line c = let p = part c in omega arith
+list-of-requires : tie.Need-list-of-requires
+list-of-requires c κs = search needs
 
-sub-cell-line : tie.Need-sub-cell-line
-sub-cell-line c = part c .low
+div-cell-line : tie.Need-div-cell-line
+div-cell-line c = cell-cols _ _ (c .before .before .before .before .before .before .before .pre)
 
-part-cell-line-start : tie.Need-part-cell-line-start
-part-cell-line-start c = part c .low
+rem-cell-line : tie.Need-rem-cell-line
+rem-cell-line c = cell-cols _ _ (c .before .before .before .before .before .before .before .before .pre)
 
-part-cell-line-end : tie.Need-part-cell-line-end
-part-cell-line-end c = part c .high
+cell-line-requires : tie.Need-cell-line-requires
+cell-line-requires c κs = search needs
+
+same-length : tie.Need-same-length
+same-length c = search needs
 
 returns : tie.Need-returns
 returns c =
-    let a = c .before .before .before .before .before .before .before .before .before .before .before .before .before .before .before .before .args in
-    puts-text (ap (cellLine (a .cell / a .grid .cols) (a .cell % a .grid .cols)) (part (c .before .before .before .before .before) .is)) (c .before .before .cell-line .ensures)
+    let a = c .before .before .before .before .before .before .before .before .before .before .before .before .args in
+    puts-text
+    (ap (cellLine (a .cell / a .grid .cols) (a .cell % a .grid .cols)) (cell-list _ _ (c .before .before .before .before .before .before .before .before .before .before .before .before .pre) (c .before .before .before .before .before .before .before .wide .result) (c .before .before .before .before .before .before .before .wide .ensures) (c .before .before .before .before .before .before .list-of .ensures)))
+    (c .before .before .cell-line .ensures)
 
 pub put-cell-spec : {M : Type 1} → statement M
 put-cell-spec =
     tie.close
     (tie.spec
-    (λ c κs. tt)
-    (λ c. search needs)
-    (λ c. search needs)
-    (λ c κs. tt)
-    (λ c. search needs)
-    (λ c. search needs)
-    (λ c. search needs)
-    (λ c κs. tt)
-    (λ c. search needs)
-    (λ c. search needs)
-    mul-cell-line
-    sub-cell-line
-    part-cell-line-start
-    part-cell-line-end
-    (λ c κs. tt)
-    (λ c. search needs)
+    wide-requires
+    list-of-requires
+    div-cell-line
+    rem-cell-line
+    cell-line-requires
+    same-length
     returns)

@@ -7,7 +7,6 @@ use Rattle.grid.specs.declared.Grid.{Grid}
 use Rattle.tables.specs.Tables.{tables}
 use Rattle.report.specs.Pages.{page, Puts}
 use Rattle.chain.specs.Printed.{cellLines}
-use Rattle.chain.specs.Inside.{TablesAsk}
 use Rattle.chain.proofs.Showing.{cells-none, cells-more, cells-all}
 use Rattle.chain.proofs.show.put_cells.Statement.{statement}
 use Rattle.chain.proofs.show.put_cells.Tie as tie
@@ -27,7 +26,7 @@ loop-holds : tie.Need-loop-holds Inv-loop μ-loop
 loop-holds c = (omega arith, refl, c .before .before .before .before .before .pre .few, refl, cells-none _ _)
 
 put-cell-requires : tie.Need-put-cell-requires Inv-loop μ-loop
-put-cell-requires c κs = c .before .before .before .before .before .before .before .before .pre .each (c .before .before .loop .cell) (let e = c .before .before .loop .inv .1 in omega arith)
+put-cell-requires c κs = record { lists = c .before .before .before .before .before .before .before .before .pre .lists; inside = let e = c .before .before .loop .inv .1 in omega arith }
 
 loop-again : tie.Need-loop-again Inv-loop μ-loop
 loop-again c =

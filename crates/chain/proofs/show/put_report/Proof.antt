@@ -8,7 +8,7 @@ use Rattle.chain.proofs.show.put_report.Statement.{statement}
 use Rattle.chain.proofs.show.put_report.Tie as tie
 
 slice-aggregate-global-line : tie.Need-slice-aggregate-global-line
-slice-aggregate-global-line c = sym (length-take-le _ _ (c .before .before .before .before .before .before .before .before .before .before .before .before .before .before .before .pre .counted))
+slice-aggregate-global-line c = sym (length-take-le _ _ (c .before .before .before .before .before .before .before .before .before .before .before .before .before .before .before .pre .globals .long))
 
 returns : tie.Need-returns
 unfolding reportOf

@@ -11,7 +11,7 @@ use Rattle.clean_bytes.proofs.text.put_members.Tie as tie
 use Rattle.clean_bytes.proofs.text.put_members.Reads as reads
 use Rattle.clean_bytes.proofs.text.put_members.Lts as lts
 use Rattle.clean_bytes.proofs.text.put_member.Reads as put-member-reads
-use Rattle.clean_bytes.proofs.text.wide.Reads as wide-reads
+use Rattle.slices.proofs.wide.Reads as wide-reads
 
 abbrev Inv-loop : tie.InvT-loop
 Inv-loop lengths reasons out₀ at₀ from₀ k₀ out at from k =

@@ -27,7 +27,7 @@ loop-holds : tie.Need-loop-holds Inv-loop μ-loop
 loop-holds c = record { long = refl; held = cells-begin (c .before .before .before .before .before .before .before .pre) }
 
 list-of-requires : tie.Need-list-of-requires Inv-loop μ-loop
-list-of-requires c κs = c .before .loop .inv .held .asks .table .lists _ (c .loop-test .taken)
+list-of-requires c κs = record { m = _; fits = c .before .loop .inv .held .asks .table .fits; inside = c .loop-test .taken }
 
 cast-scan-cell : tie.Need-cast-scan-cell Inv-loop μ-loop
 cast-scan-cell c = omega (arith, c .before .before .loop .inv .held .asks .few-cells)

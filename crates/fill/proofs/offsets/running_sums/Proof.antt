@@ -18,41 +18,14 @@ abbrev μ-loop : tie.MeasureT-loop
 loop-holds : tie.Need-loop-holds Inv-loop μ-loop
 loop-holds c = (summing-none _ _ (c .pre .0) (c .pre .1), above-none _ _)
 
-mul-count : tie.Need-mul-count Inv-loop μ-loop
-mul-count c = omega arith
-
-slice-read-count : tie.Need-slice-read-count Inv-loop μ-loop
-slice-read-count c = omega arith
-
-same-length : tie.Need-same-length Inv-loop μ-loop
-same-length c = c .before .before .before .loop .inv .0 .len
-
 returns : tie.Need-returns Inv-loop μ-loop
 returns c = let k = c .before .before .before .loop .inv in sums-crowded (c .before .before .before .before .args .most) (k .0) (k .1) (c .before .before .loop-test .taken) (c .if1 .taken)
-
-mul-offsets : tie.Need-mul-offsets Inv-loop μ-loop
-mul-offsets c = omega arith
-
-slice-write-offsets : tie.Need-slice-write-offsets Inv-loop μ-loop
-slice-write-offsets c = omega arith
 
 add-total : tie.Need-add-total Inv-loop μ-loop
 add-total c = record { fits = summing-fits (c .before .before .before .loop .inv .0) (c .before .before .loop-test .taken) }
 
-add-c : tie.Need-add-c Inv-loop μ-loop
-add-c c = omega arith
-
-loop-less : tie.Need-loop-less Inv-loop μ-loop
-loop-less c = omega arith
-
 loop-again : tie.Need-loop-again Inv-loop μ-loop
 loop-again c = let k = c .before .before .before .loop .inv in (summing-more (k .0) (c .before .before .loop-test .taken), sums-pass (c .before .before .before .before .args .most) (k .0) (k .1) (c .if1 .left))
-
-mul-offsets-2 : tie.Need-mul-offsets-2 Inv-loop μ-loop
-mul-offsets-2 c = omega arith
-
-slice-write-offsets-2 : tie.Need-slice-write-offsets-2 Inv-loop μ-loop
-slice-write-offsets-2 c = omega arith
 
 same-length-2 : tie.Need-same-length-2 Inv-loop μ-loop
 same-length-2 c = simp length-set (c .before .loop .inv .0 .len)
@@ -67,17 +40,17 @@ running-sums-spec =
     Inv-loop
     μ-loop
     loop-holds
-    mul-count
-    slice-read-count
-    same-length
+    (λ c. omega arith)
+    (λ c. omega arith)
+    (λ c. c .before .before .before .loop .inv .0 .len)
     returns
-    mul-offsets
-    slice-write-offsets
+    (λ c. omega arith)
+    (λ c. omega arith)
     add-total
-    add-c
-    loop-less
+    (λ c. omega arith)
+    (λ c. omega arith)
     loop-again
-    mul-offsets-2
-    slice-write-offsets-2
+    (λ c. omega arith)
+    (λ c. omega arith)
     same-length-2
     returns-2)

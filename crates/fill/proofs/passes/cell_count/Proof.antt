@@ -6,12 +6,6 @@ use borrow.Author.Needs.{needs}
 use Rattle.fill.proofs.passes.cell_count.Statement.{statement}
 use Rattle.fill.proofs.passes.cell_count.Tie as tie
 
-cast-result : tie.Need-cast-result
-cast-result c = search needs
-
-cast-result-2 : tie.Need-cast-result-2
-cast-result-2 c = search needs
-
 mul-result : tie.Need-mul-result
 mul-result c = record { fits = omega (arith, shape-says _ _ (fit-shape _ (c .before .before .pre)) .cells) }
 
@@ -19,4 +13,4 @@ returns : tie.Need-returns
 returns c = (refl, shape-says _ _ (fit-shape _ (c .before .before .pre)) .cells)
 
 pub cell-count-spec : {M : Type 1} → statement M
-cell-count-spec = tie.close (tie.spec cast-result cast-result-2 mul-result returns)
+cell-count-spec = tie.close (tie.spec (λ c. search needs) (λ c. search needs) mul-result returns)

@@ -21,9 +21,6 @@ loop-holds c = counting-all (c .before .before .before .before .before .before .
 walk-line-requires : tie.Need-walk-line-requires Inv-loop μ-loop
 walk-line-requires c κs = counting-walk (c .before .before .loop .inv) (c .before .loop-test .taken)
 
-same-length : tie.Need-same-length Inv-loop μ-loop
-same-length c = c .before .before .before .before .before .before .loop .inv .len
-
 same-length-2 : tie.Need-same-length-2 Inv-loop μ-loop
 same-length-2 c = c .before .before .before .walk-line .kept .1 .1 .1 .1 .1 .1 .1 .0 ∙ c .before .before .before .before .before .before .loop .inv .len-scratch
 
@@ -50,7 +47,7 @@ count-lines-spec =
     μ-loop
     loop-holds
     walk-line-requires
-    same-length
+    (λ c. c .before .before .before .before .before .before .loop .inv .len)
     same-length-2
     returns
     count-visits-requires

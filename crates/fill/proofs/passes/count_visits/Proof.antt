@@ -36,17 +36,8 @@ add-offsets c = record { fits = counting-fits (c .before .before .before .loop .
 slice-write-offsets : tie.Need-slice-write-offsets Inv-loop μ-loop
 slice-write-offsets c = counting-cell (c .before .before .before .loop .inv .1) (c .before .before .loop-test .taken)
 
-add-j : tie.Need-add-j Inv-loop μ-loop
-add-j c = omega arith
-
-loop-less : tie.Need-loop-less Inv-loop μ-loop
-loop-less c = omega arith
-
 loop-again : tie.Need-loop-again Inv-loop μ-loop
 loop-again c = (c .before .before .before .loop .inv .0, counting-more (c .before .before .before .loop .inv .1) (c .before .before .loop-test .taken))
-
-same-length : tie.Need-same-length Inv-loop μ-loop
-same-length c = c .before .loop .inv .1 .len
 
 returns : tie.Need-returns Inv-loop μ-loop
 returns c = record { many = λ _. (refl, refl); few = λ l. absurd (omega (arith, c .if1 .taken)) }
@@ -71,8 +62,8 @@ count-visits-spec =
     slice-read-offsets
     add-offsets
     slice-write-offsets
-    add-j
-    loop-less
+    (λ c. omega arith)
+    (λ c. omega arith)
     loop-again
-    same-length
+    (λ c. c .before .loop .inv .1 .len)
     returns-2)

@@ -52,20 +52,8 @@ mul-offsets c = let h = placing-cell (c .before .before .before .loop .inv .1) (
 slice-write-offsets : tie.Need-slice-write-offsets Inv-loop μ-loop
 slice-write-offsets c = placing-cell (c .before .before .before .loop .inv .1) (c .before .before .loop-test .taken)
 
-add-j : tie.Need-add-j Inv-loop μ-loop
-add-j c = omega arith
-
-loop-less : tie.Need-loop-less Inv-loop μ-loop
-loop-less c = omega arith
-
 loop-again : tie.Need-loop-again Inv-loop μ-loop
 loop-again c = (c .before .before .before .loop .inv .0, placing-more (c .before .before .before .loop .inv .1) (c .before .before .loop-test .taken))
-
-same-length : tie.Need-same-length Inv-loop μ-loop
-same-length c = c .before .loop .inv .1 .len
-
-same-length-2 : tie.Need-same-length-2 Inv-loop μ-loop
-same-length-2 c = c .before .loop .inv .1 .len-items
 
 returns : tie.Need-returns Inv-loop μ-loop
 returns c = record { many = λ _. (refl, (refl, refl)); few = λ l. absurd (omega (arith, c .if1 .taken)) }
@@ -95,9 +83,9 @@ place-visits-spec =
     add-offsets
     mul-offsets
     slice-write-offsets
-    add-j
-    loop-less
+    (λ c. omega arith)
+    (λ c. omega arith)
     loop-again
-    same-length
-    same-length-2
+    (λ c. c .before .loop .inv .1 .len)
+    (λ c. c .before .loop .inv .1 .len-items)
     returns-2)

@@ -22,9 +22,6 @@ returns-3 c =
     let h = rw (c .before .before .before .before .before .before .segment-at .ensures) at (w .ensures) in
     walk-over _ _ _ _ (c .before .before .before .before .before .before .before .before .before .before .before .before .pre) (w .result) h _ (c .enum-told2 .given .1)
 
-cell-count-requires : tie.Need-cell-count-requires
-cell-count-requires c κs = c .before .before .before .before .before .before .before .before .before .before .before .before .pre .walkable .fits
-
 pub walk-line-spec : {M : Type 1} → statement M
 walk-line-spec =
     tie.close
@@ -33,7 +30,7 @@ walk-line-spec =
     (λ c κs. tt)
     (λ c. search needs)
     (λ c. search needs)
-    cell-count-requires
+    (λ c κs. c .before .before .before .before .before .before .before .before .before .before .before .before .pre .walkable .fits)
     (λ c. search needs)
     (λ c. search needs)
     returns

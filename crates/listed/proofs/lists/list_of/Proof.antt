@@ -5,8 +5,8 @@ use Rattle.listed.proofs.lists.list_of.Statement.{statement}
 use Rattle.listed.proofs.lists.list_of.Tie as tie
 use Rattle.listed.proofs.lists.list_of.Reads as reads
 use Rattle.listed.proofs.lists.list_of.Lts as lts
-use Rattle.listed.proofs.lists.less_one.Reads as less-one-reads
-use Rattle.listed.proofs.lists.wide.Reads as wide-reads
+use Rattle.slices.proofs.less_one.Reads as less-one-reads
+use Rattle.slices.proofs.wide.Reads as wide-reads
 use Rattle.tables.proofs.is_increasing.Reads as is-increasing-reads
 
 less-one-requires : tie.Need-less-one-requires

@@ -8,8 +8,8 @@ use Rattle.listed.proofs.lists.next_cell.Statement.{statement}
 use Rattle.listed.proofs.lists.next_cell.Tie as tie
 use Rattle.listed.proofs.lists.next_cell.Reads as reads
 use Rattle.listed.proofs.lists.next_cell.Lts as lts
-use Rattle.listed.proofs.lists.less_one.Reads as less-one-reads
-use Rattle.listed.proofs.lists.wide.Reads as wide-reads
+use Rattle.slices.proofs.less_one.Reads as less-one-reads
+use Rattle.slices.proofs.wide.Reads as wide-reads
 use Rattle.slices.proofs.least.Reads as least-reads
 
 abbrev Inv-loop : tie.InvT-loop

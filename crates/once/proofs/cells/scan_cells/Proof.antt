@@ -29,7 +29,7 @@ loop-holds : tie.Need-loop-holds Inv-loop μ-loop
 loop-holds c = let h = c .before .before .before .before .before .before .before .before .before .before .before .pre in record { long = refl; held = record { long = refl; held = record { fine = h .fine; asks = cells-begin (h .asks) } } }
 
 list-of-requires : tie.Need-list-of-requires Inv-loop μ-loop
-list-of-requires c κs = c .before .loop .inv .held .held .asks .asks .table .lists _ (c .loop-test .taken)
+list-of-requires c κs = record { m = _; fits = c .before .loop .inv .held .held .asks .asks .table .fits; inside = c .loop-test .taken }
 
 cast-scan-cell : tie.Need-cast-scan-cell Inv-loop μ-loop
 cast-scan-cell c = omega (arith, c .before .before .loop .inv .held .held .asks .asks .few-cells)

@@ -5,7 +5,7 @@ use Rattle.resume.proofs.lists.reach.Statement.{statement}
 use Rattle.resume.proofs.lists.reach.Tie as tie
 use Rattle.resume.proofs.lists.reach.Reads as reads
 use Rattle.resume.proofs.lists.reach.Lts as lts
-use Rattle.resume.proofs.lists.less_one.Reads as less-one-reads
+use Rattle.slices.proofs.less_one.Reads as less-one-reads
 use Rattle.slices.proofs.least.Reads as least-reads
 
 less-one-requires : tie.Need-less-one-requires

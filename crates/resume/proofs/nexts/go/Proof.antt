@@ -3,9 +3,9 @@ use native.Mathlib.Omega.{arith}
 use borrow.Author.Tests.{ltb-true}
 use lib.ListN.{length}
 use Rattle.grid.specs.Domain.{lines}
+use Rattle.grid.proofs.Shapes.{wide-product}
 use Rattle.resume.proofs.CursorLaws.{reach-here}
 use Rattle.resume.proofs.NextLaws.{go-runs, go-settles, go-is}
-use Rattle.tables.proofs.Turns.{cells-fit}
 use borrow.Author.Needs.{needs}
 use Rattle.resume.proofs.nexts.go.Statement.{statement}
 use Rattle.resume.proofs.nexts.go.Tie as tie
@@ -13,7 +13,7 @@ use Rattle.resume.proofs.nexts.go.Reads as reads
 use Rattle.resume.proofs.nexts.go.Lts as lts
 use Rattle.resume.proofs.lists.globals_of.Reads as globals-of-reads
 use Rattle.resume.proofs.lists.reach.Reads as reach-reads
-use Rattle.resume.proofs.lists.wide.Reads as wide-reads
+use Rattle.slices.proofs.wide.Reads as wide-reads
 use Rattle.resume.proofs.nexts.finish.Reads as finish-reads
 use Rattle.resume.proofs.nexts.run.Reads as run-reads
 use Rattle.resume.proofs.settle.cursor_at.Reads as cursor-at-reads
@@ -28,7 +28,7 @@ wide-requires-2 : tie.Need-wide-requires-2
 wide-requires-2 c κs = search needs
 
 mul-reach : tie.Need-mul-reach
-mul-reach c = record { fits = cells-fit (c .before .wide .result) (c .wide2 .result) (omega arith) (omega arith) }
+mul-reach c = record { fits = wide-product (c .before .wide .result) (c .wide2 .result) (omega arith) (omega arith) }
 
 reach-requires : tie.Need-reach-requires
 reach-requires c κs = search needs

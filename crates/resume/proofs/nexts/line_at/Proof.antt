@@ -5,7 +5,7 @@ use Rattle.resume.proofs.nexts.line_at.Statement.{statement}
 use Rattle.resume.proofs.nexts.line_at.Tie as tie
 use Rattle.resume.proofs.nexts.line_at.Reads as reads
 use Rattle.resume.proofs.nexts.line_at.Lts as lts
-use Rattle.resume.proofs.lists.wide.Reads as wide-reads
+use Rattle.slices.proofs.wide.Reads as wide-reads
 use Rattle.slices.proofs.least.Reads as least-reads
 
 returns : tie.Need-returns

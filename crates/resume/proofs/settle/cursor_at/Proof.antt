@@ -11,7 +11,7 @@ use Rattle.resume.proofs.settle.cursor_at.Statement.{statement}
 use Rattle.resume.proofs.settle.cursor_at.Tie as tie
 use Rattle.resume.proofs.settle.cursor_at.Reads as reads
 use Rattle.resume.proofs.settle.cursor_at.Lts as lts
-use Rattle.resume.proofs.lists.wide.Reads as wide-reads
+use Rattle.slices.proofs.wide.Reads as wide-reads
 use Rattle.resume.proofs.settle.global_at.Reads as global-at-reads
 
 enum-known-found : tie.Need-enum-known-found

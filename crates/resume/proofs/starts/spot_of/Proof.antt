@@ -4,8 +4,8 @@ use mathlib.Core.Path.{_≡_, refl, sym, ap, _∙_}
 use Prim.Native.Nat.{ℕ, _+_, _-_, _*_, _≤_, _<_}
 use lib.ListN.{length, getD}
 use Rattle.grid.specs.Domain.{lines}
+use Rattle.grid.proofs.Shapes.{wide-product}
 use Rattle.tables.specs.Tables.{tables}
-use Rattle.tables.proofs.Turns.{cells-fit}
 use Rattle.resume.proofs.CursorLaws.{reach-here, reach-most, spot-fits, spot-in, spotted-cell, spotted-global}
 use borrow.Author.Needs.{needs}
 use Rattle.resume.proofs.starts.spot_of.Statement.{statement}
@@ -14,7 +14,7 @@ use Rattle.resume.proofs.starts.spot_of.Reads as reads
 use Rattle.resume.proofs.starts.spot_of.Lts as lts
 use Rattle.listed.proofs.lists.list_of.Reads as list-of-reads
 use Rattle.resume.proofs.lists.reach.Reads as reach-reads
-use Rattle.resume.proofs.lists.wide.Reads as wide-reads
+use Rattle.slices.proofs.wide.Reads as wide-reads
 use Rattle.resume.proofs.starts.index_in.Reads as index-in-reads
 
 enum-known-place : tie.Need-enum-known-place
@@ -27,7 +27,7 @@ wide-requires-2 : tie.Need-wide-requires-2
 wide-requires-2 c κs = search needs
 
 mul-cell : tie.Need-mul-cell
-mul-cell c = record { fits = cells-fit (c .before .wide .result) (c .wide2 .result) (omega arith) (omega arith) }
+mul-cell c = record { fits = wide-product (c .before .wide .result) (c .wide2 .result) (omega arith) (omega arith) }
 
 wide-requires-3 : tie.Need-wide-requires-3
 wide-requires-3 c κs = search needs
@@ -54,7 +54,7 @@ wide-requires-5 : tie.Need-wide-requires-5
 wide-requires-5 c κs = search needs
 
 mul-cells : tie.Need-mul-cells
-mul-cells c = record { fits = cells-fit (c .before .wide4 .result) (c .wide5 .result) (omega arith) (omega arith) }
+mul-cells c = record { fits = wide-product (c .before .wide4 .result) (c .wide5 .result) (omega arith) (omega arith) }
 
 reach-requires : tie.Need-reach-requires
 reach-requires c κs = search needs

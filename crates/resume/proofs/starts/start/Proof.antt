@@ -4,9 +4,9 @@ use mathlib.Core.Path.{_≡_, refl, sym, ap, _∙_}
 use Prim.Native.Nat.{ℕ, _+_, _-_, _*_, _≤_, _<_}
 use lib.ListN.{length, getD}
 use Rattle.grid.specs.Domain.{lines}
+use Rattle.grid.proofs.Shapes.{wide-product}
 use Rattle.tables.specs.Tables.{beside}
 use Rattle.seek.proofs.Lengths.{length-increasing}
-use Rattle.tables.proofs.Turns.{cells-fit}
 use Rattle.resume.specs.declared.StartAnswer.the-variants as start
 use Rattle.resume.proofs.AsIs.{globals-increase}
 use Rattle.resume.proofs.CursorLaws.{reach-here, reach-most}
@@ -18,7 +18,7 @@ use Rattle.resume.proofs.starts.start.Reads as reads
 use Rattle.resume.proofs.starts.start.Lts as lts
 use Rattle.resume.proofs.lists.globals_of.Reads as globals-of-reads
 use Rattle.resume.proofs.lists.reach.Reads as reach-reads
-use Rattle.resume.proofs.lists.wide.Reads as wide-reads
+use Rattle.slices.proofs.wide.Reads as wide-reads
 use Rattle.resume.proofs.starts.spot_of.Reads as spot-of-reads
 use Rattle.visit.proofs.visits.test_at.Reads as test-at-reads
 
@@ -48,7 +48,7 @@ wide-requires-2 : tie.Need-wide-requires-2
 wide-requires-2 c κs = search needs
 
 mul-cells : tie.Need-mul-cells
-mul-cells c = record { fits = cells-fit (c .before .wide .result) (c .wide2 .result) (omega arith) (omega arith) }
+mul-cells c = record { fits = wide-product (c .before .wide .result) (c .wide2 .result) (omega arith) (omega arith) }
 
 reach-requires : tie.Need-reach-requires
 reach-requires c κs = search needs

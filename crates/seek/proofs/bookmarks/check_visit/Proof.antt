@@ -7,24 +7,12 @@ use borrow.Author.Needs.{needs}
 use Rattle.seek.proofs.bookmarks.check_visit.Statement.{statement}
 use Rattle.seek.proofs.bookmarks.check_visit.Tie as tie
 
-check-lines-requires : tie.Need-check-lines-requires
-check-lines-requires c κs = search needs
-
-enum-known-lines : tie.Need-enum-known-lines
-enum-known-lines c = search needs
-
 returns : tie.Need-returns
 returns c =
     let a = c .before .before .before .before .before .before .before .before .before .before .before .args in
     let ls = lines (a .start-x .now) (a .start-y .now) (a .end-x .now) (a .end-y .now) in
     let t = beside ls (a .grid) (a .offsets .now) (a .items .now) (a .globals .now) (a .global-count) in
     visit-lines ls (a .grid) t _ (sym (c .before .before .before .check-lines .ensures) ∙ c .before .lines .given .1)
-
-enum-told : tie.Need-enum-told
-enum-told c = search needs
-
-check-tables-requires : tie.Need-check-tables-requires
-check-tables-requires c κs = search needs
 
 returns-2 : tie.Need-returns-2
 returns-2 c =
@@ -37,9 +25,9 @@ pub check-visit-spec : {M : Type 1} → statement M
 check-visit-spec =
     tie.close
     (tie.spec
-    check-lines-requires
-    enum-known-lines
+    (λ c κs. search needs)
+    (λ c. search needs)
     returns
-    enum-told
-    check-tables-requires
+    (λ c. search needs)
+    (λ c κs. search needs)
     returns-2)

@@ -9,9 +9,6 @@ use Rattle.seek.proofs.FirstTests.{pair-in, pair-cell, pair-line, pair-
 use borrow.Author.Needs.{needs}
 use Rattle.seek.proofs.bookmarks.pair_of.Statement.{statement}
 use Rattle.seek.proofs.bookmarks.pair_of.Tie as tie
-use Rattle.seek.proofs.bookmarks.pair_of.Reads as reads
-use Rattle.seek.proofs.bookmarks.pair_of.Lts as lts
-use Rattle.seek.proofs.lists.wide.Reads as wide-reads
 
 -- the cells, as the code counts them
 area : (c : tie.After-wide2) → c .before .wide .result * c .wide2 .result ≡ c .before .before .before .before .before .args .grid .rows * c .before .before .before .before .before .args .grid .cols
@@ -30,12 +27,6 @@ entries c =
 past : (c : tie.Else1) → let a = c .before .before .before .before .before .before .args in a .grid .rows * a .grid .cols ≤ a .cursor .cell
 past c = rw (area (c .before)) at (c .if1 .left)
 
-wide-requires : tie.Need-wide-requires
-wide-requires c κs = search needs
-
-wide-requires-2 : tie.Need-wide-requires-2
-wide-requires-2 c κs = search needs
-
 mul-cells : tie.Need-mul-cells
 mul-cells c = record { fits = rw (area c) (omega (arith, c .before .before .before .before .before .pre .few)) }
 
@@ -44,9 +35,6 @@ mul-wide c = let s = c .before .before .before .before .before .before in omega 
 
 shared-slice-read-wide : tie.Need-shared-slice-read-wide
 shared-slice-read-wide c = let s = c .before .before .before .before .before .before .before in omega (arith, inside (c .before), s .pre .table .long)
-
-wide-requires-3 : tie.Need-wide-requires-3
-wide-requires-3 c κs = search needs
 
 add-i : tie.Need-add-i
 add-i c = let s = c .before .before .before .before .before .before .before .before .before in omega (arith, c .before .wide3 .ensures, entries (c .before .before .before), s .pre .later, s .good .1 .1 .1 .0)
@@ -85,12 +73,6 @@ returns c =
     pair-cell (a .grid .rows * a .grid .cols) (a .offsets .now) (a .items .now) (a .globals .now) (a .global-count) (a .cursor) (a .grid .cols) (c .before .before .before .before .before .before .wide3 .result)
     (inside (c .before .before .before .before .before .before .before .before)) (c .before .before .before .before .before .before .wide3 .ensures)
 
-mul-t26 : tie.Need-mul-t26
-mul-t26 c = search needs
-
-shared-slice-read-t28 : tie.Need-shared-slice-read-t28
-shared-slice-read-t28 c = search needs
-
 returns-2 : tie.Need-returns-2
 returns-2 c =
     let a = c .before .before .before .before .before .before .before .before .args in
@@ -105,12 +87,12 @@ pub pair-of-spec : {M : Type 1} → statement M
 pair-of-spec =
     tie.close
     (tie.spec
-    wide-requires
-    wide-requires-2
+    (λ c κs. search needs)
+    (λ c κs. search needs)
     mul-cells
     mul-wide
     shared-slice-read-wide
-    wide-requires-3
+    (λ c κs. search needs)
     add-i
     add-j
     cast-n
@@ -121,7 +103,7 @@ pair-of-spec =
     mul-t24
     shared-slice-read-t21
     returns
-    mul-t26
-    shared-slice-read-t28
+    (λ c. search needs)
+    (λ c. search needs)
     returns-2
     returns-3)

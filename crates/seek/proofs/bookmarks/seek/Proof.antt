@@ -8,19 +8,6 @@ use Rattle.seek.proofs.Founds.{table-globals, row-asks, row-up, row-in,
 use borrow.Author.Needs.{needs}
 use Rattle.seek.proofs.bookmarks.seek.Statement.{statement}
 use Rattle.seek.proofs.bookmarks.seek.Tie as tie
-use Rattle.seek.proofs.bookmarks.seek.Reads as reads
-use Rattle.seek.proofs.bookmarks.seek.Lts as lts
-use Rattle.seek.proofs.lists.wide.Reads as wide-reads
-use Rattle.seek.proofs.bookmarks.seek_cell.Reads as seek-cell-reads
-use Rattle.seek.proofs.bookmarks.seek_global.Reads as seek-global-reads
-use Rattle.seek.proofs.bookmarks.seek_line.Reads as seek-line-reads
-use Rattle.seek.proofs.bookmarks.seek_row.Reads as seek-row-reads
-
-wide-requires : tie.Need-wide-requires
-wide-requires c κs = search needs
-
-wide-requires-2 : tie.Need-wide-requires-2
-wide-requires-2 c κs = search needs
 
 mul-cells : tie.Need-mul-cells
 mul-cells c =
@@ -140,8 +127,8 @@ pub seek-spec : {M : Type 1} → statement M
 seek-spec =
     tie.close
     (tie.spec
-    wide-requires
-    wide-requires-2
+    (λ c κs. search needs)
+    (λ c κs. search needs)
     mul-cells
     seek-cell-requires
     add-seek-row

@@ -5,9 +5,6 @@ use native.Mathlib.Omega.{arith}
 use Rattle.seek.proofs.SeekTurns.{CellSeek, cell-seek, cell-end, cell-up, cell-found, cell-passed}
 use Rattle.seek.proofs.bookmarks.seek_cell.Statement.{statement}
 use Rattle.seek.proofs.bookmarks.seek_cell.Tie as tie
-use Rattle.seek.proofs.bookmarks.seek_cell.Reads as reads
-use Rattle.seek.proofs.bookmarks.seek_cell.Lts as lts
-use Rattle.seek.proofs.bookmarks.triangle.Reads as triangle-reads
 
 abbrev Inv-loop : tie.InvT-loop
 Inv-loop left cells offsets items left₀ cell₀ left' cell = CellSeek cells offsets items left left' cell
@@ -20,41 +17,17 @@ loop-holds c =
     let a = c .before .before .args in
     cell-seek (a .cells) (a .offsets .now) (a .items .now) (a .left) (c .before .before .pre)
 
-add-triangle : tie.Need-add-triangle Inv-loop μ-loop
-add-triangle c = omega arith
-
-mul-triangle : tie.Need-mul-triangle Inv-loop μ-loop
-mul-triangle c = omega arith
-
-shared-slice-read-triangle : tie.Need-shared-slice-read-triangle Inv-loop μ-loop
-shared-slice-read-triangle c = omega arith
-
-mul-triangle-2 : tie.Need-mul-triangle-2 Inv-loop μ-loop
-mul-triangle-2 c = omega arith
-
-shared-slice-read-triangle-2 : tie.Need-shared-slice-read-triangle-2 Inv-loop μ-loop
-shared-slice-read-triangle-2 c = omega arith
-
 sub-triangle : tie.Need-sub-triangle Inv-loop μ-loop
 sub-triangle c =
     let a = c .before .before .before .before .before .before .args in
     let l = c .before .before .before .loop in
     cell-up (a .cells) (a .offsets .now) (a .items .now) (a .left) (l .left) (l .cell) (l .inv) (c .before .before .loop-test .taken)
 
-triangle-requires : tie.Need-triangle-requires Inv-loop μ-loop
-triangle-requires c κs = tt
-
 returns : tie.Need-returns Inv-loop μ-loop
 returns c =
     let a = c .before .before .before .before .before .before .before .before .args in
     let l = c .before .before .before .before .before .loop in
     cell-found (a .cells) (a .offsets .now) (a .items .now) (a .left) (l .left) (l .cell) (l .inv) (c .before .before .before .before .loop-test .taken) (c .before .triangle .result) (c .before .triangle .ensures) (c .if1 .taken)
-
-add-cell : tie.Need-add-cell Inv-loop μ-loop
-add-cell c = omega arith
-
-loop-less : tie.Need-loop-less Inv-loop μ-loop
-loop-less c = omega arith
 
 loop-again : tie.Need-loop-again Inv-loop μ-loop
 loop-again c =
@@ -75,15 +48,15 @@ seek-cell-spec =
     Inv-loop
     μ-loop
     loop-holds
-    add-triangle
-    mul-triangle
-    shared-slice-read-triangle
-    mul-triangle-2
-    shared-slice-read-triangle-2
+    (λ c. omega arith)
+    (λ c. omega arith)
+    (λ c. omega arith)
+    (λ c. omega arith)
+    (λ c. omega arith)
     sub-triangle
-    triangle-requires
+    (λ c κs. tt)
     returns
-    add-cell
-    loop-less
+    (λ c. omega arith)
+    (λ c. omega arith)
     loop-again
     returns-2)

@@ -5,18 +5,12 @@ use native.Mathlib.Omega.{arith}
 use Rattle.seek.proofs.SeekTurns.{GlobalSeek, global-seek, global-end, global-some, global-found, global-passed}
 use Rattle.seek.proofs.bookmarks.seek_global.Statement.{statement}
 use Rattle.seek.proofs.bookmarks.seek_global.Tie as tie
-use Rattle.seek.proofs.bookmarks.seek_global.Reads as reads
-use Rattle.seek.proofs.bookmarks.seek_global.Lts as lts
-use Rattle.seek.proofs.bookmarks.wide64.Reads as wide64-reads
 
 abbrev Inv-loop : tie.InvT-loop
 Inv-loop left lines count globals left₀ n p₀ left' p = GlobalSeek lines count globals left left' p
 
 abbrev μ-loop : tie.MeasureT-loop
 μ-loop left lines count globals left₀ n p₀ left' p = count - p
-
-wide64-requires : tie.Need-wide64-requires Inv-loop μ-loop
-wide64-requires c κs = tt
 
 loop-holds : tie.Need-loop-holds Inv-loop μ-loop
 loop-holds c =
@@ -41,12 +35,6 @@ returns c =
     let l = c .before .before .loop in
     global-found (a .lines) (a .count) (a .globals .now) (a .left) (l .left) (l .p) (l .inv) (c .before .loop-test .taken) (omega (arith, c .before .before .before .wide64 .ensures))
 
-add-p : tie.Need-add-p Inv-loop μ-loop
-add-p c = omega arith
-
-loop-less : tie.Need-loop-less Inv-loop μ-loop
-loop-less c = omega arith
-
 loop-again : tie.Need-loop-again Inv-loop μ-loop
 loop-again c =
     let a = c .before .before .before .before .before .args in
@@ -65,12 +53,12 @@ seek-global-spec =
     (tie.spec
     Inv-loop
     μ-loop
-    wide64-requires
+    (λ c κs. tt)
     loop-holds
     sub-row
     sub-row-2
     returns
-    add-p
-    loop-less
+    (λ c. omega arith)
+    (λ c. omega arith)
     loop-again
     returns-2)

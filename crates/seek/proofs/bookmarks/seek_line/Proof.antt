@@ -5,8 +5,6 @@ use native.Mathlib.Omega.{arith}
 use Rattle.seek.proofs.SeekTurns.{LineSeek, line-seek, line-last, global-in, line-ahead, line-below, line-before, line-passed}
 use Rattle.seek.proofs.bookmarks.seek_line.Statement.{statement}
 use Rattle.seek.proofs.bookmarks.seek_line.Tie as tie
-use Rattle.seek.proofs.bookmarks.seek_line.Reads as reads
-use Rattle.seek.proofs.bookmarks.seek_line.Lts as lts
 
 abbrev Inv-loop : tie.InvT-loop
 Inv-loop left lines count globals p left₀ q₀ k₀ left' q k = LineSeek lines count globals p left left' q k
@@ -53,20 +51,11 @@ sub-left c =
     let l = c .before .before .before .loop in
     line-ahead (a .lines) (a .count) (a .globals .now) (a .p) (a .left) (l .left) (l .q) (l .k) (l .inv) (c .before .before .loop-test .taken)
 
-sub-left-2 : tie.Need-sub-left-2 Inv-loop μ-loop
-sub-left-2 c = c .if1 .left
-
 add-k : tie.Need-add-k Inv-loop μ-loop
 add-k c =
     let a = c .before .before .before .before .args in
     let l = c .before .before .before .loop in
     omega (arith, line-below (a .lines) (a .count) (a .globals .now) (a .p) (a .left) (l .left) (l .q) (l .k) (l .inv) (c .before .before .loop-test .taken))
-
-add-q : tie.Need-add-q Inv-loop μ-loop
-add-q c = omega arith
-
-loop-less : tie.Need-loop-less Inv-loop μ-loop
-loop-less c = omega arith
 
 loop-again : tie.Need-loop-again Inv-loop μ-loop
 loop-again c =
@@ -99,10 +88,10 @@ seek-line-spec =
     add-t14
     returns
     sub-left
-    sub-left-2
+    (λ c. c .if1 .left)
     add-k
-    add-q
-    loop-less
+    (λ c. omega arith)
+    (λ c. omega arith)
     loop-again
     add-t15
     returns-2)

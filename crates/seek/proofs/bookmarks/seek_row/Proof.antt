@@ -5,10 +5,6 @@ use native.Mathlib.Omega.{arith}
 use Rattle.seek.proofs.SeekTurns.{RowSeek, row-seek, row-none, row-found, row-passed}
 use Rattle.seek.proofs.bookmarks.seek_row.Statement.{statement}
 use Rattle.seek.proofs.bookmarks.seek_row.Tie as tie
-use Rattle.seek.proofs.bookmarks.seek_row.Reads as reads
-use Rattle.seek.proofs.bookmarks.seek_row.Lts as lts
-use Rattle.seek.proofs.lists.wide.Reads as wide-reads
-use Rattle.seek.proofs.bookmarks.wide64.Reads as wide64-reads
 
 abbrev Inv-loop : tie.InvT-loop
 Inv-loop left len left₀ i₀ left' i = RowSeek len left left' i
@@ -19,38 +15,17 @@ abbrev μ-loop : tie.MeasureT-loop
 loop-holds : tie.Need-loop-holds Inv-loop μ-loop
 loop-holds c = row-seek (c .args .len) (c .args .left) (c .pre)
 
-sub-wide64 : tie.Need-sub-wide64 Inv-loop μ-loop
-sub-wide64 c = omega arith
-
-sub-wide64-2 : tie.Need-sub-wide64-2 Inv-loop μ-loop
-sub-wide64-2 c = omega arith
-
-wide64-requires : tie.Need-wide64-requires Inv-loop μ-loop
-wide64-requires c κs = tt
-
-wide-requires : tie.Need-wide-requires Inv-loop μ-loop
-wide-requires c κs = tt
-
 returns : tie.Need-returns Inv-loop μ-loop
 returns c =
     let a = c .before .before .before .before .before .args in
     let l = c .before .before .before .before .loop in
     rw (c .wide .ensures) (row-found (a .len) (a .left) (l .left) (l .i) (l .inv) (c .before .before .before .loop-test .taken) (omega (arith, c .before .before .wide64 .ensures)))
 
-add-i : tie.Need-add-i Inv-loop μ-loop
-add-i c = omega arith
-
-loop-less : tie.Need-loop-less Inv-loop μ-loop
-loop-less c = omega arith
-
 loop-again : tie.Need-loop-again Inv-loop μ-loop
 loop-again c =
     let a = c .before .before .before .before .args in
     let l = c .before .before .before .loop in
     rw (c .before .wide64 .ensures) (row-passed (a .len) (a .left) (l .left) (l .i) (l .inv) (c .before .before .loop-test .taken) (omega (arith, c .before .wide64 .ensures)))
-
-wide-requires-2 : tie.Need-wide-requires-2 Inv-loop μ-loop
-wide-requires-2 c κs = tt
 
 returns-2 : tie.Need-returns-2 Inv-loop μ-loop
 returns-2 c =
@@ -65,13 +40,13 @@ seek-row-spec =
     Inv-loop
     μ-loop
     loop-holds
-    sub-wide64
-    sub-wide64-2
-    wide64-requires
-    wide-requires
+    (λ c. omega arith)
+    (λ c. omega arith)
+    (λ c κs. tt)
+    (λ c κs. tt)
     returns
-    add-i
-    loop-less
+    (λ c. omega arith)
+    (λ c. omega arith)
     loop-again
-    wide-requires-2
+    (λ c κs. tt)
     returns-2)

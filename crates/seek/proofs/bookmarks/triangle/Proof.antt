@@ -8,12 +8,6 @@ use Rattle.seek.proofs.Lengths.{tri-twice, tri-is}
 use borrow.Author.Needs.{needs}
 use Rattle.seek.proofs.bookmarks.triangle.Statement.{statement}
 use Rattle.seek.proofs.bookmarks.triangle.Tie as tie
-use Rattle.seek.proofs.bookmarks.triangle.Reads as reads
-use Rattle.seek.proofs.bookmarks.triangle.Lts as lts
-use Rattle.seek.proofs.bookmarks.wide64.Reads as wide64-reads
-
-wide64-requires : tie.Need-wide64-requires
-wide64-requires c κs = search needs
 
 mul-result : tie.Need-mul-result
 mul-result c = let w = c .wide64 .result in let h : w ≤ 4294967296 = omega arith in omega (arith, mul-le-mul-left w h)
@@ -25,4 +19,4 @@ returns : tie.Need-returns
 returns c = tri-is (c .wide64 .result) ∙ ap tri (c .wide64 .ensures)
 
 pub triangle-spec : {M : Type 1} → statement M
-triangle-spec = tie.close (tie.spec wide64-requires mul-result sub-result returns)
+triangle-spec = tie.close (tie.spec (λ c κs. search needs) mul-result sub-result returns)

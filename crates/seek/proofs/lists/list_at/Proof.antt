@@ -1,16 +1,17 @@
 -- `seek::lists::list_at` meets its contract. Assumes nothing.
-use mathlib.Core.Path.{_≡_, refl, sym, ap, _∙_}
+use mathlib.Core.Path.{_≡_, refl, sym, _∙_}
 use native.Mathlib.Omega.{arith}
+use Rattle.grid.proofs.Shapes.{wide-product}
 use Rattle.tables.specs.Tables.{tables}
-use Rattle.tables.proofs.Turns.{cells-fit}
-use Rattle.seek.proofs.PlaceLaws.{part-refused, number-few, number-next, cell-from, cell-to, part-cell, global-from, global-to, part-global}
+use Rattle.seek.proofs.PlaceLaws.{part-refused, number-few, part-cell, global-from, global-to, part-global}
 use borrow.Author.Needs.{needs}
 use Rattle.seek.proofs.lists.list_at.Statement.{statement}
 use Rattle.seek.proofs.lists.list_at.Tie as tie
 use Rattle.seek.proofs.lists.list_at.Reads as reads
 use Rattle.seek.proofs.lists.list_at.Lts as lts
-use Rattle.seek.proofs.lists.wide.Reads as wide-reads
+use Rattle.slices.proofs.wide.Reads as wide-reads
 use Rattle.seek.proofs.lists.list_check.Reads as list-check-reads
+use Rattle.tables.proofs.list_of.Reads as list-of-reads
 
 list-check-requires : tie.Need-list-check-requires
 list-check-requires c κs = search needs
@@ -46,7 +47,7 @@ wide-requires-2 : tie.Need-wide-requires-2
 wide-requires-2 c κs = search needs
 
 mul-cell : tie.Need-mul-cell
-mul-cell c = record { fits = cells-fit (c .before .wide .result) (c .wide2 .result) (omega arith) (omega arith) }
+mul-cell c = record { fits = wide-product (c .before .wide .result) (c .wide2 .result) (omega arith) (omega arith) }
 
 wide-requires-3 : tie.Need-wide-requires-3
 wide-requires-3 c κs = search needs
@@ -57,98 +58,41 @@ add-cell c =
     let t = tables (a .grid) (a .lines) (a .offsets .now) (a .items .now) (a .globals .now) (a .global-count) in
     omega (arith, number-few (a .grid) t refl refl (a .place) (sym (c .before .before .before .before .before .before .before .before .list-check .ensures) ∙ c .before .before .before .before .before .before .enum-told2 .given .1) (c .before .before .before .before .place .given .0 .0) (c .before .before .before .before .place .given .0 .1 .0) (c .before .before .before .before .place .given .1) (c .before .before .wide .result) (c .before .wide2 .result) (c .wide3 .result) (c .before .before .wide .ensures) (c .before .wide2 .ensures) (c .wide3 .ensures))
 
-mul-wide : tie.Need-mul-wide
-mul-wide c =
-    let a = c .before .before .before .before .before .before .before .before .before .before .before .before .args in
-    let t = tables (a .grid) (a .lines) (a .offsets .now) (a .items .now) (a .globals .now) (a .global-count) in
-    omega (arith, number-few (a .grid) t refl refl (a .place) (sym (c .before .before .before .before .before .before .before .before .list-check .ensures) ∙ c .before .before .before .before .before .before .enum-told2 .given .1) (c .before .before .before .before .place .given .0 .0) (c .before .before .before .before .place .given .0 .1 .0) (c .before .before .before .before .place .given .1) (c .before .before .wide .result) (c .before .wide2 .result) (c .wide3 .result) (c .before .before .wide .ensures) (c .before .wide2 .ensures) (c .wide3 .ensures))
-
-shared-slice-read-wide : tie.Need-shared-slice-read-wide
-shared-slice-read-wide c =
-    let a = c .before .before .before .before .before .before .before .before .before .before .before .before .before .args in
-    let t = tables (a .grid) (a .lines) (a .offsets .now) (a .items .now) (a .globals .now) (a .global-count) in
-    omega (arith, number-next (a .grid) t refl refl (a .place) (sym (c .before .before .before .before .before .before .before .before .before .list-check .ensures) ∙ c .before .before .before .before .before .before .before .enum-told2 .given .1) (c .before .before .before .before .before .place .given .0 .0) (c .before .before .before .before .before .place .given .0 .1 .0) (c .before .before .before .before .before .place .given .1) (c .before .before .before .wide .result) (c .before .before .wide2 .result) (c .before .wide3 .result) (c .before .before .before .wide .ensures) (c .before .before .wide2 .ensures) (c .before .wide3 .ensures))
-
-wide-requires-4 : tie.Need-wide-requires-4
-wide-requires-4 c κs = search needs
-
-add-wide : tie.Need-add-wide
-add-wide c =
-    let a = c .before .before .before .before .before .before .before .before .before .before .before .before .before .before .args in
-    let t = tables (a .grid) (a .lines) (a .offsets .now) (a .items .now) (a .globals .now) (a .global-count) in
-    omega (arith, number-few (a .grid) t refl refl (a .place) (sym (c .before .before .before .before .before .before .before .before .before .before .list-check .ensures) ∙ c .before .before .before .before .before .before .before .before .enum-told2 .given .1) (c .before .before .before .before .before .before .place .given .0 .0) (c .before .before .before .before .before .before .place .given .0 .1 .0) (c .before .before .before .before .before .before .place .given .1) (c .before .before .before .before .wide .result) (c .before .before .before .wide2 .result) (c .before .before .wide3 .result) (c .before .before .before .before .wide .ensures) (c .before .before .before .wide2 .ensures) (c .before .before .wide3 .ensures))
-
-mul-wide-2 : tie.Need-mul-wide-2
-mul-wide-2 c =
-    let a = c .before .before .before .before .before .before .before .before .before .before .before .before .before .before .args in
-    let t = tables (a .grid) (a .lines) (a .offsets .now) (a .items .now) (a .globals .now) (a .global-count) in
-    omega (arith, number-few (a .grid) t refl refl (a .place) (sym (c .before .before .before .before .before .before .before .before .before .before .list-check .ensures) ∙ c .before .before .before .before .before .before .before .before .enum-told2 .given .1) (c .before .before .before .before .before .before .place .given .0 .0) (c .before .before .before .before .before .before .place .given .0 .1 .0) (c .before .before .before .before .before .before .place .given .1) (c .before .before .before .before .wide .result) (c .before .before .before .wide2 .result) (c .before .before .wide3 .result) (c .before .before .before .before .wide .ensures) (c .before .before .before .wide2 .ensures) (c .before .before .wide3 .ensures))
-
-shared-slice-read-wide-2 : tie.Need-shared-slice-read-wide-2
-shared-slice-read-wide-2 c =
-    let a = c .before .before .before .before .before .before .before .before .before .before .before .before .before .before .before .args in
-    let t = tables (a .grid) (a .lines) (a .offsets .now) (a .items .now) (a .globals .now) (a .global-count) in
-    number-next (a .grid) t refl refl (a .place) (sym (c .before .before .before .before .before .before .before .before .before .before .before .list-check .ensures) ∙ c .before .before .before .before .before .before .before .before .before .enum-told2 .given .1) (c .before .before .before .before .before .before .before .place .given .0 .0) (c .before .before .before .before .before .before .before .place .given .0 .1 .0) (c .before .before .before .before .before .before .before .place .given .1) (c .before .before .before .before .before .wide .result) (c .before .before .before .before .wide2 .result) (c .before .before .before .wide3 .result) (c .before .before .before .before .before .wide .ensures) (c .before .before .before .before .wide2 .ensures) (c .before .before .before .wide3 .ensures)
-
-wide-requires-5 : tie.Need-wide-requires-5
-wide-requires-5 c κs = search needs
-
-mul-result : tie.Need-mul-result
-mul-result c =
-    let a = c .before .before .before .before .before .before .before .before .before .before .before .before .before .before .before .before .args in
-    let t = tables (a .grid) (a .lines) (a .offsets .now) (a .items .now) (a .globals .now) (a .global-count) in
-    omega (arith, cell-from (a .grid) t refl refl (a .place) (sym (c .before .before .before .before .before .before .before .before .before .before .before .before .list-check .ensures) ∙ c .before .before .before .before .before .before .before .before .before .before .enum-told2 .given .1) (c .before .before .before .before .before .before .before .before .place .given .0 .0) (c .before .before .before .before .before .before .before .before .place .given .0 .1 .0) (c .before .before .before .before .before .before .before .before .place .given .1) (c .before .before .before .before .before .before .wide .result) (c .before .before .before .before .before .wide2 .result) (c .before .before .before .before .wide3 .result) (c .before .before .before .before .before .before .wide .ensures) (c .before .before .before .before .before .wide2 .ensures) (c .before .before .before .before .wide3 .ensures) (c .before .before .wide4 .result) (c .wide5 .result) (c .before .before .wide4 .ensures) (c .wide5 .ensures), cell-to (a .grid) t refl refl (a .place) (sym (c .before .before .before .before .before .before .before .before .before .before .before .before .list-check .ensures) ∙ c .before .before .before .before .before .before .before .before .before .before .enum-told2 .given .1) (c .before .before .before .before .before .before .before .before .place .given .0 .0) (c .before .before .before .before .before .before .before .before .place .given .0 .1 .0) (c .before .before .before .before .before .before .before .before .place .given .1) (c .before .before .before .before .before .before .wide .result) (c .before .before .before .before .before .wide2 .result) (c .before .before .before .before .wide3 .result) (c .before .before .before .before .before .before .wide .ensures) (c .before .before .before .before .before .wide2 .ensures) (c .before .before .before .before .wide3 .ensures) (c .before .before .wide4 .result) (c .wide5 .result) (c .before .before .wide4 .ensures) (c .wide5 .ensures), c .before .before .before .before .before .before .before .before .before .before .before .before .before .before .before .before .good .1 .1 .1 .0)
-
-sub-result-2 : tie.Need-sub-result-2
-sub-result-2 c =
-    let a = c .before .before .before .before .before .before .before .before .before .before .before .before .before .before .before .before .args in
-    let t = tables (a .grid) (a .lines) (a .offsets .now) (a .items .now) (a .globals .now) (a .global-count) in
-    cell-from (a .grid) t refl refl (a .place) (sym (c .before .before .before .before .before .before .before .before .before .before .before .before .list-check .ensures) ∙ c .before .before .before .before .before .before .before .before .before .before .enum-told2 .given .1) (c .before .before .before .before .before .before .before .before .place .given .0 .0) (c .before .before .before .before .before .before .before .before .place .given .0 .1 .0) (c .before .before .before .before .before .before .before .before .place .given .1) (c .before .before .before .before .before .before .wide .result) (c .before .before .before .before .before .wide2 .result) (c .before .before .before .before .wide3 .result) (c .before .before .before .before .before .before .wide .ensures) (c .before .before .before .before .before .wide2 .ensures) (c .before .before .before .before .wide3 .ensures) (c .before .before .wide4 .result) (c .wide5 .result) (c .before .before .wide4 .ensures) (c .wide5 .ensures)
-
-part-result-start-2 : tie.Need-part-result-start-2
-part-result-start-2 c =
-    let a = c .before .before .before .before .before .before .before .before .before .before .before .before .before .before .before .before .args in
-    let t = tables (a .grid) (a .lines) (a .offsets .now) (a .items .now) (a .globals .now) (a .global-count) in
-    cell-from (a .grid) t refl refl (a .place) (sym (c .before .before .before .before .before .before .before .before .before .before .before .before .list-check .ensures) ∙ c .before .before .before .before .before .before .before .before .before .before .enum-told2 .given .1) (c .before .before .before .before .before .before .before .before .place .given .0 .0) (c .before .before .before .before .before .before .before .before .place .given .0 .1 .0) (c .before .before .before .before .before .before .before .before .place .given .1) (c .before .before .before .before .before .before .wide .result) (c .before .before .before .before .before .wide2 .result) (c .before .before .before .before .wide3 .result) (c .before .before .before .before .before .before .wide .ensures) (c .before .before .before .before .before .wide2 .ensures) (c .before .before .before .before .wide3 .ensures) (c .before .before .wide4 .result) (c .wide5 .result) (c .before .before .wide4 .ensures) (c .wide5 .ensures)
-
-part-result-end-2 : tie.Need-part-result-end-2
-part-result-end-2 c =
-    let a = c .before .before .before .before .before .before .before .before .before .before .before .before .before .before .before .before .args in
-    let t = tables (a .grid) (a .lines) (a .offsets .now) (a .items .now) (a .globals .now) (a .global-count) in
-    cell-to (a .grid) t refl refl (a .place) (sym (c .before .before .before .before .before .before .before .before .before .before .before .before .list-check .ensures) ∙ c .before .before .before .before .before .before .before .before .before .before .enum-told2 .given .1) (c .before .before .before .before .before .before .before .before .place .given .0 .0) (c .before .before .before .before .before .before .before .before .place .given .0 .1 .0) (c .before .before .before .before .before .before .before .before .place .given .1) (c .before .before .before .before .before .before .wide .result) (c .before .before .before .before .before .wide2 .result) (c .before .before .before .before .wide3 .result) (c .before .before .before .before .before .before .wide .ensures) (c .before .before .before .before .before .wide2 .ensures) (c .before .before .before .before .wide3 .ensures) (c .before .before .wide4 .result) (c .wide5 .result) (c .before .before .wide4 .ensures) (c .wide5 .ensures)
+list-of-requires : tie.Need-list-of-requires
+list-of-requires c κs = search needs
 
 enum-known-place-2 : tie.Need-enum-known-place-2
 enum-known-place-2 c = search needs
 
-mul-result-2 : tie.Need-mul-result-2
-mul-result-2 c =
+mul-result : tie.Need-mul-result
+mul-result c =
     let a = c .before .before .before .before .before .before .before .before .before .args in
     let t = tables (a .grid) (a .lines) (a .offsets .now) (a .items .now) (a .globals .now) (a .global-count) in
     omega (arith, global-from (a .grid) t (a .place) (sym (c .before .before .before .before .before .list-check .ensures) ∙ c .before .before .before .enum-told2 .given .1) (c .before .place2 .given .0 .0) (c .before .place2 .given .1), global-to (a .grid) t (a .place) (sym (c .before .before .before .before .before .list-check .ensures) ∙ c .before .before .before .enum-told2 .given .1) (c .before .place2 .given .0 .0) (c .before .place2 .given .1), c .before .before .before .before .before .before .before .before .before .good .1 .1 .1 .1 .0)
 
-sub-result-3 : tie.Need-sub-result-3
-sub-result-3 c =
+sub-result-2 : tie.Need-sub-result-2
+sub-result-2 c =
     let a = c .before .before .before .before .before .before .before .before .before .args in
     let t = tables (a .grid) (a .lines) (a .offsets .now) (a .items .now) (a .globals .now) (a .global-count) in
     global-from (a .grid) t (a .place) (sym (c .before .before .before .before .before .list-check .ensures) ∙ c .before .before .before .enum-told2 .given .1) (c .before .place2 .given .0 .0) (c .before .place2 .given .1)
 
-part-result-start-3 : tie.Need-part-result-start-3
-part-result-start-3 c =
+part-result-start-2 : tie.Need-part-result-start-2
+part-result-start-2 c =
     let a = c .before .before .before .before .before .before .before .before .before .args in
     let t = tables (a .grid) (a .lines) (a .offsets .now) (a .items .now) (a .globals .now) (a .global-count) in
     global-from (a .grid) t (a .place) (sym (c .before .before .before .before .before .list-check .ensures) ∙ c .before .before .before .enum-told2 .given .1) (c .before .place2 .given .0 .0) (c .before .place2 .given .1)
 
-part-result-end-3 : tie.Need-part-result-end-3
-part-result-end-3 c =
+part-result-end-2 : tie.Need-part-result-end-2
+part-result-end-2 c =
     let a = c .before .before .before .before .before .before .before .before .before .args in
     let t = tables (a .grid) (a .lines) (a .offsets .now) (a .items .now) (a .globals .now) (a .global-count) in
     global-to (a .grid) t (a .place) (sym (c .before .before .before .before .before .list-check .ensures) ∙ c .before .before .before .enum-told2 .given .1) (c .before .place2 .given .0 .0) (c .before .place2 .given .1)
 
 returns-2 : tie.Need-returns-2
 returns-2 c =
-    let a = c .before .before .before .before .before .before .before .before .before .before .before .before .before .before .before .before .before .args in
+    let a = c .before .before .before .before .before .before .before .before .before .before .before .before .before .args in
     let t = tables (a .grid) (a .lines) (a .offsets .now) (a .items .now) (a .globals .now) (a .global-count) in
-    part-cell (a .grid) t refl refl (a .place) (sym (c .before .before .before .before .before .before .before .before .before .before .before .before .before .list-check .ensures) ∙ c .before .before .before .before .before .before .before .before .before .before .before .enum-told2 .given .1) (c .before .before .before .before .before .before .before .before .before .place .given .0 .0) (c .before .before .before .before .before .before .before .before .before .place .given .0 .1 .0) (c .before .before .before .before .before .before .before .before .before .place .given .1) (c .before .before .before .before .before .before .before .wide .result) (c .before .before .before .before .before .before .wide2 .result) (c .before .before .before .before .before .wide3 .result) (c .before .before .before .before .before .before .before .wide .ensures) (c .before .before .before .before .before .before .wide2 .ensures) (c .before .before .before .before .before .wide3 .ensures) (c .before .before .before .wide4 .result) (c .before .wide5 .result) (c .before .before .before .wide4 .ensures) (c .before .wide5 .ensures)
+    part-cell (a .grid) t refl refl (a .place) (sym (c .before .before .before .before .before .before .before .before .before .list-check .ensures) ∙ c .before .before .before .before .before .before .before .enum-told2 .given .1) (c .before .before .before .before .before .place .given .0 .0) (c .before .before .before .before .before .place .given .0 .1 .0) (c .before .before .before .before .before .place .given .1) (c .before .before .before .wide .result) (c .before .before .wide2 .result) (c .before .wide3 .result) (c .before .before .before .wide .ensures) (c .before .before .wide2 .ensures) (c .before .wide3 .ensures) (c .list-of .ensures)
 
 returns-3 : tie.Need-returns-3
 returns-3 c =
@@ -173,21 +117,11 @@ list-at-spec =
     mul-cell
     wide-requires-3
     add-cell
-    mul-wide
-    shared-slice-read-wide
-    wide-requires-4
-    add-wide
-    mul-wide-2
-    shared-slice-read-wide-2
-    wide-requires-5
+    list-of-requires
+    enum-known-place-2
     mul-result
     sub-result-2
     part-result-start-2
     part-result-end-2
-    enum-known-place-2
-    mul-result-2
-    sub-result-3
-    part-result-start-3
-    part-result-end-3
     returns-2
     returns-3)

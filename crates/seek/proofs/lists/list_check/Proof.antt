@@ -6,23 +6,11 @@ use borrow.Author.Needs.{needs}
 use Rattle.seek.proofs.lists.list_check.Statement.{statement}
 use Rattle.seek.proofs.lists.list_check.Tie as tie
 
-check-tables-requires : tie.Need-check-tables-requires
-check-tables-requires c κs = search needs
-
-enum-known-fit : tie.Need-enum-known-fit
-enum-known-fit c = search needs
-
 returns : tie.Need-returns
 returns c =
     let a = c .before .before .before .before .before .before .before .args in
     let t = tables (a .grid) (a .lines) (a .offsets .now) (a .items .now) (a .globals .now) (a .global-count) in
     list-tables (a .grid) t (a .place) _ (sym (c .before .before .before .check-tables .ensures) ∙ c .before .fit .given .1)
-
-enum-told : tie.Need-enum-told
-enum-told c = search needs
-
-check-place-requires : tie.Need-check-place-requires
-check-place-requires c κs = search needs
 
 returns-2 : tie.Need-returns-2
 returns-2 c =
@@ -33,4 +21,4 @@ returns-2 c =
 pub list-check-spec : {M : Type 1} → statement M
 list-check-spec =
     tie.close
-    (tie.spec check-tables-requires enum-known-fit returns enum-told check-place-requires returns-2)
+    (tie.spec (λ c κs. search needs) (λ c. search needs) returns (λ c. search needs) (λ c κs. search needs) returns-2)

@@ -6,7 +6,7 @@ use Rattle.tables.proofs.rising.begins.Tie as tie
 use Rattle.tables.proofs.rising.begins.Reads as reads
 use Rattle.tables.proofs.rising.begins.Lts as lts
 use Rattle.tables.proofs.rising.begin_of.Reads as begin-of-reads
-use Rattle.tables.proofs.rising.less_one.Reads as less-one-reads
+use Rattle.slices.proofs.less_one.Reads as less-one-reads
 use Rattle.tables.proofs.rising.one_if.Reads as one-if-reads
 
 begin-of-requires : tie.Need-begin-of-requires

@@ -1,8 +1,8 @@
--- `tables::rising::count_breaks` meets its contract. The invariant: the entries before `k` were looked at. Assumes nothing.
+-- `tables::rising::count_breaks` meets its contract. The invariant: those before `k` were looked at, and `to` is not passed. Assumes nothing.
 use Prim.Native.Nat.{_-_}
 use native.Mathlib.Omega.{arith}
-use lib.ListN.{length}
-use Rattle.tables.proofs.Breaks.{BreaksSeen, breaks-first, breaks-more, breaks-all}
+use Rattle.tables.specs.Inside.{BreaksMore}
+use Rattle.tables.proofs.Breaks.{breaks-more, breaks-all}
 use Rattle.tables.proofs.rising.count_breaks.Statement.{statement}
 use Rattle.tables.proofs.rising.count_breaks.Tie as tie
 use Rattle.tables.proofs.rising.count_breaks.Reads as reads
@@ -10,13 +10,13 @@ use Rattle.tables.proofs.rising.count_breaks.Lts as lts
 use Rattle.tables.proofs.rising.one_if.Reads as one-if-reads
 
 abbrev Inv-loop : tie.InvT-loop
-Inv-loop most items many₀ k₀ many k = BreaksSeen most items many k
+Inv-loop most items from to many₀ many₁ k₀ many k = BreaksMore most items many k to
 
 abbrev μ-loop : tie.MeasureT-loop
-μ-loop most items many₀ k₀ many k = length items - k
+μ-loop most items from to many₀ many₁ k₀ many k = to - k
 
 loop-holds : tie.Need-loop-holds Inv-loop μ-loop
-loop-holds c = let a = c .before .args in breaks-first (a .most) (a .items .now) (c .before .pre .0) (c .before .pre .1)
+loop-holds c = c .before .pre
 
 mul-one-if : tie.Need-mul-one-if Inv-loop μ-loop
 mul-one-if c = omega arith
@@ -46,8 +46,8 @@ add-many : tie.Need-add-many Inv-loop μ-loop
 add-many c =
     let a = c .before .before .before .before .before .before .before .args in
     let l = c .before .before .before .before .before .loop in
-    let s = breaks-more (a .most) (a .items .now) (l .many) (l .k) (c .one-if .result) (omega arith) (c .one-if .ensures) (l .inv) in
-    omega (arith, s .few, s .within, s .small)
+    let s = breaks-more (a .most) (a .items .now) (l .many) (l .k) (a .to) (c .one-if .result) (omega arith) (c .one-if .ensures) (l .inv) in
+    omega (arith, s .seen .few, s .seen .within, s .seen .small)
 
 add-k : tie.Need-add-k Inv-loop μ-loop
 add-k c = omega arith
@@ -59,12 +59,12 @@ loop-again : tie.Need-loop-again Inv-loop μ-loop
 loop-again c =
     let a = c .before .before .before .before .before .before .before .args in
     let l = c .before .before .before .before .before .loop in
-    breaks-more (a .most) (a .items .now) (l .many) (l .k) (c .one-if .result) (omega arith) (c .one-if .ensures) (l .inv)
+    breaks-more (a .most) (a .items .now) (l .many) (l .k) (a .to) (c .one-if .result) (omega arith) (c .one-if .ensures) (l .inv)
 
 returns : tie.Need-returns Inv-loop μ-loop
 returns c =
     let a = c .before .before .before .args in
-    breaks-all (a .most) (a .items .now) (c .before .loop .many) (c .before .loop .k) (c .loop-test .left) (c .before .loop .inv)
+    breaks-all (a .most) (a .items .now) (c .before .loop .many) (c .before .loop .k) (a .to) (c .loop-test .left) (c .before .loop .inv)
 
 pub count-breaks-spec : {M : Type 1} → statement M
 count-breaks-spec =

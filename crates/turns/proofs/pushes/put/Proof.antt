@@ -1,16 +1,17 @@
 -- `turns::pushes::put` meets its contract. Assumes nothing.
 use native.Mathlib.Omega.{arith}
 use borrow.Author.Needs.{needs}
+use Rattle.grid.proofs.Shapes.{cell-inside}
 use Rattle.cover.proofs.Growing.{none, one}
-use Rattle.turns.proofs.Grows.{number, inside, beyond-row, beyond-col}
+use Rattle.turns.proofs.Grows.{inside, beyond-row, beyond-col}
 use Rattle.turns.proofs.pushes.put.Statement.{statement}
 use Rattle.turns.proofs.pushes.put.Tie as tie
 
 mul-s : tie.Need-mul-s
-mul-s c = omega (arith, number _ _ _ _ (c .before .if1 .taken) (c .if2 .taken))
+mul-s c = omega (arith, cell-inside _ _ _ _ (c .if2 .taken) (c .before .if1 .taken))
 
 add-s : tie.Need-add-s
-add-s c = omega (arith, number _ _ _ _ (c .before .if1 .taken) (c .if2 .taken))
+add-s c = omega (arith, cell-inside _ _ _ _ (c .if2 .taken) (c .before .if1 .taken))
 
 mul-s-2 : tie.Need-mul-s-2
 mul-s-2 c = search needs

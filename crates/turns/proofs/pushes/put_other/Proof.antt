@@ -2,15 +2,16 @@
 use mathlib.Core.Path.{sym, _∙_}
 use native.Mathlib.Omega.{arith}
 use borrow.Author.Needs.{needs}
-use Rattle.turns.proofs.Grows.{number, inside, beyond-row, beyond-col, left-out, put-in, nothing-there}
+use Rattle.grid.proofs.Shapes.{cell-inside}
+use Rattle.turns.proofs.Grows.{inside, beyond-row, beyond-col, left-out, put-in, nothing-there}
 use Rattle.turns.proofs.pushes.put_other.Statement.{statement}
 use Rattle.turns.proofs.pushes.put_other.Tie as tie
 
 mul-c : tie.Need-mul-c
-mul-c c = omega (arith, number _ _ _ _ (c .before .if1 .taken) (c .if2 .taken))
+mul-c c = omega (arith, cell-inside _ _ _ _ (c .if2 .taken) (c .before .if1 .taken))
 
 add-c : tie.Need-add-c
-add-c c = omega (arith, number _ _ _ _ (c .before .if1 .taken) (c .if2 .taken))
+add-c c = omega (arith, cell-inside _ _ _ _ (c .if2 .taken) (c .before .if1 .taken))
 
 last-is-requires : tie.Need-last-is-requires
 last-is-requires c κs = search needs

@@ -4,13 +4,13 @@ use native.Mathlib.Omega.{arith}
 use borrow.Author.Tests.{not-true, not-false}
 use lib.ListN.{length, take}
 use Rattle.turns.specs.Pushes.{before}
-use Rattle.turns.specs.InsideModular.{goingBy, turnsBy}
+use Rattle.turns.specs.InsideModular.{turnsBy}
 use Rattle.turns.proofs.Loop.{Going, going-is, again, done, over}
 use Rattle.turns.proofs.pushes.run.Statement.{statement}
 use Rattle.turns.proofs.pushes.run.Tie as tie
 
 abbrev Inv-loop : tie.InvT-loop
-Inv-loop s₀ n cols rows way w₀ m₀ left₀ s w m left = Going (before (take n s₀) (turnsBy 5000 (goingBy way w₀) cols rows way w₀)) n cols rows way left w m s × (length s ≡ length s₀)
+Inv-loop s₀ n cols rows way w₀ m₀ left₀ s w m left = Going (before (take n s₀) (turnsBy 5000 cols rows way w₀)) n cols rows way left w m s × (length s ≡ length s₀)
 
 abbrev μ-loop : tie.MeasureT-loop
 μ-loop s₀ n cols rows way w₀ m₀ left₀ s w m left = left

@@ -1,8 +1,6 @@
 -- `visit::boxes::lesser` meets its contract. Assumes nothing.
 use Rattle.visit.proofs.boxes.lesser.Statement.{statement}
 use Rattle.visit.proofs.boxes.lesser.Tie as tie
-use Rattle.visit.proofs.boxes.lesser.Reads as reads
-use Rattle.visit.proofs.boxes.lesser.Lts as lts
 
 returns : tie.Need-returns
 returns c = rw (c .if1 .taken)

@@ -5,8 +5,6 @@ use native.Mathlib.Omega.{arith}
 use Rattle.visit.proofs.CellTurns.{Settling, settling-none, settled-past, from-to, settled-here, settled-row, settling-more}
 use Rattle.visit.proofs.cursor.settle_cell.Statement.{statement}
 use Rattle.visit.proofs.cursor.settle_cell.Tie as tie
-use Rattle.visit.proofs.cursor.settle_cell.Reads as reads
-use Rattle.visit.proofs.cursor.settle_cell.Lts as lts
 
 abbrev Inv-loop : tie.InvT-loop
 Inv-loop cells offsets items cell₀ i₀ j₀ cell i j = Settling cells offsets items cell₀ i₀ j₀ cell i j
@@ -19,23 +17,8 @@ loop-holds c =
     let a = c .args in
     settling-none (a .cells) (a .offsets .now) (a .items .now) (a .cell) (a .i) (a .j) (c .pre)
 
-mul-from : tie.Need-mul-from Inv-loop μ-loop
-mul-from c = omega arith
-
-shared-slice-read-from : tie.Need-shared-slice-read-from Inv-loop μ-loop
-shared-slice-read-from c = omega arith
-
 cast-from : tie.Need-cast-from Inv-loop μ-loop
 cast-from c = let l = c .before .before .loop in omega (arith, l .inv .table .within (l .cell) (omega (arith, c .before .loop-test .taken)), c .before .before .before .good .1 .1 .0)
-
-add-to : tie.Need-add-to Inv-loop μ-loop
-add-to c = omega arith
-
-mul-to : tie.Need-mul-to Inv-loop μ-loop
-mul-to c = omega arith
-
-shared-slice-read-to : tie.Need-shared-slice-read-to Inv-loop μ-loop
-shared-slice-read-to c = omega arith
 
 cast-to : tie.Need-cast-to Inv-loop μ-loop
 cast-to c = let l = c .before .before .before .loop in omega (arith, l .inv .table .within (l .cell + 1) (omega (arith, c .before .before .loop-test .taken)), c .before .before .before .before .good .1 .1 .0)
@@ -52,23 +35,11 @@ returns c =
     let l = c .before .before .before .before .loop in
     settled-here (a .cells) (a .offsets .now) (a .items .now) (a .cell) (a .i) (a .j) (l .cell) (l .i) (l .j) (l .inv) (c .before .before .before .loop-test .taken) _ _ refl refl (c .if1 .taken)
 
-add-next : tie.Need-add-next Inv-loop μ-loop
-add-next c = omega arith
-
-add-after : tie.Need-add-after Inv-loop μ-loop
-add-after c = omega arith
-
 returns-2 : tie.Need-returns-2 Inv-loop μ-loop
 returns-2 c =
     let a = c .before .before .before .before .before .before .args in
     let l = c .before .before .before .before .before .loop in
     settled-row (a .cells) (a .offsets .now) (a .items .now) (a .cell) (a .i) (a .j) (l .cell) (l .i) (l .j) (l .inv) (c .before .before .before .before .loop-test .taken) _ _ refl refl (c .before .if1 .left) (c .if2 .taken)
-
-add-cell : tie.Need-add-cell Inv-loop μ-loop
-add-cell c = omega arith
-
-loop-less : tie.Need-loop-less Inv-loop μ-loop
-loop-less c = omega arith
 
 loop-again : tie.Need-loop-again Inv-loop μ-loop
 loop-again c =
@@ -89,19 +60,19 @@ settle-cell-spec =
     Inv-loop
     μ-loop
     loop-holds
-    mul-from
-    shared-slice-read-from
+    (λ c. omega arith)
+    (λ c. omega arith)
     cast-from
-    add-to
-    mul-to
-    shared-slice-read-to
+    (λ c. omega arith)
+    (λ c. omega arith)
+    (λ c. omega arith)
     cast-to
     sub-len
     returns
-    add-next
-    add-after
+    (λ c. omega arith)
+    (λ c. omega arith)
     returns-2
-    add-cell
-    loop-less
+    (λ c. omega arith)
+    (λ c. omega arith)
     loop-again
     returns-3)

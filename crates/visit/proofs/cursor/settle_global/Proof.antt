@@ -4,9 +4,6 @@ use native.Mathlib.Omega.{arith}
 use Rattle.visit.proofs.GlobalTurns.{Gliding, gliding-none, stop-asks, glided-here, glided-past, gliding-pass, gliding-next, stop-fits, global-less}
 use Rattle.visit.proofs.cursor.settle_global.Statement.{statement}
 use Rattle.visit.proofs.cursor.settle_global.Tie as tie
-use Rattle.visit.proofs.cursor.settle_global.Reads as reads
-use Rattle.visit.proofs.cursor.settle_global.Lts as lts
-use Rattle.visit.proofs.cursor.stop_at.Reads as stop-at-reads
 
 abbrev Inv-loop : tie.InvT-loop
 Inv-loop lines count globals p₀ q₀ k₀ p q k = Gliding lines count globals p₀ q₀ k₀ p q k
@@ -31,26 +28,17 @@ returns c =
     let l = c .before .before .before .loop in
     glided-here (a .lines) (a .count) (a .globals .now) (a .p) (a .q) (a .k) (l .p) (l .q) (l .k) (l .inv) (c .before .before .loop-test .taken) (c .before .stop-at .result) (c .before .stop-at .ensures) (c .if1 .taken)
 
-add-q : tie.Need-add-q Inv-loop μ-loop
-add-q c = omega arith
-
 add-k : tie.Need-add-k Inv-loop μ-loop
 add-k c =
     let a = c .before .before .before .before .before .before .args in
     let l = c .before .before .before .before .loop in
     record { fits = stop-fits (a .lines) (a .count) (a .globals .now) (a .p) (a .q) (a .k) (l .p) (l .q) (l .k) (l .inv) (c .before .before .before .loop-test .taken) (c .before .before .stop-at .result) (c .before .before .stop-at .ensures) (c .if2 .taken) (omega arith) }
 
-loop-less : tie.Need-loop-less Inv-loop μ-loop
-loop-less c = omega arith
-
 loop-again : tie.Need-loop-again Inv-loop μ-loop
 loop-again c =
     let a = c .before .before .before .before .before .before .args in
     let l = c .before .before .before .before .loop in
     gliding-pass (a .lines) (a .count) (a .globals .now) (a .p) (a .q) (a .k) (l .p) (l .q) (l .k) (l .inv) (c .before .before .before .loop-test .taken) (c .before .before .stop-at .result) (c .before .before .stop-at .ensures) (c .before .if1 .left) (c .if2 .taken)
-
-add-p : tie.Need-add-p Inv-loop μ-loop
-add-p c = omega arith
 
 loop-less-2 : tie.Need-loop-less-2 Inv-loop μ-loop
 loop-less-2 c =
@@ -79,11 +67,11 @@ settle-global-spec =
     loop-holds
     stop-at-requires
     returns
-    add-q
+    (λ c. omega arith)
     add-k
-    loop-less
+    (λ c. omega arith)
     loop-again
-    add-p
+    (λ c. omega arith)
     loop-less-2
     loop-again-2
     returns-2)

@@ -4,8 +4,6 @@ use native.Mathlib.Omega.{arith}
 use Rattle.seek.proofs.GlobalRests.{stop-in, stop-out}
 use Rattle.visit.proofs.cursor.stop_at.Statement.{statement}
 use Rattle.visit.proofs.cursor.stop_at.Tie as tie
-use Rattle.visit.proofs.cursor.stop_at.Reads as reads
-use Rattle.visit.proofs.cursor.stop_at.Lts as lts
 
 mul-result : tie.Need-mul-result
 mul-result c = omega (arith, c .before .pre .inside (c .if1 .taken))

@@ -4,8 +4,6 @@ use native.Mathlib.Omega.{arith}
 use Rattle.visit.proofs.Placing.{Putting, putting-none, put-short, putting-more, putting-done}
 use Rattle.visit.proofs.scan.put_places.Statement.{statement}
 use Rattle.visit.proofs.scan.put_places.Tie as tie
-use Rattle.visit.proofs.scan.put_places.Reads as reads
-use Rattle.visit.proofs.scan.put_places.Lts as lts
 
 abbrev Inv-loop : tie.InvT-loop
 Inv-loop places₀ from₀ to number places from = Putting places₀ from₀ to number places from
@@ -25,17 +23,8 @@ mul-places c = omega (arith, c .before .loop .inv .long, c .before .before .if1 
 slice-write-places : tie.Need-slice-write-places Inv-loop μ-loop
 slice-write-places c = omega (arith, c .before .loop .inv .long, c .before .before .if1 .left)
 
-add-from : tie.Need-add-from Inv-loop μ-loop
-add-from c = omega arith
-
-loop-less : tie.Need-loop-less Inv-loop μ-loop
-loop-less c = omega arith
-
 loop-again : tie.Need-loop-again Inv-loop μ-loop
 loop-again c = putting-more (c .before .before .before .args .places .now) (c .before .before .before .args .from) (c .before .before .before .args .to) (c .before .before .before .args .number) (c .before .loop .places) (c .before .loop .from) (c .before .loop .inv) (c .loop-test .taken) (omega (arith, c .before .loop .inv .long, c .before .before .if1 .left))
-
-same-length : tie.Need-same-length Inv-loop μ-loop
-same-length c = c .before .loop .inv .long
 
 returns-2 : tie.Need-returns-2 Inv-loop μ-loop
 returns-2 c = putting-done (c .before .before .before .args .places .now) (c .before .before .before .args .from) (c .before .before .before .args .to) (c .before .before .before .args .number) (c .before .loop .places) (c .before .loop .from) (c .before .loop .inv) (omega arith)
@@ -50,8 +39,8 @@ put-places-spec =
     loop-holds
     mul-places
     slice-write-places
-    add-from
-    loop-less
+    (λ c. omega arith)
+    (λ c. omega arith)
     loop-again
-    same-length
+    (λ c. c .before .loop .inv .long)
     returns-2)

@@ -1,16 +1,12 @@
 -- `visit::scan::scan_lines` meets its contract. The invariant: what a batch of the row makes is what was made and what a batch of the rest makes. Assumes nothing.
-use mathlib.Core.Path.{_≡_, refl, sym, ap, _∙_}
+use mathlib.Core.Path.{sym, _∙_}
 use Prim.Native.Nat.{_-_}
 use native.Mathlib.Omega.{arith}
 use borrow.Author.Needs.{needs}
-use lib.ListN.{length}
 use Rattle.grid.specs.Domain.{lines}
 use Rattle.visit.proofs.RowTurns.{LinesScan, lines-scan, lines-some, lines-hit, lines-miss, lines-full, lines-over}
 use Rattle.visit.proofs.scan.scan_lines.Statement.{statement}
 use Rattle.visit.proofs.scan.scan_lines.Tie as tie
-use Rattle.visit.proofs.scan.scan_lines.Reads as reads
-use Rattle.visit.proofs.scan.scan_lines.Lts as lts
-use Rattle.visit.proofs.scan.test_before.Reads as test-before-reads
 
 abbrev Inv-loop : tie.InvT-loop
 Inv-loop row k₀ stop start-x start-y end-x end-y first₀ second₀ hits₀ k first second hits =
@@ -28,18 +24,6 @@ loop-holds c =
 test-before-requires : tie.Need-test-before-requires Inv-loop μ-loop
 test-before-requires c κs = let p = c .before .before .before .before .before .before .before .before .pre in record { row-fits = p .row-fits; below = p .below }
 
-enum-known-test : tie.Need-enum-known-test Inv-loop μ-loop
-enum-known-test c = search needs
-
-enum-told : tie.Need-enum-told Inv-loop μ-loop
-enum-told c = search needs
-
-mul-first : tie.Need-mul-first Inv-loop μ-loop
-mul-first c = omega arith
-
-slice-write-first : tie.Need-slice-write-first Inv-loop μ-loop
-slice-write-first c = omega arith
-
 mul-second : tie.Need-mul-second Inv-loop μ-loop
 mul-second c = omega (arith, c .before .before .before .before .before .loop .inv .along .first-long, c .before .before .before .before .before .loop .inv .along .second-long)
 
@@ -52,9 +36,6 @@ add-k c =
     let l = c .before .before .before .before .before .loop in
     let ls = lines (a .start-x .now) (a .start-y .now) (a .end-x .now) (a .end-y .now) in
     omega (arith, lines-some ls (a .row) (a .stop) (a .k) (l .k) (a .first .now) (a .second .now) (a .hits) (l .first) (l .second) (l .hits) (l .inv) (c .before .test .given .0 .0) (sym (c .before .test .given .1) ∙ c .before .before .before .test-before .ensures), c .before .before .before .before .before .before .before .before .before .before .before .before .fits)
-
-add-hits : tie.Need-add-hits Inv-loop μ-loop
-add-hits c = omega arith
 
 loop-less : tie.Need-loop-less Inv-loop μ-loop
 loop-less c =
@@ -84,9 +65,6 @@ loop-again-2 c =
     let ls = lines (a .start-x .now) (a .start-y .now) (a .end-x .now) (a .end-y .now) in
     lines-miss ls (a .row) (a .stop) (a .k) (l .k) (a .first .now) (a .second .now) (a .hits) (l .first) (l .second) (l .hits) (l .inv) (c .before .before .test .given .0 .0) (sym (c .before .before .test .given .1) ∙ c .before .before .before .before .test-before .ensures) (omega (arith, l .inv .along .first-long, c .before .before .before .before .before .loop-test .taken)) (c .if1 .left)
 
-same-length : tie.Need-same-length Inv-loop μ-loop
-same-length c = c .before .loop .inv .along .first-long
-
 same-length-2 : tie.Need-same-length-2 Inv-loop μ-loop
 same-length-2 c = c .before .loop .inv .along .second-long ∙ sym (c .before .before .before .before .before .before .before .before .pre .outputs .same)
 
@@ -96,9 +74,6 @@ returns c =
     let l = c .before .loop in
     let ls = lines (a .start-x .now) (a .start-y .now) (a .end-x .now) (a .end-y .now) in
     lines-full ls (a .row) (a .stop) (a .k) (l .k) (a .first .now) (a .second .now) (a .hits) (l .first) (l .second) (l .hits) (l .inv) (omega (arith, l .inv .along .first-long, c .loop-test .left))
-
-same-length-3 : tie.Need-same-length-3 Inv-loop μ-loop
-same-length-3 c = c .before .before .before .before .loop .inv .along .first-long
 
 same-length-4 : tie.Need-same-length-4 Inv-loop μ-loop
 same-length-4 c = c .before .before .before .before .loop .inv .along .second-long ∙ sym (c .before .before .before .before .before .before .before .before .before .before .before .pre .outputs .same)
@@ -118,21 +93,21 @@ scan-lines-spec =
     μ-loop
     loop-holds
     test-before-requires
-    enum-known-test
-    enum-told
-    mul-first
-    slice-write-first
+    (λ c. search needs)
+    (λ c. search needs)
+    (λ c. omega arith)
+    (λ c. omega arith)
     mul-second
     slice-write-second
     add-k
-    add-hits
+    (λ c. omega arith)
     loop-less
     loop-again
     loop-less-2
     loop-again-2
-    same-length
+    (λ c. c .before .loop .inv .along .first-long)
     same-length-2
     returns
-    same-length-3
+    (λ c. c .before .before .before .before .loop .inv .along .first-long)
     same-length-4
     returns-2)

@@ -1,5 +1,5 @@
 -- `visit::scan::scan_list` meets its contract. The invariant: what a batch of the row makes is what was made and what a batch of the rest makes. Assumes nothing.
-use mathlib.Core.Path.{_≡_, refl, sym, ap, _∙_}
+use mathlib.Core.Path.{sym, _∙_}
 use Prim.Native.Nat.{_-_}
 use native.Mathlib.Omega.{arith}
 use borrow.Author.Needs.{needs}
@@ -8,9 +8,6 @@ use Rattle.grid.specs.Domain.{lines}
 use Rattle.visit.proofs.RowTurns.{ListScan, list-scan, list-some, list-hit, list-miss, list-full, list-over}
 use Rattle.visit.proofs.scan.scan_list.Statement.{statement}
 use Rattle.visit.proofs.scan.scan_list.Tie as tie
-use Rattle.visit.proofs.scan.scan_list.Reads as reads
-use Rattle.visit.proofs.scan.scan_list.Lts as lts
-use Rattle.visit.proofs.scan.test_in.Reads as test-in-reads
 
 abbrev Inv-loop : tie.InvT-loop
 Inv-loop list row j₀ start-x start-y end-x end-y first₀ second₀ hits₀ j first second hits =
@@ -27,18 +24,6 @@ loop-holds c =
 
 test-in-requires : tie.Need-test-in-requires Inv-loop μ-loop
 test-in-requires c κs = let p = c .before .before .before .before .before .before .before .before .before .pre in record { row-fits = p .row-fits; below = p .below }
-
-enum-known-test : tie.Need-enum-known-test Inv-loop μ-loop
-enum-known-test c = search needs
-
-enum-told : tie.Need-enum-told Inv-loop μ-loop
-enum-told c = search needs
-
-mul-first : tie.Need-mul-first Inv-loop μ-loop
-mul-first c = omega arith
-
-slice-write-first : tie.Need-slice-write-first Inv-loop μ-loop
-slice-write-first c = omega arith
 
 mul-second : tie.Need-mul-second Inv-loop μ-loop
 mul-second c = omega (arith, c .before .before .before .before .before .loop .inv .along .first-long, c .before .before .before .before .before .loop .inv .along .second-long)
@@ -84,9 +69,6 @@ loop-again-2 c =
     let ls = lines (a .start-x .now) (a .start-y .now) (a .end-x .now) (a .end-y .now) in
     list-miss ls (a .row) (a .list .now) (a .j) (l .j) (a .first .now) (a .second .now) (a .hits) (l .first) (l .second) (l .hits) (l .inv) (c .before .before .test .given .0 .0) (sym (c .before .before .test .given .1) ∙ c .before .before .before .before .test-in .ensures) (omega (arith, l .inv .along .first-long, c .before .before .before .before .before .loop-test .taken)) (c .if1 .left)
 
-same-length : tie.Need-same-length Inv-loop μ-loop
-same-length c = c .before .loop .inv .along .first-long
-
 same-length-2 : tie.Need-same-length-2 Inv-loop μ-loop
 same-length-2 c = c .before .loop .inv .along .second-long ∙ sym (c .before .before .before .before .before .before .before .before .before .pre .outputs .same)
 
@@ -96,9 +78,6 @@ returns c =
     let l = c .before .loop in
     let ls = lines (a .start-x .now) (a .start-y .now) (a .end-x .now) (a .end-y .now) in
     list-full ls (a .row) (a .list .now) (a .j) (l .j) (a .first .now) (a .second .now) (a .hits) (l .first) (l .second) (l .hits) (l .inv) (omega (arith, l .inv .along .first-long, c .loop-test .left))
-
-same-length-3 : tie.Need-same-length-3 Inv-loop μ-loop
-same-length-3 c = c .before .before .before .before .loop .inv .along .first-long
 
 same-length-4 : tie.Need-same-length-4 Inv-loop μ-loop
 same-length-4 c = c .before .before .before .before .loop .inv .along .second-long ∙ sym (c .before .before .before .before .before .before .before .before .before .before .before .before .pre .outputs .same)
@@ -118,10 +97,10 @@ scan-list-spec =
     μ-loop
     loop-holds
     test-in-requires
-    enum-known-test
-    enum-told
-    mul-first
-    slice-write-first
+    (λ c. search needs)
+    (λ c. search needs)
+    (λ c. omega arith)
+    (λ c. omega arith)
     mul-second
     slice-write-second
     add-j
@@ -130,9 +109,9 @@ scan-list-spec =
     loop-again
     loop-less-2
     loop-again-2
-    same-length
+    (λ c. c .before .loop .inv .along .first-long)
     same-length-2
     returns
-    same-length-3
+    (λ c. c .before .before .before .before .loop .inv .along .first-long)
     same-length-4
     returns-2)

@@ -9,18 +9,12 @@ use Rattle.visit.proofs.RowTurns.{next-end, next-made, numbers-none, nu
 use borrow.Author.Needs.{needs}
 use Rattle.visit.proofs.scan.test_before.Statement.{statement}
 use Rattle.visit.proofs.scan.test_before.Tie as tie
-use Rattle.visit.proofs.scan.test_before.Reads as reads
-use Rattle.visit.proofs.scan.test_before.Lts as lts
-use Rattle.visit.proofs.scan.test_with.Reads as test-with-reads
 
 returns : tie.Need-returns
 returns c =
     let a = c .before .before .before .before .before .args in
     let ls = lines (a .start-x .now) (a .start-y .now) (a .end-x .now) (a .end-y .now) in
     next-end ls (a .row .place) (a .row .first) (numbers (a .stop - a .k) (a .k)) (numbers-none (a .stop) (a .k) (c .if1 .taken))
-
-test-with-requires : tie.Need-test-with-requires
-test-with-requires c κs = search needs
 
 returns-2 : tie.Need-returns-2
 returns-2 c =
@@ -29,4 +23,4 @@ returns-2 c =
     ap (λ (t : Test). step.Made t) (c .test-with .ensures) ∙ next-made ls (a .row .place) (a .row .first) (a .k) _ _ (numbers-some (a .stop) (a .k) (c .before .if1 .left))
 
 pub test-before-spec : {M : Type 1} → statement M
-test-before-spec = tie.close (tie.spec returns test-with-requires returns-2)
+test-before-spec = tie.close (tie.spec returns (λ c κs. search needs) returns-2)

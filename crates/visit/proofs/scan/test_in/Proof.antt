@@ -11,21 +11,12 @@ use Rattle.visit.proofs.RowTurns.{next-end, next-made}
 use borrow.Author.Needs.{needs}
 use Rattle.visit.proofs.scan.test_in.Statement.{statement}
 use Rattle.visit.proofs.scan.test_in.Tie as tie
-use Rattle.visit.proofs.scan.test_in.Reads as reads
-use Rattle.visit.proofs.scan.test_in.Lts as lts
-use Rattle.visit.proofs.scan.test_with.Reads as test-with-reads
 
 returns : tie.Need-returns
 returns c =
     let a = c .before .before .before .before .before .before .args in
     let ls = lines (a .start-x .now) (a .start-y .now) (a .end-x .now) (a .end-y .now) in
     next-end ls (a .row .place) (a .row .first) (drop (a .j) (a .list .now)) (drop-of-length-le (a .list .now) {i = a .j} (c .if1 .taken))
-
-mul-test-with : tie.Need-mul-test-with
-mul-test-with c = search needs
-
-shared-slice-read-test-with : tie.Need-shared-slice-read-test-with
-shared-slice-read-test-with c = search needs
 
 test-with-requires : tie.Need-test-with-requires
 test-with-requires c κs =
@@ -41,4 +32,4 @@ returns-2 c =
 pub test-in-spec : {M : Type 1} → statement M
 test-in-spec =
     tie.close
-    (tie.spec returns mul-test-with shared-slice-read-test-with test-with-requires returns-2)
+    (tie.spec returns (λ c. search needs) (λ c. search needs) test-with-requires returns-2)

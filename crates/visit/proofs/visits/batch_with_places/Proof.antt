@@ -5,9 +5,6 @@ use Rattle.tables.specs.Tables.{beside}
 use Rattle.visit.proofs.EntryLaws.{places-alike, places-unlike, placed-unlike, placed-made}
 use Rattle.visit.proofs.visits.batch_with_places.Statement.{statement}
 use Rattle.visit.proofs.visits.batch_with_places.Tie as tie
-use Rattle.visit.proofs.visits.batch_with_places.Reads as reads
-use Rattle.visit.proofs.visits.batch_with_places.Lts as lts
-use Rattle.visit.proofs.visits.make_batch.Reads as make-batch-reads
 
 returns : tie.Need-returns
 returns c =

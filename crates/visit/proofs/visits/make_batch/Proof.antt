@@ -6,7 +6,6 @@ use Rattle.tables.specs.Tables.{beside}
 use Rattle.seek.specs.Cursors.{CursorIs}
 use Rattle.seek.proofs.Passed.{rows-cols}
 use Rattle.seek.proofs.FindLaws.{found-at, found-none}
-use Rattle.seek.proofs.bookmarks.find.Reads as find-reads
 use Rattle.visit.specs.Entries.{outputsCheck}
 use Rattle.visit.specs.Inside.{RunAsks}
 use Rattle.visit.proofs.RunWhole.{cells-asks, globals-asks, run-small, run-is}
@@ -14,9 +13,6 @@ use Rattle.visit.proofs.EntryLaws.{outputs-alike, outputs-unlike, batch
 use borrow.Author.Needs.{needs}
 use Rattle.visit.proofs.visits.make_batch.Statement.{statement}
 use Rattle.visit.proofs.visits.make_batch.Tie as tie
-use Rattle.visit.proofs.visits.make_batch.Reads as reads
-use Rattle.visit.proofs.visits.make_batch.Lts as lts
-use Rattle.slices.proofs.clear_from.Reads as clear-from-reads
 
 -- the outputs have one length
 same : (c : tie.Else1) → let a = c .before .before .before .before .before .before .before .before .before .before .before .args in outputsCheck (a .first .now) (a .second .now) ≡ Fine

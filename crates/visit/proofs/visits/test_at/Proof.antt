@@ -8,11 +8,6 @@ use Rattle.visit.proofs.EntryLaws.{test-refused, test-end, first-asks, 
 use borrow.Author.Needs.{needs}
 use Rattle.visit.proofs.visits.test_at.Statement.{statement}
 use Rattle.visit.proofs.visits.test_at.Tie as tie
-use Rattle.visit.proofs.visits.test_at.Reads as reads
-use Rattle.visit.proofs.visits.test_at.Lts as lts
-use Rattle.seek.proofs.bookmarks.pair_at.Reads as pair-at-reads
-use Rattle.visit.proofs.scan.row_of.Reads as row-of-reads
-use Rattle.visit.proofs.scan.test_with.Reads as test-with-reads
 
 -- the test that stands there
 stands : (c : tie.After-pair2)
@@ -22,18 +17,6 @@ stands : (c : tie.After-pair2)
     let f = c .pair2 .given .0 in
     one.Made (f .0) (f .1 .0) (f .1 .1 .0) ≡ pairAt ls (a .grid) t (a .bookmark)
 stands c = sym (c .pair2 .given .1) ∙ c .before .before .pair-at .ensures
-
-pair-at-requires : tie.Need-pair-at-requires
-pair-at-requires c κs = tt
-
-enum-known-pair : tie.Need-enum-known-pair
-enum-known-pair c = search needs
-
-enum-told : tie.Need-enum-told
-enum-told c = search needs
-
-enum-known-pair-2 : tie.Need-enum-known-pair-2
-enum-known-pair-2 c = search needs
 
 row-of-requires : tie.Need-row-of-requires
 row-of-requires c κs =
@@ -77,10 +60,10 @@ pub test-at-spec : {M : Type 1} → statement M
 test-at-spec =
     tie.close
     (tie.spec
-    pair-at-requires
-    enum-known-pair
-    enum-told
-    enum-known-pair-2
+    (λ c κs. tt)
+    (λ c. search needs)
+    (λ c. search needs)
+    (λ c. search needs)
     row-of-requires
     test-with-requires
     returns

@@ -9,20 +9,8 @@ use Rattle.walk.proofs.beside.low_row.Tie as tie
 returns : tie.Need-returns
 returns c = rw (row-none _ _ (c .if1 .taken)) (none (omega arith))
 
-mul-s : tie.Need-mul-s
-mul-s c = search needs
-
-slice-write-s : tie.Need-slice-write-s
-slice-write-s c = search needs
-
-add-result : tie.Need-add-result
-add-result c = search needs
-
-same-length : tie.Need-same-length
-same-length c = search needs
-
 returns-2 : tie.Need-returns-2
 returns-2 c = rw (row-one _ _ (c .if1 .left)) (one _ _ _ (omega arith))
 
 pub low-row-spec : {M : Type 1} → statement M
-low-row-spec = tie.close (tie.spec returns mul-s slice-write-s add-result same-length returns-2)
+low-row-spec = tie.close (tie.spec returns (λ c. search needs) (λ c. search needs) (λ c. search needs) (λ c. search needs) returns-2)

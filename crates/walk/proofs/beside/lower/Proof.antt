@@ -5,9 +5,6 @@ use Rattle.walk.proofs.Spread.{lower-none, lower-one}
 use Rattle.walk.proofs.beside.lower.Statement.{statement}
 use Rattle.walk.proofs.beside.lower.Tie as tie
 
-rem-if1 : tie.Need-rem-if1
-rem-if1 c = search needs
-
 returns : tie.Need-returns
 returns c = lower-none _ _ (c .if1 .taken)
 
@@ -18,4 +15,4 @@ returns-2 : tie.Need-returns-2
 returns-2 c = lower-one _ _ (c .if1 .left)
 
 pub lower-spec : {M : Type 1} → statement M
-lower-spec = tie.close (tie.spec rem-if1 returns sub-result returns-2)
+lower-spec = tie.close (tie.spec (λ c. search needs) returns sub-result returns-2)

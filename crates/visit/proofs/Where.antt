@@ -13,13 +13,13 @@ use Rattle.tables.specs.Tables.{Tables, cells, listIn, listOf}
 use Rattle.seek.specs.declared.Place.{Place}
 use Rattle.seek.specs.declared.Place.the-variants.{Global}
 use Rattle.seek.specs.Tests.{Pair, pair, withEach, pairs, placeOf, cellTests, others, globalTests, testsOf}
 use Rattle.visit.specs.Places.{numberIn, numberOf}
 use Rattle.visit.specs.Overlap.{overlap}
 use Rattle.visit.specs.Batches.{made, overlapping, handed}
 use Rattle.seek.proofs.Clauses.{with-nil, with-cons, pairs-nil, pairs-cons, cells-zero, cells-suc, globals-zero, globals-suc}
 use Rattle.visit.proofs.Clauses.{made-none, made-full, made-hit, made-miss, over-nil, over-hit, over-miss}
 use Rattle.visit.proofs.Placing.{number-of-cell}
-use Rattle.visit_laws.specs.Words.{PlaceTells, AllListed}
+use Rattle.visit.specs.Words.{PlaceTells, AllListed}
 
 module _ (t : Tables) where
   append : (ps qs : List Pair) → AllListed t ps → AllListed t qs → AllListed t (ps ++ qs)

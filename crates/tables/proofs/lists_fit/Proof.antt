@@ -1,16 +1,16 @@
--- `tables::fit_at_once` meets its contract. Assumes nothing.
+-- `tables::lists_fit` meets its contract. Assumes nothing.
 use mathlib.Core.Path.{_≡_, sym, _∙_}
 use lib.Seq.{length-take-le}
 use Rattle.tables.proofs.Turns.{first-bad}
-use Rattle.tables.proofs.AtOnce.{falls-bad, beyond-bad, laid-out, laid-fits}
+use Rattle.tables.proofs.Offsets.{falls-bad, beyond-bad, laid-out, laid-fits}
 use borrow.Author.Needs.{needs}
-use Rattle.tables.proofs.fit_at_once.Statement.{statement}
-use Rattle.tables.proofs.fit_at_once.Tie as tie
-use Rattle.tables.proofs.fit_at_once.Reads as reads
-use Rattle.tables.proofs.fit_at_once.Lts as lts
+use Rattle.tables.proofs.lists_fit.Statement.{statement}
+use Rattle.tables.proofs.lists_fit.Tie as tie
+use Rattle.tables.proofs.lists_fit.Reads as reads
+use Rattle.tables.proofs.lists_fit.Lts as lts
 use Rattle.tables.proofs.rising.lists_rise.Reads as lists-rise-reads
 use Rattle.tables.proofs.rising.never_fall.Reads as never-fall-reads
-use Rattle.tables.proofs.wide.Reads as wide-reads
+use Rattle.slices.proofs.wide.Reads as wide-reads
 
 shared-slice-read-if1 : tie.Need-shared-slice-read-if1
 shared-slice-read-if1 c = search needs
@@ -55,8 +55,8 @@ returns-4 c =
     let s = c .before .before .before .before .before .before in
     falls-bad (s .args .cells) (s .args .lines) (s .args .offsets .now) (s .args .items .now) (c .before .before .if1 .left) (sym (c .before .never-fall .ensures) ∙ c .if2 .left)
 
-pub fit-at-once-spec : {M : Type 1} → statement M
-fit-at-once-spec =
+pub lists-fit-spec : {M : Type 1} → statement M
+lists-fit-spec =
     tie.close
     (tie.spec
     shared-slice-read-if1

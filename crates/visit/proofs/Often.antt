@@ -1,7 +1,7 @@
 -- How often a full visit tests two different lines: once for each cell whose list holds both, and once more where one of them is global.
 -- It hands them out each time if their boxes overlap. Assumes nothing.
 use mathlib.Core.Path.{_≡_, refl, sym, ap, subst, _∙_}
-use mathlib.Core.Bool.{Bool, true, false, not, _&&_, _||_, and-true, or-comm, true≢false}
+use mathlib.Core.Bool.{Bool, true, false, not, _&&_, _||_, and-true, or-comm, true≢false, and-false, or-false, or-true}
 use mathlib.Core.List.{List, [], _∷_, _++_}
 use Prim.Native.Nat.{ℕ, zero, suc, _+_, _-_, _≤_, _<_}
 use native.Mathlib.Nat.{add-zero, zero-add, add-assoc}
@@ -14,7 +14,7 @@ use lib.Ieee.{le}
 use borrow.Author.Tests.{eq-eqb, ne-eqb, eqb-true, eqb-false}
 use Rattle.slices.specs.Lists.{elem, Rising, Below}
 use Rattle.slices.proofs.Members.{any-append}
-use Rattle.slices.proofs.Distinct.{rising-low}
+use Rattle.slices.proofs.Distinct.{rising-low, head-alone}
 use Rattle.grid.specs.Domain.{Lines, segmentAt}
 use Rattle.grid.proofs.Bools.{and-left, and-right}
 use Rattle.tables.specs.Tables.{Tables, cells, listIn, listOf, globalsOf}
@@ -24,15 +24,15 @@ use Rattle.seek.specs.declared.Place.the-variants.{Global}
 use Rattle.seek.specs.Tests.{Pair, pair, withEach, pairs, placeOf, cellTests, others, globalTests, testsOf}
 use Rattle.grid.specs.declared.Box.{Box}
 use Rattle.grid.specs.Boxes.{boxOf, overlaps}
 use Rattle.visit.specs.Overlap.{overlap}
 use Rattle.visit.specs.Batches.{overlapping}
-use Rattle.seek.specs.Inside.{GlobalsFit}
+use Rattle.tables.specs.InsideFit.{GlobalsFit}
 use Rattle.seek.proofs.Clauses.{with-nil, with-cons, pairs-nil, pairs-cons, cells-zero, cells-suc, globals-zero, globals-suc, others-zero, others-in, others-out}
 use Rattle.visit.proofs.Clauses.{over-nil, over-hit, over-miss}
 use Rattle.seek.proofs.OtherLines.{elem-none}
-use Rattle.seek.proofs.Standing.{globals-fit}
-use Rattle.visit_laws.specs.Words.{sumBelow, oneWhere, countBelow, testOfBoth, times, Apart}
-use Rattle.visit_laws.proofs.Number.{sum-zero, sum-suc, sum-front, sum-same}
+use Rattle.tables.proofs.Parts.{fit-globals}
+use Rattle.visit.specs.Words.{sumBelow, oneWhere, countBelow, testOfBoth, times, Apart}
+use Rattle.visit.proofs.Number.{sum-zero, sum-suc, sum-front, sum-same}
 
 -- ---- the definitions' clauses
 
@@ -55,18 +55,6 @@ times-cons a b p ps = refl
 pub times-append : (a b : ℕ) (ps qs : List Pair) → times a b (ps ++ qs) ≡ times a b ps + times a b qs
 times-append a b [] qs = rw (times-nil, zero-add)
 times-append a b (p ∷ ps) qs = times-cons a b p (ps ++ qs) ∙ omega (arith, times-append a b ps qs, times-cons a b p ps)
-
-or-false : (p : Bool) → (p || false) ≡ p
-or-false true = refl
-or-false false = refl
-
-or-true : (p : Bool) → (p || true) ≡ true
-or-true true = refl
-or-true false = refl
-
-and-false : (p : Bool) → (p && false) ≡ false
-and-false true = refl
-and-false false = refl
 
 -- either of the two may be named first
 both-swap : (a b : ℕ) (p : Pair) → testOfBoth a b p ≡ testOfBoth b a p
@@ -188,20 +176,13 @@ others-rising xs (suc left) k = go (elem k xs) refl (others-rising xs left (suc 
     go true e r = rw (others-in xs left k e) (rising-low k (suc k) (others xs left (suc k)) (omega arith) r)
     go false e r = rw (others-out xs left k e) (omega arith, r)
 
--- a line below a list that rises is not in it
-pub elem-over : (v : ℕ) (ys : List ℕ) → Rising (suc v) ys → elem v ys ≡ false
-elem-over v [] r = refl
-elem-over v (y ∷ ys) r =
-    let e : eqb v y ≡ false = ne-eqb v y (λ e. omega (arith, r .0)) in
-    rw e (elem-over v ys (rising-low (suc v) (suc y) ys (omega (arith, r .0)) (r .1)))
-
 -- a line is among them exactly if it is not in the list
 pub elem-others : (xs : List ℕ) (v left k : ℕ) → k ≤ v → v < k + left → elem v (others xs left k) ≡ not (elem v xs)
 elem-others xs v zero k h l = absurd (omega arith)
 elem-others xs v (suc left) k h l = go (ℕ-discrete v k) (elem k xs) refl (λ n. elem-others xs v left (suc k) n (omega arith))
   where
     go : Dec (v ≡ k) → (b : Bool) → elem k xs ≡ b → (suc k ≤ v → elem v (others xs left (suc k)) ≡ not (elem v xs)) → elem v (others xs (suc left) k) ≡ not (elem v xs)
-    go (yes e) true i later = rw (others-in xs left k i, e, i) (elem-over k (others xs left (suc k)) (others-rising xs left (suc k)))
+    go (yes e) true i later = rw (others-in xs left k i, e, i) (head-alone k (others xs left (suc k)) (others-rising xs left (suc k)))
     go (yes e) false i later =
         let j : eqb v k ≡ true = eq-eqb v k e in
         let n : elem v xs ≡ false = rw e i in
@@ -354,7 +335,7 @@ module _ (t : Tables) (f : TablesFit t) (a b : ℕ) (d : a ≡ b → ⊥) (la : 
       let c : times a b (cellTests (t .cols) (t .offsets) (t .items) (cells t) 0) ≡ shared =
       cells-shared a b d (t .cols) (t .offsets) (t .items) (cells t) (λ x q. f .lists .lists x q .rises) in
       times-append a b (cellTests (t .cols) (t .offsets) (t .items) (cells t) 0) (globalTests (t .lines) (t .globals) (t .«global_count») 0)
-      ∙ rw (c, globals-all (t .lines) (t .«global_count») (t .globals) (globals-fit t f) a b d la lb)
+      ∙ rw (c, globals-all (t .lines) (t .«global_count») (t .globals) (fit-globals t f) a b d la lb)
 
   -- neither is global: once per shared cell
   pub tests-no-global : elem a (globalsOf t) ≡ false → elem b (globalsOf t) ≡ false → times a b (testsOf t) ≡ shared
@@ -393,13 +374,13 @@ overlap-swap ls a b =
     swap false true r s = refl
     swap false false r s = refl
 
--- HANDED OUT EACH TIME that they are tested if their boxes overlap, and else never
-module _ (ls : Lines) (a b : ℕ) where
-  test-overlap : (p : Pair) → testOfBoth a b p ≡ true → overlap ls (p .first) (p .second) ≡ overlap ls a b
+-- what asks not which of two lines is the first is at a test of both what it is of the two
+module _ {A : Type 0} (f : ℕ → ℕ → A) (swap : (a b : ℕ) → f a b ≡ f b a) (a b : ℕ) where
+  pub of-both : (p : Pair) → testOfBoth a b p ≡ true → f (p .first) (p .second) ≡ f a b
   unfolding testOfBoth
-  test-overlap p h = go (eqb (p .first) a && eqb (p .second) b) refl h
+  of-both p h = go (eqb (p .first) a && eqb (p .second) b) refl h
     where
-      go : (x : Bool) → (eqb (p .first) a && eqb (p .second) b) ≡ x → (x || (eqb (p .first) b && eqb (p .second) a)) ≡ true → overlap ls (p .first) (p .second) ≡ overlap ls a b
+      go : (x : Bool) → (eqb (p .first) a && eqb (p .second) b) ≡ x → (x || (eqb (p .first) b && eqb (p .second) a)) ≡ true → f (p .first) (p .second) ≡ f a b
       go true e k =
           rw (
             eqb-true (p .first) a (and-left (eqb (p .first) a) (eqb (p .second) b) e),
@@ -410,7 +391,12 @@ module _ (ls : Lines) (a b : ℕ) where
             eqb-true (p .first) b (and-left (eqb (p .first) b) (eqb (p .second) a) k),
             eqb-true (p .second) a (and-right (eqb (p .first) b) (eqb (p .second) a) k),
           )
-          (overlap-swap ls b a)
+          (swap b a)
+
+-- HANDED OUT EACH TIME that they are tested if their boxes overlap, and else never
+module _ (ls : Lines) (a b : ℕ) where
+  test-overlap : (p : Pair) → testOfBoth a b p ≡ true → overlap ls (p .first) (p .second) ≡ overlap ls a b
+  test-overlap = of-both (overlap ls) (overlap-swap ls) a b
 
   pub handed-often : (ps : List Pair) → overlap ls a b ≡ true → times a b (overlapping ls ps) ≡ times a b ps
   handed-often [] o = rw over-nil

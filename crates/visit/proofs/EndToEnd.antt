@@ -10,13 +10,13 @@ use lib.ListN.{length, take, drop, getD, take-append-drop, length-take, length-a
 use lib.Seq.{drop-drop, drop-cons, getD-take}
 use Rattle.grid.specs.Domain.{Lines}
 use Rattle.tables.specs.Tables.{Tables}
 use Rattle.visit.specs.declared.TestAnswer.the-variants as answer
 use Rattle.seek.specs.Tests.{Pair, testsOf}
 use Rattle.visit.specs.Overlap.{overlap}
 use Rattle.visit.specs.Batches.{made, overlapping, handed}
 use Rattle.visit.specs.Entries.{testOf, nextTest, tallyOf}
 use Rattle.visit.proofs.Clauses.{made-none, made-full, made-hit, made-miss, over-nil, over-hit, over-miss}
-use Rattle.visit_laws.specs.Words.{laid, bookmarkAfter, testsSum, overlapsSum}
+use Rattle.visit.specs.Words.{laid, bookmarkAfter, testsSum, overlapsSum}
 
 -- ---- one batch
 

@@ -17,7 +17,7 @@ use Rattle.walk.specs.Segment.{pushesOf, answered, byTurns, unlessNone, turnsOf
 use Rattle.snap.specs.Snap.{snapSize, snapSizeCheck, snapCheck, gridSnap, snapOf, snapAnswer}
 use Rattle.snap.specs.Strategies.{signOne, geosSnap, geosOf, sameBits, agreementAnswer}
 use Rattle.own.specs.Own.{ownsOn, ownsPoint, pointOnGridCheck, pointAnswer}
-use Rattle.measured.specs.Table.{table, Claim}
+use Rattle.demands.specs.Table.{table, Claim}
 
 -- P1 TO P10
 pub claim : Claim table

@@ -13,8 +13,8 @@ use Rattle.seek.specs.Tests.{pairs, placeOf, cellTests, globalTests, testsOf}
 use Rattle.seek.specs.Inside.{tri}
 use Rattle.seek.proofs.Clauses.{cells-zero, cells-suc}
 use Rattle.seek.proofs.Lengths.{tri-zero, tri-suc, tri-twice, length-pairs, length-globals, length-increasing}
-use Rattle.seek.proofs.Standing.{globals-fit}
-use Rattle.visit_laws.specs.Words.{halfDown, sumBelow}
+use Rattle.tables.proofs.Parts.{fit-globals}
+use Rattle.visit.specs.Words.{halfDown, sumBelow}
 
 -- k (k - 1) / 2 is what the numbers below k add up to
 pub half-is : (k : ℕ) → halfDown k ≡ tri k
@@ -69,7 +69,7 @@ unfolding testsOf
 tests-number t f =
     let m : ℕ = t .«global_count» in
     let i : m ≤ t .lines = omega (arith, length-increasing (t .lines) (globalsOf t) (f .globals), length-take-le m (t .globals) (f .counted)) in
-    let g = length-globals (t .lines) m (t .globals) (globals-fit t f) m 0 (omega arith) in
+    let g = length-globals (t .lines) m (t .globals) (fit-globals t f) m 0 (omega arith) in
     let x : length (globalTests (t .lines) (t .globals) m 0) ≡ m * (t .lines - 1) - halfDown m =
     globals-number m (t .lines) (length (globalTests (t .lines) (t .globals) m 0)) i (omega (arith, rw (zero-add m, tri-zero) at g)) in
     let c : length (cellTests (t .cols) (t .offsets) (t .items) (cells t) 0) ≡ sumBelow (cells t) (λ c. halfDown (length (listOf t c))) =

@@ -5,7 +5,8 @@ use mathlib.Core.Path.{_≡_}
 use mathlib.Core.Bool.{true, false}
 use mathlib.Core.List.{List, [], _∷_}
 use Prim.Native.Nat.{ℕ, _+_, _-_, _^_}
-use lib.Ieee.{Float, binary64, round}
+use lib.Ieee.{Float}
+use Rattle.numbers.specs.Arithmetic.{decimal, minusDecimal}
 use Rattle.refusals.specs.Refusals.{gives}
 use Rattle.grid.specs.declared.Grid.{Grid}
 use Rattle.grid.specs.Domain.{segmentBy}
@@ -21,16 +22,9 @@ use Rattle.snap.specs.declared.Agreement.the-variants.{Same, Differ}
 use Rattle.snap.specs.Snap.{snapAnswer}
 use Rattle.snap.specs.Strategies.{agreementAnswer}
 
--- the float a / b, and -a / b
-abbrev pub part : ℕ → ℕ → Float
-part a b = round binary64 false a b
-
-abbrev pub minus : ℕ → ℕ → Float
-minus a b = round binary64 true a b
-
 -- "Grid at 0, 0, cell_size 1, 4 by 4": cells as high as wide
 abbrev pub four : Grid
-four = record { «min_x» = part 0 1; «min_y» = part 0 1; «cell_width» = part 1 1; «cell_height» = part 1 1; cols = 4; rows = 4 }
+four = record { «min_x» = decimal 0 1; «min_y» = decimal 0 1; «cell_width» = decimal 1 1; «cell_height» = decimal 1 1; cols = 4; rows = 4 }
 
 -- ---- a row
 
@@ -80,18 +74,18 @@ row label questions = record { label = label; questions = questions }
 
 abbrev pub table : List Row
 table =
-    row P1 (segmentAsked (part 1 2) (part 1 2) (part 5 2) (part 1 2) (0 ∷ 1 ∷ 2 ∷ []) ∷ [])
-    ∷ row P2 (segmentAsked (part 1 1) (part 1 2) (part 1 1) (part 5 2) (0 ∷ 1 ∷ 4 ∷ 5 ∷ 8 ∷ 9 ∷ []) ∷ [])
-    ∷ row P3 (pointAsked (part 1 1) (part 1 1) (0 ∷ 1 ∷ 4 ∷ 5 ∷ []) ∷ [])
-    ∷ row P4 (pointAsked (part (2 ^ 41 + 1) (2 ^ 41)) (part 1 2) (0 ∷ 1 ∷ []) ∷ [])
-    ∷ row P5 (pointAsked (part (2 ^ 39 + 1) (2 ^ 39)) (part 1 2) (1 ∷ []) ∷ [])
+    row P1 (segmentAsked (decimal 1 2) (decimal 1 2) (decimal 5 2) (decimal 1 2) (0 ∷ 1 ∷ 2 ∷ []) ∷ [])
+    ∷ row P2 (segmentAsked (decimal 1 1) (decimal 1 2) (decimal 1 1) (decimal 5 2) (0 ∷ 1 ∷ 4 ∷ 5 ∷ 8 ∷ 9 ∷ []) ∷ [])
+    ∷ row P3 (pointAsked (decimal 1 1) (decimal 1 1) (0 ∷ 1 ∷ 4 ∷ 5 ∷ []) ∷ [])
+    ∷ row P4 (pointAsked (decimal (2 ^ 41 + 1) (2 ^ 41)) (decimal 1 2) (0 ∷ 1 ∷ []) ∷ [])
+    ∷ row P5 (pointAsked (decimal (2 ^ 39 + 1) (2 ^ 39)) (decimal 1 2) (1 ∷ []) ∷ [])
     ∷ row P6
-    (pointAsked (part (2 ^ 41 - 1) (2 ^ 41)) (part 1 2) (0 ∷ []) ∷ pointSided (part (2 ^ 41 - 1) (2 ^ 41)) (part 1 2) (0 ∷ 1 ∷ []) ∷ [])
-    ∷ row P7 (owner 0 1 (part 1 1) (part 1 2) Yes ∷ owner 0 0 (part 1 1) (part 1 2) No ∷ [])
-    ∷ row P8 (owner 3 3 (part 4 1) (part 4 1) Yes ∷ [])
+    (pointAsked (decimal (2 ^ 41 - 1) (2 ^ 41)) (decimal 1 2) (0 ∷ []) ∷ pointSided (decimal (2 ^ 41 - 1) (2 ^ 41)) (decimal 1 2) (0 ∷ 1 ∷ []) ∷ [])
+    ∷ row P7 (owner 0 1 (decimal 1 1) (decimal 1 2) Yes ∷ owner 0 0 (decimal 1 1) (decimal 1 2) No ∷ [])
+    ∷ row P8 (owner 3 3 (decimal 4 1) (decimal 4 1) Yes ∷ [])
     ∷ row P9
-    (snap (part 49999999999999994 (10 ^ 17)) (part 0 1) ∷ strategies (part 49999999999999994 (10 ^ 17)) Differ ∷ [])
-    ∷ row P10 (snap (minus 5 2) (minus 3 1) ∷ strategies (minus 5 2) Same ∷ [])
+    (snap (decimal 49999999999999994 (10 ^ 17)) (decimal 0 1) ∷ strategies (decimal 49999999999999994 (10 ^ 17)) Differ ∷ [])
+    ∷ row P10 (snap (minusDecimal 5 2) (minusDecimal 3 1) ∷ strategies (minusDecimal 5 2) Same ∷ [])
     ∷ []
 
 -- ---- the claim
@@ -101,8 +95,8 @@ table =
 abbrev pub Answered : Question → Type 0
 Answered (segmentIn mode x₀ y₀ x₁ y₁ cells) = entryOf mode 16384 four (segmentBy x₀ y₀ x₁ y₁) ≡ gives cells
 Answered (owner row col x y owns) = pointAnswer four row col x y ≡ owns
-Answered (snap v to) = snapAnswer v v (part 1 1) 0 ≡ Point to to
-Answered (strategies v agreement) = agreementAnswer v (part 1 1) ≡ agreement
+Answered (snap v to) = snapAnswer v v (decimal 1 1) 0 ≡ Point to to
+Answered (strategies v agreement) = agreementAnswer v (decimal 1 1) ≡ agreement
 
 abbrev pub AllAnswered : List Question → Type 0
 AllAnswered [] = Unit {0}

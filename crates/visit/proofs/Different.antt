@@ -10,17 +10,18 @@ use lib.ListN.{take, getD}
 use lib.Seq.{take-suc}
 use Rattle.slices.specs.Lists.{elem, Rising, Below}
 use Rattle.slices.proofs.Members.{any-append}
+use Rattle.slices.proofs.Distinct.{head-alone}
 use Rattle.tables.specs.Tables.{Tables, cells, listIn}
 use Rattle.tables.specs.Fit.{TablesFit, Increasing}
 use Rattle.seek.specs.declared.Place.{Place}
 use Rattle.seek.specs.declared.Place.the-variants.{Global}
 use Rattle.seek.specs.Tests.{Pair, withEach, pairs, placeOf, cellTests, others, globalTests, testsOf}
-use Rattle.seek.specs.Inside.{GlobalsFit}
+use Rattle.tables.specs.InsideFit.{GlobalsFit}
 use Rattle.seek.proofs.Clauses.{with-nil, with-cons, pairs-nil, pairs-cons, cells-zero, cells-suc, globals-zero, globals-suc}
 use Rattle.seek.proofs.PairLines.{others-below}
-use Rattle.seek.proofs.Standing.{globals-fit}
-use Rattle.visit_laws.specs.Words.{Different}
-use Rattle.visit_laws.proofs.Often.{elem-over, elem-others}
+use Rattle.tables.proofs.Parts.{fit-globals}
+use Rattle.visit.specs.Words.{Different}
+use Rattle.visit.proofs.Often.{elem-others}
 
 or-neither : (x y : Bool) → (x || y) ≡ false → (x ≡ false) × (y ≡ false)
 or-neither true y h = absurd (true≢false h)
@@ -42,7 +43,7 @@ module _ (n : ℕ) where
   cell : (pl : Place) (low : ℕ) (xs : List ℕ) → Rising low xs → Below n xs → Different n (pairs pl xs)
   cell pl low [] r b = rw pairs-nil tt
   cell pl low (x ∷ xs) r b =
-      rw pairs-cons (append (withEach pl x xs) (pairs pl xs) (row pl x (b .0) xs (b .1) (elem-over x xs (r .1))) (cell pl (suc x) xs (r .1) (b .1)))
+      rw pairs-cons (append (withEach pl x xs) (pairs pl xs) (row pl x (b .0) xs (b .1) (head-alone x xs (r .1))) (cell pl (suc x) xs (r .1) (b .1)))
 
   all-cells : (cols : ℕ) (offsets items : List ℕ) (left c : ℕ) → ((x : ℕ) → c ≤ x → x < c + left → Increasing n (listIn offsets items x)) → Different n (cellTests cols offsets items left c)
   all-cells cols offsets items zero c f = rw cells-zero tt
@@ -75,4 +76,4 @@ unfolding testsOf
 tests-different t f =
     append (t .lines) (cellTests (t .cols) (t .offsets) (t .items) (cells t) 0) (globalTests (t .lines) (t .globals) (t .«global_count») 0)
     (all-cells (t .lines) (t .cols) (t .offsets) (t .items) (cells t) 0 (λ x p q. f .lists .lists x (omega arith)))
-    (all-globals (t .lines) (t .«global_count») (t .globals) (globals-fit t f) (t .«global_count») 0 (omega arith))
+    (all-globals (t .lines) (t .«global_count») (t .globals) (fit-globals t f) (t .«global_count») 0 (omega arith))

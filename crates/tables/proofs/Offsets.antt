@@ -1,4 +1,4 @@
--- The check of all lists at once: the offsets, and then the two counts of `Breaks`. Assumes nothing.
+-- The check of the offsets, and then of the lists by the two counts of `Breaks`. Assumes nothing.
 use mathlib.Core.Path.{_≡_, refl, sym, ap, _∙_}
 use mathlib.Core.Bool.{Bool, true, false, _&&_}
 use mathlib.Core.List.{List}
@@ -14,7 +14,7 @@ use Rattle.tables.specs.Inside.{LaidOut}
 use Rattle.tables.proofs.Facts.{every-says}
 use Rattle.tables.proofs.Breaks.{laid-within}
 
-every-same : (m : ℕ) (f g : ℕ → Bool) → ((c : ℕ) → c < m → f c ≡ g c) → every m f ≡ every m g
+pub every-same : (m : ℕ) (f g : ℕ → Bool) → ((c : ℕ) → c < m → f c ≡ g c) → every m f ≡ every m g
 unfolding every
 every-same zero f g h = refl
 every-same (suc m) f g h = rw (every-same m f g (λ c l. h c (omega arith)), h m (omega arith))

@@ -1,2 +1,0 @@
--- The table of measured points.
-pub mod Table

@@ -1,2 +1,0 @@
--- The table of measured points, and what it claims.
-pub mod Table

@@ -1,2 +1,0 @@
--- The words of the laws of a full visit.
-pub mod Words

@@ -5,15 +5,6 @@ use Rattle.blocks.specs.Blocks.{blocks}
 use Rattle.blocks.proofs.Places.{along-small, product-small}
 use Rattle.blocks.proofs.block_count.Statement.{statement}
 use Rattle.blocks.proofs.block_count.Tie as tie
-use Rattle.blocks.proofs.block_count.Reads as reads
-use Rattle.blocks.proofs.block_count.Lts as lts
-use Rattle.blocks.proofs.blocks_along.Reads as blocks-along-reads
-
-blocks-along-requires : tie.Need-blocks-along-requires
-blocks-along-requires c κs = search needs
-
-blocks-along-requires-2 : tie.Need-blocks-along-requires-2
-blocks-along-requires-2 c κs = search needs
 
 mul-result : tie.Need-mul-result
 mul-result c = let g = c .before .before .args .grid in rw (c .before .blocks-along .ensures, c .blocks-along2 .ensures) (record { fits = product-small _ _ (along-small (g .rows) (omega arith)) (along-small (g .cols) (omega arith)) })
@@ -24,4 +15,4 @@ returns c = rw (c .before .blocks-along .ensures, c .blocks-along2 .ensures)
 
 pub block-count-spec : {M : Type 1} → statement M
 block-count-spec =
-    tie.close (tie.spec blocks-along-requires blocks-along-requires-2 mul-result returns)
+    tie.close (tie.spec (λ c κs. search needs) (λ c κs. search needs) mul-result returns)

@@ -4,22 +4,9 @@ use borrow.Author.Needs.{needs}
 use Rattle.blocks.proofs.Entry.{query-refused, query-asks, query-done}
 use Rattle.blocks.proofs.items_in.Statement.{statement}
 use Rattle.blocks.proofs.items_in.Tie as tie
-use Rattle.blocks.proofs.items_in.Reads as reads
-use Rattle.blocks.proofs.items_in.Lts as lts
-use Rattle.blocks.proofs.adding.add_rectangle.Reads as add-rectangle-reads
-use Rattle.blocks.proofs.check_query.Reads as check-query-reads
-
-check-query-requires : tie.Need-check-query-requires
-check-query-requires c κs = search needs
-
-enum-known-check : tie.Need-enum-known-check
-enum-known-check c = search needs
 
 returns : tie.Need-returns
 returns c = let a = c .before .before .before .before .before .args in query-refused (a .grid) (a .summary .now) (a .low) (a .high) _ (sym (c .before .before .before .check-query .ensures) ∙ c .before .check .given .1)
-
-enum-told : tie.Need-enum-told
-enum-told c = search needs
 
 add-rectangle-requires : tie.Need-add-rectangle-requires
 add-rectangle-requires c κs = let a = c .before .before .before .before .args in query-asks (a .grid) (a .summary .now) (a .low) (a .high) (sym (c .before .before .check-query .ensures) ∙ c .enum-told .given .1)
@@ -31,9 +18,9 @@ pub items-in-spec : {M : Type 1} → statement M
 items-in-spec =
     tie.close
     (tie.spec
-    check-query-requires
-    enum-known-check
+    (λ c κs. search needs)
+    (λ c. search needs)
     returns
-    enum-told
+    (λ c. search needs)
     add-rectangle-requires
     returns-2)

@@ -5,18 +5,6 @@ use Rattle.tables.specs.Tables.{tables}
 use Rattle.blocks.proofs.Entry.{make-refused, make-asks, make-done}
 use Rattle.blocks.proofs.make.Statement.{statement}
 use Rattle.blocks.proofs.make.Tie as tie
-use Rattle.blocks.proofs.make.Reads as reads
-use Rattle.blocks.proofs.make.Lts as lts
-use Rattle.blocks.proofs.block_count.Reads as block-count-reads
-use Rattle.blocks.proofs.check_make.Reads as check-make-reads
-use Rattle.blocks.proofs.making.add_rows.Reads as add-rows-reads
-use Rattle.slices.proofs.clear.Reads as clear-reads
-
-check-make-requires : tie.Need-check-make-requires
-check-make-requires c κs = search needs
-
-enum-known-check : tie.Need-enum-known-check
-enum-known-check c = search needs
 
 returns : tie.Need-returns
 returns c =
@@ -24,23 +12,11 @@ returns c =
     let t = tables (a .grid) (a .lines) (a .offsets .now) (a .items .now) (a .globals .now) (a .global-count) in
     make-refused (a .grid) t (a .summary .now) _ (sym (c .before .before .before .check-make .ensures) ∙ c .before .check .given .1)
 
-enum-told : tie.Need-enum-told
-enum-told c = search needs
-
-clear-requires : tie.Need-clear-requires
-clear-requires c κs = search needs
-
 add-rows-requires : tie.Need-add-rows-requires
 add-rows-requires c κs =
     let a = c .before .before .before .before .before .before .before .before .before .before .before .before .args in
     let t = tables (a .grid) (a .lines) (a .offsets .now) (a .items .now) (a .globals .now) (a .global-count) in
     make-asks (a .grid) t (a .summary .now) (sym (c .before .before .before .before .before .before .before .check-make .ensures) ∙ c .before .before .before .before .before .enum-told .given .1) refl refl _ (c .before .before .before .clear .ensures)
-
-block-count-requires : tie.Need-block-count-requires
-block-count-requires c κs = search needs
-
-same-length : tie.Need-same-length
-same-length c = search needs
 
 returns-2 : tie.Need-returns-2
 returns-2 c =
@@ -52,12 +28,12 @@ pub make-spec : {M : Type 1} → statement M
 make-spec =
     tie.close
     (tie.spec
-    check-make-requires
-    enum-known-check
+    (λ c κs. search needs)
+    (λ c. search needs)
     returns
-    enum-told
-    clear-requires
+    (λ c. search needs)
+    (λ c κs. search needs)
     add-rows-requires
-    block-count-requires
-    same-length
+    (λ c κs. search needs)
+    (λ c. search needs)
     returns-2)

@@ -4,22 +4,13 @@ use Rattle.by_line.proofs.Room.{room-starts, room-listing}
 use borrow.Author.Needs.{needs}
 use Rattle.by_line.proofs.check_room.Statement.{statement}
 use Rattle.by_line.proofs.check_room.Tie as tie
-use Rattle.by_line.proofs.check_room.Reads as reads
-use Rattle.by_line.proofs.check_room.Lts as lts
-use Rattle.refusals.proofs.refuse_unless.Reads as refuse-unless-reads
-
-refuse-unless-requires : tie.Need-refuse-unless-requires
-refuse-unless-requires c κs = search needs
 
 returns : tie.Need-returns
 returns c = c .refuse-unless .ensures ∙ room-starts _ _ _ _ (c .before .if1 .taken)
-
-refuse-unless-requires-2 : tie.Need-refuse-unless-requires-2
-refuse-unless-requires-2 c κs = search needs
 
 returns-2 : tie.Need-returns-2
 returns-2 c = c .refuse-unless2 .ensures ∙ room-listing _ _ _ _ (c .before .if1 .left)
 
 pub check-room-spec : {M : Type 1} → statement M
 check-room-spec =
-    tie.close (tie.spec refuse-unless-requires returns refuse-unless-requires-2 returns-2)
+    tie.close (tie.spec (λ c κs. search needs) returns (λ c κs. search needs) returns-2)

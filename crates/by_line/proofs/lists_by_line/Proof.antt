@@ -6,45 +6,16 @@ use Rattle.by_line.proofs.Room.{by-line-room, by-line-tables, by-line-c
 use borrow.Author.Needs.{needs}
 use Rattle.by_line.proofs.lists_by_line.Statement.{statement}
 use Rattle.by_line.proofs.lists_by_line.Tie as tie
-use Rattle.by_line.proofs.lists_by_line.Reads as reads
-use Rattle.by_line.proofs.lists_by_line.Lts as lts
-use Rattle.by_line.proofs.check_room.Reads as check-room-reads
-use Rattle.by_line.proofs.make.Reads as make-reads
-use Rattle.tables.proofs.check_tables.Reads as check-tables-reads
-
-check-room-requires : tie.Need-check-room-requires
-check-room-requires c κs = search needs
-
-enum-known-room : tie.Need-enum-known-room
-enum-known-room c = search needs
 
 returns : tie.Need-returns
 returns c =
     let a = c .before .before .before .before .before .before .before .before .before .args in
     by-line-room (a .grid) (a .lines) (a .offsets .now) (a .items .now) (a .globals .now) (a .global-count) (a .starts .now) (a .listing .now) _ (sym (c .before .before .before .check-room .ensures) ∙ c .before .room .given .1)
 
-enum-told : tie.Need-enum-told
-enum-told c = search needs
-
-check-tables-requires : tie.Need-check-tables-requires
-check-tables-requires c κs = search needs
-
-enum-known-fit : tie.Need-enum-known-fit
-enum-known-fit c = search needs
-
 returns-2 : tie.Need-returns-2
 returns-2 c =
     let a = c .before .before .before .before .before .before .before .before .before .before .before .before .args in
     by-line-tables (a .grid) (a .lines) (a .offsets .now) (a .items .now) (a .globals .now) (a .global-count) (a .starts .now) (a .listing .now) _ (sym (c .before .before .before .before .before .before .check-room .ensures) ∙ c .before .before .before .before .enum-told .given .1) (sym (c .before .before .before .check-tables .ensures) ∙ c .before .fit .given .1)
-
-enum-told-2 : tie.Need-enum-told-2
-enum-told-2 c = search needs
-
-cast-cells : tie.Need-cast-cells
-cast-cells c = search needs
-
-cast-cells-2 : tie.Need-cast-cells-2
-cast-cells-2 c = search needs
 
 mul-cells : tie.Need-mul-cells
 mul-cells c =
@@ -75,12 +46,6 @@ cast-t25 c =
     let k = c .before .before .before .before .before .before .before .shared-slice-known4 .given (a .grid .rows * a .grid .cols) in
     omega arith
 
-same-length : tie.Need-same-length
-same-length c = search needs
-
-same-length-2 : tie.Need-same-length-2
-same-length-2 c = search needs
-
 returns-3 : tie.Need-returns-3
 returns-3 c =
     let a = c .before .before .before .before .before .before .before .before .before .before .before .before .before .before .before .before .before .before .before .before .before .args in
@@ -90,21 +55,21 @@ pub lists-by-line-spec : {M : Type 1} → statement M
 lists-by-line-spec =
     tie.close
     (tie.spec
-    check-room-requires
-    enum-known-room
+    (λ c κs. search needs)
+    (λ c. search needs)
     returns
-    enum-told
-    check-tables-requires
-    enum-known-fit
+    (λ c. search needs)
+    (λ c κs. search needs)
+    (λ c. search needs)
     returns-2
-    enum-told-2
-    cast-cells
-    cast-cells-2
+    (λ c. search needs)
+    (λ c. search needs)
+    (λ c. search needs)
     mul-cells
     mul-total
     shared-slice-read-total
     make-requires
     cast-t25
-    same-length
-    same-length-2
+    (λ c. search needs)
+    (λ c. search needs)
     returns-3)

@@ -4,16 +4,6 @@ use Rattle.by_line.proofs.Turns.{make-counts, make-sums, make-place, ma
 use borrow.Author.Needs.{needs}
 use Rattle.by_line.proofs.make.Statement.{statement}
 use Rattle.by_line.proofs.make.Tie as tie
-use Rattle.by_line.proofs.make.Reads as reads
-use Rattle.by_line.proofs.make.Lts as lts
-use Rattle.by_line.proofs.passes.count_all.Reads as count-all-reads
-use Rattle.by_line.proofs.passes.place_all.Reads as place-all-reads
-use Rattle.by_line.proofs.sums.running_sums.Reads as running-sums-reads
-use Rattle.by_line.proofs.sums.shift_back.Reads as shift-back-reads
-use Rattle.slices.proofs.clear.Reads as clear-reads
-
-clear-requires : tie.Need-clear-requires
-clear-requires c κs = search needs
 
 count-all-requires : tie.Need-count-all-requires
 count-all-requires c κs = make-counts (c .before .before .before .before .before .before .before .before .before .pre) (c .before .before .before .clear .ensures) (c .before .before .before .clear .kept .0)
@@ -21,21 +11,9 @@ count-all-requires c κs = make-counts (c .before .before .before .before .befor
 running-sums-requires : tie.Need-running-sums-requires
 running-sums-requires c κs = make-sums (c .before .before .before .before .before .before .before .before .before .before .before .before .before .pre) (c .before .before .before .count-all .ensures) (c .before .before .before .count-all .kept .1 .1 .1 .1 .0 ∙ c .before .before .before .before .before .before .before .clear .kept .0)
 
-clear-requires-2 : tie.Need-clear-requires-2
-clear-requires-2 c κs = search needs
-
 place-all-requires : tie.Need-place-all-requires
 place-all-requires c κs =
     make-place (c .before .before .before .before .before .before .before .before .before .before .before .before .before .before .before .before .before .before .before .before .before .before .pre) (c .before .before .before .before .before .before .before .before .before .before .before .before .count-all .ensures) (c .before .before .before .before .before .before .before .before .before .before .before .before .count-all .kept .1 .1 .1 .1 .0 ∙ c .before .before .before .before .before .before .before .before .before .before .before .before .before .before .before .before .clear .kept .0) (c .before .before .before .before .before .before .before .before .running-sums .ensures) (c .before .before .before .before .before .before .before .before .running-sums .kept .0) (c .before .before .before .before .clear2 .ensures) (c .before .before .before .before .clear2 .kept .0)
-
-shift-back-requires : tie.Need-shift-back-requires
-shift-back-requires c κs = search needs
-
-same-length : tie.Need-same-length
-same-length c = search needs
-
-same-length-2 : tie.Need-same-length-2
-same-length-2 c = search needs
 
 returns : tie.Need-returns
 returns c =
@@ -48,12 +26,12 @@ pub make-spec : {M : Type 1} → statement M
 make-spec =
     tie.close
     (tie.spec
-    clear-requires
+    (λ c κs. search needs)
     count-all-requires
     running-sums-requires
-    clear-requires-2
+    (λ c κs. search needs)
     place-all-requires
-    shift-back-requires
-    same-length
-    same-length-2
+    (λ c κs. search needs)
+    (λ c. search needs)
+    (λ c. search needs)
     returns)

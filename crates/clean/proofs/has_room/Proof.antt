@@ -3,8 +3,5 @@ use mathlib.Core.Path.{refl}
 use Rattle.clean.proofs.has_room.Statement.{statement}
 use Rattle.clean.proofs.has_room.Tie as tie
 
-returns : tie.Need-returns
-returns c = refl
-
 pub has-room-spec : {M : Type 1} → statement M
-has-room-spec = tie.close (tie.spec returns)
+has-room-spec = tie.close (tie.spec (λ c. refl))

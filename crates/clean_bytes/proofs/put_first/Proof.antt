@@ -5,17 +5,12 @@ use lib.Seq.{length-take-le}
 use borrow.Author.Needs.{needs}
 use Rattle.clean_bytes.proofs.put_first.Statement.{statement}
 use Rattle.clean_bytes.proofs.put_first.Tie as tie
-use Rattle.clean_bytes.proofs.put_first.Reads as reads
-use Rattle.clean_bytes.proofs.put_first.Lts as lts
-use Rattle.clean_bytes.proofs.put_multi.Reads as put-multi-reads
 
--- src/lib.rt:136:15
 slice-aggregate-put-multi : tie.Need-slice-aggregate-put-multi
 slice-aggregate-put-multi c =
     let s = c .before .before .before .before in
     sym (length-take-le _ (s .args .s .now) (s .pre .0))
 
--- src/lib.rt:136:5
 put-multi-requires : tie.Need-put-multi-requires
 put-multi-requires c κs =
     let s = c .before .before .before .before .before .before in
@@ -23,19 +18,7 @@ put-multi-requires c κs =
     let m = s .pre .1 in
     (omega arith, s .pre .2)
 
--- src/lib.rt:132:1
-same-length : tie.Need-same-length
-same-length c = search needs
-
--- src/lib.rt:132:1
-same-length-2 : tie.Need-same-length-2
-same-length-2 c = search needs
-
--- src/lib.rt:132:1
-returns : tie.Need-returns
-returns c = search needs
-
 pub put-first-spec : {M : Type 1} → statement M
 put-first-spec =
     tie.close
-    (tie.spec slice-aggregate-put-multi put-multi-requires same-length same-length-2 returns)
+    (tie.spec slice-aggregate-put-multi put-multi-requires (λ c. search needs) (λ c. search needs) (λ c. search needs))

@@ -6,31 +6,11 @@ use Rattle.cost.proofs.Costs.{cost-refused, cells-ask, globals-ask, cos
 use borrow.Author.Needs.{needs}
 use Rattle.cost.proofs.cost_of.Statement.{statement}
 use Rattle.cost.proofs.cost_of.Tie as tie
-use Rattle.cost.proofs.cost_of.Reads as reads
-use Rattle.cost.proofs.cost_of.Lts as lts
-use Rattle.cost.proofs.of_cells.Reads as of-cells-reads
-use Rattle.cost.proofs.of_globals.Reads as of-globals-reads
-use Rattle.tables.proofs.check_tables.Reads as check-tables-reads
-
-check-tables-requires : tie.Need-check-tables-requires
-check-tables-requires c κs = search needs
-
-enum-known-fit : tie.Need-enum-known-fit
-enum-known-fit c = search needs
 
 returns : tie.Need-returns
 returns c =
     let a = c .before .before .before .before .before .before .before .args in
     cost-refused (a .grid) (tables (a .grid) (a .lines) (a .offsets .now) (a .items .now) (a .globals .now) (a .global-count)) _ (sym (c .before .before .before .check-tables .ensures) ∙ c .before .fit .given .1)
-
-enum-told : tie.Need-enum-told
-enum-told c = search needs
-
-cast-cells : tie.Need-cast-cells
-cast-cells c = search needs
-
-cast-cells-2 : tie.Need-cast-cells-2
-cast-cells-2 c = search needs
 
 mul-cells : tie.Need-mul-cells
 mul-cells c = let a = c .before .before .before .before .before .before .before .before .args in let h = cells-ask (a .grid) (a .lines) (a .offsets .now) (a .items .now) (a .globals .now) (a .global-count) (sym (c .before .before .before .before .check-tables .ensures) ∙ c .before .before .enum-told .given .1) in record { fits = omega (arith, h .few) }
@@ -59,12 +39,12 @@ pub cost-of-spec : {M : Type 1} → statement M
 cost-of-spec =
     tie.close
     (tie.spec
-    check-tables-requires
-    enum-known-fit
+    (λ c κs. search needs)
+    (λ c. search needs)
     returns
-    enum-told
-    cast-cells
-    cast-cells-2
+    (λ c. search needs)
+    (λ c. search needs)
+    (λ c. search needs)
     mul-cells
     of-cells-requires
     cast-of-globals

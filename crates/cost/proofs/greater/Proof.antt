@@ -2,8 +2,6 @@
 use borrow.Author.Tests.{le-leb, lt-leb}
 use Rattle.cost.proofs.greater.Statement.{statement}
 use Rattle.cost.proofs.greater.Tie as tie
-use Rattle.cost.proofs.greater.Reads as reads
-use Rattle.cost.proofs.greater.Lts as lts
 
 returns : tie.Need-returns
 returns c = rw (le-leb _ _ (c .if1 .taken))

@@ -6,11 +6,6 @@ use Rattle.cost.proofs.Costs.{Adding, adding-none, adding-up, adding-in
 use borrow.Author.Needs.{needs}
 use Rattle.cost.proofs.of_cells.Statement.{statement}
 use Rattle.cost.proofs.of_cells.Tie as tie
-use Rattle.cost.proofs.of_cells.Reads as reads
-use Rattle.cost.proofs.of_cells.Lts as lts
-use Rattle.cost.proofs.greater.Reads as greater-reads
-use Rattle.cost.proofs.triangle.Reads as triangle-reads
-use Rattle.cost.proofs.wide.Reads as wide-reads
 
 abbrev Inv-loop : tie.InvT-loop
 Inv-loop cells offsets tests₀ longest₀ cell₀ tests longest cell = Adding cells offsets cell tests longest
@@ -21,41 +16,11 @@ abbrev μ-loop : tie.MeasureT-loop
 loop-holds : tie.Need-loop-holds Inv-loop μ-loop
 loop-holds c = adding-none (c .before .pre)
 
-add-k : tie.Need-add-k Inv-loop μ-loop
-add-k c = omega arith
-
-mul-k : tie.Need-mul-k Inv-loop μ-loop
-mul-k c = omega arith
-
-shared-slice-read-k : tie.Need-shared-slice-read-k Inv-loop μ-loop
-shared-slice-read-k c = omega arith
-
-mul-k-2 : tie.Need-mul-k-2 Inv-loop μ-loop
-mul-k-2 c = omega arith
-
-shared-slice-read-k-2 : tie.Need-shared-slice-read-k-2 Inv-loop μ-loop
-shared-slice-read-k-2 c = omega arith
-
 sub-k : tie.Need-sub-k Inv-loop μ-loop
 sub-k c = adding-up (c .before .before .before .loop .inv) (c .before .before .loop-test .taken)
 
-triangle-requires : tie.Need-triangle-requires Inv-loop μ-loop
-triangle-requires c κs = search needs
-
 add-tests : tie.Need-add-tests Inv-loop μ-loop
 add-tests c = record { fits = adding-fits (c .before .before .before .before .loop .inv) (c .before .before .before .loop-test .taken) _ refl (c .triangle .result) (c .triangle .ensures) }
-
-wide-requires : tie.Need-wide-requires Inv-loop μ-loop
-wide-requires c κs = search needs
-
-greater-requires : tie.Need-greater-requires Inv-loop μ-loop
-greater-requires c κs = search needs
-
-add-cell : tie.Need-add-cell Inv-loop μ-loop
-add-cell c = omega arith
-
-loop-less : tie.Need-loop-less Inv-loop μ-loop
-loop-less c = omega arith
 
 loop-again : tie.Need-loop-again Inv-loop μ-loop
 loop-again c =
@@ -72,17 +37,17 @@ of-cells-spec =
     Inv-loop
     μ-loop
     loop-holds
-    add-k
-    mul-k
-    shared-slice-read-k
-    mul-k-2
-    shared-slice-read-k-2
+    (λ c. omega arith)
+    (λ c. omega arith)
+    (λ c. omega arith)
+    (λ c. omega arith)
+    (λ c. omega arith)
     sub-k
-    triangle-requires
+    (λ c κs. search needs)
     add-tests
-    wide-requires
-    greater-requires
-    add-cell
-    loop-less
+    (λ c κs. search needs)
+    (λ c κs. search needs)
+    (λ c. omega arith)
+    (λ c. omega arith)
     loop-again
     returns)

@@ -8,28 +8,12 @@ use Rattle.cost.proofs.Costs.{globals-most, globals-small}
 use borrow.Author.Needs.{needs}
 use Rattle.cost.proofs.of_globals.Statement.{statement}
 use Rattle.cost.proofs.of_globals.Tie as tie
-use Rattle.cost.proofs.of_globals.Reads as reads
-use Rattle.cost.proofs.of_globals.Lts as lts
-use Rattle.cost.proofs.triangle.Reads as triangle-reads
-use Rattle.cost.proofs.wide.Reads as wide-reads
 
 returns : tie.Need-returns
 returns c = let e : c .before .args .globals ≡ 0 = c .if1 .taken in rw (e, zero-mul, tri-zero)
 
-wide-requires : tie.Need-wide-requires
-wide-requires c κs = search needs
-
-sub-wide : tie.Need-sub-wide
-sub-wide c = search needs
-
-wide-requires-2 : tie.Need-wide-requires-2
-wide-requires-2 c κs = search needs
-
 mul-result : tie.Need-mul-result
 mul-result c = record { fits = omega (arith, rw (← c .before .wide .ensures, ← c .wide2 .ensures) at (globals-small _ _ (c .before .before .before .pre))) }
-
-triangle-requires : tie.Need-triangle-requires
-triangle-requires c κs = search needs
 
 sub-result : tie.Need-sub-result
 sub-result c = rw (c .triangle .ensures, c .before .before .wide .ensures, c .before .wide2 .ensures) (globals-most _ _ (c .before .before .before .before .pre) (omega arith))
@@ -42,10 +26,10 @@ of-globals-spec =
     tie.close
     (tie.spec
     returns
-    wide-requires
-    sub-wide
-    wide-requires-2
+    (λ c κs. search needs)
+    (λ c. search needs)
+    (λ c κs. search needs)
     mul-result
-    triangle-requires
+    (λ c κs. search needs)
     sub-result
     returns-2)

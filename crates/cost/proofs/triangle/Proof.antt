@@ -8,12 +8,6 @@ use Rattle.seek.proofs.Lengths.{tri-twice, tri-is}
 use borrow.Author.Needs.{needs}
 use Rattle.cost.proofs.triangle.Statement.{statement}
 use Rattle.cost.proofs.triangle.Tie as tie
-use Rattle.cost.proofs.triangle.Reads as reads
-use Rattle.cost.proofs.triangle.Lts as lts
-use Rattle.cost.proofs.wide.Reads as wide-reads
-
-wide-requires : tie.Need-wide-requires
-wide-requires c κs = search needs
 
 mul-result : tie.Need-mul-result
 mul-result c = let w = c .wide .result in let h : w ≤ 4294967296 = omega arith in omega (arith, mul-le-mul-left w h)
@@ -25,4 +19,4 @@ returns : tie.Need-returns
 returns c = tri-is (c .wide .result) ∙ ap tri (c .wide .ensures)
 
 pub triangle-spec : {M : Type 1} → statement M
-triangle-spec = tie.close (tie.spec wide-requires mul-result sub-result returns)
+triangle-spec = tie.close (tie.spec (λ c κs. search needs) mul-result sub-result returns)

@@ -3,36 +3,13 @@ use Rattle.report.proofs.Written.{end-within, prints}
 use borrow.Author.Needs.{needs}
 use Rattle.crossing_chain.proofs.print_crossings.Statement.{statement}
 use Rattle.crossing_chain.proofs.print_crossings.Tie as tie
-use Rattle.crossing_chain.proofs.print_crossings.Reads as reads
-use Rattle.crossing_chain.proofs.print_crossings.Lts as lts
-use Rattle.report.proofs.clear.Reads as clear-reads
-use Rattle.crossing_chain.proofs.put_chain.Reads as put-chain-reads
 
--- src/lib.rt:187:9
-put-chain-requires : tie.Need-put-chain-requires
-put-chain-requires c κs = search needs
-
--- src/lib.rt:188:18
 sub-clear : tie.Need-sub-clear
 sub-clear c = end-within _ (c .before .before .before .before .before .before .args .out .now) _ _ (c .before .before .put-chain .ensures) (c .before .before .put-chain .kept .1 .1 .0)
 
--- src/lib.rt:188:18
 part-clear-start : tie.Need-part-clear-start
 part-clear-start c = end-within _ (c .before .before .before .before .before .before .args .out .now) _ _ (c .before .before .put-chain .ensures) (c .before .before .put-chain .kept .1 .1 .0)
 
--- src/lib.rt:188:18
-part-clear-end : tie.Need-part-clear-end
-part-clear-end c = search needs
-
--- src/lib.rt:188:5
-clear-requires : tie.Need-clear-requires
-clear-requires c κs = search needs
-
--- src/lib.rt:184:1
-same-length : tie.Need-same-length
-same-length c = search needs
-
--- src/lib.rt:184:1
 returns : tie.Need-returns
 returns c = prints _ (c .before .before .before .before .before .before .before .before .before .before .args .out .now) _ _ _ (c .before .before .before .before .before .before .put-chain .ensures) (c .before .before .before .before .before .before .put-chain .kept .1 .1 .0) (c .before .before .clear .ensures)
 
@@ -40,10 +17,10 @@ pub print-crossings-spec : {M : Type 1} → statement M
 print-crossings-spec =
     tie.close
     (tie.spec
-    put-chain-requires
+    (λ c κs. search needs)
     sub-clear
     part-clear-start
-    part-clear-end
-    clear-requires
-    same-length
+    (λ c. search needs)
+    (λ c κs. search needs)
+    (λ c. search needs)
     returns)

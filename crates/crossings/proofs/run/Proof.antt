@@ -4,16 +4,6 @@ use Rattle.first_tests.proofs.Whole.{run-cells, run-globals, run-done}
 use borrow.Author.Needs.{needs}
 use Rattle.crossings.proofs.run.Statement.{statement}
 use Rattle.crossings.proofs.run.Tie as tie
-use Rattle.crossings.proofs.run.Reads as reads
-use Rattle.crossings.proofs.run.Lts as lts
-use Rattle.crossings.proofs.cells.scan_cells.Reads as scan-cells-reads
-use Rattle.crossings.proofs.globals.scan_globals.Reads as scan-globals-reads
-
-cast-cells : tie.Need-cast-cells
-cast-cells c = search needs
-
-cast-cells-2 : tie.Need-cast-cells-2
-cast-cells-2 c = search needs
 
 mul-cells : tie.Need-mul-cells
 mul-cells c = let h = run-cells (c .before .before .before .before .before .before .before .before .before .before .pre) in omega (arith, h .few-cells)
@@ -27,15 +17,6 @@ cast-scan-globals c = let h = run-cells (c .before .before .before .before .befo
 scan-globals-requires : tie.Need-scan-globals-requires
 scan-globals-requires c κs = let h = c .before .before .before .before .before .before .before .before .before .before .before .before .before .before .before .before .before .before .before .before .before .before .before .pre in run-globals (h) (c .before .before .before .before .before .before .before .before .before .scan-cells .ensures)
 
-same-length : tie.Need-same-length
-same-length c = search needs
-
-same-length-2 : tie.Need-same-length-2
-same-length-2 c = search needs
-
-same-length-3 : tie.Need-same-length-3
-same-length-3 c = search needs
-
 returns : tie.Need-returns
 returns c = run-done (c .before .before .before .before .before .before .before .before .before .before .before .before .before .before .before .before .before .before .before .before .before .before .before .before .before .before .before .before .pre) (c .before .before .before .before .before .before .before .before .before .before .before .before .before .before .scan-cells .ensures) (c .before .before .before .before .scan-globals .ensures)
 
@@ -43,13 +24,13 @@ pub run-spec : {M : Type 1} → statement M
 run-spec =
     tie.close
     (tie.spec
-    cast-cells
-    cast-cells-2
+    (λ c. search needs)
+    (λ c. search needs)
     mul-cells
     scan-cells-requires
     cast-scan-globals
     scan-globals-requires
-    same-length
-    same-length-2
-    same-length-3
+    (λ c. search needs)
+    (λ c. search needs)
+    (λ c. search needs)
     returns)

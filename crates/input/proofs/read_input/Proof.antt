@@ -9,8 +9,6 @@ use lib.Seq.{length-take-le}
 use borrow.Rule.Slice.PartMut.{midOf, putMid, same-len-mid, mid-len}
 use Rattle.input.proofs.read_input.Statement.{statement}
 use Rattle.input.proofs.read_input.Tie as tie
-use Rattle.input.proofs.read_input.Reads as reads
-use Rattle.input.proofs.read_input.Lts as lts
 
 abbrev Inv-loop : tie.InvT-loop
 Inv-loop fd bytes₀ done₀ bytes done = (done ≤ length bytes) × (length bytes ≡ length bytes₀)
@@ -21,35 +19,14 @@ abbrev μ-loop : tie.MeasureT-loop
 loop-holds : tie.Need-loop-holds Inv-loop μ-loop
 loop-holds c = (omega arith, refl)
 
-sub-read : tie.Need-sub-read Inv-loop μ-loop
-sub-read c = omega arith
-
-part-read-start : tie.Need-part-read-start Inv-loop μ-loop
-part-read-start c = omega arith
-
-part-read-end : tie.Need-part-read-end Inv-loop μ-loop
-part-read-end c = omega arith
-
-read-requires : tie.Need-read-requires Inv-loop μ-loop
-read-requires c κs = tt
-
 same-length : tie.Need-same-length Inv-loop μ-loop
 same-length c = same-len-mid (c .before .before .before .before .before .before .loop .done) (length (c .before .before .before .before .before .before .loop .bytes) - c .before .before .before .before .before .before .loop .done) (c .before .before .before .before .before .before .loop .bytes) (c .before .before .before .read .last .1 .0) (c .before .before .before .read .kept .1 .0) ∙ c .before .before .before .before .before .before .loop .inv .1
-
-returns : tie.Need-returns Inv-loop μ-loop
-returns c = tt
 
 sub-count : tie.Need-sub-count Inv-loop μ-loop
 sub-count c = let e = same-len-mid (c .before .before .before .before .before .before .loop .done) (length (c .before .before .before .before .before .before .loop .bytes) - c .before .before .before .before .before .before .loop .done) (c .before .before .before .before .before .before .loop .bytes) (c .before .before .before .read .last .1 .0) (c .before .before .before .read .kept .1 .0) in omega arith
 
 part-count-start : tie.Need-part-count-start Inv-loop μ-loop
 part-count-start c = let e = same-len-mid (c .before .before .before .before .before .before .before .loop .done) (length (c .before .before .before .before .before .before .before .loop .bytes) - c .before .before .before .before .before .before .before .loop .done) (c .before .before .before .before .before .before .before .loop .bytes) (c .before .before .before .before .read .last .1 .0) (c .before .before .before .before .read .kept .1 .0) in omega arith
-
-part-count-end : tie.Need-part-count-end Inv-loop μ-loop
-part-count-end c = omega arith
-
-count-requires : tie.Need-count-requires Inv-loop μ-loop
-count-requires c κs = tt
 
 same-length-2 : tie.Need-same-length-2 Inv-loop μ-loop
 same-length-2 c = same-len-mid (c .before .before .before .before .before .before .before .before .before .before .loop .done) (length (c .before .before .before .before .before .before .before .before .before .before .loop .bytes) - c .before .before .before .before .before .before .before .before .before .before .loop .done) (c .before .before .before .before .before .before .before .before .before .before .loop .bytes) (c .before .before .before .before .before .before .before .read .last .1 .0) (c .before .before .before .before .before .before .before .read .kept .1 .0) ∙ c .before .before .before .before .before .before .before .before .before .before .loop .inv .1
@@ -82,9 +59,6 @@ loop-again c =
     let m = more (c .before .before .before .before .before .before .before .before .before .before .loop .done) (c .before .count .result) (putMid (c .before .before .before .before .before .before .before .before .before .before .loop .done) (length (c .before .before .before .before .before .before .before .before .before .before .loop .bytes) - c .before .before .before .before .before .before .before .before .before .before .loop .done) (c .before .before .before .before .before .before .before .before .before .before .loop .bytes) (c .before .before .before .before .before .before .before .read .last .1 .0)) (c .before .count .ensures .0 .0) (omega arith) in
     (m, e ∙ c .before .before .before .before .before .before .before .before .before .before .loop .inv .1)
 
-same-length-3 : tie.Need-same-length-3 Inv-loop μ-loop
-same-length-3 c = c .before .loop .inv .1
-
 returns-3 : tie.Need-returns-3 Inv-loop μ-loop
 returns-3 c = (c .before .loop .inv .0, sym (length-take-le _ _ (c .before .loop .inv .0)))
 
@@ -95,20 +69,20 @@ read-input-spec =
     Inv-loop
     μ-loop
     loop-holds
-    sub-read
-    part-read-start
-    part-read-end
-    read-requires
+    (λ c. omega arith)
+    (λ c. omega arith)
+    (λ c. omega arith)
+    (λ c κs. tt)
     same-length
-    returns
+    (λ c. tt)
     sub-count
     part-count-start
-    part-count-end
-    count-requires
+    (λ c. omega arith)
+    (λ c κs. tt)
     same-length-2
     returns-2
     add-done
     loop-less
     loop-again
-    same-length-3
+    (λ c. c .before .loop .inv .1)
     returns-3)

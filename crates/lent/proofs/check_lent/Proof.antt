@@ -4,30 +4,15 @@ use Rattle.lent.proofs.Beginning.{lent-outputs, lent-starts, lent-listi
 use borrow.Author.Needs.{needs}
 use Rattle.lent.proofs.check_lent.Statement.{statement}
 use Rattle.lent.proofs.check_lent.Tie as tie
-use Rattle.lent.proofs.check_lent.Reads as reads
-use Rattle.lent.proofs.check_lent.Lts as lts
-use Rattle.refusals.proofs.refuse_unless.Reads as refuse-unless-reads
-
-refuse-unless-requires : tie.Need-refuse-unless-requires
-refuse-unless-requires c κs = search needs
 
 returns : tie.Need-returns
 returns c = let a = c .before .before .args in c .refuse-unless .ensures ∙ lent-outputs (a .lines) (a .items) (a .first) (a .second) (a .starts) (a .listing) (a .counts) (c .before .if1 .taken)
 
-refuse-unless-requires-2 : tie.Need-refuse-unless-requires-2
-refuse-unless-requires-2 c κs = search needs
-
 returns-2 : tie.Need-returns-2
 returns-2 c = let a = c .before .before .before .args in c .refuse-unless2 .ensures ∙ lent-starts (a .lines) (a .items) (a .first) (a .second) (a .starts) (a .listing) (a .counts) (c .before .before .if1 .left) (c .before .if2 .taken)
 
-refuse-unless-requires-3 : tie.Need-refuse-unless-requires-3
-refuse-unless-requires-3 c κs = search needs
-
 returns-3 : tie.Need-returns-3
 returns-3 c = let a = c .before .before .before .before .args in c .refuse-unless3 .ensures ∙ lent-listing (a .lines) (a .items) (a .first) (a .second) (a .starts) (a .listing) (a .counts) (c .before .before .before .if1 .left) (c .before .before .if2 .left) (c .before .if3 .taken)
-
-refuse-unless-requires-4 : tie.Need-refuse-unless-requires-4
-refuse-unless-requires-4 c κs = search needs
 
 returns-4 : tie.Need-returns-4
 returns-4 c = let a = c .before .before .before .before .args in c .refuse-unless4 .ensures ∙ lent-counts (a .lines) (a .items) (a .first) (a .second) (a .starts) (a .listing) (a .counts) (c .before .before .before .if1 .left) (c .before .before .if2 .left) (c .before .if3 .left)
@@ -36,11 +21,11 @@ pub check-lent-spec : {M : Type 1} → statement M
 check-lent-spec =
     tie.close
     (tie.spec
-    refuse-unless-requires
+    (λ c κs. search needs)
     returns
-    refuse-unless-requires-2
+    (λ c κs. search needs)
     returns-2
-    refuse-unless-requires-3
+    (λ c κs. search needs)
     returns-3
-    refuse-unless-requires-4
+    (λ c κs. search needs)
     returns-4)

@@ -7,30 +7,6 @@ use Rattle.once.proofs.Entry.{once-stopped, once-done}
 use borrow.Author.Needs.{needs}
 use Rattle.once.proofs.pairs_once.Statement.{statement}
 use Rattle.once.proofs.pairs_once.Tie as tie
-use Rattle.once.proofs.pairs_once.Reads as reads
-use Rattle.once.proofs.pairs_once.Lts as lts
-use Rattle.grid.proofs.checks.check_lines.Reads as check-lines-reads
-use Rattle.lent.proofs.begin.Reads as begin-reads
-use Rattle.lent.proofs.finish.Reads as finish-reads
-use Rattle.once.proofs.run.Reads as run-reads
-
-check-lines-requires : tie.Need-check-lines-requires
-check-lines-requires c κs = search needs
-
-begin-requires : tie.Need-begin-requires
-begin-requires c κs = search needs
-
-enum-known-begun : tie.Need-enum-known-begun
-enum-known-begun c = search needs
-
-same-length : tie.Need-same-length
-same-length c = c .before .before .before .before .before .before .before .before .before .begin .kept .1 .1 .1 .1 .1 .1 .1 .1 .1 .0
-
-same-length-2 : tie.Need-same-length-2
-same-length-2 c = c .before .before .before .before .before .before .before .before .before .begin .kept .1 .1 .1 .1 .1 .1 .1 .1 .1 .1 .0
-
-same-length-3 : tie.Need-same-length-3
-same-length-3 c = c .before .before .before .before .before .before .before .before .before .begin .kept .1 .1 .1 .1 .1 .1 .1 .1 .1 .1 .1 .0
 
 returns : tie.Need-returns
 returns c =
@@ -38,17 +14,11 @@ returns c =
     let ls = lines (a .start-x .now) (a .start-y .now) (a .end-x .now) (a .end-y .now) in
     once-stopped ls (a .grid) (a .offsets .now) (a .items .now) (a .globals .now) (a .global-count) (a .first .now) (a .second .now) (a .starts .now) (a .listing .now) (a .counts .now) (c .before .before .before .before .before .before .before .before .before .before .before .before .before .check-lines .ensures) (c .before .before .before .before .before .before .before .before .before .begin .ensures) _ (c .before .begun .given .1)
 
-enum-told : tie.Need-enum-told
-enum-told c = search needs
-
 run-requires : tie.Need-run-requires
 run-requires c κs =
     let w = c .before .before .before .before .before .before .before .before .before .before .before .before .before .begin in
     let e = c .before .before .before .before .before .enum-told .given .1 in
     record { fine = sym (c .before .before .before .before .before .before .before .before .before .before .before .before .before .before .before .before .before .check-lines .ensures) ∙ begun-passed (w .ensures) e .lines-fine; asks = run-asks (w .ensures) e (w .kept .1 .1 .1 .1 .1 .1 .1 .1 .1 .0) (w .kept .1 .1 .1 .1 .1 .1 .1 .1 .1 .1 .0) (w .kept .1 .1 .1 .1 .1 .1 .1 .1 .1 .1 .1 .0) }
-
-finish-requires : tie.Need-finish-requires
-finish-requires c κs = search needs
 
 same-length-4 : tie.Need-same-length-4
 same-length-4 c = c .before .before .before .before .before .before .before .before .before .before .finish .kept .1 .0 ∙ c .before .before .before .before .before .before .before .before .before .before .before .before .before .before .before .before .before .before .before .before .before .before .run .kept .1 .1 .1 .1 .1 .1 .1 .1 .1 .1 .1 .1 .0
@@ -77,16 +47,16 @@ pub pairs-once-spec : {M : Type 1} → statement M
 pairs-once-spec =
     tie.close
     (tie.spec
-    check-lines-requires
-    begin-requires
-    enum-known-begun
-    same-length
-    same-length-2
-    same-length-3
+    (λ c κs. search needs)
+    (λ c κs. search needs)
+    (λ c. search needs)
+    (λ c. c .before .before .before .before .before .before .before .before .before .begin .kept .1 .1 .1 .1 .1 .1 .1 .1 .1 .0)
+    (λ c. c .before .before .before .before .before .before .before .before .before .begin .kept .1 .1 .1 .1 .1 .1 .1 .1 .1 .1 .0)
+    (λ c. c .before .before .before .before .before .before .before .before .before .begin .kept .1 .1 .1 .1 .1 .1 .1 .1 .1 .1 .1 .0)
     returns
-    enum-told
+    (λ c. search needs)
     run-requires
-    finish-requires
+    (λ c κs. search needs)
     same-length-4
     same-length-5
     same-length-6

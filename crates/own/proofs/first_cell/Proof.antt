@@ -5,38 +5,14 @@ use borrow.Author.Needs.{needs}
 use Rattle.own.proofs.first_cell.Statement.{statement}
 use Rattle.own.proofs.first_cell.Tie as tie
 
-x-axis-requires : tie.Need-x-axis-requires
-x-axis-requires c κs = search needs
-
 first-requires : tie.Need-first-requires
 first-requires c κs = asked _ _ _ (c .x-axis .ensures) (c .before .pre .0)
-
-enum-known-across : tie.Need-enum-known-across
-enum-known-across c = search needs
-
-enum-told : tie.Need-enum-told
-enum-told c = search needs
-
-seam-or-outside-requires : tie.Need-seam-or-outside-requires
-seam-or-outside-requires c κs = search needs
 
 returns : tie.Need-returns
 returns c = c .seam-or-outside .ensures ∙ no-column-owns _ _ _ (answered _ _ _ _ _ (c .before .before .before .first .ensures) (c .before .before .before .before .x-axis .ensures) (c .before .enum-told .given .1))
 
-y-axis-requires : tie.Need-y-axis-requires
-y-axis-requires c κs = search needs
-
 first-requires-2 : tie.Need-first-requires-2
 first-requires-2 c κs = asked _ _ _ (c .y-axis .ensures) (c .before .before .before .before .before .before .pre .1)
-
-enum-known-along : tie.Need-enum-known-along
-enum-known-along c = search needs
-
-enum-told-2 : tie.Need-enum-told-2
-enum-told-2 c = search needs
-
-seam-or-outside-requires-2 : tie.Need-seam-or-outside-requires-2
-seam-or-outside-requires-2 c κs = search needs
 
 returns-2 : tie.Need-returns-2
 returns-2 c = c .seam-or-outside2 .ensures ∙ no-row-owns _ _ _ (answered _ _ _ _ _ (c .before .before .before .first2 .ensures) (c .before .before .before .before .y-axis .ensures) (c .before .enum-told2 .given .1))
@@ -48,16 +24,16 @@ pub first-cell-spec : {M : Type 1} → statement M
 first-cell-spec =
     tie.close
     (tie.spec
-    x-axis-requires
+    (λ c κs. search needs)
     first-requires
-    enum-known-across
-    enum-told
-    seam-or-outside-requires
+    (λ c. search needs)
+    (λ c. search needs)
+    (λ c κs. search needs)
     returns
-    y-axis-requires
+    (λ c κs. search needs)
     first-requires-2
-    enum-known-along
-    enum-told-2
-    seam-or-outside-requires-2
+    (λ c. search needs)
+    (λ c. search needs)
+    (λ c κs. search needs)
     returns-2
     returns-3)

@@ -5,18 +5,6 @@ use borrow.Author.Needs.{needs}
 use Rattle.own.proofs.holds_point.Statement.{statement}
 use Rattle.own.proofs.holds_point.Tie as tie
 
-x-axis-requires : tie.Need-x-axis-requires
-x-axis-requires c κs = search needs
-
-holds-requires : tie.Need-holds-requires
-holds-requires c κs = search needs
-
-y-axis-requires : tie.Need-y-axis-requires
-y-axis-requires c κs = search needs
-
-holds-requires-2 : tie.Need-holds-requires-2
-holds-requires-2 c κs = search needs
-
 returns : tie.Need-returns
 returns c = both holdsOn _ _ _ _ _ (c .before .before .before .holds .ensures) (c .before .before .before .before .x-axis .ensures) _ _ _ _ _ (c .holds2 .ensures) (c .before .y-axis .ensures) (c .before .before .if1 .taken)
 
@@ -26,4 +14,4 @@ returns-2 c = not-both holdsOn _ _ _ _ _ (c .before .holds .ensures) (c .before 
 pub holds-point-spec : {M : Type 1} → statement M
 holds-point-spec =
     tie.close
-    (tie.spec x-axis-requires holds-requires y-axis-requires holds-requires-2 returns returns-2)
+    (tie.spec (λ c κs. search needs) (λ c κs. search needs) (λ c κs. search needs) (λ c κs. search needs) returns returns-2)

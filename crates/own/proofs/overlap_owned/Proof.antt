@@ -10,33 +10,9 @@ use borrow.Author.Needs.{needs}
 use Rattle.own.proofs.overlap_owned.Statement.{statement}
 use Rattle.own.proofs.overlap_owned.Tie as tie
 
-check-place-requires : tie.Need-check-place-requires
-check-place-requires c κs = search needs
-
-enum-known-place : tie.Need-enum-known-place
-enum-known-place c = search needs
-
 returns : tie.Need-returns
 unfolding overlapAnswer
 returns c = refused-by _ _ _ _ _ (sym (c .before .before .before .check-place .ensures) ∙ c .before .place .given .1)
-
-enum-told : tie.Need-enum-told
-enum-told c = search needs
-
-snap-point-requires : tie.Need-snap-point-requires
-snap-point-requires c κs = search needs
-
-enum-known-end : tie.Need-enum-known-end
-enum-known-end c = search needs
-
-enum-known-end-2 : tie.Need-enum-known-end-2
-enum-known-end-2 c = search needs
-
-check-cell-requires : tie.Need-check-cell-requires
-check-cell-requires c κs = search needs
-
-enum-known-cell : tie.Need-enum-known-cell
-enum-known-cell c = search needs
 
 returns-2 : tie.Need-returns-2
 unfolding overlapAnswer
@@ -44,15 +20,6 @@ returns-2 c =
     let p = sym (c .before .before .before .before .before .before .before .before .before .before .check-place .ensures) ∙ c .before .before .before .before .before .before .before .before .enum-told .given .1 in
     let s = snapped _ _ _ _ (place-point _ _ _ p) _ _ (sym (c .before .before .before .before .before .before .before .snap-point .ensures) ∙ c .before .before .before .before .before .end2 .given .1) in
     refused-by _ _ _ _ _ (sym (c .before .before .before .check-cell .ensures) ∙ c .before .cell .given .1) ∙ past _ _ _ _ (s .0) ∙ past _ _ _ _ p
-
-enum-told-2 : tie.Need-enum-told-2
-enum-told-2 c = search needs
-
-owns-overlap-requires : tie.Need-owns-overlap-requires
-owns-overlap-requires c κs = search needs
-
-answer-requires : tie.Need-answer-requires
-answer-requires c κs = search needs
 
 returns-3 : tie.Need-returns-3
 unfolding overlapAnswer
@@ -72,18 +39,18 @@ pub overlap-owned-spec : {M : Type 1} → statement M
 overlap-owned-spec =
     tie.close
     (tie.spec
-    check-place-requires
-    enum-known-place
+    (λ c κs. search needs)
+    (λ c. search needs)
     returns
-    enum-told
-    snap-point-requires
-    enum-known-end
-    enum-known-end-2
-    check-cell-requires
-    enum-known-cell
+    (λ c. search needs)
+    (λ c κs. search needs)
+    (λ c. search needs)
+    (λ c. search needs)
+    (λ c κs. search needs)
+    (λ c. search needs)
     returns-2
-    enum-told-2
-    owns-overlap-requires
-    answer-requires
+    (λ c. search needs)
+    (λ c κs. search needs)
+    (λ c κs. search needs)
     returns-3
     returns-4)

@@ -9,18 +9,9 @@ use borrow.Author.Needs.{needs}
 use Rattle.own.proofs.owner_of.Statement.{statement}
 use Rattle.own.proofs.owner_of.Tie as tie
 
-check-place-requires : tie.Need-check-place-requires
-check-place-requires c κs = search needs
-
-enum-known-place : tie.Need-enum-known-place
-enum-known-place c = search needs
-
 returns : tie.Need-returns
 unfolding ownerAnswer
 returns c = refused-by _ _ _ _ _ (sym (c .before .before .before .check-place .ensures) ∙ c .before .place .given .1)
-
-enum-told : tie.Need-enum-told
-enum-told c = search needs
 
 first-cell-requires : tie.Need-first-cell-requires
 first-cell-requires c κs = searchable _ _ _ (sym (c .before .before .check-place .ensures) ∙ c .enum-told .given .1)
@@ -33,9 +24,9 @@ pub owner-of-spec : {M : Type 1} → statement M
 owner-of-spec =
     tie.close
     (tie.spec
-    check-place-requires
-    enum-known-place
+    (λ c κs. search needs)
+    (λ c. search needs)
     returns
-    enum-told
+    (λ c. search needs)
     first-cell-requires
     returns-2)

@@ -5,9 +5,6 @@ use borrow.Author.Needs.{needs}
 use Rattle.own.proofs.owns_overlap.Statement.{statement}
 use Rattle.own.proofs.owns_overlap.Tie as tie
 
-holds-point-requires : tie.Need-holds-point-requires
-holds-point-requires c κs = search needs
-
 returns : tie.Need-returns
 unfolding ownsOverlap
 returns c = by-axes _ _ _ (c .before .holds-point .ensures) (c .if1 .taken)
@@ -21,4 +18,4 @@ unfolding ownsOverlap
 returns-3 c = by-neither _ _ _ _ (c .before .before .holds-point .ensures) (c .before .if1 .left) (c .if2 .left)
 
 pub owns-overlap-spec : {M : Type 1} → statement M
-owns-overlap-spec = tie.close (tie.spec holds-point-requires returns returns-2 returns-3)
+owns-overlap-spec = tie.close (tie.spec (λ c κs. search needs) returns returns-2 returns-3)

@@ -7,39 +7,15 @@ use borrow.Author.Needs.{needs}
 use Rattle.own.proofs.point_owned.Statement.{statement}
 use Rattle.own.proofs.point_owned.Tie as tie
 
-check-place-requires : tie.Need-check-place-requires
-check-place-requires c κs = search needs
-
-enum-known-place : tie.Need-enum-known-place
-enum-known-place c = search needs
-
 returns : tie.Need-returns
 unfolding pointAnswer
 returns c = refused-by _ _ _ _ _ (sym (c .before .before .before .check-place .ensures) ∙ c .before .place .given .1)
-
-enum-told : tie.Need-enum-told
-enum-told c = search needs
-
-check-cell-requires : tie.Need-check-cell-requires
-check-cell-requires c κs = search needs
-
-enum-known-cell : tie.Need-enum-known-cell
-enum-known-cell c = search needs
 
 returns-2 : tie.Need-returns-2
 unfolding pointAnswer
 returns-2 c =
     let p = sym (c .before .before .before .before .before .before .check-place .ensures) ∙ c .before .before .before .before .enum-told .given .1 in
     refused-by _ _ _ _ _ (sym (c .before .before .before .check-cell .ensures) ∙ c .before .cell .given .1) ∙ past _ _ _ _ p
-
-enum-told-2 : tie.Need-enum-told-2
-enum-told-2 c = search needs
-
-owns-point-requires : tie.Need-owns-point-requires
-owns-point-requires c κs = search needs
-
-answer-requires : tie.Need-answer-requires
-answer-requires c κs = search needs
 
 returns-3 : tie.Need-returns-3
 unfolding pointAnswer answerBy
@@ -52,14 +28,14 @@ pub point-owned-spec : {M : Type 1} → statement M
 point-owned-spec =
     tie.close
     (tie.spec
-    check-place-requires
-    enum-known-place
+    (λ c κs. search needs)
+    (λ c. search needs)
     returns
-    enum-told
-    check-cell-requires
-    enum-known-cell
+    (λ c. search needs)
+    (λ c κs. search needs)
+    (λ c. search needs)
     returns-2
-    enum-told-2
-    owns-point-requires
-    answer-requires
+    (λ c. search needs)
+    (λ c κs. search needs)
+    (λ c κs. search needs)
     returns-3)

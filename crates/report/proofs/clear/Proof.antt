@@ -27,9 +27,6 @@ loop-again c =
       simp length-set (omega arith),
     )
 
-same-length : tie.Need-same-length Inv-loop μ-loop
-same-length c = c .before .loop .inv .2
-
 returns : tie.Need-returns Inv-loop μ-loop
 returns c =
     let s₀ = c .before .before .args .s .now in
@@ -48,5 +45,5 @@ clear-spec =
     (λ c. omega arith)
     (λ c. simp length-set (omega arith))
     loop-again
-    same-length
+    (λ c. c .before .loop .inv .2)
     returns)

@@ -27,9 +27,6 @@ loop-again c =
       puts-more text (l .i) (omega arith) (l .inv .2) (c .before .before .put .ensures),
     )
 
-same-length : tie.Need-same-length Inv-loop μ-loop
-same-length c = c .before .loop .inv .1
-
 returns : tie.Need-returns Inv-loop μ-loop
 returns c = puts-all (c .before .before .before .before .args .text .now) (c .before .loop .i) (omega arith) (c .before .loop .inv .2)
 
@@ -45,5 +42,5 @@ put-all-spec =
     (λ c. omega arith)
     (λ c. omega arith)
     loop-again
-    same-length
+    (λ c. c .before .loop .inv .1)
     returns)

@@ -8,10 +8,6 @@ use Rattle.report.proofs.Putting.{puts-text}
 use Rattle.report.proofs.Digits.{Found10, found10-one, found10-room, found10-more, found10-all}
 use Rattle.report.proofs.put_decimal.Statement.{statement}
 use Rattle.report.proofs.put_decimal.Tie as tie
-use Rattle.report.proofs.put_decimal.Reads as reads
-use Rattle.report.proofs.put_decimal.Lts as lts
-use Rattle.report.proofs.glyph.Reads as glyph-reads
-use Rattle.report.proofs.put_all.Reads as put-all-reads
 
 abbrev Inv-loop : tie.InvT-loop
 Inv-loop n out at text₀ i₀ rest₀ text i rest = Found10 n text i rest
@@ -44,9 +40,6 @@ part-put-all-start c = let r = c .before .before .loop .inv .room in omega arith
 part-put-all-end : tie.Need-part-put-all-end Inv-loop μ-loop
 part-put-all-end c = let r = c .before .before .loop .inv .long in omega arith
 
-same-length : tie.Need-same-length Inv-loop μ-loop
-same-length c = c .before .before .put-all .kept .1 .0
-
 returns : tie.Need-returns Inv-loop μ-loop
 returns c =
     let l = c .before .before .before .before .before .before .before .loop in
@@ -70,5 +63,5 @@ put-decimal-spec =
     part-put-all-start
     part-put-all-end
     (λ c κs. tt)
-    same-length
+    (λ c. c .before .before .put-all .kept .1 .0)
     returns)

@@ -17,26 +17,14 @@ abbrev μ-loop : tie.MeasureT-loop
 loop-holds : tie.Need-loop-holds Inv-loop μ-loop
 loop-holds c = found16-none _ (replicate 16 0) refl
 
-sub-i : tie.Need-sub-i Inv-loop μ-loop
-sub-i c = omega arith
-
-glyph-requires : tie.Need-glyph-requires Inv-loop μ-loop
-glyph-requires c κs = omega arith
-
 array-write-text : tie.Need-array-write-text Inv-loop μ-loop
 array-write-text c = let r = c .before .before .loop .inv .room in omega arith
-
-loop-less : tie.Need-loop-less Inv-loop μ-loop
-loop-less c = omega arith
 
 loop-again : tie.Need-loop-again Inv-loop μ-loop
 loop-again c = found16-more _ _ _ _ _ (c .before .before .loop .inv) (c .before .loop-test .taken) (c .glyph .ensures)
 
 slice-aggregate-put-all : tie.Need-slice-aggregate-put-all Inv-loop μ-loop
 slice-aggregate-put-all c = sym (c .before .before .loop .inv .long)
-
-same-length : tie.Need-same-length Inv-loop μ-loop
-same-length c = c .before .before .put-all .kept .1 .0
 
 returns : tie.Need-returns Inv-loop μ-loop
 returns c =
@@ -50,12 +38,12 @@ put-hex-spec =
     Inv-loop
     μ-loop
     loop-holds
-    sub-i
-    glyph-requires
+    (λ c. omega arith)
+    (λ c κs. omega arith)
     array-write-text
-    loop-less
+    (λ c. omega arith)
     loop-again
     slice-aggregate-put-all
     (λ c κs. tt)
-    same-length
+    (λ c. c .before .before .put-all .kept .1 .0)
     returns)

@@ -10,8 +10,6 @@ use Rattle.report.specs.Numbers.{inDecimal}
 use Rattle.report.proofs.Putting.{spaced-start, spaced-more, spaced-all}
 use Rattle.report.proofs.put_list.Statement.{statement}
 use Rattle.report.proofs.put_list.Tie as tie
-use Rattle.report.proofs.put_list.Reads as reads
-use Rattle.report.proofs.put_list.Lts as lts
 
 abbrev Inv-loop : tie.InvT-loop
 Inv-loop list out₀ at at₀ i₀ out at' i =
@@ -32,9 +30,6 @@ loop-again c =
       spaced-more list (l .i) (omega arith) (l .inv .2) (c .before .before .before .before .wide .ensures) (c .before .before .put-number .ensures),
     )
 
-same-length : tie.Need-same-length Inv-loop μ-loop
-same-length c = c .before .loop .inv .1
-
 returns : tie.Need-returns Inv-loop μ-loop
 returns c = spaced-all (c .before .before .before .before .args .list .now) (c .before .loop .i) (omega arith) (c .before .loop .inv .2)
 
@@ -52,5 +47,5 @@ put-list-spec =
     (λ c. omega arith)
     (λ c. omega arith)
     loop-again
-    same-length
+    (λ c. c .before .loop .inv .1)
     returns)

@@ -8,11 +8,6 @@ use Rattle.samples.specs.Samples.{sampled}
 use Rattle.samples.specs.Sharing.{boxesOverlap, aside, sharing}
 use Rattle.samples.proofs.share_point.Statement.{statement}
 use Rattle.samples.proofs.share_point.Tie as tie
-use Rattle.samples.proofs.share_point.Reads as reads
-use Rattle.samples.proofs.share_point.Lts as lts
-use Rattle.samples.proofs.checks.is_sampled.Reads as is-sampled-reads
-use Rattle.samples.proofs.sides.both_aside.Reads as both-aside-reads
-use Rattle.samples.proofs.sides.boxes_overlap.Reads as boxes-overlap-reads
 
 -- the answers, one after the other
 apart : (a b : Raised) → boxesOverlap a b ≡ false → false ≡ sharing a b

@@ -4,12 +4,6 @@ use Rattle.short_lists.proofs.Tries.{decide-met, decide-first, decide-f
 use borrow.Author.Needs.{needs}
 use Rattle.short_lists.proofs.keeps.Statement.{statement}
 use Rattle.short_lists.proofs.keeps.Tie as tie
-use Rattle.short_lists.proofs.keeps.Reads as reads
-use Rattle.short_lists.proofs.keeps.Lts as lts
-use Rattle.by_line.proofs.first.met_before.Reads as met-before-reads
-
-met-before-requires : tie.Need-met-before-requires
-met-before-requires c κs = search needs
 
 returns : tie.Need-returns
 returns c = decide-met _ _ _ _ _ _ _ (c .before .before .before .if1 .taken) (c .before .before .if2 .taken) (sym (c .before .met-before .ensures) ∙ c .if3 .taken)
@@ -24,4 +18,4 @@ returns-4 : tie.Need-returns-4
 returns-4 c = decide-marked _ _ _ _ _ _ _ (c .if1 .left)
 
 pub keeps-spec : {M : Type 1} → statement M
-keeps-spec = tie.close (tie.spec met-before-requires returns returns-2 returns-3 returns-4)
+keeps-spec = tie.close (tie.spec (λ c κs. search needs) returns returns-2 returns-3 returns-4)

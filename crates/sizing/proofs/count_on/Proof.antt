@@ -5,12 +5,6 @@ use borrow.Author.Needs.{needs}
 use Rattle.sizing.proofs.count_on.Statement.{statement}
 use Rattle.sizing.proofs.count_on.Tie as tie
 
-ceiling-requires : tie.Need-ceiling-requires
-ceiling-requires c κs = search needs
-
-cast-result : tie.Need-cast-result
-cast-result c = search needs
-
 returns : tie.Need-returns
 returns c = count-ceiling _ _ _ (c .before .ceiling .ensures) (omega arith)
 
@@ -18,4 +12,4 @@ returns-2 : tie.Need-returns-2
 returns-2 c = count-largest _ _ _ (c .before .ceiling .ensures) (omega arith)
 
 pub count-on-spec : {M : Type 1} → statement M
-count-on-spec = tie.close (tie.spec ceiling-requires cast-result returns returns-2)
+count-on-spec = tie.close (tie.spec (λ c κs. search needs) (λ c. search needs) returns returns-2)

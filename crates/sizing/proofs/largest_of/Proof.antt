@@ -4,14 +4,8 @@ use borrow.Author.Needs.{needs}
 use Rattle.sizing.proofs.largest_of.Statement.{statement}
 use Rattle.sizing.proofs.largest_of.Tie as tie
 
-greatest-requires : tie.Need-greatest-requires
-greatest-requires c κs = search needs
-
-greatest-requires-2 : tie.Need-greatest-requires-2
-greatest-requires-2 c κs = search needs
-
 returns : tie.Need-returns
 returns c = largest-made _ _ (c .before .greatest .ensures) (c .greatest2 .ensures)
 
 pub largest-of-spec : {M : Type 1} → statement M
-largest-of-spec = tie.close (tie.spec greatest-requires greatest-requires-2 returns)
+largest-of-spec = tie.close (tie.spec (λ c κs. search needs) (λ c κs. search needs) returns)

@@ -6,21 +6,6 @@ use borrow.Author.Needs.{needs}
 use Rattle.sizing.proofs.serial_bounds.Statement.{statement}
 use Rattle.sizing.proofs.serial_bounds.Tie as tie
 
-fewer-requires : tie.Need-fewer-requires
-fewer-requires c κs = search needs
-
-fewer-requires-2 : tie.Need-fewer-requires-2
-fewer-requires-2 c κs = search needs
-
-fewer-requires-3 : tie.Need-fewer-requires-3
-fewer-requires-3 c κs = search needs
-
-span-of-requires : tie.Need-span-of-requires
-span-of-requires c κs = search needs
-
-span-of-requires-2 : tie.Need-span-of-requires-2
-span-of-requires-2 c κs = search needs
-
 returns : tie.Need-returns
 returns c =
     extent-made _ _
@@ -30,9 +15,9 @@ pub serial-bounds-spec : {M : Type 1} → statement M
 serial-bounds-spec =
     tie.close
     (tie.spec
-    fewer-requires
-    fewer-requires-2
-    fewer-requires-3
-    span-of-requires
-    span-of-requires-2
+    (λ c κs. search needs)
+    (λ c κs. search needs)
+    (λ c κs. search needs)
+    (λ c κs. search needs)
+    (λ c κs. search needs)
     returns)

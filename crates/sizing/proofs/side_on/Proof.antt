@@ -4,12 +4,9 @@ use borrow.Author.Needs.{needs}
 use Rattle.sizing.proofs.side_on.Statement.{statement}
 use Rattle.sizing.proofs.side_on.Tie as tie
 
-largest-of-requires : tie.Need-largest-of-requires
-largest-of-requires c κs = search needs
-
 returns : tie.Need-returns
 unfolding lengthOn
 returns c = c .largest-of .ensures
 
 pub side-on-spec : {M : Type 1} → statement M
-side-on-spec = tie.close (tie.spec largest-of-requires returns)
+side-on-spec = tie.close (tie.spec (λ c κs. search needs) returns)

@@ -4,12 +4,9 @@ use borrow.Author.Needs.{needs}
 use Rattle.snap.proofs.grid_snap.Statement.{statement}
 use Rattle.snap.proofs.grid_snap.Tie as tie
 
-round-half-away-requires : tie.Need-round-half-away-requires
-round-half-away-requires c κs = search needs
-
 returns : tie.Need-returns
 unfolding gridSnap
 returns c = cc
 
 pub grid-snap-spec : {M : Type 1} → statement M
-grid-snap-spec = tie.close (tie.spec round-half-away-requires returns)
+grid-snap-spec = tie.close (tie.spec (λ c κs. search needs) returns)

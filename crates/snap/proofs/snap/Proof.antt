@@ -9,12 +9,9 @@ returns : tie.Need-returns
 unfolding snapOf ofBits round
 returns c = rw (c .if1 .taken)
 
-grid-snap-requires : tie.Need-grid-snap-requires
-grid-snap-requires c κs = search needs
-
 returns-2 : tie.Need-returns-2
 unfolding snapOf ofBits round
 returns-2 c = rw (c .before .if1 .left) (c .grid-snap .ensures)
 
 pub snap-spec : {M : Type 1} → statement M
-snap-spec = tie.close (tie.spec returns grid-snap-requires returns-2)
+snap-spec = tie.close (tie.spec returns (λ c κs. search needs) returns-2)

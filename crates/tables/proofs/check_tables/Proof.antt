@@ -6,41 +6,17 @@ use borrow.Author.Needs.{needs}
 use Rattle.tables.proofs.check_tables.Statement.{statement}
 use Rattle.tables.proofs.check_tables.Tie as tie
 
-check-count-requires : tie.Need-check-count-requires
-check-count-requires c κs = search needs
-
-enum-known-many : tie.Need-enum-known-many
-enum-known-many c = search needs
-
 returns : tie.Need-returns
 returns c =
     let a = c .before .before .before .before .before .before .before .args in
     let t = tables (a .grid) (a .lines) (a .offsets .now) (a .items .now) (a .globals .now) (a .global-count) in
     standing-many (a .grid) t _ (sym (c .before .before .before .check-count .ensures) ∙ c .before .many .given .1)
 
-enum-told : tie.Need-enum-told
-enum-told c = search needs
-
-check-grid-requires : tie.Need-check-grid-requires
-check-grid-requires c κs = search needs
-
-enum-known-shape : tie.Need-enum-known-shape
-enum-known-shape c = search needs
-
 returns-2 : tie.Need-returns-2
 returns-2 c =
     let a = c .before .before .before .before .before .before .before .before .before .before .args in
     let t = tables (a .grid) (a .lines) (a .offsets .now) (a .items .now) (a .globals .now) (a .global-count) in
     standing-grid (a .grid) t (sym (c .before .before .before .before .before .before .check-count .ensures) ∙ c .before .before .before .before .enum-told .given .1) _ (sym (c .before .before .before .check-grid .ensures) ∙ c .before .shape .given .1)
-
-enum-told-2 : tie.Need-enum-told-2
-enum-told-2 c = search needs
-
-is-fit-requires : tie.Need-is-fit-requires
-is-fit-requires c κs = search needs
-
-refuse-unless-requires : tie.Need-refuse-unless-requires
-refuse-unless-requires c κs = search needs
 
 returns-3 : tie.Need-returns-3
 returns-3 c =
@@ -53,14 +29,14 @@ pub check-tables-spec : {M : Type 1} → statement M
 check-tables-spec =
     tie.close
     (tie.spec
-    check-count-requires
-    enum-known-many
+    (λ c κs. search needs)
+    (λ c. search needs)
     returns
-    enum-told
-    check-grid-requires
-    enum-known-shape
+    (λ c. search needs)
+    (λ c κs. search needs)
+    (λ c. search needs)
     returns-2
-    enum-told-2
-    is-fit-requires
-    refuse-unless-requires
+    (λ c. search needs)
+    (λ c κs. search needs)
+    (λ c κs. search needs)
     returns-3)

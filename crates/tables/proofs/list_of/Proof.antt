@@ -4,94 +4,22 @@ use Rattle.tables.proofs.Parts.{part-untold, part-falls, part-beyond, p
 use borrow.Author.Needs.{needs}
 use Rattle.tables.proofs.list_of.Statement.{statement}
 use Rattle.tables.proofs.list_of.Tie as tie
-use Rattle.tables.proofs.list_of.Reads as reads
-use Rattle.tables.proofs.list_of.Lts as lts
-use Rattle.slices.proofs.wide.Reads as wide-reads
-
-sub-result : tie.Need-sub-result
-sub-result c = search needs
-
-part-result-start : tie.Need-part-result-start
-part-result-start c = search needs
-
-part-result-end : tie.Need-part-result-end
-part-result-end c = search needs
 
 returns : tie.Need-returns
 returns c = let a = c .before .before .before .before .args in part-untold (a .offsets .now) (a .items .now) (a .cell) (omega arith)
 
-add-if2 : tie.Need-add-if2
-add-if2 c = search needs
-
-sub-result-2 : tie.Need-sub-result-2
-sub-result-2 c = search needs
-
-part-result-start-2 : tie.Need-part-result-start-2
-part-result-start-2 c = search needs
-
-part-result-end-2 : tie.Need-part-result-end-2
-part-result-end-2 c = search needs
-
 returns-2 : tie.Need-returns-2
 returns-2 c = let a = c .before .before .before .before .before .args in part-untold (a .offsets .now) (a .items .now) (a .cell) (omega arith)
-
-mul-wide : tie.Need-mul-wide
-mul-wide c = search needs
-
-shared-slice-read-wide : tie.Need-shared-slice-read-wide
-shared-slice-read-wide c = search needs
-
-wide-requires : tie.Need-wide-requires
-wide-requires c κs = search needs
-
-add-wide : tie.Need-add-wide
-add-wide c = search needs
-
-mul-wide-2 : tie.Need-mul-wide-2
-mul-wide-2 c = search needs
-
-shared-slice-read-wide-2 : tie.Need-shared-slice-read-wide-2
-shared-slice-read-wide-2 c = search needs
-
-wide-requires-2 : tie.Need-wide-requires-2
-wide-requires-2 c κs = search needs
-
-sub-result-3 : tie.Need-sub-result-3
-sub-result-3 c = search needs
-
-part-result-start-3 : tie.Need-part-result-start-3
-part-result-start-3 c = search needs
-
-part-result-end-3 : tie.Need-part-result-end-3
-part-result-end-3 c = search needs
 
 returns-3 : tie.Need-returns-3
 returns-3 c =
     let a = c .before .before .before .before .before .before .before .before .before .before .args in
     part-falls (a .offsets .now) (a .items .now) (a .cell) _ _ (c .before .before .before .before .wide .ensures) (c .before .before .wide2 .ensures) (c .before .if3 .taken)
 
-sub-result-4 : tie.Need-sub-result-4
-sub-result-4 c = search needs
-
-part-result-start-4 : tie.Need-part-result-start-4
-part-result-start-4 c = search needs
-
-part-result-end-4 : tie.Need-part-result-end-4
-part-result-end-4 c = search needs
-
 returns-4 : tie.Need-returns-4
 returns-4 c =
     let a = c .before .before .before .before .before .before .before .before .before .before .before .args in
     part-beyond (a .offsets .now) (a .items .now) (a .cell) _ _ (c .before .before .before .before .before .wide .ensures) (c .before .before .before .wide2 .ensures) (c .before .before .if3 .left) (c .before .if4 .taken)
-
-mul-result : tie.Need-mul-result
-mul-result c = search needs
-
-part-result-start-5 : tie.Need-part-result-start-5
-part-result-start-5 c = search needs
-
-part-result-end-5 : tie.Need-part-result-end-5
-part-result-end-5 c = search needs
 
 returns-5 : tie.Need-returns-5
 returns-5 c =
@@ -102,31 +30,31 @@ pub list-of-spec : {M : Type 1} → statement M
 list-of-spec =
     tie.close
     (tie.spec
-    sub-result
-    part-result-start
-    part-result-end
+    (λ c. search needs)
+    (λ c. search needs)
+    (λ c. search needs)
     returns
-    add-if2
-    sub-result-2
-    part-result-start-2
-    part-result-end-2
+    (λ c. search needs)
+    (λ c. search needs)
+    (λ c. search needs)
+    (λ c. search needs)
     returns-2
-    mul-wide
-    shared-slice-read-wide
-    wide-requires
-    add-wide
-    mul-wide-2
-    shared-slice-read-wide-2
-    wide-requires-2
-    sub-result-3
-    part-result-start-3
-    part-result-end-3
+    (λ c. search needs)
+    (λ c. search needs)
+    (λ c κs. search needs)
+    (λ c. search needs)
+    (λ c. search needs)
+    (λ c. search needs)
+    (λ c κs. search needs)
+    (λ c. search needs)
+    (λ c. search needs)
+    (λ c. search needs)
     returns-3
-    sub-result-4
-    part-result-start-4
-    part-result-end-4
+    (λ c. search needs)
+    (λ c. search needs)
+    (λ c. search needs)
     returns-4
-    mul-result
-    part-result-start-5
-    part-result-end-5
+    (λ c. search needs)
+    (λ c. search needs)
+    (λ c. search needs)
     returns-5)

@@ -6,31 +6,11 @@ use Rattle.tables.proofs.Offsets.{falls-bad, beyond-bad, laid-out, laid
 use borrow.Author.Needs.{needs}
 use Rattle.tables.proofs.lists_fit.Statement.{statement}
 use Rattle.tables.proofs.lists_fit.Tie as tie
-use Rattle.tables.proofs.lists_fit.Reads as reads
-use Rattle.tables.proofs.lists_fit.Lts as lts
-use Rattle.tables.proofs.rising.lists_rise.Reads as lists-rise-reads
-use Rattle.tables.proofs.rising.never_fall.Reads as never-fall-reads
-use Rattle.slices.proofs.wide.Reads as wide-reads
-
-shared-slice-read-if1 : tie.Need-shared-slice-read-if1
-shared-slice-read-if1 c = search needs
 
 returns : tie.Need-returns
 returns c =
     let s = c .before .before .before .before in
     first-bad (s .args .cells) (s .args .lines) (s .args .offsets .now) (s .args .items .now) (c .if1 .taken)
-
-never-fall-requires : tie.Need-never-fall-requires
-never-fall-requires c κs = search needs
-
-mul-wide : tie.Need-mul-wide
-mul-wide c = search needs
-
-shared-slice-read-wide : tie.Need-shared-slice-read-wide
-shared-slice-read-wide c = search needs
-
-wide-requires : tie.Need-wide-requires
-wide-requires c κs = search needs
 
 returns-2 : tie.Need-returns-2
 returns-2 c =
@@ -59,12 +39,12 @@ pub lists-fit-spec : {M : Type 1} → statement M
 lists-fit-spec =
     tie.close
     (tie.spec
-    shared-slice-read-if1
+    (λ c. search needs)
     returns
-    never-fall-requires
-    mul-wide
-    shared-slice-read-wide
-    wide-requires
+    (λ c κs. search needs)
+    (λ c. search needs)
+    (λ c. search needs)
+    (λ c κs. search needs)
     returns-2
     slice-aggregate-lists-rise
     lists-rise-requires

@@ -7,15 +7,9 @@ use Rattle.window.specs.Window.{windowCheck}
 use Rattle.window.proofs.check_window.Statement.{statement}
 use Rattle.window.proofs.check_window.Tie as tie
 
-is-window-requires : tie.Need-is-window-requires
-is-window-requires c κs = search needs
-
-refuse-unless-requires : tie.Need-refuse-unless-requires
-refuse-unless-requires c κs = search needs
-
 returns : tie.Need-returns
 unfolding windowCheck
 returns c = c .refuse-unless .ensures ∙ ap (λ (b : Bool). unless b 1 0) (c .before .is-window .ensures)
 
 pub check-window-spec : {M : Type 1} → statement M
-check-window-spec = tie.close (tie.spec is-window-requires refuse-unless-requires returns)
+check-window-spec = tie.close (tie.spec (λ c κs. search needs) (λ c κs. search needs) returns)

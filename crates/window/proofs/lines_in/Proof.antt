@@ -9,30 +9,12 @@ use Rattle.window.proofs.Entry.{refused-first, none-in, too-many, all-i
 use Rattle.window.proofs.lines_in.Statement.{statement}
 use Rattle.window.proofs.lines_in.Tie as tie
 
-check-all-requires : tie.Need-check-all-requires
-check-all-requires c κs = search needs
-
-enum-known-check : tie.Need-enum-known-check
-enum-known-check c = search needs
-
 returns : tie.Need-returns
 returns c =
     let a = c .before .before .before .before .before .before .before .before .before .before .before .before .args in
     let ls = lines (a .start-x .now) (a .start-y .now) (a .end-x .now) (a .end-y .now) in
     let t = beside ls (a .grid) (a .offsets .now) (a .items .now) (a .globals .now) (a .global-count) in
     refused-first ls (a .grid) t (a .window) (a .out .now) _ (sym (c .before .before .before .check-all .ensures) ∙ c .before .check .given .1)
-
-enum-told : tie.Need-enum-told
-enum-told c = search needs
-
-is-in-order-requires : tie.Need-is-in-order-requires
-is-in-order-requires c κs = search needs
-
-clear-requires : tie.Need-clear-requires
-clear-requires c κs = search needs
-
-same-length : tie.Need-same-length
-same-length c = search needs
 
 returns-2 : tie.Need-returns-2
 returns-2 c =
@@ -48,24 +30,12 @@ write-found-requires c κs =
     let t = beside ls (a .grid) (a .offsets .now) (a .items .now) (a .globals .now) (a .global-count) in
     (checked ls (a .grid) t (a .window) (sym (c .before .before .before .before .before .check-all .ensures) ∙ c .before .before .before .enum-told .given .1), sym (c .before .before .is-in-order .ensures) ∙ not-false _ (c .before .if1 .left))
 
-clear-requires-2 : tie.Need-clear-requires-2
-clear-requires-2 c κs = search needs
-
-same-length-2 : tie.Need-same-length-2
-same-length-2 c = search needs
-
 returns-3 : tie.Need-returns-3
 returns-3 c =
     let a = c .before .before .before .before .before .before .before .before .before .before .before .before .before .before .before .before .before .before .before .before .before .before .args in
     let ls = lines (a .start-x .now) (a .start-y .now) (a .end-x .now) (a .end-y .now) in
     let t = beside ls (a .grid) (a .offsets .now) (a .items .now) (a .globals .now) (a .global-count) in
     too-many ls (a .grid) t (a .window) (a .out .now) (sym (c .before .before .before .before .before .before .before .before .before .before .before .before .before .check-all .ensures) ∙ c .before .before .before .before .before .before .before .before .before .before .before .enum-told .given .1) _ _ (c .before .before .before .before .before .before .before .write-found .ensures) (omega arith) _ (c .before .before .clear2 .ensures)
-
-clear-from-requires : tie.Need-clear-from-requires
-clear-from-requires c κs = search needs
-
-same-length-3 : tie.Need-same-length-3
-same-length-3 c = search needs
 
 returns-4 : tie.Need-returns-4
 returns-4 c =
@@ -78,18 +48,18 @@ pub lines-in-spec : {M : Type 1} → statement M
 lines-in-spec =
     tie.close
     (tie.spec
-    check-all-requires
-    enum-known-check
+    (λ c κs. search needs)
+    (λ c. search needs)
     returns
-    enum-told
-    is-in-order-requires
-    clear-requires
-    same-length
+    (λ c. search needs)
+    (λ c κs. search needs)
+    (λ c κs. search needs)
+    (λ c. search needs)
     returns-2
     write-found-requires
-    clear-requires-2
-    same-length-2
+    (λ c κs. search needs)
+    (λ c. search needs)
     returns-3
-    clear-from-requires
-    same-length-3
+    (λ c κs. search needs)
+    (λ c. search needs)
     returns-4)

@@ -8,9 +8,6 @@ use Rattle.window.proofs.Entry.{fresh, fresh-few, globals-below, mid-en
 use Rattle.window.proofs.write_found.Statement.{statement}
 use Rattle.window.proofs.write_found.Tie as tie
 
-slice-aggregate-mark-list : tie.Need-slice-aggregate-mark-list
-slice-aggregate-mark-list c = search needs
-
 slice-aggregate-mark-list-2 : tie.Need-slice-aggregate-mark-list-2
 slice-aggregate-mark-list-2 c = sym (length-take-le _ _ (c .before .before .before .before .before .before .before .before .before .before .pre .0 .tables-fit .counted))
 
@@ -22,9 +19,6 @@ mark-list-requires c κs =
     let h = c .before .before .before .before .before .before .before .before .before .before .pre .0 in
     globals-below t (h .tables-fit) _ (fresh-few _ _ fresh (h .few))
 
-slice-aggregate-mark-block : tie.Need-slice-aggregate-mark-block
-slice-aggregate-mark-block c = search needs
-
 mark-block-requires : tie.Need-mark-block-requires
 mark-block-requires c κs =
     let a = c .before .before .before .before .before .before .before .before .before .before .before .before .before .args in
@@ -33,9 +27,6 @@ mark-block-requires c κs =
     let h = c .before .before .before .before .before .before .before .before .before .before .before .before .before .pre .0 in
     (h .grid-fit, (h .tables-fit, mid-enough ls (a .grid) t (a .window) (h .few) _ _ fresh (c .before .before .mark-list .ensures)))
 
-slice-aggregate-write-lines : tie.Need-slice-aggregate-write-lines
-slice-aggregate-write-lines c = search needs
-
 write-lines-requires : tie.Need-write-lines-requires
 write-lines-requires c κs =
     let a = c .before .before .before .before .before .before .before .before .before .before .before .before .before .before .before .before .before .args in
@@ -43,9 +34,6 @@ write-lines-requires c κs =
     let t = beside ls (a .grid) (a .offsets .now) (a .items .now) (a .globals .now) (a .global-count) in
     let h = c .before .before .before .before .before .before .before .before .before .before .before .before .before .before .before .before .before .pre .0 in
     record { alike = h .alike; few = h .few; room = marks-enough ls (a .grid) t (a .window) (h .few) _ _ fresh (c .before .before .before .before .before .before .mark-list .ensures) _ (c .before .before .before .mark-block .ensures) }
-
-same-length : tie.Need-same-length
-same-length c = search needs
 
 returns : tie.Need-returns
 returns c =
@@ -59,12 +47,12 @@ pub write-found-spec : {M : Type 1} → statement M
 write-found-spec =
     tie.close
     (tie.spec
-    slice-aggregate-mark-list
+    (λ c. search needs)
     slice-aggregate-mark-list-2
     mark-list-requires
-    slice-aggregate-mark-block
+    (λ c. search needs)
     mark-block-requires
-    slice-aggregate-write-lines
+    (λ c. search needs)
     write-lines-requires
-    same-length
+    (λ c. search needs)
     returns)

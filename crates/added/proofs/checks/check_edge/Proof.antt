@@ -7,15 +7,9 @@ use borrow.Author.Needs.{needs}
 use Rattle.added.proofs.checks.check_edge.Statement.{statement}
 use Rattle.added.proofs.checks.check_edge.Tie as tie
 
-is-inside-requires : tie.Need-is-inside-requires
-is-inside-requires c κs = search needs
-
-refuse-unless-requires : tie.Need-refuse-unless-requires
-refuse-unless-requires c κs = search needs
-
 returns : tie.Need-returns
 unfolding edgeCheck
 returns c = c .refuse-unless .ensures ∙ ap (λ (b : Bool). unless b 14 0) (c .before .is-inside .ensures)
 
 pub check-edge-spec : {M : Type 1} → statement M
-check-edge-spec = tie.close (tie.spec is-inside-requires refuse-unless-requires returns)
+check-edge-spec = tie.close (tie.spec (λ c κs. search needs) (λ c κs. search needs) returns)

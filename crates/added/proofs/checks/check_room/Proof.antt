@@ -6,23 +6,8 @@ use borrow.Author.Needs.{needs}
 use Rattle.added.proofs.checks.check_room.Statement.{statement}
 use Rattle.added.proofs.checks.check_room.Tie as tie
 
-is-room-requires : tie.Need-is-room-requires
-is-room-requires c κs = search needs
-
-refuse-unless-requires : tie.Need-refuse-unless-requires
-refuse-unless-requires c κs = search needs
-
-enum-known-lists : tie.Need-enum-known-lists
-enum-known-lists c = search needs
-
 returns : tie.Need-returns
 returns c = room-items _ _ _ _ (c .before .before .before .before .is-room .ensures) (c .before .before .before .refuse-unless .ensures) (c .before .lists .given .1)
-
-enum-told : tie.Need-enum-told
-enum-told c = search needs
-
-refuse-unless-requires-2 : tie.Need-refuse-unless-requires-2
-refuse-unless-requires-2 c κs = search needs
 
 returns-2 : tie.Need-returns-2
 returns-2 c = room-globals _ _ _ _ (c .before .before .before .before .is-room .ensures) (c .before .before .before .refuse-unless .ensures) (c .before .enum-told .given .1) (c .refuse-unless2 .ensures)
@@ -31,10 +16,10 @@ pub check-room-spec : {M : Type 1} → statement M
 check-room-spec =
     tie.close
     (tie.spec
-    is-room-requires
-    refuse-unless-requires
-    enum-known-lists
+    (λ c κs. search needs)
+    (λ c κs. search needs)
+    (λ c. search needs)
     returns
-    enum-told
-    refuse-unless-requires-2
+    (λ c. search needs)
+    (λ c κs. search needs)
     returns-2)

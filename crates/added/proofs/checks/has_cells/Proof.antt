@@ -3,11 +3,8 @@ use borrow.Author.Needs.{needs}
 use Rattle.added.proofs.checks.has_cells.Statement.{statement}
 use Rattle.added.proofs.checks.has_cells.Tie as tie
 
-is-fit-requires : tie.Need-is-fit-requires
-is-fit-requires c κs = search needs
-
 returns : tie.Need-returns
 returns c = rw (c .before .is-fit .ensures)
 
 pub has-cells-spec : {M : Type 1} → statement M
-has-cells-spec = tie.close (tie.spec is-fit-requires returns)
+has-cells-spec = tie.close (tie.spec (λ c κs. search needs) returns)

@@ -4,12 +4,9 @@ use borrow.Author.Needs.{needs}
 use Rattle.added.proofs.checks.is_on.Statement.{statement}
 use Rattle.added.proofs.checks.is_on.Tie as tie
 
-low-edge-requires : tie.Need-low-edge-requires
-low-edge-requires c κs = search needs
-
 returns : tie.Need-returns
 unfolding insideOn
 returns c = rw (c .low-edge .ensures)
 
 pub is-on-spec : {M : Type 1} → statement M
-is-on-spec = tie.close (tie.spec low-edge-requires returns)
+is-on-spec = tie.close (tie.spec (λ c κs. search needs) returns)

@@ -14,41 +14,8 @@ abbrev μ-loop : tie.MeasureT-loop
 loop-holds : tie.Need-loop-holds Inv-loop μ-loop
 loop-holds c = opening-none (c .pre)
 
-sub-items : tie.Need-sub-items Inv-loop μ-loop
-sub-items c = omega arith
-
-mul-items : tie.Need-mul-items Inv-loop μ-loop
-mul-items c = omega arith
-
-slice-read-items : tie.Need-slice-read-items Inv-loop μ-loop
-slice-read-items c = omega arith
-
-add-items : tie.Need-add-items Inv-loop μ-loop
-add-items c = omega arith
-
-mul-items-2 : tie.Need-mul-items-2 Inv-loop μ-loop
-mul-items-2 c = omega arith
-
-slice-write-items : tie.Need-slice-write-items Inv-loop μ-loop
-slice-write-items c = omega arith
-
-sub-i : tie.Need-sub-i Inv-loop μ-loop
-sub-i c = omega arith
-
-loop-less : tie.Need-loop-less Inv-loop μ-loop
-loop-less c = omega arith
-
 loop-again : tie.Need-loop-again Inv-loop μ-loop
 loop-again c = opening-more (c .before .before .loop .inv) (c .before .loop-test .taken)
-
-add-items-2 : tie.Need-add-items-2 Inv-loop μ-loop
-add-items-2 c = omega arith
-
-mul-items-3 : tie.Need-mul-items-3 Inv-loop μ-loop
-mul-items-3 c = omega arith
-
-slice-write-items-2 : tie.Need-slice-write-items-2 Inv-loop μ-loop
-slice-write-items-2 c = omega arith
 
 same-length : tie.Need-same-length Inv-loop μ-loop
 same-length c = simp length-set (c .before .loop .inv .len)
@@ -63,17 +30,17 @@ open-gap-spec =
     Inv-loop
     μ-loop
     loop-holds
-    sub-items
-    mul-items
-    slice-read-items
-    add-items
-    mul-items-2
-    slice-write-items
-    sub-i
-    loop-less
+    (λ c. omega arith)
+    (λ c. omega arith)
+    (λ c. omega arith)
+    (λ c. omega arith)
+    (λ c. omega arith)
+    (λ c. omega arith)
+    (λ c. omega arith)
+    (λ c. omega arith)
     loop-again
-    add-items-2
-    mul-items-3
-    slice-write-items-2
+    (λ c. omega arith)
+    (λ c. omega arith)
+    (λ c. omega arith)
     same-length
     returns)

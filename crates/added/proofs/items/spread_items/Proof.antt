@@ -14,9 +14,6 @@ abbrev μ-loop : tie.MeasureT-loop
 loop-holds : tie.Need-loop-holds Inv-loop μ-loop
 loop-holds c = spreading-none (c .before .before .before .pre)
 
-sub-j : tie.Need-sub-j Inv-loop μ-loop
-sub-j c = omega arith
-
 mul-from : tie.Need-mul-from Inv-loop μ-loop
 mul-from c = let l = c .before .loop .inv .at in omega arith
 
@@ -41,14 +38,8 @@ cast-from-2 c = omega (arith, c .shared-slice-known4 .given (lib.ListN.getD (c .
 open-gap-requires : tie.Need-open-gap-requires Inv-loop μ-loop
 open-gap-requires c κs = spreading-asks (c .before .before .before .before .loop .inv) (c .before .before .before .loop-test .taken)
 
-loop-less : tie.Need-loop-less Inv-loop μ-loop
-loop-less c = omega arith
-
 loop-again : tie.Need-loop-again Inv-loop μ-loop
 loop-again c = spreading-more (c .before .before .before .before .before .before .before .loop .inv) (c .before .before .before .before .before .before .loop-test .taken) (c .before .before .open-gap .ensures) (c .before .before .open-gap .kept .0)
-
-same-length : tie.Need-same-length Inv-loop μ-loop
-same-length c = c .before .loop .inv .len
 
 returns : tie.Need-returns Inv-loop μ-loop
 returns c = spreading-done (c .before .loop .inv) (c .loop-test .left)
@@ -60,7 +51,7 @@ spread-items-spec =
     Inv-loop
     μ-loop
     loop-holds
-    sub-j
+    (λ c. omega arith)
     mul-from
     shared-slice-read-from
     cast-from
@@ -69,7 +60,7 @@ spread-items-spec =
     shared-slice-read-from-2
     cast-from-2
     open-gap-requires
-    loop-less
+    (λ c. omega arith)
     loop-again
-    same-length
+    (λ c. c .before .loop .inv .len)
     returns)

@@ -14,29 +14,11 @@ abbrev μ-loop : tie.MeasureT-loop
 loop-holds : tie.Need-loop-holds Inv-loop μ-loop
 loop-holds c = raising-none (c .pre)
 
-mul-offsets : tie.Need-mul-offsets Inv-loop μ-loop
-mul-offsets c = omega arith
-
-slice-read-offsets : tie.Need-slice-read-offsets Inv-loop μ-loop
-slice-read-offsets c = omega arith
-
 add-offsets : tie.Need-add-offsets Inv-loop μ-loop
 add-offsets c = record { fits = raising-fits (c .before .before .loop .inv) (c .before .loop-test .taken) }
 
-slice-write-offsets : tie.Need-slice-write-offsets Inv-loop μ-loop
-slice-write-offsets c = omega arith
-
-add-i : tie.Need-add-i Inv-loop μ-loop
-add-i c = omega arith
-
-loop-less : tie.Need-loop-less Inv-loop μ-loop
-loop-less c = omega arith
-
 loop-again : tie.Need-loop-again Inv-loop μ-loop
 loop-again c = raising-more (c .before .before .loop .inv) (c .before .loop-test .taken)
-
-same-length : tie.Need-same-length Inv-loop μ-loop
-same-length c = c .before .loop .inv .len
 
 returns : tie.Need-returns Inv-loop μ-loop
 returns c = raising-done (c .before .loop .inv) (c .loop-test .left)
@@ -48,12 +30,12 @@ raise-spec =
     Inv-loop
     μ-loop
     loop-holds
-    mul-offsets
-    slice-read-offsets
+    (λ c. omega arith)
+    (λ c. omega arith)
     add-offsets
-    slice-write-offsets
-    add-i
-    loop-less
+    (λ c. omega arith)
+    (λ c. omega arith)
+    (λ c. omega arith)
     loop-again
-    same-length
+    (λ c. c .before .loop .inv .len)
     returns)

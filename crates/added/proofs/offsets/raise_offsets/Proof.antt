@@ -13,9 +13,6 @@ abbrev μ-loop : tie.MeasureT-loop
 loop-holds : tie.Need-loop-holds Inv-loop μ-loop
 loop-holds c = lifting-none (c .before .before .pre)
 
-sub-from : tie.Need-sub-from Inv-loop μ-loop
-sub-from c = omega arith
-
 mul-from : tie.Need-mul-from Inv-loop μ-loop
 mul-from c = let l = c .before .loop .inv .at in omega arith
 
@@ -43,9 +40,6 @@ loop-less c = let l = c .before .before .before .before .before .loop-test .take
 loop-again : tie.Need-loop-again Inv-loop μ-loop
 loop-again c = lifting-more (c .before .before .before .before .before .before .loop .inv) (c .before .before .before .before .before .loop-test .taken) (c .before .before .raise .ensures) (c .before .before .raise .kept .0)
 
-same-length : tie.Need-same-length Inv-loop μ-loop
-same-length c = c .before .loop .inv .len
-
 returns : tie.Need-returns Inv-loop μ-loop
 returns c = lifting-done (c .before .loop .inv) (c .loop-test .left)
 
@@ -56,7 +50,7 @@ raise-offsets-spec =
     Inv-loop
     μ-loop
     loop-holds
-    sub-from
+    (λ c. omega arith)
     mul-from
     shared-slice-read-from
     cast-from
@@ -66,5 +60,5 @@ raise-offsets-spec =
     sub-j
     loop-less
     loop-again
-    same-length
+    (λ c. c .before .loop .inv .len)
     returns)

@@ -6,26 +6,8 @@ use borrow.Author.Needs.{needs}
 use Rattle.added.proofs.placing.list_global.Statement.{statement}
 use Rattle.added.proofs.placing.list_global.Tie as tie
 
-clear-from-requires : tie.Need-clear-from-requires
-clear-from-requires c κs = search needs
-
-same-length : tie.Need-same-length
-same-length c = search needs
-
 returns : tie.Need-returns
 returns c = global-none _ _ _ _ (c .before .before .before .before .if1 .taken) (c .before .before .before .before .before .before .pre .1) (c .before .before .clear-from .ensures)
-
-mul-globals : tie.Need-mul-globals
-mul-globals c = search needs
-
-slice-write-globals : tie.Need-slice-write-globals
-slice-write-globals c = search needs
-
-add-clear-from : tie.Need-add-clear-from
-add-clear-from c = search needs
-
-clear-from-requires-2 : tie.Need-clear-from-requires-2
-clear-from-requires-2 c κs = search needs
 
 same-length-2 : tie.Need-same-length-2
 same-length-2 c = c .before .before .clear-from2 .kept .0 ∙ simp length-set
@@ -37,12 +19,12 @@ pub list-global-spec : {M : Type 1} → statement M
 list-global-spec =
     tie.close
     (tie.spec
-    clear-from-requires
-    same-length
+    (λ c κs. search needs)
+    (λ c. search needs)
     returns
-    mul-globals
-    slice-write-globals
-    add-clear-from
-    clear-from-requires-2
+    (λ c. search needs)
+    (λ c. search needs)
+    (λ c. search needs)
+    (λ c κs. search needs)
     same-length-2
     returns-2)

@@ -5,9 +5,6 @@ use borrow.Author.Needs.{needs}
 use Rattle.blocks.proofs.Rectangles.{Along, along-none, along-fits, along-more, along-done}
 use Rattle.blocks.proofs.adding.add_part.Statement.{statement}
 use Rattle.blocks.proofs.adding.add_part.Tie as tie
-use Rattle.blocks.proofs.adding.add_part.Reads as reads
-use Rattle.blocks.proofs.adding.add_part.Lts as lts
-use Rattle.blocks.proofs.adding.number.Reads as number-reads
 
 abbrev Inv-loop : tie.InvT-loop
 Inv-loop summary from below so-far block₀ sum₀ block sum = Along summary from below so-far block sum
@@ -24,17 +21,11 @@ mul-number c = omega (arith, c .before .loop .inv .asks .few)
 shared-slice-read-number : tie.Need-shared-slice-read-number Inv-loop μ-loop
 shared-slice-read-number c = omega (arith, c .before .before .loop .inv .asks .room)
 
-number-requires : tie.Need-number-requires Inv-loop μ-loop
-number-requires c κs = search needs
-
 add-sum : tie.Need-add-sum Inv-loop μ-loop
 add-sum c = omega (arith, c .number .ensures, along-fits (c .before .before .before .loop .inv) (omega arith) (omega (arith, c .before .shared-slice-known2 .given (c .before .before .before .loop .block))))
 
 add-block : tie.Need-add-block Inv-loop μ-loop
 add-block c = omega (arith, c .before .before .before .loop .inv .asks .few)
-
-loop-less : tie.Need-loop-less Inv-loop μ-loop
-loop-less c = omega arith
 
 loop-again : tie.Need-loop-again Inv-loop μ-loop
 loop-again c = rw (c .number .ensures) (along-more (c .before .before .before .loop .inv) (omega arith) (omega (arith, c .before .shared-slice-known2 .given (c .before .before .before .loop .block))))
@@ -51,9 +42,9 @@ add-part-spec =
     loop-holds
     mul-number
     shared-slice-read-number
-    number-requires
+    (λ c κs. search needs)
     add-sum
     add-block
-    loop-less
+    (λ c. omega arith)
     loop-again
     returns)

@@ -7,11 +7,6 @@ use Rattle.blocks.specs.Query.{itemsIn}
 use Rattle.blocks.proofs.Rectangles.{Upward, upward-none, row-there, row-begun, upward-asks, upward-more, upward-done}
 use Rattle.blocks.proofs.adding.add_rectangle.Statement.{statement}
 use Rattle.blocks.proofs.adding.add_rectangle.Tie as tie
-use Rattle.blocks.proofs.adding.add_rectangle.Reads as reads
-use Rattle.blocks.proofs.adding.add_rectangle.Lts as lts
-use Rattle.blocks.proofs.adding.add_part.Reads as add-part-reads
-use Rattle.blocks.proofs.blocks_along.Reads as blocks-along-reads
-use Rattle.slices.proofs.wide.Reads as wide-reads
 
 abbrev Inv-loop : tie.InvT-loop
 Inv-loop summary low high width row₀ sum₀ row sum = Upward width summary low high row sum
@@ -19,29 +14,14 @@ Inv-loop summary low high width row₀ sum₀ row sum = Upward width summary low
 abbrev μ-loop : tie.MeasureT-loop
 μ-loop summary low high width row₀ sum₀ row sum = high .row + 1 - row
 
-blocks-along-requires : tie.Need-blocks-along-requires Inv-loop μ-loop
-blocks-along-requires c κs = search needs
-
-wide-requires : tie.Need-wide-requires Inv-loop μ-loop
-wide-requires c κs = search needs
-
 loop-holds : tie.Need-loop-holds Inv-loop μ-loop
 loop-holds c = rw (c .wide .ensures, c .before .blocks-along .ensures) (upward-none (c .before .before .before .pre))
-
-wide-requires-2 : tie.Need-wide-requires-2 Inv-loop μ-loop
-wide-requires-2 c κs = search needs
 
 mul-at : tie.Need-mul-at Inv-loop μ-loop
 mul-at c = omega (arith, row-there (c .before .before .loop .inv) (omega (arith, c .before .wide2 .ensures)))
 
-wide-requires-3 : tie.Need-wide-requires-3 Inv-loop μ-loop
-wide-requires-3 c κs = search needs
-
 add-add-part : tie.Need-add-add-part Inv-loop μ-loop
 add-add-part c = omega (arith, c .wide3 .ensures, row-begun (c .before .before .before .loop .inv) (omega (arith, c .before .before .wide2 .ensures)))
-
-wide-requires-4 : tie.Need-wide-requires-4 Inv-loop μ-loop
-wide-requires-4 c κs = search needs
 
 add-add-part-2 : tie.Need-add-add-part-2 Inv-loop μ-loop
 add-add-part-2 c = omega (arith, c .wide4 .ensures, row-there (c .before .before .before .before .loop .inv) (omega (arith, c .before .before .before .wide2 .ensures)))
@@ -51,9 +31,6 @@ add-add-part-3 c = omega (arith, c .wide4 .ensures, row-there (c .before .before
 
 add-part-requires : tie.Need-add-part-requires Inv-loop μ-loop
 add-part-requires c κs = rw (c .before .wide3 .ensures, c .wide4 .ensures) (upward-asks (c .before .before .before .before .loop .inv) (omega (arith, c .before .before .before .wide2 .ensures)))
-
-add-row : tie.Need-add-row Inv-loop μ-loop
-add-row c = omega arith
 
 loop-less : tie.Need-loop-less Inv-loop μ-loop
 loop-less c = omega (arith, c .before .before .before .before .wide2 .ensures)
@@ -71,18 +48,18 @@ add-rectangle-spec =
     (tie.spec
     Inv-loop
     μ-loop
-    blocks-along-requires
-    wide-requires
+    (λ c κs. search needs)
+    (λ c κs. search needs)
     loop-holds
-    wide-requires-2
+    (λ c κs. search needs)
     mul-at
-    wide-requires-3
+    (λ c κs. search needs)
     add-add-part
-    wide-requires-4
+    (λ c κs. search needs)
     add-add-part-2
     add-add-part-3
     add-part-requires
-    add-row
+    (λ c. omega arith)
     loop-less
     loop-again
     returns)

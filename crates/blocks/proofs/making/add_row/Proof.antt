@@ -5,9 +5,6 @@ use borrow.Author.Needs.{needs}
 use Rattle.blocks.proofs.Telling.{Across, across-none, Part, part-says, next-few, block-in, cell-in, cell-few, part-rises, part-small, across-more, across-done}
 use Rattle.blocks.proofs.making.add_row.Statement.{statement}
 use Rattle.blocks.proofs.making.add_row.Tie as tie
-use Rattle.blocks.proofs.making.add_row.Reads as reads
-use Rattle.blocks.proofs.making.add_row.Lts as lts
-use Rattle.slices.proofs.least.Reads as least-reads
 
 abbrev Inv-loop : tie.InvT-loop
 Inv-loop offsets cols at first summary₀ x₀ block₀ summary x block = Across cols offsets at first summary₀ summary x block
@@ -20,9 +17,6 @@ loop-holds c = across-none _ _ _ _ _ (c .before .before .pre)
 
 add-next : tie.Need-add-next Inv-loop μ-loop
 add-next c = omega (arith, next-few (c .before .loop .inv) (omega arith))
-
-least-requires : tie.Need-least-requires Inv-loop μ-loop
-least-requires c κs = search needs
 
 add-more : tie.Need-add-more Inv-loop μ-loop
 add-more c = omega (arith, cell-few (c .before .before .loop .inv) (omega arith) (part-says _ _ _ (omega arith) (c .least .ensures)))
@@ -72,9 +66,6 @@ loop-less c = let p = part-says _ _ _ (omega arith) (c .before .before .before .
 loop-again : tie.Need-loop-again Inv-loop μ-loop
 loop-again c = across-more (c .before .before .before .before .before .loop .inv) (omega arith) (part-says _ _ _ (omega arith) (c .before .before .before .least .ensures))
 
-same-length : tie.Need-same-length Inv-loop μ-loop
-same-length c = c .before .loop .inv .len
-
 returns : tie.Need-returns Inv-loop μ-loop
 returns c = across-done (c .before .loop .inv) (omega arith)
 
@@ -86,7 +77,7 @@ add-row-spec =
     μ-loop
     loop-holds
     add-next
-    least-requires
+    (λ c κs. search needs)
     add-more
     mul-more
     shared-slice-read-more
@@ -102,5 +93,5 @@ add-row-spec =
     add-block
     loop-less
     loop-again
-    same-length
+    (λ c. c .before .loop .inv .len)
     returns)

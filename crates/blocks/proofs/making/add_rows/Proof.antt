@@ -7,26 +7,12 @@ use Rattle.blocks.specs.Blocks.{along}
 use Rattle.blocks.proofs.Telling.{Downward, downward-none, row-asks, row-few, block-few, downward-more, downward-done}
 use Rattle.blocks.proofs.making.add_rows.Statement.{statement}
 use Rattle.blocks.proofs.making.add_rows.Tie as tie
-use Rattle.blocks.proofs.making.add_rows.Reads as reads
-use Rattle.blocks.proofs.making.add_rows.Lts as lts
-use Rattle.blocks.proofs.blocks_along.Reads as blocks-along-reads
-use Rattle.blocks.proofs.making.add_row.Reads as add-row-reads
-use Rattle.slices.proofs.wide.Reads as wide-reads
 
 abbrev Inv-loop : tie.InvT-loop
 Inv-loop offsets summary₀ cols rows width row₀ summary row = Downward cols rows offsets summary₀ summary row
 
 abbrev μ-loop : tie.MeasureT-loop
 μ-loop offsets summary₀ cols rows width row₀ summary row = rows - row
-
-wide-requires : tie.Need-wide-requires Inv-loop μ-loop
-wide-requires c κs = search needs
-
-wide-requires-2 : tie.Need-wide-requires-2 Inv-loop μ-loop
-wide-requires-2 c κs = search needs
-
-blocks-along-requires : tie.Need-blocks-along-requires Inv-loop μ-loop
-blocks-along-requires c κs = search needs
 
 loop-holds : tie.Need-loop-holds Inv-loop μ-loop
 loop-holds c = rw (c .before .before .wide .ensures, c .before .wide2 .ensures) (downward-none (c .before .before .before .before .before .pre .0) (c .before .before .before .before .before .pre .1))
@@ -40,17 +26,8 @@ mul-add-row-2 c = let e = c .before .before .blocks-along .ensures ∙ ap along 
 add-row-requires : tie.Need-add-row-requires Inv-loop μ-loop
 add-row-requires c κs = row-asks (c .before .before .loop .inv) (omega arith) refl (ap (λ (w : ℕ). c .before .before .loop .row / 16 * w) (c .before .before .before .blocks-along .ensures ∙ ap along (sym (c .before .before .before .before .before .wide .ensures))))
 
-add-row : tie.Need-add-row Inv-loop μ-loop
-add-row c = omega arith
-
-loop-less : tie.Need-loop-less Inv-loop μ-loop
-loop-less c = omega arith
-
 loop-again : tie.Need-loop-again Inv-loop μ-loop
 loop-again c = downward-more (c .before .before .before .before .before .loop .inv) (omega arith) refl (c .before .before .add-row .ensures)
-
-same-length : tie.Need-same-length Inv-loop μ-loop
-same-length c = c .before .loop .inv .len
 
 returns : tie.Need-returns Inv-loop μ-loop
 returns c = rw (← c .before .before .before .before .wide .ensures, ← c .before .before .before .wide2 .ensures) (downward-done (c .before .loop .inv) (omega arith))
@@ -61,15 +38,15 @@ add-rows-spec =
     (tie.spec
     Inv-loop
     μ-loop
-    wide-requires
-    wide-requires-2
-    blocks-along-requires
+    (λ c κs. search needs)
+    (λ c κs. search needs)
+    (λ c κs. search needs)
     loop-holds
     mul-add-row
     mul-add-row-2
     add-row-requires
-    add-row
-    loop-less
+    (λ c. omega arith)
+    (λ c. omega arith)
     loop-again
-    same-length
+    (λ c. c .before .loop .inv .len)
     returns)

@@ -7,8 +7,6 @@ use lib.ListN.{getD}
 use Rattle.blocks.proofs.Owns.{Testing, testing-none, testing-more, testing-bad, testing-done}
 use Rattle.blocks.proofs.owning.are_same.Statement.{statement}
 use Rattle.blocks.proofs.owning.are_same.Tie as tie
-use Rattle.blocks.proofs.owning.are_same.Reads as reads
-use Rattle.blocks.proofs.owning.are_same.Lts as lts
 
 abbrev Inv-loop : tie.InvT-loop
 Inv-loop numbers summary n b₀ b = Testing (λ k. eqb (getD summary k 0) (getD numbers k 0)) n b
@@ -19,26 +17,8 @@ abbrev μ-loop : tie.MeasureT-loop
 loop-holds : tie.Need-loop-holds Inv-loop μ-loop
 loop-holds c = testing-none _ _
 
-mul-if1 : tie.Need-mul-if1 Inv-loop μ-loop
-mul-if1 c = omega arith
-
-shared-slice-read-if1 : tie.Need-shared-slice-read-if1 Inv-loop μ-loop
-shared-slice-read-if1 c = omega arith
-
-mul-if1-2 : tie.Need-mul-if1-2 Inv-loop μ-loop
-mul-if1-2 c = omega arith
-
-shared-slice-read-if1-2 : tie.Need-shared-slice-read-if1-2 Inv-loop μ-loop
-shared-slice-read-if1-2 c = omega arith
-
 returns : tie.Need-returns Inv-loop μ-loop
 returns c = let a = c .before .before .before .before .before .args in testing-bad (λ k. eqb (getD (a .summary .now) k 0) (getD (a .numbers .now) k 0)) _ (c .before .before .before .before .loop .b) (omega arith) (ne-eqb _ _ (c .if1 .taken))
-
-add-b : tie.Need-add-b Inv-loop μ-loop
-add-b c = omega arith
-
-loop-less : tie.Need-loop-less Inv-loop μ-loop
-loop-less c = omega arith
 
 loop-again : tie.Need-loop-again Inv-loop μ-loop
 loop-again c = testing-more (c .before .before .before .before .loop .inv) (omega arith) (eq-eqb _ _ (c .if1 .left))
@@ -53,12 +33,12 @@ are-same-spec =
     Inv-loop
     μ-loop
     loop-holds
-    mul-if1
-    shared-slice-read-if1
-    mul-if1-2
-    shared-slice-read-if1-2
+    (λ c. omega arith)
+    (λ c. omega arith)
+    (λ c. omega arith)
+    (λ c. omega arith)
     returns
-    add-b
-    loop-less
+    (λ c. omega arith)
+    (λ c. omega arith)
     loop-again
     returns-2)

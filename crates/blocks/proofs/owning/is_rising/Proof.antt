@@ -6,16 +6,6 @@ use Rattle.grid.proofs.Shapes.{wide-product}
 use Rattle.blocks.proofs.Owns.{rising-short, rising-is}
 use Rattle.blocks.proofs.owning.is_rising.Statement.{statement}
 use Rattle.blocks.proofs.owning.is_rising.Tie as tie
-use Rattle.blocks.proofs.owning.is_rising.Reads as reads
-use Rattle.blocks.proofs.owning.is_rising.Lts as lts
-use Rattle.blocks.proofs.owning.never_fall.Reads as never-fall-reads
-use Rattle.slices.proofs.wide.Reads as wide-reads
-
-wide-requires : tie.Need-wide-requires
-wide-requires c κs = search needs
-
-wide-requires-2 : tie.Need-wide-requires-2
-wide-requires-2 c κs = search needs
 
 mul-cells : tie.Need-mul-cells
 mul-cells c = record { fits = wide-product (c .before .wide .result) (c .wide2 .result) (omega arith) (omega arith) }
@@ -23,13 +13,10 @@ mul-cells c = record { fits = wide-product (c .before .wide .result) (c .wide2 .
 returns : tie.Need-returns
 returns c = let a = c .before .before .before .before .args in rising-short (a .grid) (a .offsets .now) (rw (← c .before .before .wide .ensures, ← c .before .wide2 .ensures) (c .if1 .taken))
 
-never-fall-requires : tie.Need-never-fall-requires
-never-fall-requires c κs = search needs
-
 returns-2 : tie.Need-returns-2
 returns-2 c = let a = c .before .before .before .before .before .args in rw (c .before .before .before .wide .ensures, c .before .before .wide2 .ensures) at (c .never-fall .ensures) ∙ rising-is (a .grid) (a .offsets .now) (rw (← c .before .before .before .wide .ensures, ← c .before .before .wide2 .ensures) (omega arith))
 
 pub is-rising-spec : {M : Type 1} → statement M
 is-rising-spec =
     tie.close
-    (tie.spec wide-requires wide-requires-2 mul-cells returns never-fall-requires returns-2)
+    (tie.spec (λ c κs. search needs) (λ c κs. search needs) mul-cells returns (λ c κs. search needs) returns-2)

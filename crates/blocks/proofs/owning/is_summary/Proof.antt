@@ -6,48 +6,26 @@ use borrow.Author.Tests.{not-false, not-true}
 use Rattle.blocks.proofs.Owns.{unfit-none, falling-none, short-none, numbers-ask, room-for, same-is}
 use Rattle.blocks.proofs.owning.is_summary.Statement.{statement}
 use Rattle.blocks.proofs.owning.is_summary.Tie as tie
-use Rattle.blocks.proofs.owning.is_summary.Reads as reads
-use Rattle.blocks.proofs.owning.is_summary.Lts as lts
-use Rattle.blocks.proofs.block_count.Reads as block-count-reads
-use Rattle.blocks.proofs.making.add_rows.Reads as add-rows-reads
-use Rattle.blocks.proofs.owning.are_same.Reads as are-same-reads
-use Rattle.blocks.proofs.owning.is_rising.Reads as is-rising-reads
-use Rattle.grid.proofs.checks.is_fit.Reads as is-fit-reads
-
-is-fit-requires : tie.Need-is-fit-requires
-is-fit-requires c κs = search needs
 
 returns : tie.Need-returns
 returns c =
     let a = c .before .before .before .before .args in
     unfit-none (a .grid) (a .offsets .now) (a .summary .now) (sym (c .before .is-fit .ensures) ∙ not-true _ (c .if1 .taken))
 
-is-rising-requires : tie.Need-is-rising-requires
-is-rising-requires c κs = search needs
-
 returns-2 : tie.Need-returns-2
 returns-2 c =
     let a = c .before .before .before .before .before .before .args in
     falling-none (a .grid) (a .offsets .now) (a .summary .now) (sym (c .before .before .before .is-fit .ensures) ∙ not-false _ (c .before .before .if1 .left)) (sym (c .before .is-rising .ensures) ∙ not-true _ (c .if2 .taken))
-
-block-count-requires : tie.Need-block-count-requires
-block-count-requires c κs = search needs
 
 returns-3 : tie.Need-returns-3
 returns-3 c =
     let a = c .before .before .before .before .before .before .before .before .args in
     short-none (a .grid) (a .offsets .now) (a .summary .now) (sym (c .before .before .before .before .before .is-fit .ensures) ∙ not-false _ (c .before .before .before .before .if1 .left)) (sym (c .before .before .before .is-rising .ensures) ∙ not-false _ (c .before .before .if2 .left)) (rw (← c .before .block-count .ensures) (c .if3 .taken))
 
-slice-aggregate-add-rows : tie.Need-slice-aggregate-add-rows
-slice-aggregate-add-rows c = search needs
-
 add-rows-requires : tie.Need-add-rows-requires
 add-rows-requires c κs =
     let a = c .before .before .before .before .before .before .before .before .before .args in
     numbers-ask (a .grid) (a .offsets .now) (a .summary .now) (sym (c .before .before .before .before .before .before .is-fit .ensures) ∙ not-false _ (c .before .before .before .before .before .if1 .left)) (sym (c .before .before .before .before .is-rising .ensures) ∙ not-false _ (c .before .before .before .if2 .left)) _ refl
-
-slice-aggregate-are-same : tie.Need-slice-aggregate-are-same
-slice-aggregate-are-same c = search needs
 
 are-same-requires : tie.Need-are-same-requires
 are-same-requires c κs =
@@ -65,14 +43,14 @@ pub is-summary-spec : {M : Type 1} → statement M
 is-summary-spec =
     tie.close
     (tie.spec
-    is-fit-requires
+    (λ c κs. search needs)
     returns
-    is-rising-requires
+    (λ c κs. search needs)
     returns-2
-    block-count-requires
+    (λ c κs. search needs)
     returns-3
-    slice-aggregate-add-rows
+    (λ c. search needs)
     add-rows-requires
-    slice-aggregate-are-same
+    (λ c. search needs)
     are-same-requires
     returns-4)

@@ -5,9 +5,6 @@ use lib.ListN.{length}
 use Rattle.blocks_added.proofs.Raises.{Raising, raising-none, block-in, block-fits, raising-more, raising-done}
 use Rattle.blocks_added.proofs.raising.raise.Statement.{statement}
 use Rattle.blocks_added.proofs.raising.raise.Tie as tie
-use Rattle.blocks_added.proofs.raising.raise.Reads as reads
-use Rattle.blocks_added.proofs.raising.raise.Lts as lts
-use Rattle.blocks_added.proofs.raising.block_of.Reads as block-of-reads
 
 abbrev Inv-loop : tie.InvT-loop
 Inv-loop grid cells summary₀ k₀ summary k = Raising (grid .cols) cells summary₀ summary k
@@ -17,15 +14,6 @@ abbrev μ-loop : tie.MeasureT-loop
 
 loop-holds : tie.Need-loop-holds Inv-loop μ-loop
 loop-holds c = raising-none (c .before .before .pre)
-
-mul-block-of : tie.Need-mul-block-of Inv-loop μ-loop
-mul-block-of c = omega arith
-
-shared-slice-read-block-of : tie.Need-shared-slice-read-block-of Inv-loop μ-loop
-shared-slice-read-block-of c = omega arith
-
-block-of-requires : tie.Need-block-of-requires Inv-loop μ-loop
-block-of-requires c κs = c .before .before .loop .inv .asks .some
 
 mul-summary : tie.Need-mul-summary Inv-loop μ-loop
 mul-summary c = omega (arith, block-in (c .before .before .before .loop .inv) (omega arith) (c .block-of .ensures))
@@ -42,17 +30,8 @@ mul-summary-2 c = omega (arith, block-in (c .before .before .before .before .loo
 slice-write-summary : tie.Need-slice-write-summary Inv-loop μ-loop
 slice-write-summary c = block-in (c .before .before .before .before .loop .inv) (omega arith) (c .before .block-of .ensures)
 
-add-k : tie.Need-add-k Inv-loop μ-loop
-add-k c = omega arith
-
-loop-less : tie.Need-loop-less Inv-loop μ-loop
-loop-less c = omega arith
-
 loop-again : tie.Need-loop-again Inv-loop μ-loop
 loop-again c = raising-more (c .before .before .before .before .loop .inv) (omega arith) (c .before .block-of .ensures)
-
-same-length : tie.Need-same-length Inv-loop μ-loop
-same-length c = c .before .loop .inv .len
 
 returns : tie.Need-returns Inv-loop μ-loop
 returns c = raising-done (c .before .loop .inv) (omega arith)
@@ -64,16 +43,16 @@ raise-spec =
     Inv-loop
     μ-loop
     loop-holds
-    mul-block-of
-    shared-slice-read-block-of
-    block-of-requires
+    (λ c. omega arith)
+    (λ c. omega arith)
+    (λ c κs. c .before .before .loop .inv .asks .some)
     mul-summary
     slice-read-summary
     add-summary
     mul-summary-2
     slice-write-summary
-    add-k
-    loop-less
+    (λ c. omega arith)
+    (λ c. omega arith)
     loop-again
-    same-length
+    (λ c. c .before .loop .inv .len)
     returns)

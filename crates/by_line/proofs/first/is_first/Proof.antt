@@ -4,16 +4,10 @@ use Rattle.by_line.specs.First.{firstBy}
 use borrow.Author.Needs.{needs}
 use Rattle.by_line.proofs.first.is_first.Statement.{statement}
 use Rattle.by_line.proofs.first.is_first.Tie as tie
-use Rattle.by_line.proofs.first.is_first.Reads as reads
-use Rattle.by_line.proofs.first.is_first.Lts as lts
-use Rattle.by_line.proofs.first.met_before.Reads as met-before-reads
 
 returns : tie.Need-returns
 unfolding firstBy
 returns c = rw (lt-ltb _ _ (c .if1 .taken))
-
-met-before-requires : tie.Need-met-before-requires
-met-before-requires c κs = search needs
 
 returns-2 : tie.Need-returns-2
 unfolding firstBy
@@ -24,4 +18,4 @@ unfolding firstBy
 returns-3 c = rw (le-ltb _ _ (c .before .before .if1 .left), ← c .before .met-before .ensures, c .if2 .left)
 
 pub is-first-spec : {M : Type 1} → statement M
-is-first-spec = tie.close (tie.spec returns met-before-requires returns-2 returns-3)
+is-first-spec = tie.close (tie.spec returns (λ c κs. search needs) returns-2 returns-3)

@@ -5,8 +5,6 @@ use native.Mathlib.Omega.{arith}
 use Rattle.by_line.proofs.Fronts.{none-left, none-right, Comparing, comparing-found, comparing-left-over, comparing-left, comparing-right-over, comparing-right}
 use Rattle.by_line.proofs.first.meet.Statement.{statement}
 use Rattle.by_line.proofs.first.meet.Tie as tie
-use Rattle.by_line.proofs.first.meet.Reads as reads
-use Rattle.by_line.proofs.first.meet.Lts as lts
 
 abbrev Inv-loop : tie.InvT-loop
 Inv-loop xs ys i₀ j₀ x₀ y₀ i j x y = Comparing xs ys i j x y
@@ -20,65 +18,17 @@ returns c = none-left _ _ (c .if1 .taken)
 returns-2 : tie.Need-returns-2 Inv-loop μ-loop
 returns-2 c = none-right _ _ (c .if2 .taken)
 
-sub-x : tie.Need-sub-x Inv-loop μ-loop
-sub-x c = omega arith
-
-mul-x : tie.Need-mul-x Inv-loop μ-loop
-mul-x c = omega arith
-
-shared-slice-read-x : tie.Need-shared-slice-read-x Inv-loop μ-loop
-shared-slice-read-x c = omega arith
-
-sub-y : tie.Need-sub-y Inv-loop μ-loop
-sub-y c = omega arith
-
-mul-y : tie.Need-mul-y Inv-loop μ-loop
-mul-y c = omega arith
-
-shared-slice-read-y : tie.Need-shared-slice-read-y Inv-loop μ-loop
-shared-slice-read-y c = omega arith
-
 loop-holds : tie.Need-loop-holds Inv-loop μ-loop
 loop-holds c = record { in-xs = omega arith; in-ys = omega arith; some-x = omega arith; some-y = omega arith; x-is = refl; y-is = refl; same = refl }
-
-sub-j : tie.Need-sub-j Inv-loop μ-loop
-sub-j c = omega arith
 
 returns-3 : tie.Need-returns-3 Inv-loop μ-loop
 returns-3 c = comparing-left-over (c .before .before .before .loop .inv) (c .before .before .loop-test .taken) (c .before .if3 .taken) (c .if4 .taken)
 
-sub-y-2 : tie.Need-sub-y-2 Inv-loop μ-loop
-sub-y-2 c = omega arith
-
-mul-y-2 : tie.Need-mul-y-2 Inv-loop μ-loop
-mul-y-2 c = omega arith
-
-shared-slice-read-y-2 : tie.Need-shared-slice-read-y-2 Inv-loop μ-loop
-shared-slice-read-y-2 c = omega arith
-
-loop-less : tie.Need-loop-less Inv-loop μ-loop
-loop-less c = omega arith
-
 loop-again : tie.Need-loop-again Inv-loop μ-loop
 loop-again c = comparing-left (c .before .before .before .before .loop .inv) (c .before .before .before .loop-test .taken) (c .before .before .if3 .taken) (c .before .if4 .left)
 
-sub-i : tie.Need-sub-i Inv-loop μ-loop
-sub-i c = omega arith
-
 returns-4 : tie.Need-returns-4 Inv-loop μ-loop
 returns-4 c = comparing-right-over (c .before .before .before .loop .inv) (c .before .before .loop-test .taken) (c .before .if3 .left) (c .if5 .taken)
-
-sub-x-2 : tie.Need-sub-x-2 Inv-loop μ-loop
-sub-x-2 c = omega arith
-
-mul-x-2 : tie.Need-mul-x-2 Inv-loop μ-loop
-mul-x-2 c = omega arith
-
-shared-slice-read-x-2 : tie.Need-shared-slice-read-x-2 Inv-loop μ-loop
-shared-slice-read-x-2 c = omega arith
-
-loop-less-2 : tie.Need-loop-less-2 Inv-loop μ-loop
-loop-less-2 c = omega arith
 
 loop-again-2 : tie.Need-loop-again-2 Inv-loop μ-loop
 loop-again-2 c = comparing-right (c .before .before .before .before .loop .inv) (c .before .before .before .loop-test .taken) (c .before .before .if3 .left) (c .before .if5 .left)
@@ -94,25 +44,25 @@ meet-spec =
     μ-loop
     returns
     returns-2
-    sub-x
-    mul-x
-    shared-slice-read-x
-    sub-y
-    mul-y
-    shared-slice-read-y
+    (λ c. omega arith)
+    (λ c. omega arith)
+    (λ c. omega arith)
+    (λ c. omega arith)
+    (λ c. omega arith)
+    (λ c. omega arith)
     loop-holds
-    sub-j
+    (λ c. omega arith)
     returns-3
-    sub-y-2
-    mul-y-2
-    shared-slice-read-y-2
-    loop-less
+    (λ c. omega arith)
+    (λ c. omega arith)
+    (λ c. omega arith)
+    (λ c. omega arith)
     loop-again
-    sub-i
+    (λ c. omega arith)
     returns-4
-    sub-x-2
-    mul-x-2
-    shared-slice-read-x-2
-    loop-less-2
+    (λ c. omega arith)
+    (λ c. omega arith)
+    (λ c. omega arith)
+    (λ c. omega arith)
     loop-again-2
     returns-5)

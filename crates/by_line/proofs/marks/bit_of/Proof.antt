@@ -6,20 +6,12 @@ use Rattle.by_line.proofs.Shared.{bit-low, bit-before, bit-near, bit-fa
 use borrow.Author.Needs.{needs}
 use Rattle.by_line.proofs.marks.bit_of.Statement.{statement}
 use Rattle.by_line.proofs.marks.bit_of.Tie as tie
-use Rattle.by_line.proofs.marks.bit_of.Reads as reads
-use Rattle.by_line.proofs.marks.bit_of.Lts as lts
 
 returns : tie.Need-returns
 returns c = bit-low _ _ _ (c .if1 .taken)
 
 returns-2 : tie.Need-returns-2
 returns-2 c = bit-before _ _ _ (c .before .if1 .left) (c .if2 .taken)
-
-sub-k : tie.Need-sub-k
-sub-k c = search needs
-
-shl-result : tie.Need-shl-result
-shl-result c = search needs
 
 returns-3 : tie.Need-returns-3
 returns-3 c = one-shifted _ (omega (arith, c .if3 .taken)) ∙ bit-near _ _ _ (c .before .before .if1 .left) (c .before .if2 .left) (c .if3 .taken)
@@ -28,4 +20,4 @@ returns-4 : tie.Need-returns-4
 returns-4 c = bit-far _ _ _ (c .before .before .if1 .left) (c .before .if2 .left) (c .if3 .left)
 
 pub bit-of-spec : {M : Type 1} → statement M
-bit-of-spec = tie.close (tie.spec returns returns-2 sub-k shl-result returns-3 returns-4)
+bit-of-spec = tie.close (tie.spec returns returns-2 (λ c. search needs) (λ c. search needs) returns-3 returns-4)

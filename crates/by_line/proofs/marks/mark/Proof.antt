@@ -4,10 +4,6 @@ use Rattle.by_line.proofs.Shared.{mark-is, Marking, marking-begin, mark
 use borrow.Author.Needs.{needs}
 use Rattle.by_line.proofs.marks.mark.Statement.{statement}
 use Rattle.by_line.proofs.marks.mark.Tie as tie
-use Rattle.by_line.proofs.marks.mark.Reads as reads
-use Rattle.by_line.proofs.marks.mark.Lts as lts
-use Rattle.by_line.proofs.first.front.Reads as front-reads
-use Rattle.by_line.proofs.marks.bit_of.Reads as bit-of-reads
 
 abbrev Inv-loop : tie.InvT-loop
 Inv-loop line before low starts listing counts cells m₀ i₀ m i = Marking cells before low m i
@@ -15,32 +11,14 @@ Inv-loop line before low starts listing counts cells m₀ i₀ m i = Marking cel
 abbrev μ-loop : tie.MeasureT-loop
 μ-loop line before low starts listing counts cells m₀ i₀ m i = i
 
-front-requires : tie.Need-front-requires Inv-loop μ-loop
-front-requires c κs = search needs
-
 loop-holds : tie.Need-loop-holds Inv-loop μ-loop
 loop-holds c = marking-begin _ _ _
-
-sub-i : tie.Need-sub-i Inv-loop μ-loop
-sub-i c = omega arith
-
-mul-cell : tie.Need-mul-cell Inv-loop μ-loop
-mul-cell c = omega arith
-
-shared-slice-read-cell : tie.Need-shared-slice-read-cell Inv-loop μ-loop
-shared-slice-read-cell c = omega arith
-
-bit-of-requires : tie.Need-bit-of-requires Inv-loop μ-loop
-bit-of-requires c κs = search needs
 
 returns : tie.Need-returns Inv-loop μ-loop
 returns c =
     let a = c .before .before .before .before .before .before .before .before .before .args in
     mark-is (a .line) (a .before) (a .low) (a .starts .now) (a .listing .now) (a .counts .now) (c .before .before .before .before .before .front .ensures)
     (marking-stop (c .before .before .before .before .loop .inv) (c .before .before .before .loop-test .taken) (c .before .bit-of .ensures) (c .if1 .taken))
-
-loop-less : tie.Need-loop-less Inv-loop μ-loop
-loop-less c = omega arith
 
 loop-again : tie.Need-loop-again Inv-loop μ-loop
 loop-again c =
@@ -58,13 +36,13 @@ mark-spec =
     (tie.spec
     Inv-loop
     μ-loop
-    front-requires
+    (λ c κs. search needs)
     loop-holds
-    sub-i
-    mul-cell
-    shared-slice-read-cell
-    bit-of-requires
+    (λ c. omega arith)
+    (λ c. omega arith)
+    (λ c. omega arith)
+    (λ c κs. search needs)
     returns
-    loop-less
+    (λ c. omega arith)
     loop-again
     returns-2)

@@ -6,10 +6,6 @@ use Rattle.by_line.proofs.Shared.{Listing, listing-none, listing-begin,
 use borrow.Author.Needs.{needs}
 use Rattle.by_line.proofs.marks.mark_list.Statement.{statement}
 use Rattle.by_line.proofs.marks.mark_list.Tie as tie
-use Rattle.by_line.proofs.marks.mark_list.Reads as reads
-use Rattle.by_line.proofs.marks.mark_list.Lts as lts
-use Rattle.by_line.proofs.marks.back.Reads as back-reads
-use Rattle.by_line.proofs.marks.mark.Reads as mark-reads
 
 abbrev Inv-loop : tie.InvT-loop
 Inv-loop list cell cols starts listing counts marks₀ before low j₀ marks j = Listing list before low starts listing counts marks₀ marks j
@@ -20,44 +16,14 @@ abbrev μ-loop : tie.MeasureT-loop
 returns : tie.Need-returns Inv-loop μ-loop
 returns c = listing-none (c .if1 .taken)
 
-back-requires : tie.Need-back-requires Inv-loop μ-loop
-back-requires c κs = search needs
-
-back-requires-2 : tie.Need-back-requires-2 Inv-loop μ-loop
-back-requires-2 c κs = search needs
-
-back-requires-3 : tie.Need-back-requires-3 Inv-loop μ-loop
-back-requires-3 c κs = search needs
-
 loop-holds : tie.Need-loop-holds Inv-loop μ-loop
 loop-holds c = listing-begin (c .before .before .before .if1 .left)
-
-mul-mark : tie.Need-mul-mark Inv-loop μ-loop
-mul-mark c = omega arith
-
-shared-slice-read-mark : tie.Need-shared-slice-read-mark Inv-loop μ-loop
-shared-slice-read-mark c = omega arith
-
-mark-requires : tie.Need-mark-requires Inv-loop μ-loop
-mark-requires c κs = search needs
-
-mul-marks : tie.Need-mul-marks Inv-loop μ-loop
-mul-marks c = omega arith
 
 slice-write-marks : tie.Need-slice-write-marks Inv-loop μ-loop
 slice-write-marks c = let l = c .before .before .before .loop .inv in omega (arith, l .long, l .room)
 
-add-j : tie.Need-add-j Inv-loop μ-loop
-add-j c = omega arith
-
-loop-less : tie.Need-loop-less Inv-loop μ-loop
-loop-less c = omega arith
-
 loop-again : tie.Need-loop-again Inv-loop μ-loop
 loop-again c = listing-more (c .before .before .before .loop .inv) (c .before .before .loop-test .taken) (c .mark .ensures)
-
-same-length : tie.Need-same-length Inv-loop μ-loop
-same-length c = c .before .loop .inv .long
 
 returns-2 : tie.Need-returns-2 Inv-loop μ-loop
 returns-2 c =
@@ -71,17 +37,17 @@ mark-list-spec =
     Inv-loop
     μ-loop
     returns
-    back-requires
-    back-requires-2
-    back-requires-3
+    (λ c κs. search needs)
+    (λ c κs. search needs)
+    (λ c κs. search needs)
     loop-holds
-    mul-mark
-    shared-slice-read-mark
-    mark-requires
-    mul-marks
+    (λ c. omega arith)
+    (λ c. omega arith)
+    (λ c κs. search needs)
+    (λ c. omega arith)
     slice-write-marks
-    add-j
-    loop-less
+    (λ c. omega arith)
+    (λ c. omega arith)
     loop-again
-    same-length
+    (λ c. c .before .loop .inv .long)
     returns-2)

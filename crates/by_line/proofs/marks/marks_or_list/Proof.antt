@@ -2,8 +2,6 @@
 use borrow.Author.Tests.{eq-eqb, ne-eqb}
 use Rattle.by_line.proofs.marks.marks_or_list.Statement.{statement}
 use Rattle.by_line.proofs.marks.marks_or_list.Tie as tie
-use Rattle.by_line.proofs.marks.marks_or_list.Reads as reads
-use Rattle.by_line.proofs.marks.marks_or_list.Lts as lts
 
 returns : tie.Need-returns
 returns c = rw (eq-eqb _ _ (c .if1 .taken))

@@ -5,10 +5,6 @@ use native.Mathlib.Omega.{arith}
 use Rattle.by_line.proofs.Turns.{Counting, counting-none, counting-can, counting-more, counting-done}
 use Rattle.by_line.proofs.passes.count_all.Statement.{statement}
 use Rattle.by_line.proofs.passes.count_all.Tie as tie
-use Rattle.by_line.proofs.passes.count_all.Reads as reads
-use Rattle.by_line.proofs.passes.count_all.Lts as lts
-use Rattle.by_line.proofs.passes.count_list.Reads as count-list-reads
-use Rattle.by_line.proofs.passes.list_of.Reads as list-of-reads
 
 abbrev Inv-loop : tie.InvT-loop
 Inv-loop cells lines offsets items counts₀ cell₀ counts cell = Counting cells lines offsets items counts₀ counts cell
@@ -25,17 +21,8 @@ list-of-requires c κs = record { m = _; fits = c .before .loop .inv .table .fit
 count-list-requires : tie.Need-count-list-requires Inv-loop μ-loop
 count-list-requires c κs = counting-can (c .before .before .before .loop .inv) (c .before .before .loop-test .taken) (c .before .list-of .ensures)
 
-add-cell : tie.Need-add-cell Inv-loop μ-loop
-add-cell c = omega arith
-
-loop-less : tie.Need-loop-less Inv-loop μ-loop
-loop-less c = omega arith
-
 loop-again : tie.Need-loop-again Inv-loop μ-loop
 loop-again c = counting-more (c .before .before .before .before .before .before .loop .inv) (c .before .before .before .before .before .loop-test .taken) (c .before .before .before .before .list-of .ensures) (c .before .before .count-list .kept .1 .0) (c .before .before .count-list .ensures)
-
-same-length : tie.Need-same-length Inv-loop μ-loop
-same-length c = c .before .loop .inv .len
 
 returns : tie.Need-returns Inv-loop μ-loop
 returns c = counting-done (c .before .loop .inv) (c .loop-test .left)
@@ -49,8 +36,8 @@ count-all-spec =
     loop-holds
     list-of-requires
     count-list-requires
-    add-cell
-    loop-less
+    (λ c. omega arith)
+    (λ c. omega arith)
     loop-again
-    same-length
+    (λ c. c .before .loop .inv .len)
     returns)

@@ -36,17 +36,8 @@ add-counts c = record { fits = counting-fits (c .before .before .before .loop .i
 slice-write-counts : tie.Need-slice-write-counts Inv-loop μ-loop
 slice-write-counts c = counting-cell (c .before .before .before .loop .inv) (c .before .before .loop-test .taken)
 
-add-j : tie.Need-add-j Inv-loop μ-loop
-add-j c = omega arith
-
-loop-less : tie.Need-loop-less Inv-loop μ-loop
-loop-less c = omega arith
-
 loop-again : tie.Need-loop-again Inv-loop μ-loop
 loop-again c = counting-more (c .before .before .before .loop .inv) (c .before .before .loop-test .taken)
-
-same-length : tie.Need-same-length Inv-loop μ-loop
-same-length c = c .before .loop .inv .len
 
 returns : tie.Need-returns Inv-loop μ-loop
 returns c = counting-done (c .before .loop .inv) (c .loop-test .left)
@@ -65,8 +56,8 @@ count-list-spec =
     slice-read-counts
     add-counts
     slice-write-counts
-    add-j
-    loop-less
+    (λ c. omega arith)
+    (λ c. omega arith)
     loop-again
-    same-length
+    (λ c. c .before .loop .inv .len)
     returns)

@@ -5,10 +5,6 @@ use native.Mathlib.Omega.{arith}
 use Rattle.by_line.proofs.Turns.{Placing, placing-none, placing-can, placing-more, placing-done}
 use Rattle.by_line.proofs.passes.place_all.Statement.{statement}
 use Rattle.by_line.proofs.passes.place_all.Tie as tie
-use Rattle.by_line.proofs.passes.place_all.Reads as reads
-use Rattle.by_line.proofs.passes.place_all.Lts as lts
-use Rattle.by_line.proofs.passes.list_of.Reads as list-of-reads
-use Rattle.by_line.proofs.passes.place_list.Reads as place-list-reads
 
 abbrev Inv-loop : tie.InvT-loop
 Inv-loop cells lines offsets items starts₀ listing₀ cell₀ starts listing cell = Placing cells lines offsets items starts₀ listing₀ starts listing cell
@@ -25,20 +21,8 @@ list-of-requires c κs = record { m = _; fits = c .before .loop .inv .asks .tabl
 place-list-requires : tie.Need-place-list-requires Inv-loop μ-loop
 place-list-requires c κs = placing-can (c .before .before .before .before .loop .inv) (c .before .before .before .loop-test .taken) (c .before .before .list-of .ensures)
 
-add-cell : tie.Need-add-cell Inv-loop μ-loop
-add-cell c = omega arith
-
-loop-less : tie.Need-loop-less Inv-loop μ-loop
-loop-less c = omega arith
-
 loop-again : tie.Need-loop-again Inv-loop μ-loop
 loop-again c = placing-more (c .before .before .before .before .before .before .before .before .before .loop .inv) (c .before .before .before .before .before .before .before .before .loop-test .taken) (c .before .before .before .before .before .before .before .list-of .ensures) (c .before .before .before .before .place-list .kept .1 .1 .0) (c .before .before .before .before .place-list .kept .1 .1 .1 .0) (c .before .before .before .before .place-list .ensures)
-
-same-length : tie.Need-same-length Inv-loop μ-loop
-same-length c = c .before .loop .inv .len
-
-same-length-2 : tie.Need-same-length-2 Inv-loop μ-loop
-same-length-2 c = c .before .loop .inv .len-listing
 
 returns : tie.Need-returns Inv-loop μ-loop
 returns c = placing-done (c .before .loop .inv) (c .loop-test .left)
@@ -52,9 +36,9 @@ place-all-spec =
     loop-holds
     list-of-requires
     place-list-requires
-    add-cell
-    loop-less
+    (λ c. omega arith)
+    (λ c. omega arith)
     loop-again
-    same-length
-    same-length-2
+    (λ c. c .before .loop .inv .len)
+    (λ c. c .before .loop .inv .len-listing)
     returns)

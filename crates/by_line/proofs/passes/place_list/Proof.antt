@@ -53,20 +53,8 @@ mul-starts c = let h = placing-cell (c .before .before .before .loop .inv) (c .b
 slice-write-starts : tie.Need-slice-write-starts Inv-loop μ-loop
 slice-write-starts c = placing-cell (c .before .before .before .loop .inv) (c .before .before .loop-test .taken)
 
-add-j : tie.Need-add-j Inv-loop μ-loop
-add-j c = omega arith
-
-loop-less : tie.Need-loop-less Inv-loop μ-loop
-loop-less c = omega arith
-
 loop-again : tie.Need-loop-again Inv-loop μ-loop
 loop-again c = placing-more (c .before .before .before .loop .inv) (c .before .before .loop-test .taken)
-
-same-length : tie.Need-same-length Inv-loop μ-loop
-same-length c = c .before .loop .inv .len
-
-same-length-2 : tie.Need-same-length-2 Inv-loop μ-loop
-same-length-2 c = c .before .loop .inv .len-items
 
 returns : tie.Need-returns Inv-loop μ-loop
 returns c = placing-done (c .before .loop .inv) (c .loop-test .left)
@@ -90,9 +78,9 @@ place-list-spec =
     add-starts
     mul-starts
     slice-write-starts
-    add-j
-    loop-less
+    (λ c. omega arith)
+    (λ c. omega arith)
     loop-again
-    same-length
-    same-length-2
+    (λ c. c .before .loop .inv .len)
+    (λ c. c .before .loop .inv .len-items)
     returns)

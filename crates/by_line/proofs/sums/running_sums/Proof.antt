@@ -15,35 +15,11 @@ abbrev μ-loop : tie.MeasureT-loop
 loop-holds : tie.Need-loop-holds Inv-loop μ-loop
 loop-holds c = summing-none _ _ (c .pre .0) (c .pre .1)
 
-mul-count : tie.Need-mul-count Inv-loop μ-loop
-mul-count c = omega arith
-
-slice-read-count : tie.Need-slice-read-count Inv-loop μ-loop
-slice-read-count c = omega arith
-
-mul-starts : tie.Need-mul-starts Inv-loop μ-loop
-mul-starts c = omega arith
-
-slice-write-starts : tie.Need-slice-write-starts Inv-loop μ-loop
-slice-write-starts c = omega arith
-
 add-total : tie.Need-add-total Inv-loop μ-loop
 add-total c = record { fits = summing-fits (c .before .before .loop .inv) (c .before .loop-test .taken) }
 
-add-i : tie.Need-add-i Inv-loop μ-loop
-add-i c = omega arith
-
-loop-less : tie.Need-loop-less Inv-loop μ-loop
-loop-less c = omega arith
-
 loop-again : tie.Need-loop-again Inv-loop μ-loop
 loop-again c = summing-more (c .before .before .loop .inv) (c .before .loop-test .taken)
-
-mul-starts-2 : tie.Need-mul-starts-2 Inv-loop μ-loop
-mul-starts-2 c = omega arith
-
-slice-write-starts-2 : tie.Need-slice-write-starts-2 Inv-loop μ-loop
-slice-write-starts-2 c = omega arith
 
 same-length : tie.Need-same-length Inv-loop μ-loop
 same-length c = simp length-set (c .before .loop .inv .len)
@@ -58,15 +34,15 @@ running-sums-spec =
     Inv-loop
     μ-loop
     loop-holds
-    mul-count
-    slice-read-count
-    mul-starts
-    slice-write-starts
+    (λ c. omega arith)
+    (λ c. omega arith)
+    (λ c. omega arith)
+    (λ c. omega arith)
     add-total
-    add-i
-    loop-less
+    (λ c. omega arith)
+    (λ c. omega arith)
     loop-again
-    mul-starts-2
-    slice-write-starts-2
+    (λ c. omega arith)
+    (λ c. omega arith)
     same-length
     returns)

@@ -19,8 +19,5 @@ mul-result c = record { fits = wide-product (c .args .row) (c .args .cols) (c .f
 add-result : tie.Need-add-result
 add-result c = record { fits = number-fits (c .args .row) (c .args .cols) (c .args .col) (c .fits .row .fits) (c .fits .cols .fits) (c .fits .col .fits) }
 
-returns : tie.Need-returns
-returns c = refl
-
 pub cell-number-spec : {M : Type 1} → statement M
-cell-number-spec = tie.close (tie.spec mul-result add-result returns)
+cell-number-spec = tie.close (tie.spec mul-result add-result (λ c. refl))

@@ -6,29 +6,12 @@ use Rattle.capi_pairs.specs.Answers.{ofCost}
 use borrow.Author.Needs.{needs}
 use Rattle.capi_pairs.proofs.costing.mt_visit_cost.Statement.{statement}
 use Rattle.capi_pairs.proofs.costing.mt_visit_cost.Tie as tie
-use Rattle.capi_pairs.proofs.costing.mt_visit_cost.Reads as reads
-use Rattle.capi_pairs.proofs.costing.mt_visit_cost.Lts as lts
-use Rattle.capi_pairs.proofs.stores.cost.Reads as cost-reads
-use Rattle.cost.proofs.cost_of.Reads as cost-of-reads
-use Rattle.grid.proofs.words.grid_by.Reads as grid-by-reads
 
 returns : tie.Need-returns
 returns c = short-replies 2 _ _ (c .if1 .taken)
 
 returns-2 : tie.Need-returns-2
 returns-2 c = few-replies 2 _ _ _ (c .before .if1 .left) (c .if2 .taken)
-
-grid-by-requires : tie.Need-grid-by-requires
-grid-by-requires c κs = search needs
-
-cost-of-requires : tie.Need-cost-of-requires
-cost-of-requires c κs = search needs
-
-cost-requires : tie.Need-cost-requires
-cost-requires c κs = search needs
-
-same-length : tie.Need-same-length
-same-length c = search needs
 
 returns-3 : tie.Need-returns-3
 returns-3 c =
@@ -41,8 +24,8 @@ mt-visit-cost-spec =
     (tie.spec
     returns
     returns-2
-    grid-by-requires
-    cost-of-requires
-    cost-requires
-    same-length
+    (λ c κs. search needs)
+    (λ c κs. search needs)
+    (λ c κs. search needs)
+    (λ c. search needs)
     returns-3)

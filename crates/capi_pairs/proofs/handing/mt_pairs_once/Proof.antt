@@ -8,11 +8,6 @@ use Rattle.capi_pairs.proofs.Outcomes.{same-five}
 use borrow.Author.Needs.{needs}
 use Rattle.capi_pairs.proofs.handing.mt_pairs_once.Statement.{statement}
 use Rattle.capi_pairs.proofs.handing.mt_pairs_once.Tie as tie
-use Rattle.capi_pairs.proofs.handing.mt_pairs_once.Reads as reads
-use Rattle.capi_pairs.proofs.handing.mt_pairs_once.Lts as lts
-use Rattle.capi_pairs.proofs.stores.pairs_once.Reads as stores-pairs-once-reads
-use Rattle.grid.proofs.words.grid_by.Reads as grid-by-reads
-use Rattle.once.proofs.pairs_once.Reads as pairs-once-reads
 
 returns : tie.Need-returns
 returns c =
@@ -23,33 +18,6 @@ returns-2 : tie.Need-returns-2
 returns-2 c =
     let s = c .if2 .taken in
     record { replies = few-replies 1 _ _ _ (c .before .if1 .left) s; called = λ h k. absurd (omega (arith, k)); short = λ h. same-five; few = λ h. same-five }
-
-grid-by-requires : tie.Need-grid-by-requires
-grid-by-requires c κs = search needs
-
-pairs-once-requires : tie.Need-pairs-once-requires
-pairs-once-requires c κs = search needs
-
-pairs-once-requires-2 : tie.Need-pairs-once-requires-2
-pairs-once-requires-2 c κs = search needs
-
-same-length : tie.Need-same-length
-same-length c = search needs
-
-same-length-2 : tie.Need-same-length-2
-same-length-2 c = search needs
-
-same-length-3 : tie.Need-same-length-3
-same-length-3 c = search needs
-
-same-length-4 : tie.Need-same-length-4
-same-length-4 c = search needs
-
-same-length-5 : tie.Need-same-length-5
-same-length-5 c = search needs
-
-same-length-6 : tie.Need-same-length-6
-same-length-6 c = search needs
 
 returns-3 : tie.Need-returns-3
 returns-3 c =
@@ -70,13 +38,13 @@ mt-pairs-once-spec =
     (tie.spec
     returns
     returns-2
-    grid-by-requires
-    pairs-once-requires
-    pairs-once-requires-2
-    same-length
-    same-length-2
-    same-length-3
-    same-length-4
-    same-length-5
-    same-length-6
+    (λ c κs. search needs)
+    (λ c κs. search needs)
+    (λ c κs. search needs)
+    (λ c. search needs)
+    (λ c. search needs)
+    (λ c. search needs)
+    (λ c. search needs)
+    (λ c. search needs)
+    (λ c. search needs)
     returns-3)

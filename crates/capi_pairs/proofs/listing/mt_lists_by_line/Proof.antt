@@ -7,11 +7,6 @@ use Rattle.capi_pairs.specs.Answers.{ofByLine}
 use borrow.Author.Needs.{needs}
 use Rattle.capi_pairs.proofs.listing.mt_lists_by_line.Statement.{statement}
 use Rattle.capi_pairs.proofs.listing.mt_lists_by_line.Tie as tie
-use Rattle.capi_pairs.proofs.listing.mt_lists_by_line.Reads as reads
-use Rattle.capi_pairs.proofs.listing.mt_lists_by_line.Lts as lts
-use Rattle.by_line.proofs.lists_by_line.Reads as lists-by-line-reads
-use Rattle.capi_pairs.proofs.stores.by_line.Reads as by-line-reads
-use Rattle.grid.proofs.words.grid_by.Reads as grid-by-reads
 
 returns : tie.Need-returns
 returns c =
@@ -22,24 +17,6 @@ returns-2 : tie.Need-returns-2
 returns-2 c =
     let s = c .if2 .taken in
     record { replies = few-replies 1 _ _ _ (c .before .if1 .left) s; called = λ h k. absurd (omega (arith, k)); short = λ h. (refl, refl); few = λ h. (refl, refl) }
-
-grid-by-requires : tie.Need-grid-by-requires
-grid-by-requires c κs = search needs
-
-lists-by-line-requires : tie.Need-lists-by-line-requires
-lists-by-line-requires c κs = search needs
-
-by-line-requires : tie.Need-by-line-requires
-by-line-requires c κs = search needs
-
-same-length : tie.Need-same-length
-same-length c = search needs
-
-same-length-2 : tie.Need-same-length-2
-same-length-2 c = search needs
-
-same-length-3 : tie.Need-same-length-3
-same-length-3 c = search needs
 
 returns-3 : tie.Need-returns-3
 returns-3 c =
@@ -60,10 +37,10 @@ mt-lists-by-line-spec =
     (tie.spec
     returns
     returns-2
-    grid-by-requires
-    lists-by-line-requires
-    by-line-requires
-    same-length
-    same-length-2
-    same-length-3
+    (λ c κs. search needs)
+    (λ c κs. search needs)
+    (λ c κs. search needs)
+    (λ c. search needs)
+    (λ c. search needs)
+    (λ c. search needs)
     returns-3)

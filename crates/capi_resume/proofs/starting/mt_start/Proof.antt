@@ -6,29 +6,12 @@ use Rattle.capi_resume.specs.Answers.{ofStart}
 use borrow.Author.Needs.{needs}
 use Rattle.capi_resume.proofs.starting.mt_start.Statement.{statement}
 use Rattle.capi_resume.proofs.starting.mt_start.Tie as tie
-use Rattle.capi_resume.proofs.starting.mt_start.Reads as reads
-use Rattle.capi_resume.proofs.starting.mt_start.Lts as lts
-use Rattle.capi_resume.proofs.stores.started.Reads as started-reads
-use Rattle.grid.proofs.words.grid_by.Reads as grid-by-reads
-use Rattle.resume.proofs.starts.start.Reads as start-reads
 
 returns : tie.Need-returns
 returns c = short-replies 3 _ _ (c .if1 .taken)
 
 returns-2 : tie.Need-returns-2
 returns-2 c = few-replies 3 _ _ _ (c .before .if1 .left) (c .if2 .taken)
-
-grid-by-requires : tie.Need-grid-by-requires
-grid-by-requires c κs = search needs
-
-start-requires : tie.Need-start-requires
-start-requires c κs = search needs
-
-started-requires : tie.Need-started-requires
-started-requires c κs = search needs
-
-same-length : tie.Need-same-length
-same-length c = search needs
 
 returns-3 : tie.Need-returns-3
 returns-3 c =
@@ -41,8 +24,8 @@ mt-start-spec =
     (tie.spec
     returns
     returns-2
-    grid-by-requires
-    start-requires
-    started-requires
-    same-length
+    (λ c κs. search needs)
+    (λ c κs. search needs)
+    (λ c κs. search needs)
+    (λ c. search needs)
     returns-3)

@@ -5,32 +5,10 @@ use Rattle.capi_resume.specs.Answers.{ofStart}
 use borrow.Author.Needs.{needs}
 use Rattle.capi_resume.proofs.stores.started.Statement.{statement}
 use Rattle.capi_resume.proofs.stores.started.Tie as tie
-use Rattle.capi_resume.proofs.stores.started.Reads as reads
-use Rattle.capi_resume.proofs.stores.started.Lts as lts
-use Rattle.capi_resume.proofs.stores.refused.Reads as refused-reads
-use Rattle.capi_resume.proofs.stores.three.Reads as three-reads
-
-enum-known-answer : tie.Need-enum-known-answer
-enum-known-answer c = search needs
-
-three-requires : tie.Need-three-requires
-three-requires c κs = search needs
-
-enum-known-answer-2 : tie.Need-enum-known-answer-2
-enum-known-answer-2 c = search needs
-
-refused-requires : tie.Need-refused-requires
-refused-requires c κs = search needs
-
-same-length : tie.Need-same-length
-same-length c = search needs
 
 returns : tie.Need-returns
 unfolding ofStart
 returns c = answered (ap ofStart (sym (c .before .before .before .before .before .answer .given .1))) (c .before .before .three .ensures)
-
-same-length-2 : tie.Need-same-length-2
-same-length-2 c = search needs
 
 returns-2 : tie.Need-returns-2
 unfolding ofStart
@@ -40,11 +18,11 @@ pub started-spec : {M : Type 1} → statement M
 started-spec =
     tie.close
     (tie.spec
-    enum-known-answer
-    three-requires
-    enum-known-answer-2
-    refused-requires
-    same-length
+    (λ c. search needs)
+    (λ c κs. search needs)
+    (λ c. search needs)
+    (λ c κs. search needs)
+    (λ c. search needs)
     returns
-    same-length-2
+    (λ c. search needs)
     returns-2)

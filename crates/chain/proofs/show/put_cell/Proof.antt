@@ -7,29 +7,12 @@ use Rattle.chain.proofs.Showing.{cell-cols, cell-list}
 use borrow.Author.Needs.{needs}
 use Rattle.chain.proofs.show.put_cell.Statement.{statement}
 use Rattle.chain.proofs.show.put_cell.Tie as tie
-use Rattle.chain.proofs.show.put_cell.Reads as reads
-use Rattle.chain.proofs.show.put_cell.Lts as lts
-use Rattle.slices.proofs.wide.Reads as wide-reads
-use Rattle.report.proofs.cell_line.Reads as cell-line-reads
-use Rattle.tables.proofs.list_of.Reads as list-of-reads
-
-wide-requires : tie.Need-wide-requires
-wide-requires c κs = search needs
-
-list-of-requires : tie.Need-list-of-requires
-list-of-requires c κs = search needs
 
 div-cell-line : tie.Need-div-cell-line
 div-cell-line c = cell-cols _ _ (c .before .before .before .before .before .before .before .pre)
 
 rem-cell-line : tie.Need-rem-cell-line
 rem-cell-line c = cell-cols _ _ (c .before .before .before .before .before .before .before .before .pre)
-
-cell-line-requires : tie.Need-cell-line-requires
-cell-line-requires c κs = search needs
-
-same-length : tie.Need-same-length
-same-length c = search needs
 
 returns : tie.Need-returns
 returns c =
@@ -42,10 +25,10 @@ pub put-cell-spec : {M : Type 1} → statement M
 put-cell-spec =
     tie.close
     (tie.spec
-    wide-requires
-    list-of-requires
+    (λ c κs. search needs)
+    (λ c κs. search needs)
     div-cell-line
     rem-cell-line
-    cell-line-requires
-    same-length
+    (λ c κs. search needs)
+    (λ c. search needs)
     returns)

@@ -33,9 +33,6 @@ loop-again c =
     let l = c .before .before .before .before .before .loop in
     (omega arith, l .inv .1, l .inv .2, c .before .before .put-cell .kept .1 .1 .1 .1 .1 .1 .1 .0 ∙ l .inv .3, cells-more _ (l .cell) (l .inv .4) (c .before .before .put-cell .ensures))
 
-same-length : tie.Need-same-length Inv-loop μ-loop
-same-length c = c .before .loop .inv .3
-
 returns : tie.Need-returns Inv-loop μ-loop
 returns c = cells-all _ (c .before .loop .cell) (let e = c .before .loop .inv .1 in omega arith) (c .before .loop .inv .4)
 
@@ -51,5 +48,5 @@ put-cells-spec =
     (λ c. omega arith)
     (λ c. omega arith)
     loop-again
-    same-length
+    (λ c. c .before .loop .inv .3)
     returns)

@@ -9,9 +9,6 @@ use Rattle.tables.specs.Tables.{beside}
 use Rattle.chain.proofs.Visiting.{Visiting, visiting-none, visiting-few, visiting-more, visiting-less, visit-refused, visit-tally, visit-counted}
 use Rattle.chain.proofs.whole.visit.Statement.{statement}
 use Rattle.chain.proofs.whole.visit.Tie as tie
-use Rattle.chain.proofs.whole.visit.Reads as reads
-use Rattle.chain.proofs.whole.visit.Lts as lts
-use Rattle.chain.proofs.whole.batch_from.Reads as batch-from-reads
 
 abbrev Inv-loop : tie.InvT-loop
 Inv-loop start-x start-y end-x end-y grid offsets items globals global-count tests₀ overlaps₀ tests overlaps =
@@ -24,15 +21,9 @@ abbrev μ-loop : tie.MeasureT-loop
 loop-holds : tie.Need-loop-holds Inv-loop μ-loop
 loop-holds c = visiting-none _ _
 
-enum-known-answer : tie.Need-enum-known-answer Inv-loop μ-loop
-enum-known-answer c = search needs
-
 returns : tie.Need-returns Inv-loop μ-loop
 returns c =
     visit-refused _ _ _ _ _ _ (c .before .before .before .batch-from .ensures) (c .before .before .before .before .loop .inv) (c .before .answer .given .0 .0) (c .before .answer .given .1)
-
-enum-known-answer-2 : tie.Need-enum-known-answer-2 Inv-loop μ-loop
-enum-known-answer-2 c = search needs
 
 returns-2 : tie.Need-returns-2 Inv-loop μ-loop
 returns-2 c =
@@ -57,9 +48,9 @@ visit-spec =
     μ-loop
     loop-holds
     (λ c κs. tt)
-    enum-known-answer
+    (λ c. search needs)
     returns
-    enum-known-answer-2
+    (λ c. search needs)
     returns-2
     add-overlaps
     loop-less

@@ -24,9 +24,6 @@ loop-again c =
     let a = c .before .before .before .args in
     (omega arith, l .inv .1, simp length-set (l .inv .2), copy-more (a .from .now) (a .at) (l .i) (omega arith) (l .inv .1) (l .inv .3))
 
-same-length : tie.Need-same-length Inv-loop μ-loop
-same-length c = c .before .loop .inv .2
-
 returns : tie.Need-returns Inv-loop μ-loop
 returns c = copy-all (c .before .before .args .from .now) (c .before .before .args .at) (c .before .loop .i) (omega arith) (c .before .loop .inv .3)
 
@@ -43,5 +40,5 @@ put-bytes-spec =
     (λ c. omega arith)
     (λ c. omega arith)
     loop-again
-    same-length
+    (λ c. c .before .loop .inv .2)
     returns)

@@ -18,19 +18,10 @@ abbrev μ-loop : tie.MeasureT-loop
 loop-holds : tie.Need-loop-holds Inv-loop μ-loop
 loop-holds c = (c .before .before .pre, refl, points-none _ _ _ _ _)
 
-add-put-point : tie.Need-add-put-point Inv-loop μ-loop
-add-put-point c = omega arith
-
-mul-put-point : tie.Need-mul-put-point Inv-loop μ-loop
-mul-put-point c = omega arith
-
 loop-again : tie.Need-loop-again Inv-loop μ-loop
 loop-again c =
     let l = c .before .before .before .before .before .before .loop in
     (l .inv .0, c .before .before .put-point .kept .1 .1 .1 .0 ∙ l .inv .1, points-more _ _ _ _ (l .inv .0) (omega arith) (l .inv .2) (c .before .before .put-point .ensures))
-
-same-length : tie.Need-same-length Inv-loop μ-loop
-same-length c = c .before .loop .inv .1
 
 returns : tie.Need-returns Inv-loop μ-loop
 returns c = points-all _ _ _ _ (omega arith) (c .before .loop .inv .2)
@@ -42,12 +33,12 @@ put-member-spec =
     Inv-loop
     μ-loop
     loop-holds
-    add-put-point
-    mul-put-point
+    (λ c. omega arith)
+    (λ c. omega arith)
     (λ c. omega arith)
     (λ c κs. tt)
     (λ c. omega arith)
     (λ c. omega arith)
     loop-again
-    same-length
+    (λ c. c .before .loop .inv .1)
     returns)

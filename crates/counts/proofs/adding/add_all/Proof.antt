@@ -15,20 +15,11 @@ abbrev μ-loop : tie.MeasureT-loop
 loop-holds : tie.Need-loop-holds Inv-loop μ-loop
 loop-holds c = writing-none _ _ (c .pre .0) (c .pre .1)
 
-mul-into : tie.Need-mul-into Inv-loop μ-loop
-mul-into c = omega arith
-
-shared-slice-read-into : tie.Need-shared-slice-read-into Inv-loop μ-loop
-shared-slice-read-into c = omega arith
-
 add-into : tie.Need-add-into Inv-loop μ-loop
 add-into c = record { fits = omega (arith, writing-sum (c .before .before .before .loop .inv) (omega arith)) }
 
 loop-again : tie.Need-loop-again Inv-loop μ-loop
 loop-again c = writing-more (c .before .before .before .loop .inv) (omega arith)
-
-same-length : tie.Need-same-length Inv-loop μ-loop
-same-length c = c .before .loop .inv .len
 
 returns : tie.Need-returns Inv-loop μ-loop
 returns c = writing-done (c .before .loop .inv) (omega arith)
@@ -40,8 +31,8 @@ add-all-spec =
     Inv-loop
     μ-loop
     loop-holds
-    mul-into
-    shared-slice-read-into
+    (λ c. omega arith)
+    (λ c. omega arith)
     (λ c. omega arith)
     (λ c. omega arith)
     add-into
@@ -49,5 +40,5 @@ add-all-spec =
     (λ c. omega arith)
     (λ c. simp length-set (omega arith))
     loop-again
-    same-length
+    (λ c. c .before .loop .inv .len)
     returns)

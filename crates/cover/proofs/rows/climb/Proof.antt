@@ -13,9 +13,6 @@ Inv-loop scratch₀ e cols rows first last s n₀ r₀ scratch n r = Climbing co
 abbrev μ-loop : tie.MeasureT-loop
 μ-loop scratch₀ e cols rows first last s n₀ r₀ scratch n r = last - r
 
-slope-requires : tie.Need-slope-requires Inv-loop μ-loop
-slope-requires c κs = c .before .pre .frame .small
-
 start-columns-requires : tie.Need-start-columns-requires Inv-loop μ-loop
 start-columns-requires c κs =
     let p = c .before .before .before .pre in
@@ -44,12 +41,6 @@ columns-requires c κs = (climbing-row (c .before .before .loop .inv .0) (omega 
 put-row-requires-2 : tie.Need-put-row-requires-2 Inv-loop μ-loop
 put-row-requires-2 c κs = climbing-room (c .before .before .before .loop .inv .0) (omega arith) (c .columns .ensures)
 
-add-r-2 : tie.Need-add-r-2 Inv-loop μ-loop
-add-r-2 c = omega arith
-
-loop-less : tie.Need-loop-less Inv-loop μ-loop
-loop-less c = omega arith
-
 loop-again : tie.Need-loop-again Inv-loop μ-loop
 loop-again c = (climbing-more (c .before .before .before .before .before .before .loop .inv .0) (omega arith) (c .before .before .before .columns .ensures) (c .before .before .put-row2 .ensures), omega arith)
 
@@ -74,15 +65,15 @@ climb-spec =
     (tie.spec
     Inv-loop
     μ-loop
-    slope-requires
+    (λ c κs. c .before .pre .frame .small)
     start-columns-requires
     put-row-requires
     add-r
     loop-holds
     columns-requires
     put-row-requires-2
-    add-r-2
-    loop-less
+    (λ c. omega arith)
+    (λ c. omega arith)
     loop-again
     end-columns-requires
     put-row-requires-3

@@ -26,20 +26,8 @@ mul-s c = omega arith
 slice-write-s : tie.Need-slice-write-scratch Inv-loop μ-loop
 slice-write-s c = omega arith
 
-add-m : tie.Need-add-m Inv-loop μ-loop
-add-m c = omega arith
-
-add-i : tie.Need-add-i Inv-loop μ-loop
-add-i c = omega arith
-
-loop-less : tie.Need-loop-less Inv-loop μ-loop
-loop-less c = omega arith
-
 loop-again : tie.Need-loop-again Inv-loop μ-loop
 loop-again c = running-more (c .before .loop .inv) (omega arith)
-
-same-length : tie.Need-same-length Inv-loop μ-loop
-same-length c = c .before .loop .inv .grown .len
 
 returns : tie.Need-returns Inv-loop μ-loop
 returns c = running-done (c .before .loop .inv) (omega arith)
@@ -55,9 +43,9 @@ put-each-spec =
     cast-s
     mul-s
     slice-write-s
-    add-m
-    add-i
-    loop-less
+    (λ c. omega arith)
+    (λ c. omega arith)
+    (λ c. omega arith)
     loop-again
-    same-length
+    (λ c. c .before .loop .inv .grown .len)
     returns)

@@ -26,9 +26,6 @@ loop-again c =
     let a = c .before .before .before .before .before .before .before .before .before .before .before .args in
     (omega arith, l .inv .1, l .inv .2, c .before .before .pair-line .kept .1 .1 .0 ∙ l .inv .3, puts-pair (a .first .now) (a .second .now) (l .i) (omega arith) (omega arith) (l .inv .4) (c .before .before .pair-line .ensures))
 
-same-length : tie.Need-same-length Inv-loop μ-loop
-same-length c = c .before .loop .inv .3
-
 returns : tie.Need-returns Inv-loop μ-loop
 returns c =
     let a = c .before .before .before .before .before .args in
@@ -51,5 +48,5 @@ put-pairs-spec =
     (λ c. omega arith)
     (λ c. omega arith)
     loop-again
-    same-length
+    (λ c. c .before .loop .inv .3)
     returns)

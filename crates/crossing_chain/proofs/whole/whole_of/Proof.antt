@@ -9,10 +9,6 @@ use borrow.Author.Needs.{needs}
 use Rattle.crossing_chain.proofs.Wholes.{Within, within, none-low, none-high, cut-whole, cut-none, cut-asks, cut-fits}
 use Rattle.crossing_chain.proofs.whole.whole_of.Statement.{statement}
 use Rattle.crossing_chain.proofs.whole.whole_of.Tie as tie
-use Rattle.crossing_chain.proofs.whole.whole_of.Reads as reads
-use Rattle.crossing_chain.proofs.whole.whole_of.Lts as lts
-use Rattle.std.proofs.num.nearest_i64_to_f64.Reads as nearest-i64-to-f64-reads
-use Rattle.std.proofs.num.truncating_f64_to_i64.Reads as truncating-f64-to-i64-reads
 
 near : (c : tie.Then2) → Within (c .before .before .args .v)
 unfolding ofBits neg

@@ -13,9 +13,6 @@ use Rattle.crossing_chain.specs.Whole.{wholeOf}
 use Rattle.crossing_chain.proofs.Wholes.{store-more}
 use Rattle.crossing_chain.proofs.whole.wholes_of.Statement.{statement}
 use Rattle.crossing_chain.proofs.whole.wholes_of.Tie as tie
-use Rattle.crossing_chain.proofs.whole.wholes_of.Reads as reads
-use Rattle.crossing_chain.proofs.whole.wholes_of.Lts as lts
-use Rattle.crossing_chain.proofs.whole.whole_of.Reads as whole-of-reads
 
 abbrev Inv-loop : tie.InvT-loop
 Inv-loop from to₀ i₀ to i = (to ≡ map wholeOf (take i from) ++ drop i to₀) × (i ≤ length from) × (length to ≡ length to₀)

@@ -7,26 +7,9 @@ use Rattle.tables.proofs.Parts.{part-is, part-rises, part-within}
 use borrow.Author.Needs.{needs}
 use Rattle.crossings.proofs.cells.list_of.Statement.{statement}
 use Rattle.crossings.proofs.cells.list_of.Tie as tie
-use Rattle.crossings.proofs.cells.list_of.Reads as reads
-use Rattle.crossings.proofs.cells.list_of.Lts as lts
-
-mul-from : tie.Need-mul-from
-mul-from c = search needs
-
-shared-slice-read-from : tie.Need-shared-slice-read-from
-shared-slice-read-from c = search needs
 
 cast-from : tie.Need-cast-from
 cast-from c = let g = c .shared-slice-known .given (c .before .args .cell) in omega arith
-
-add-to : tie.Need-add-to
-add-to c = search needs
-
-mul-to : tie.Need-mul-to
-mul-to c = search needs
-
-shared-slice-read-to : tie.Need-shared-slice-read-to
-shared-slice-read-to c = search needs
 
 cast-to : tie.Need-cast-to
 cast-to c = let g = c .shared-slice-known2 .given (c .before .before .args .cell + 1) in omega arith
@@ -50,12 +33,12 @@ pub list-of-spec : {M : Type 1} → statement M
 list-of-spec =
     tie.close
     (tie.spec
-    mul-from
-    shared-slice-read-from
+    (λ c. search needs)
+    (λ c. search needs)
     cast-from
-    add-to
-    mul-to
-    shared-slice-read-to
+    (λ c. search needs)
+    (λ c. search needs)
+    (λ c. search needs)
     cast-to
     mul-result
     sub-result

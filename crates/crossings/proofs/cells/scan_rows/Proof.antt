@@ -10,10 +10,6 @@ use Rattle.first_tests.proofs.Passing.{MarkRows, marks-begin, mark-fits, marked
 use Rattle.crossings.proofs.RowLaws.{row-first, row-sure, row-held}
 use Rattle.crossings.proofs.cells.scan_rows.Statement.{statement}
 use Rattle.crossings.proofs.cells.scan_rows.Tie as tie
-use Rattle.crossings.proofs.cells.scan_rows.Reads as reads
-use Rattle.crossings.proofs.cells.scan_rows.Lts as lts
-use Rattle.crossings.proofs.rows.row_of.Reads as row-of-reads
-use Rattle.crossings.proofs.rows.scan_list.Reads as scan-list-reads
 
 abbrev Inv-loop : tie.InvT-loop
 Inv-loop sure list marks start-x start-y end-x end-y starts listing counts first₀ second₀ hits hits₀ i₀ first second hits' i =
@@ -26,50 +22,11 @@ abbrev μ-loop : tie.MeasureT-loop
 loop-holds : tie.Need-loop-holds Inv-loop μ-loop
 loop-holds c = marks-begin (c .before .before .before .before .before .before .before .pre)
 
-mul-row-of : tie.Need-mul-row-of Inv-loop μ-loop
-mul-row-of c = omega arith
-
-shared-slice-read-row-of : tie.Need-shared-slice-read-row-of Inv-loop μ-loop
-shared-slice-read-row-of c = omega arith
-
-row-of-requires : tie.Need-row-of-requires Inv-loop μ-loop
-row-of-requires c κs = search needs
-
-mul-mark : tie.Need-mul-mark Inv-loop μ-loop
-mul-mark c = omega arith
-
 shared-slice-read-mark : tie.Need-shared-slice-read-mark Inv-loop μ-loop
 shared-slice-read-mark c = omega (arith, c .before .before .before .before .loop .inv .asks .long)
 
 mul-mark-2 : tie.Need-mul-mark-2 Inv-loop μ-loop
 mul-mark-2 c = let l = c .before .before .before .before .loop in record { fits = mark-fits _ _ (c .shared-slice-known7 .given (l .i) .fits) (l .inv .asks .most) }
-
-add-i : tie.Need-add-i Inv-loop μ-loop
-add-i c = omega arith
-
-mul-scan-list : tie.Need-mul-scan-list Inv-loop μ-loop
-mul-scan-list c = omega arith
-
-sub-scan-list : tie.Need-sub-scan-list Inv-loop μ-loop
-sub-scan-list c = omega arith
-
-part-scan-list-start : tie.Need-part-scan-list-start Inv-loop μ-loop
-part-scan-list-start c = omega arith
-
-part-scan-list-end : tie.Need-part-scan-list-end Inv-loop μ-loop
-part-scan-list-end c = omega arith
-
-mul-scan-list-2 : tie.Need-mul-scan-list-2 Inv-loop μ-loop
-mul-scan-list-2 c = omega arith
-
-sub-scan-list-2 : tie.Need-sub-scan-list-2 Inv-loop μ-loop
-sub-scan-list-2 c = omega arith
-
-part-scan-list-start-2 : tie.Need-part-scan-list-start-2 Inv-loop μ-loop
-part-scan-list-start-2 c = omega arith
-
-part-scan-list-end-2 : tie.Need-part-scan-list-end-2 Inv-loop μ-loop
-part-scan-list-end-2 c = omega arith
 
 scan-list-requires : tie.Need-scan-list-requires Inv-loop μ-loop
 scan-list-requires c κs =
@@ -79,21 +36,12 @@ scan-list-requires c κs =
     row-held e (l .inv .asks .most)
     (marked-row (l .inv) (c .before .before .before .before .before .before .before .loop-test .taken) (row-first e) (row-sure e) (part-all (a .list .now) (l .i + 1)) (part-all (a .marks .now) (l .i + 1)))
 
-loop-less : tie.Need-loop-less Inv-loop μ-loop
-loop-less c = omega arith
-
 loop-again : tie.Need-loop-again Inv-loop μ-loop
 loop-again c =
     let l = c .before .before .before .before .before .before .before .before .before .before .before .before .before .loop in
     let d = c .before .before .before .before .scan-list in
     marks-next (l .inv) (c .before .before .before .before .before .before .before .before .before .before .before .before .loop-test .taken) (row-first (c .before .before .before .before .before .before .before .before .before .before .row-of .ensures)) (part-all (c .before .before .before .before .before .before .before .before .before .before .before .before .before .before .before .before .before .before .before .before .before .args .list .now) (l .i + 1))
     (d .ensures) (d .kept .1 .1 .1 .1 .1 .1 .1 .1 .1 .1 .1 .0) (d .kept .1 .1 .1 .1 .1 .1 .1 .1 .1 .1 .1 .1 .0)
-
-same-length : tie.Need-same-length Inv-loop μ-loop
-same-length c = c .before .loop .inv .rows .first-long
-
-same-length-2 : tie.Need-same-length-2 Inv-loop μ-loop
-same-length-2 c = c .before .loop .inv .rows .second-long
 
 returns : tie.Need-returns Inv-loop μ-loop
 returns c = rows-done (c .before .loop .inv .rows) (c .loop-test .left)
@@ -105,24 +53,24 @@ scan-rows-spec =
     Inv-loop
     μ-loop
     loop-holds
-    mul-row-of
-    shared-slice-read-row-of
-    row-of-requires
-    mul-mark
+    (λ c. omega arith)
+    (λ c. omega arith)
+    (λ c κs. search needs)
+    (λ c. omega arith)
     shared-slice-read-mark
     mul-mark-2
-    add-i
-    mul-scan-list
-    sub-scan-list
-    part-scan-list-start
-    part-scan-list-end
-    mul-scan-list-2
-    sub-scan-list-2
-    part-scan-list-start-2
-    part-scan-list-end-2
+    (λ c. omega arith)
+    (λ c. omega arith)
+    (λ c. omega arith)
+    (λ c. omega arith)
+    (λ c. omega arith)
+    (λ c. omega arith)
+    (λ c. omega arith)
+    (λ c. omega arith)
+    (λ c. omega arith)
     scan-list-requires
-    loop-less
+    (λ c. omega arith)
     loop-again
-    same-length
-    same-length-2
+    (λ c. c .before .loop .inv .rows .first-long)
+    (λ c. c .before .loop .inv .rows .second-long)
     returns)

@@ -10,10 +10,6 @@ use Rattle.crossings.proofs.RowLaws.{row-first, row-held, held-other}
 use Rattle.first_tests.proofs.Runs.{global-in, Runs, runs-begin, stop-here, stop-inside, stop-small, stop-fits, stop-last, run-scan, runs-next, runs-done}
 use Rattle.crossings.proofs.globals.scan_global.Statement.{statement}
 use Rattle.crossings.proofs.globals.scan_global.Tie as tie
-use Rattle.crossings.proofs.globals.scan_global.Reads as reads
-use Rattle.crossings.proofs.globals.scan_global.Lts as lts
-use Rattle.crossings.proofs.rows.row_of.Reads as row-of-reads
-use Rattle.crossings.proofs.rows.scan_lines.Reads as scan-lines-reads
 
 abbrev Inv-loop : tie.InvT-loop
 Inv-loop n p globals start-x start-y end-x end-y starts listing counts first₀ second₀ hits row hits₀ k₀ q₀ first second hits' k q =
@@ -28,9 +24,6 @@ mul-row-of c = let h = global-in (c .before .before .before .before .before .bef
 
 shared-slice-read-row-of : tie.Need-shared-slice-read-row-of Inv-loop μ-loop
 shared-slice-read-row-of c = global-in (c .before .before .before .before .before .before .before .pre)
-
-row-of-requires : tie.Need-row-of-requires Inv-loop μ-loop
-row-of-requires c κs = search needs
 
 loop-holds : tie.Need-loop-holds Inv-loop μ-loop
 loop-holds c = let h = c .before .before .before .before .before .before .before .before .pre in let e = c .row-of .ensures in row-held e (omega arith) (runs-begin h (row-first e))
@@ -51,9 +44,6 @@ add-k c = record { fits = stop-fits (c .before .before .before .before .before .
 
 add-q : tie.Need-add-q Inv-loop μ-loop
 add-q c = record { fits = stop-small (c .before .before .before .before .before .before .before .before .before .loop .inv .asks) (c .before .before .before .before .before .before .before .before .loop-test .taken) }
-
-loop-less : tie.Need-loop-less Inv-loop μ-loop
-loop-less c = omega arith
 
 loop-again : tie.Need-loop-again Inv-loop μ-loop
 loop-again c =
@@ -86,14 +76,14 @@ scan-global-spec =
     μ-loop
     mul-row-of
     shared-slice-read-row-of
-    row-of-requires
+    (λ c κs. search needs)
     loop-holds
     mul-stop
     shared-slice-read-stop
     scan-lines-requires
     add-k
     add-q
-    loop-less
+    (λ c. omega arith)
     loop-again
     scan-lines-requires-2
     same-length

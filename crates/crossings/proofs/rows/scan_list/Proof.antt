@@ -11,10 +11,6 @@ use Rattle.first_tests.proofs.Passing.{MarkScan, marked-begin, marked-pair, mar
 use borrow.Author.Needs.{needs}
 use Rattle.crossings.proofs.rows.scan_list.Statement.{statement}
 use Rattle.crossings.proofs.rows.scan_list.Tie as tie
-use Rattle.crossings.proofs.rows.scan_list.Reads as reads
-use Rattle.crossings.proofs.rows.scan_list.Lts as lts
-use Rattle.crossings.proofs.rows.keeps.Reads as keeps-reads
-use Rattle.lent.proofs.put_pair.Reads as put-pair-reads
 
 abbrev Inv-loop : tie.InvT-loop
 Inv-loop row mark list marks start-x start-y end-x end-y starts listing counts first₀ second₀ hits hits₀ j₀ first second hits' j =
@@ -28,47 +24,20 @@ abbrev μ-loop : tie.MeasureT-loop
 loop-holds : tie.Need-loop-holds Inv-loop μ-loop
 loop-holds c = let h = c .before .before .before .before .before .before .before .pre in held-other h (marked-begin (h .asks))
 
-mul-common : tie.Need-mul-common Inv-loop μ-loop
-mul-common c = omega arith
-
 shared-slice-read-common : tie.Need-shared-slice-read-common Inv-loop μ-loop
 shared-slice-read-common c = omega (arith, c .before .before .loop .inv .asks .asks .long)
-
-mul-b : tie.Need-mul-b Inv-loop μ-loop
-mul-b c = omega arith
-
-shared-slice-read-b : tie.Need-shared-slice-read-b Inv-loop μ-loop
-shared-slice-read-b c = omega arith
-
-add-j : tie.Need-add-j Inv-loop μ-loop
-add-j c = omega arith
 
 keeps-requires : tie.Need-keeps-requires Inv-loop μ-loop
 keeps-requires c κs = let h = c .before .before .before .loop .inv in held-other h (marked-pair (h .asks) (c .before .before .loop-test .taken))
 
-put-pair-requires : tie.Need-put-pair-requires Inv-loop μ-loop
-put-pair-requires c κs = search needs
-
 add-hits : tie.Need-add-hits Inv-loop μ-loop
 add-hits c = record { fits = list-fits (c .before .before .before .before .before .before .before .before .before .before .before .before .loop .inv .asks .list) (c .before .before .before .before .before .before .before .before .before .before .before .loop-test .taken) }
-
-loop-less : tie.Need-loop-less Inv-loop μ-loop
-loop-less c = omega arith
 
 loop-again : tie.Need-loop-again Inv-loop μ-loop
 loop-again c = let h = c .before .before .before .before .before .before .before .before .before .before .before .before .loop .inv in held-other h (marked-yes (h .asks) (c .before .before .before .before .before .before .before .before .before .before .before .loop-test .taken) (c .before .before .before .before .before .before .before .before .keeps .ensures) (c .before .before .before .before .before .before .before .if1 .taken) (c .before .before .before .before .put-pair .ensures .0) (c .before .before .before .before .put-pair .ensures .1))
 
-loop-less-2 : tie.Need-loop-less-2 Inv-loop μ-loop
-loop-less-2 c = omega arith
-
 loop-again-2 : tie.Need-loop-again-2 Inv-loop μ-loop
 loop-again-2 c = let h = c .before .before .before .before .before .loop .inv in held-other h (marked-no (h .asks) (c .before .before .before .before .loop-test .taken) (c .before .keeps .ensures) (c .if1 .left))
-
-same-length : tie.Need-same-length Inv-loop μ-loop
-same-length c = c .before .loop .inv .asks .list .scan .first-long
-
-same-length-2 : tie.Need-same-length-2 Inv-loop μ-loop
-same-length-2 c = c .before .loop .inv .asks .list .scan .second-long
 
 returns : tie.Need-returns Inv-loop μ-loop
 returns c = list-done (c .before .loop .inv .asks .list) (c .loop-test .left)
@@ -80,18 +49,18 @@ scan-list-spec =
     Inv-loop
     μ-loop
     loop-holds
-    mul-common
+    (λ c. omega arith)
     shared-slice-read-common
-    mul-b
-    shared-slice-read-b
-    add-j
+    (λ c. omega arith)
+    (λ c. omega arith)
+    (λ c. omega arith)
     keeps-requires
-    put-pair-requires
+    (λ c κs. search needs)
     add-hits
-    loop-less
+    (λ c. omega arith)
     loop-again
-    loop-less-2
+    (λ c. omega arith)
     loop-again-2
-    same-length
-    same-length-2
+    (λ c. c .before .loop .inv .asks .list .scan .first-long)
+    (λ c. c .before .loop .inv .asks .list .scan .second-long)
     returns)

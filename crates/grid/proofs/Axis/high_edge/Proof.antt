@@ -4,12 +4,9 @@ use borrow.Author.Needs.{needs}
 use Rattle.grid.proofs.Axis.high_edge.Statement.{statement}
 use Rattle.grid.proofs.Axis.high_edge.Tie as tie
 
-low-edge-requires : tie.Need-low-edge-requires
-low-edge-requires c κs = search needs
-
 returns : tie.Need-returns
 unfolding highOn
 returns c = rw (c .before .low-edge .ensures)
 
 pub high-edge-spec : {M : Type 1} → statement M
-high-edge-spec = tie.close (tie.spec low-edge-requires returns)
+high-edge-spec = tie.close (tie.spec (λ c κs. search needs) returns)

@@ -5,12 +5,9 @@ use borrow.Author.Needs.{needs}
 use Rattle.grid.proofs.Axis.low_edge.Statement.{statement}
 use Rattle.grid.proofs.Axis.low_edge.Tie as tie
 
-int-to-float-result : tie.Need-int-to-float-result
-int-to-float-result c = search needs
-
 returns : tie.Need-returns
 unfolding lowOn
 returns c = refl
 
 pub low-edge-spec : {M : Type 1} → statement M
-low-edge-spec = tie.close (tie.spec int-to-float-result returns)
+low-edge-spec = tie.close (tie.spec (λ c. search needs) returns)

@@ -5,15 +5,9 @@ use borrow.Author.Needs.{needs}
 use Rattle.grid.proofs.axes.near_whole.Statement.{statement}
 use Rattle.grid.proofs.axes.near_whole.Tie as tie
 
-round-half-away-requires : tie.Need-round-half-away-requires
-round-half-away-requires c κs = search needs
-
-magnitude-requires : tie.Need-magnitude-requires
-magnitude-requires c κs = search needs
-
 returns : tie.Need-returns
 unfolding nearWhole ofBits round
 returns c = rw (c .magnitude .ensures, c .before .round-half-away .ensures)
 
 pub near-whole-spec : {M : Type 1} → statement M
-near-whole-spec = tie.close (tie.spec round-half-away-requires magnitude-requires returns)
+near-whole-spec = tie.close (tie.spec (λ c κs. search needs) (λ c κs. search needs) returns)

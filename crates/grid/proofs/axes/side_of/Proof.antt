@@ -4,12 +4,6 @@ use Rattle.grid.specs.Axes.{sideOf}
 use Rattle.grid.proofs.axes.side_of.Statement.{statement}
 use Rattle.grid.proofs.axes.side_of.Tie as tie
 
-near-whole-requires : tie.Need-near-whole-requires
-near-whole-requires c κs = search needs
-
-round-half-away-requires : tie.Need-round-half-away-requires
-round-half-away-requires c κs = search needs
-
 returns : tie.Need-returns
 unfolding sideOf
 returns c = rw (← c .before .before .before .near-whole .ensures, c .before .before .if1 .taken, ← c .before .round-half-away .ensures, c .if2 .taken)
@@ -24,4 +18,4 @@ returns-3 c = rw (← c .before .near-whole .ensures, c .if1 .left)
 
 pub side-of-spec : {M : Type 1} → statement M
 side-of-spec =
-    tie.close (tie.spec near-whole-requires round-half-away-requires returns returns-2 returns-3)
+    tie.close (tie.spec (λ c κs. search needs) (λ c κs. search needs) returns returns-2 returns-3)

@@ -4,15 +4,9 @@ use borrow.Author.Needs.{needs}
 use Rattle.grid.proofs.checks.are_cell_sizes.Statement.{statement}
 use Rattle.grid.proofs.checks.are_cell_sizes.Tie as tie
 
-is-cell-size-requires : tie.Need-is-cell-size-requires
-is-cell-size-requires c κs = search needs
-
-is-cell-size-requires-2 : tie.Need-is-cell-size-requires-2
-is-cell-size-requires-2 c κs = search needs
-
 returns : tie.Need-returns
 unfolding sizesFit
 returns c = rw (c .before .is-cell-size .ensures, c .is-cell-size2 .ensures)
 
 pub are-cell-sizes-spec : {M : Type 1} → statement M
-are-cell-sizes-spec = tie.close (tie.spec is-cell-size-requires is-cell-size-requires-2 returns)
+are-cell-sizes-spec = tie.close (tie.spec (λ c κs. search needs) (λ c κs. search needs) returns)

@@ -4,15 +4,9 @@ use borrow.Author.Needs.{needs}
 use Rattle.grid.proofs.checks.check_cell.Statement.{statement}
 use Rattle.grid.proofs.checks.check_cell.Tie as tie
 
-is-cell-requires : tie.Need-is-cell-requires
-is-cell-requires c κs = search needs
-
-refuse-unless-requires : tie.Need-refuse-unless-requires
-refuse-unless-requires c κs = search needs
-
 returns : tie.Need-returns
 unfolding cellCheck
 returns c = rw (← c .before .is-cell .ensures) (c .refuse-unless .ensures)
 
 pub check-cell-spec : {M : Type 1} → statement M
-check-cell-spec = tie.close (tie.spec is-cell-requires refuse-unless-requires returns)
+check-cell-spec = tie.close (tie.spec (λ c κs. search needs) (λ c κs. search needs) returns)

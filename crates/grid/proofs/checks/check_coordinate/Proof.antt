@@ -4,15 +4,9 @@ use borrow.Author.Needs.{needs}
 use Rattle.grid.proofs.checks.check_coordinate.Statement.{statement}
 use Rattle.grid.proofs.checks.check_coordinate.Tie as tie
 
-is-coordinate-requires : tie.Need-is-coordinate-requires
-is-coordinate-requires c κs = search needs
-
-refuse-unless-requires : tie.Need-refuse-unless-requires
-refuse-unless-requires c κs = search needs
-
 returns : tie.Need-returns
 unfolding coordinateCheck
 returns c = rw (← c .before .is-coordinate .ensures) (c .refuse-unless .ensures)
 
 pub check-coordinate-spec : {M : Type 1} → statement M
-check-coordinate-spec = tie.close (tie.spec is-coordinate-requires refuse-unless-requires returns)
+check-coordinate-spec = tie.close (tie.spec (λ c κs. search needs) (λ c κs. search needs) returns)

@@ -16,30 +16,15 @@ Inv-loop start-x start-y end-x end-y i₀ i = Searched (lines start-x start-y en
 abbrev μ-loop : tie.MeasureT-loop
 μ-loop start-x start-y end-x end-y i₀ i = length start-x - i
 
-all-obey-requires : tie.Need-all-obey-requires Inv-loop μ-loop
-all-obey-requires c κs = c .before .before .before .before .pre
-
 returns : tie.Need-returns Inv-loop μ-loop
 returns c = c .before .all-obey .ensures (c .if1 .taken)
 
 loop-holds : tie.Need-loop-holds Inv-loop μ-loop
 loop-holds c = searched-none _ (c .before .before .before .before .before .before .pre)
 
-segment-at-requires : tie.Need-segment-at-requires Inv-loop μ-loop
-segment-at-requires c κs = search needs
-
-is-segment-requires : tie.Need-is-segment-requires Inv-loop μ-loop
-is-segment-requires c κs = search needs
-
 returns-2 : tie.Need-returns-2 Inv-loop μ-loop
 unfolding lineFits
 returns-2 c = searched-bad (c .before .before .before .before .loop .inv) (omega arith) (ap segment (sym (c .before .before .segment-at .ensures)) ∙ sym (c .before .is-segment .ensures) ∙ not-true _ (c .if2 .taken))
-
-add-i : tie.Need-add-i Inv-loop μ-loop
-add-i c = omega arith
-
-loop-less : tie.Need-loop-less Inv-loop μ-loop
-loop-less c = omega arith
 
 loop-again : tie.Need-loop-again Inv-loop μ-loop
 unfolding lineFits
@@ -54,13 +39,13 @@ check-coordinates-spec =
     (tie.spec
     Inv-loop
     μ-loop
-    all-obey-requires
+    (λ c κs. c .before .before .before .before .pre)
     returns
     loop-holds
-    segment-at-requires
-    is-segment-requires
+    (λ c κs. search needs)
+    (λ c κs. search needs)
     returns-2
-    add-i
-    loop-less
+    (λ c. omega arith)
+    (λ c. omega arith)
     loop-again
     returns-3)

@@ -4,12 +4,9 @@ use borrow.Author.Needs.{needs}
 use Rattle.grid.proofs.checks.check_count.Statement.{statement}
 use Rattle.grid.proofs.checks.check_count.Tie as tie
 
-refuse-unless-requires : tie.Need-refuse-unless-requires
-refuse-unless-requires c κs = search needs
-
 returns : tie.Need-returns
 unfolding countCheck
 returns c = c .refuse-unless .ensures
 
 pub check-count-spec : {M : Type 1} → statement M
-check-count-spec = tie.close (tie.spec refuse-unless-requires returns)
+check-count-spec = tie.close (tie.spec (λ c κs. search needs) returns)

@@ -4,12 +4,9 @@ use borrow.Author.Needs.{needs}
 use Rattle.grid.proofs.checks.check_scratch.Statement.{statement}
 use Rattle.grid.proofs.checks.check_scratch.Tie as tie
 
-refuse-unless-requires : tie.Need-refuse-unless-requires
-refuse-unless-requires c κs = search needs
-
 returns : tie.Need-returns
 unfolding scratchCheck
 returns c = c .refuse-unless .ensures
 
 pub check-scratch-spec : {M : Type 1} → statement M
-check-scratch-spec = tie.close (tie.spec refuse-unless-requires returns)
+check-scratch-spec = tie.close (tie.spec (λ c κs. search needs) returns)

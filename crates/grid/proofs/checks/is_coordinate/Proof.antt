@@ -5,12 +5,9 @@ use borrow.Author.Needs.{needs}
 use Rattle.grid.proofs.checks.is_coordinate.Statement.{statement}
 use Rattle.grid.proofs.checks.is_coordinate.Tie as tie
 
-magnitude-requires : tie.Need-magnitude-requires
-magnitude-requires c κs = search needs
-
 returns : tie.Need-returns
 unfolding coordinate ofBits round
 returns c = rw (c .magnitude .ensures)
 
 pub is-coordinate-spec : {M : Type 1} → statement M
-is-coordinate-spec = tie.close (tie.spec magnitude-requires returns)
+is-coordinate-spec = tie.close (tie.spec (λ c κs. search needs) returns)

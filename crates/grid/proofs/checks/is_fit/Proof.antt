@@ -4,19 +4,10 @@ use borrow.Author.Needs.{needs}
 use Rattle.grid.proofs.checks.is_fit.Statement.{statement}
 use Rattle.grid.proofs.checks.is_fit.Tie as tie
 
-is-point-requires : tie.Need-is-point-requires
-is-point-requires c κs = search needs
-
-are-cell-sizes-requires : tie.Need-are-cell-sizes-requires
-are-cell-sizes-requires c κs = search needs
-
-is-shape-requires : tie.Need-is-shape-requires
-is-shape-requires c κs = search needs
-
 returns : tie.Need-returns
 unfolding fit
 returns c = rw (c .before .before .is-point .ensures, c .before .are-cell-sizes .ensures, c .is-shape .ensures)
 
 pub is-fit-spec : {M : Type 1} → statement M
 is-fit-spec =
-    tie.close (tie.spec is-point-requires are-cell-sizes-requires is-shape-requires returns)
+    tie.close (tie.spec (λ c κs. search needs) (λ c κs. search needs) (λ c κs. search needs) returns)

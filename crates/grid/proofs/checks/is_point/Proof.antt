@@ -4,15 +4,9 @@ use borrow.Author.Needs.{needs}
 use Rattle.grid.proofs.checks.is_point.Statement.{statement}
 use Rattle.grid.proofs.checks.is_point.Tie as tie
 
-is-coordinate-requires : tie.Need-is-coordinate-requires
-is-coordinate-requires c κs = search needs
-
-is-coordinate-requires-2 : tie.Need-is-coordinate-requires-2
-is-coordinate-requires-2 c κs = search needs
-
 returns : tie.Need-returns
 unfolding point
 returns c = rw (c .before .is-coordinate .ensures, c .is-coordinate2 .ensures)
 
 pub is-point-spec : {M : Type 1} → statement M
-is-point-spec = tie.close (tie.spec is-coordinate-requires is-coordinate-requires-2 returns)
+is-point-spec = tie.close (tie.spec (λ c κs. search needs) (λ c κs. search needs) returns)

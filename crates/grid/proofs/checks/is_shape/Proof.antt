@@ -6,12 +6,6 @@ use borrow.Author.Needs.{needs}
 use Rattle.grid.proofs.checks.is_shape.Statement.{statement}
 use Rattle.grid.proofs.checks.is_shape.Tie as tie
 
-is-count-requires : tie.Need-is-count-requires
-is-count-requires c κs = search needs
-
-is-count-requires-2 : tie.Need-is-count-requires-2
-is-count-requires-2 c κs = search needs
-
 mul-result : tie.Need-mul-result
 mul-result c = record { fits = wide-product _ _ (omega arith) (omega arith) }
 
@@ -20,4 +14,4 @@ unfolding shape
 returns c = rw (c .before .is-count .ensures, c .is-count2 .ensures)
 
 pub is-shape-spec : {M : Type 1} → statement M
-is-shape-spec = tie.close (tie.spec is-count-requires is-count-requires-2 mul-result returns)
+is-shape-spec = tie.close (tie.spec (λ c κs. search needs) (λ c κs. search needs) mul-result returns)

@@ -6,8 +6,6 @@ use lib.ListN.{List·getD-eq-default}
 use borrow.Author.Needs.{needs}
 use Rattle.grid.proofs.segments.entry.Statement.{statement}
 use Rattle.grid.proofs.segments.entry.Tie as tie
-use Rattle.grid.proofs.segments.entry.Reads as reads
-use Rattle.grid.proofs.segments.entry.Lts as lts
 
 returns-2 : tie.Need-returns-2
 unfolding div ofBits

@@ -5,8 +5,6 @@ use borrow.Author.Needs.{needs}
 use Rattle.listed.proofs.BoxLaws.{Narrowing, inner-start, inner-more, inner-end}
 use Rattle.listed.proofs.boxes.is_inner.Statement.{statement}
 use Rattle.listed.proofs.boxes.is_inner.Tie as tie
-use Rattle.listed.proofs.boxes.is_inner.Reads as reads
-use Rattle.listed.proofs.boxes.is_inner.Lts as lts
 
 abbrev Inv-loop : tie.InvT-loop
 Inv-loop many room ax ay bx by all₀ u₀ all u =
@@ -17,45 +15,6 @@ abbrev μ-loop : tie.MeasureT-loop
 
 loop-holds : tie.Need-loop-holds Inv-loop μ-loop
 loop-holds c = inner-start _ _ _ (search needs)
-
-mul-all : tie.Need-mul-all Inv-loop μ-loop
-mul-all c = omega arith
-
-shared-slice-read-all : tie.Need-shared-slice-read-all Inv-loop μ-loop
-shared-slice-read-all c = omega arith
-
-add-all : tie.Need-add-all Inv-loop μ-loop
-add-all c = omega arith
-
-mul-all-2 : tie.Need-mul-all-2 Inv-loop μ-loop
-mul-all-2 c = omega arith
-
-shared-slice-read-all-2 : tie.Need-shared-slice-read-all-2 Inv-loop μ-loop
-shared-slice-read-all-2 c = omega arith
-
-add-all-2 : tie.Need-add-all-2 Inv-loop μ-loop
-add-all-2 c = omega arith
-
-mul-all-3 : tie.Need-mul-all-3 Inv-loop μ-loop
-mul-all-3 c = omega arith
-
-shared-slice-read-all-3 : tie.Need-shared-slice-read-all-3 Inv-loop μ-loop
-shared-slice-read-all-3 c = omega arith
-
-add-all-3 : tie.Need-add-all-3 Inv-loop μ-loop
-add-all-3 c = omega arith
-
-mul-all-4 : tie.Need-mul-all-4 Inv-loop μ-loop
-mul-all-4 c = omega arith
-
-shared-slice-read-all-4 : tie.Need-shared-slice-read-all-4 Inv-loop μ-loop
-shared-slice-read-all-4 c = omega arith
-
-add-u : tie.Need-add-u Inv-loop μ-loop
-add-u c = omega arith
-
-loop-less : tie.Need-loop-less Inv-loop μ-loop
-loop-less c = omega arith
 
 loop-again : tie.Need-loop-again Inv-loop μ-loop
 loop-again c = inner-more _ _ _ _ _ _ _ _ _ (c .before .before .before .before .before .loop .inv) (c .before .before .before .before .loop-test .taken)
@@ -70,18 +29,18 @@ is-inner-spec =
     Inv-loop
     μ-loop
     loop-holds
-    mul-all
-    shared-slice-read-all
-    add-all
-    mul-all-2
-    shared-slice-read-all-2
-    add-all-2
-    mul-all-3
-    shared-slice-read-all-3
-    add-all-3
-    mul-all-4
-    shared-slice-read-all-4
-    add-u
-    loop-less
+    (λ c. omega arith)
+    (λ c. omega arith)
+    (λ c. omega arith)
+    (λ c. omega arith)
+    (λ c. omega arith)
+    (λ c. omega arith)
+    (λ c. omega arith)
+    (λ c. omega arith)
+    (λ c. omega arith)
+    (λ c. omega arith)
+    (λ c. omega arith)
+    (λ c. omega arith)
+    (λ c. omega arith)
     loop-again
     returns)

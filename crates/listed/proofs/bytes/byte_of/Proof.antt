@@ -5,8 +5,6 @@ use mathlib.Core.Path.{sym, ap, _∙_}
 use Rattle.listed.specs.Bytes.{byteOf}
 use Rattle.listed.proofs.bytes.byte_of.Statement.{statement}
 use Rattle.listed.proofs.bytes.byte_of.Tie as tie
-use Rattle.listed.proofs.bytes.byte_of.Reads as reads
-use Rattle.listed.proofs.bytes.byte_of.Lts as lts
 
 returns : tie.Need-returns
 returns c = sym (ap byteOf (c .if1 .taken) ∙ byte-true)

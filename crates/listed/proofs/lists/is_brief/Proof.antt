@@ -4,8 +4,6 @@ use borrow.Author.Needs.{needs}
 use Rattle.listed.proofs.ListLaws.{square-few, brief-late, brief-later, brief-long, brief-is}
 use Rattle.listed.proofs.lists.is_brief.Statement.{statement}
 use Rattle.listed.proofs.lists.is_brief.Tie as tie
-use Rattle.listed.proofs.lists.is_brief.Reads as reads
-use Rattle.listed.proofs.lists.is_brief.Lts as lts
 
 returns : tie.Need-returns
 returns c = brief-late _ _ _ _ (c .if1 .taken)

@@ -7,11 +7,6 @@ use Rattle.listed.proofs.CellLaws.{Settling, settling-none, settled-pas
 use Rattle.listed.proofs.ListLaws.{row-at-is, row-at-past}
 use Rattle.listed.proofs.settle.cell_at.Statement.{statement}
 use Rattle.listed.proofs.settle.cell_at.Tie as tie
-use Rattle.listed.proofs.settle.cell_at.Reads as reads
-use Rattle.listed.proofs.settle.cell_at.Lts as lts
-use Rattle.listed.proofs.lists.list_of.Reads as list-of-reads
-use Rattle.listed.proofs.lists.next_cell.Reads as next-cell-reads
-use Rattle.listed.proofs.settle.row_at.Reads as row-at-reads
 
 abbrev Inv-loop : tie.InvT-loop
 Inv-loop lines reach offsets items cell i j cell₀ i₀ j₀ cell' i' j' =
@@ -24,26 +19,8 @@ abbrev μ-loop : tie.MeasureT-loop
 loop-holds : tie.Need-loop-holds Inv-loop μ-loop
 loop-holds c = settling-none _ _ _ _ _ _ _
 
-list-of-requires : tie.Need-list-of-requires Inv-loop μ-loop
-list-of-requires c κs = tt
-
-row-at-requires : tie.Need-row-at-requires Inv-loop μ-loop
-row-at-requires c κs = tt
-
-enum-known-a : tie.Need-enum-known-a Inv-loop μ-loop
-enum-known-a c = search needs
-
 returns : tie.Need-returns Inv-loop μ-loop
 returns c = settled-here _ _ _ _ _ _ _ _ _ _ (c .before .before .before .before .before .before .loop .inv) (c .before .before .before .before .before .loop-test .taken) _ (c .before .before .before .before .list-of .ensures) _ _ (row-at-is _ _ _ _ (c .before .before .before .row-at .ensures) _ _ (c .before .a .given .1))
-
-enum-told : tie.Need-enum-told Inv-loop μ-loop
-enum-told c = search needs
-
-add-next-cell : tie.Need-add-next-cell Inv-loop μ-loop
-add-next-cell c = omega arith
-
-next-cell-requires : tie.Need-next-cell-requires Inv-loop μ-loop
-next-cell-requires c κs = tt
 
 loop-less : tie.Need-loop-less Inv-loop μ-loop
 loop-less c = omega (arith, c .next-cell .ensures .onward)
@@ -64,13 +41,13 @@ cell-at-spec =
     Inv-loop
     μ-loop
     loop-holds
-    list-of-requires
-    row-at-requires
-    enum-known-a
+    (λ c κs. tt)
+    (λ c κs. tt)
+    (λ c. search needs)
     returns
-    enum-told
-    add-next-cell
-    next-cell-requires
+    (λ c. search needs)
+    (λ c. omega arith)
+    (λ c κs. tt)
     loop-less
     loop-again
     returns-2)

@@ -3,17 +3,12 @@ use Rattle.listed.proofs.ListLaws.{later-is, later-next}
 use borrow.Author.Needs.{needs}
 use Rattle.listed.proofs.settle.later.Statement.{statement}
 use Rattle.listed.proofs.settle.later.Tie as tie
-use Rattle.listed.proofs.settle.later.Reads as reads
-use Rattle.listed.proofs.settle.later.Lts as lts
 
 returns : tie.Need-returns
 returns c = later-is _ _ (c .if1 .taken)
-
-add-result : tie.Need-add-result
-add-result c = search needs
 
 returns-2 : tie.Need-returns-2
 returns-2 c = later-next _ _ (c .if1 .left)
 
 pub later-spec : {M : Type 1} → statement M
-later-spec = tie.close (tie.spec returns add-result returns-2)
+later-spec = tie.close (tie.spec returns (λ c. search needs) returns-2)

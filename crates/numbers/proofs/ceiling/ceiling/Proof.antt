@@ -36,9 +36,6 @@ whole-part-requires : tie.Need-whole-part-requires
 unfolding ofBits
 whole-part-requires c κs = (holds _ (c .before .if1 .taken), holds _ (c .if2 .taken))
 
-one-if-above-requires : tie.Need-one-if-above-requires
-one-if-above-requires c κs = search needs
-
 float-to-int-result : tie.Need-float-to-int-result
 float-to-int-result c = back (c .before) .0
 
@@ -70,7 +67,7 @@ ceiling-spec =
     tie.close
     (tie.spec
     whole-part-requires
-    one-if-above-requires
+    (λ c κs. search needs)
     float-to-int-result
     returns
     truncating-f64-to-u64-requires

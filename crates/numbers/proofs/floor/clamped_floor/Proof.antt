@@ -18,12 +18,6 @@ fine c = within _ _ (omega arith) (c .before .before .before .if1 .taken) (c .if
 returns : tie.Need-returns
 returns c = subst (λ (n : ℕ). 0 ≡ clampedFloor (c .before .before .args .v) n) (sym (c .if2 .taken)) (clamped-none _)
 
-sub-last : tie.Need-sub-last
-sub-last c = search needs
-
-int-to-float-if3 : tie.Need-int-to-float-if3
-int-to-float-if3 c = search needs
-
 whole-index-requires : tie.Need-whole-index-requires
 unfolding ofBits
 whole-index-requires c κs = let w = fine c in (holds _ (c .before .before .before .if1 .taken), (w .small, omega arith))
@@ -44,8 +38,8 @@ clamped-floor-spec =
     tie.close
     (tie.spec
     returns
-    sub-last
-    int-to-float-if3
+    (λ c. search needs)
+    (λ c. search needs)
     whole-index-requires
     returns-2
     returns-3

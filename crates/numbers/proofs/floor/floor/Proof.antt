@@ -22,18 +22,9 @@ fine : (c : tie.Then2) → Small (magnitudeOf (c .before .before .before .args .
 unfolding ofBits
 fine c = small _ (subst (λ (x : Float). T (lt (fin false 0 (pos 0)) x)) (c .before .before .magnitude .ensures) (holds _ (c .before .if1 .taken))) (subst (λ (x : Float). T (lt x (fin false 1 (pos 52)))) (c .before .before .magnitude .ensures) (holds _ (c .if2 .taken)))
 
-magnitude-requires : tie.Need-magnitude-requires
-magnitude-requires c κs = search needs
-
-unit-requires : tie.Need-unit-requires
-unit-requires c κs = search needs
-
 whole-part-requires : tie.Need-whole-part-requires
 unfolding ofBits
 whole-part-requires c κs = (holds _ (c .before .before .if1 .taken), holds _ (c .before .if2 .taken))
-
-one-if-above-requires : tie.Need-one-if-above-requires
-one-if-above-requires c κs = search needs
 
 returns : tie.Need-returns
 returns c =
@@ -54,10 +45,10 @@ pub floor-spec : {M : Type 1} → statement M
 floor-spec =
     tie.close
     (tie.spec
-    magnitude-requires
-    unit-requires
+    (λ c κs. search needs)
+    (λ c κs. search needs)
     whole-part-requires
-    one-if-above-requires
+    (λ c κs. search needs)
     returns
     returns-2
     returns-3)

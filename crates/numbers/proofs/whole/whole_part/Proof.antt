@@ -7,12 +7,9 @@ use borrow.Author.Needs.{needs}
 use Rattle.numbers.proofs.whole.whole_part.Statement.{statement}
 use Rattle.numbers.proofs.whole.whole_part.Tie as tie
 
-one-if-above-requires : tie.Need-one-if-above-requires
-one-if-above-requires c κs = search needs
-
 returns : tie.Need-returns
 unfolding ofBits
 returns c = ap (sub binary64 _) (c .one-if-above .ensures) ∙ part-of _ _ (small _ (c .before .pre .0) (c .before .pre .1)) refl
 
 pub whole-part-spec : {M : Type 1} → statement M
-whole-part-spec = tie.close (tie.spec one-if-above-requires returns)
+whole-part-spec = tie.close (tie.spec (λ c κs. search needs) returns)

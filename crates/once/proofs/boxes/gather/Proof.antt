@@ -6,10 +6,6 @@ use Rattle.grid.specs.Domain.{lines}
 use Rattle.once.proofs.Boxed.{Gathering, gather-begin, gather-line, gather-room, gather-more, gather-end}
 use Rattle.once.proofs.boxes.gather.Statement.{statement}
 use Rattle.once.proofs.boxes.gather.Tie as tie
-use Rattle.once.proofs.boxes.gather.Reads as reads
-use Rattle.once.proofs.boxes.gather.Lts as lts
-use Rattle.once.proofs.boxes.box_at.Reads as box-at-reads
-use Rattle.once.proofs.boxes.put_box.Reads as put-box-reads
 
 abbrev Inv-loop : tie.InvT-loop
 Inv-loop list start-x start-y end-x end-y room₀ u₀ room u = Gathering (lines start-x start-y end-x end-y) list room₀ room u
@@ -20,29 +16,14 @@ abbrev μ-loop : tie.MeasureT-loop
 loop-holds : tie.Need-loop-holds Inv-loop μ-loop
 loop-holds c = let h = c .before .before .before .before .before .before .pre in gather-begin (h .fine) (h .asks)
 
-mul-box-at : tie.Need-mul-box-at Inv-loop μ-loop
-mul-box-at c = omega arith
-
-shared-slice-read-box-at : tie.Need-shared-slice-read-box-at Inv-loop μ-loop
-shared-slice-read-box-at c = omega arith
-
 box-at-requires : tie.Need-box-at-requires Inv-loop μ-loop
 box-at-requires c κs = gather-line (c .before .before .loop .inv) (c .before .loop-test .taken)
 
 put-box-requires : tie.Need-put-box-requires Inv-loop μ-loop
 put-box-requires c κs = gather-room (c .before .before .before .before .loop .inv) (c .before .before .before .loop-test .taken)
 
-add-u : tie.Need-add-u Inv-loop μ-loop
-add-u c = omega arith
-
-loop-less : tie.Need-loop-less Inv-loop μ-loop
-loop-less c = omega arith
-
 loop-again : tie.Need-loop-again Inv-loop μ-loop
 loop-again c = gather-more (c .before .before .before .before .before .before .before .loop .inv) (c .before .before .before .before .before .before .loop-test .taken) (c .before .before .before .before .box-at .ensures) (c .before .before .put-box .ensures)
-
-same-length : tie.Need-same-length Inv-loop μ-loop
-same-length c = c .before .loop .inv .long
 
 returns : tie.Need-returns Inv-loop μ-loop
 returns c = gather-end (c .before .loop .inv) (c .loop-test .left)
@@ -54,12 +35,12 @@ gather-spec =
     Inv-loop
     μ-loop
     loop-holds
-    mul-box-at
-    shared-slice-read-box-at
+    (λ c. omega arith)
+    (λ c. omega arith)
     box-at-requires
     put-box-requires
-    add-u
-    loop-less
+    (λ c. omega arith)
+    (λ c. omega arith)
     loop-again
-    same-length
+    (λ c. c .before .loop .inv .long)
     returns)

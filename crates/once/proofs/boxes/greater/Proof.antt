@@ -1,8 +1,6 @@
 -- `once::boxes::greater` meets its contract. Assumes nothing.
 use Rattle.once.proofs.boxes.greater.Statement.{statement}
 use Rattle.once.proofs.boxes.greater.Tie as tie
-use Rattle.once.proofs.boxes.greater.Reads as reads
-use Rattle.once.proofs.boxes.greater.Lts as lts
 
 returns : tie.Need-returns
 returns c = rw (c .if1 .taken)

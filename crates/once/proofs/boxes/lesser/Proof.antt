@@ -1,8 +1,6 @@
 -- `once::boxes::lesser` meets its contract. Assumes nothing.
 use Rattle.once.proofs.boxes.lesser.Statement.{statement}
 use Rattle.once.proofs.boxes.lesser.Tie as tie
-use Rattle.once.proofs.boxes.lesser.Reads as reads
-use Rattle.once.proofs.boxes.lesser.Lts as lts
 
 returns : tie.Need-returns
 returns c = rw (c .if1 .taken)

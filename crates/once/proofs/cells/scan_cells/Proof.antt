@@ -10,11 +10,6 @@ use Rattle.first_tests.proofs.Passing.{Beside}
 use Rattle.once.proofs.Boxed.{WithRoom}
 use Rattle.once.proofs.cells.scan_cells.Statement.{statement}
 use Rattle.once.proofs.cells.scan_cells.Tie as tie
-use Rattle.once.proofs.cells.scan_cells.Reads as reads
-use Rattle.once.proofs.cells.scan_cells.Lts as lts
-use Rattle.once.proofs.cells.count_list.Reads as count-list-reads
-use Rattle.once.proofs.cells.list_of.Reads as list-of-reads
-use Rattle.once.proofs.cells.scan_cell.Reads as scan-cell-reads
 
 abbrev Inv-loop : tie.InvT-loop
 Inv-loop cells cols offsets items start-x start-y end-x end-y starts listing counts₀ first₀ second₀ marks₀ room₀ hits₀ cell₀ counts first second marks room hits cell =
@@ -48,12 +43,6 @@ scan-cell-requires c κs =
 count-list-requires : tie.Need-count-list-requires Inv-loop μ-loop
 count-list-requires c κs = cell-counts (c .before .before .before .before .before .before .before .before .before .before .before .before .before .before .before .loop .inv .held .held .asks) (c .before .before .before .before .before .before .before .before .before .before .before .before .before .before .loop-test .taken) (c .before .before .before .before .before .before .before .before .before .before .before .before .before .list-of .ensures)
 
-add-cell : tie.Need-add-cell Inv-loop μ-loop
-add-cell c = omega arith
-
-loop-less : tie.Need-loop-less Inv-loop μ-loop
-loop-less c = omega arith
-
 loop-again : tie.Need-loop-again Inv-loop μ-loop
 loop-again c =
     let d = c .before .before .before .before .before .before .before .before .before .before .scan-cell in
@@ -69,15 +58,6 @@ loop-again c =
         };
       };
     }
-
-same-length : tie.Need-same-length Inv-loop μ-loop
-same-length c = c .before .loop .inv .held .held .asks .counts-long
-
-same-length-2 : tie.Need-same-length-2 Inv-loop μ-loop
-same-length-2 c = c .before .loop .inv .held .held .asks .first-long
-
-same-length-3 : tie.Need-same-length-3 Inv-loop μ-loop
-same-length-3 c = c .before .loop .inv .held .held .asks .second-long
 
 returns : tie.Need-returns Inv-loop μ-loop
 returns c = cells-done (c .before .loop .inv .held .held .asks) (c .loop-test .left)
@@ -95,10 +75,10 @@ scan-cells-spec =
     slice-aggregate-scan-cell-2
     scan-cell-requires
     count-list-requires
-    add-cell
-    loop-less
+    (λ c. omega arith)
+    (λ c. omega arith)
     loop-again
-    same-length
-    same-length-2
-    same-length-3
+    (λ c. c .before .loop .inv .held .held .asks .counts-long)
+    (λ c. c .before .loop .inv .held .held .asks .first-long)
+    (λ c. c .before .loop .inv .held .held .asks .second-long)
     returns)

@@ -10,10 +10,6 @@ use Rattle.first_tests.proofs.Passing.{MarkRows, marks-begin, mark-fits, marked
 use Rattle.once.proofs.Boxed.{row-first, row-sure, row-held, line-asks}
 use Rattle.once.proofs.cells.scan_rows.Statement.{statement}
 use Rattle.once.proofs.cells.scan_rows.Tie as tie
-use Rattle.once.proofs.cells.scan_rows.Reads as reads
-use Rattle.once.proofs.cells.scan_rows.Lts as lts
-use Rattle.once.proofs.rows.row_of.Reads as row-of-reads
-use Rattle.once.proofs.rows.scan_list.Reads as scan-list-reads
 
 abbrev Inv-loop : tie.InvT-loop
 Inv-loop sure list marks start-x start-y end-x end-y starts listing counts first₀ second₀ hits hits₀ i₀ first second hits' i =
@@ -26,50 +22,14 @@ abbrev μ-loop : tie.MeasureT-loop
 loop-holds : tie.Need-loop-holds Inv-loop μ-loop
 loop-holds c = let h = c .before .before .before .before .before .before .before .before .before .before .before .pre in record { fine = h .fine; asks = marks-begin (h .asks) }
 
-mul-row-of : tie.Need-mul-row-of Inv-loop μ-loop
-mul-row-of c = omega arith
-
-shared-slice-read-row-of : tie.Need-shared-slice-read-row-of Inv-loop μ-loop
-shared-slice-read-row-of c = omega arith
-
 row-of-requires : tie.Need-row-of-requires Inv-loop μ-loop
 row-of-requires c κs = let h = c .before .before .loop .inv in line-asks (h .fine) (row-line (h .asks .rows) (c .before .loop-test .taken))
-
-mul-mark : tie.Need-mul-mark Inv-loop μ-loop
-mul-mark c = omega arith
 
 shared-slice-read-mark : tie.Need-shared-slice-read-mark Inv-loop μ-loop
 shared-slice-read-mark c = omega (arith, c .before .before .before .before .loop .inv .asks .asks .long)
 
 mul-mark-2 : tie.Need-mul-mark-2 Inv-loop μ-loop
 mul-mark-2 c = let l = c .before .before .before .before .loop in record { fits = mark-fits _ _ (c .shared-slice-known11 .given (l .i) .fits) (l .inv .asks .asks .most) }
-
-add-i : tie.Need-add-i Inv-loop μ-loop
-add-i c = omega arith
-
-mul-scan-list : tie.Need-mul-scan-list Inv-loop μ-loop
-mul-scan-list c = omega arith
-
-sub-scan-list : tie.Need-sub-scan-list Inv-loop μ-loop
-sub-scan-list c = omega arith
-
-part-scan-list-start : tie.Need-part-scan-list-start Inv-loop μ-loop
-part-scan-list-start c = omega arith
-
-part-scan-list-end : tie.Need-part-scan-list-end Inv-loop μ-loop
-part-scan-list-end c = omega arith
-
-mul-scan-list-2 : tie.Need-mul-scan-list-2 Inv-loop μ-loop
-mul-scan-list-2 c = omega arith
-
-sub-scan-list-2 : tie.Need-sub-scan-list-2 Inv-loop μ-loop
-sub-scan-list-2 c = omega arith
-
-part-scan-list-start-2 : tie.Need-part-scan-list-start-2 Inv-loop μ-loop
-part-scan-list-start-2 c = omega arith
-
-part-scan-list-end-2 : tie.Need-part-scan-list-end-2 Inv-loop μ-loop
-part-scan-list-end-2 c = omega arith
 
 scan-list-requires : tie.Need-scan-list-requires Inv-loop μ-loop
 scan-list-requires c κs =
@@ -78,9 +38,6 @@ scan-list-requires c κs =
     let a = c .before .before .before .before .before .before .before .before .before .before .before .before .before .before .before .before .before .before .before .before .args in
     row-held e (l .inv .fine) (l .inv .asks .asks .most)
     (marked-row (l .inv .asks) (c .before .before .before .before .before .before .before .loop-test .taken) (row-first e) (row-sure e) (part-all (a .list .now) (l .i + 1)) (part-all (a .marks .now) (l .i + 1)))
-
-loop-less : tie.Need-loop-less Inv-loop μ-loop
-loop-less c = omega arith
 
 loop-again : tie.Need-loop-again Inv-loop μ-loop
 loop-again c =
@@ -92,12 +49,6 @@ loop-again c =
           (d .ensures) (d .kept .1 .1 .1 .1 .1 .1 .1 .1 .1 .1 .1 .0) (d .kept .1 .1 .1 .1 .1 .1 .1 .1 .1 .1 .1 .1 .0);
     }
 
-same-length : tie.Need-same-length Inv-loop μ-loop
-same-length c = c .before .loop .inv .asks .rows .first-long
-
-same-length-2 : tie.Need-same-length-2 Inv-loop μ-loop
-same-length-2 c = c .before .loop .inv .asks .rows .second-long
-
 returns : tie.Need-returns Inv-loop μ-loop
 returns c = rows-done (c .before .loop .inv .asks .rows) (c .loop-test .left)
 
@@ -108,24 +59,24 @@ scan-rows-spec =
     Inv-loop
     μ-loop
     loop-holds
-    mul-row-of
-    shared-slice-read-row-of
+    (λ c. omega arith)
+    (λ c. omega arith)
     row-of-requires
-    mul-mark
+    (λ c. omega arith)
     shared-slice-read-mark
     mul-mark-2
-    add-i
-    mul-scan-list
-    sub-scan-list
-    part-scan-list-start
-    part-scan-list-end
-    mul-scan-list-2
-    sub-scan-list-2
-    part-scan-list-start-2
-    part-scan-list-end-2
+    (λ c. omega arith)
+    (λ c. omega arith)
+    (λ c. omega arith)
+    (λ c. omega arith)
+    (λ c. omega arith)
+    (λ c. omega arith)
+    (λ c. omega arith)
+    (λ c. omega arith)
+    (λ c. omega arith)
     scan-list-requires
-    loop-less
+    (λ c. omega arith)
     loop-again
-    same-length
-    same-length-2
+    (λ c. c .before .loop .inv .asks .rows .first-long)
+    (λ c. c .before .loop .inv .asks .rows .second-long)
     returns)

@@ -9,10 +9,6 @@ use Rattle.once.proofs.Boxed.{row-first, row-held, line-asks, held-othe
 use Rattle.first_tests.proofs.Runs.{global-line, global-in, Runs, runs-begin, stop-here, stop-inside, stop-small, stop-fits, stop-last, run-scan, runs-next, runs-done}
 use Rattle.once.proofs.globals.scan_global.Statement.{statement}
 use Rattle.once.proofs.globals.scan_global.Tie as tie
-use Rattle.once.proofs.globals.scan_global.Reads as reads
-use Rattle.once.proofs.globals.scan_global.Lts as lts
-use Rattle.once.proofs.rows.row_of.Reads as row-of-reads
-use Rattle.once.proofs.rows.scan_lines.Reads as scan-lines-reads
 
 abbrev Inv-loop : tie.InvT-loop
 Inv-loop n p globals start-x start-y end-x end-y starts listing counts first₀ second₀ hits row hits₀ k₀ q₀ first second hits' k q =
@@ -50,9 +46,6 @@ add-k c = record { fits = stop-fits (c .before .before .before .before .before .
 
 add-q : tie.Need-add-q Inv-loop μ-loop
 add-q c = record { fits = stop-small (c .before .before .before .before .before .before .before .before .before .loop .inv .asks) (c .before .before .before .before .before .before .before .before .loop-test .taken) }
-
-loop-less : tie.Need-loop-less Inv-loop μ-loop
-loop-less c = omega arith
 
 loop-again : tie.Need-loop-again Inv-loop μ-loop
 loop-again c =
@@ -92,7 +85,7 @@ scan-global-spec =
     scan-lines-requires
     add-k
     add-q
-    loop-less
+    (λ c. omega arith)
     loop-again
     scan-lines-requires-2
     same-length

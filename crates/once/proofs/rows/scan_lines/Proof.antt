@@ -10,10 +10,6 @@ use Rattle.first_tests.proofs.Scans.{LineScan, lines-begin, lines-done, lines-p
 use borrow.Author.Needs.{needs}
 use Rattle.once.proofs.rows.scan_lines.Statement.{statement}
 use Rattle.once.proofs.rows.scan_lines.Tie as tie
-use Rattle.once.proofs.rows.scan_lines.Reads as reads
-use Rattle.once.proofs.rows.scan_lines.Lts as lts
-use Rattle.once.proofs.rows.keeps.Reads as keeps-reads
-use Rattle.lent.proofs.put_pair.Reads as put-pair-reads
 
 abbrev Inv-loop : tie.InvT-loop
 Inv-loop row k stop start-x start-y end-x end-y starts listing counts first₀ second₀ hits hits₀ b₀ first second hits' b =
@@ -26,35 +22,17 @@ abbrev μ-loop : tie.MeasureT-loop
 loop-holds : tie.Need-loop-holds Inv-loop μ-loop
 loop-holds c = let h = c .before .before .before .before .before .before .before .before .before .pre in held-other h (lines-begin (h .asks))
 
-add-b : tie.Need-add-b Inv-loop μ-loop
-add-b c = omega arith
-
 keeps-requires : tie.Need-keeps-requires Inv-loop μ-loop
 keeps-requires c κs = let h = c .before .loop .inv in held-other h (marked-none (lines-pair (h .asks) (c .loop-test .taken)) (h .most))
-
-put-pair-requires : tie.Need-put-pair-requires Inv-loop μ-loop
-put-pair-requires c κs = search needs
 
 add-hits : tie.Need-add-hits Inv-loop μ-loop
 add-hits c = record { fits = lines-fits (c .before .before .before .before .before .before .before .before .before .before .loop .inv .asks) (c .before .before .before .before .before .before .before .before .before .loop-test .taken) }
 
-loop-less : tie.Need-loop-less Inv-loop μ-loop
-loop-less c = omega arith
-
 loop-again : tie.Need-loop-again Inv-loop μ-loop
 loop-again c = let h = c .before .before .before .before .before .before .before .before .before .before .loop .inv in held-other h (lines-yes (h .asks) (c .before .before .before .before .before .before .before .before .before .loop-test .taken) (c .before .before .before .before .before .before .before .before .keeps .ensures) (c .before .before .before .before .before .before .before .if1 .taken) (c .before .before .before .before .put-pair .ensures .0) (c .before .before .before .before .put-pair .ensures .1))
 
-loop-less-2 : tie.Need-loop-less-2 Inv-loop μ-loop
-loop-less-2 c = omega arith
-
 loop-again-2 : tie.Need-loop-again-2 Inv-loop μ-loop
 loop-again-2 c = let h = c .before .before .before .loop .inv in held-other h (lines-no (h .asks) (c .before .before .loop-test .taken) (c .before .keeps .ensures) (c .if1 .left))
-
-same-length : tie.Need-same-length Inv-loop μ-loop
-same-length c = c .before .loop .inv .asks .scan .first-long
-
-same-length-2 : tie.Need-same-length-2 Inv-loop μ-loop
-same-length-2 c = c .before .loop .inv .asks .scan .second-long
 
 returns : tie.Need-returns Inv-loop μ-loop
 returns c = lines-done (c .before .loop .inv .asks) (c .loop-test .left)
@@ -66,14 +44,14 @@ scan-lines-spec =
     Inv-loop
     μ-loop
     loop-holds
-    add-b
+    (λ c. omega arith)
     keeps-requires
-    put-pair-requires
+    (λ c κs. search needs)
     add-hits
-    loop-less
+    (λ c. omega arith)
     loop-again
-    loop-less-2
+    (λ c. omega arith)
     loop-again-2
-    same-length
-    same-length-2
+    (λ c. c .before .loop .inv .asks .scan .first-long)
+    (λ c. c .before .loop .inv .asks .scan .second-long)
     returns)

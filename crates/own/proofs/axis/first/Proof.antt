@@ -8,32 +8,20 @@ use Rattle.own.proofs.axis.first.Tie as tie
 returns : tie.Need-returns
 returns c = empty-axis (c .before .before .args .axis) (c .before .before .args .p) (c .if1 .taken)
 
-scaled-requires : tie.Need-scaled-requires
-scaled-requires c κs = search needs
-
-guessed-requires : tie.Need-guessed-requires
-guessed-requires c κs = search needs
-
-settled-requires : tie.Need-settled-requires
-settled-requires c κs = search needs
-
 returns-2 : tie.Need-returns-2
 returns-2 c = c .before .settled .ensures (c .if2 .taken)
 
 searched-requires : tie.Need-searched-requires
 searched-requires c κs = (c .before .before .before .before .before .before .pre, (omega arith, c .before .before .guessed .ensures))
 
-returns-3 : tie.Need-returns-3
-returns-3 c = c .searched .ensures
-
 pub first-spec : {M : Type 1} → statement M
 first-spec =
     tie.close
     (tie.spec
     returns
-    scaled-requires
-    guessed-requires
-    settled-requires
+    (λ c κs. search needs)
+    (λ c κs. search needs)
+    (λ c κs. search needs)
     returns-2
     searched-requires
-    returns-3)
+    (λ c. c .searched .ensures))

@@ -4,12 +4,6 @@ use borrow.Author.Needs.{needs}
 use Rattle.own.proofs.axis.holds.Statement.{statement}
 use Rattle.own.proofs.axis.holds.Tie as tie
 
-low-edge-requires : tie.Need-low-edge-requires
-low-edge-requires c κs = search needs
-
-high-edge-requires : tie.Need-high-edge-requires
-high-edge-requires c κs = search needs
-
 returns : tie.Need-returns
 returns c = holds-over _ _ _ _ (c .before .before .low-edge .ensures) _ (c .high-edge .ensures) (c .before .if1 .taken)
 
@@ -17,4 +11,4 @@ returns-2 : tie.Need-returns-2
 returns-2 c = holds-under _ _ _ _ (c .before .low-edge .ensures) (c .if1 .left)
 
 pub holds-spec : {M : Type 1} → statement M
-holds-spec = tie.close (tie.spec low-edge-requires high-edge-requires returns returns-2)
+holds-spec = tie.close (tie.spec (λ c κs. search needs) (λ c κs. search needs) returns returns-2)

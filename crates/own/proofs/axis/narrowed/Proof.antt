@@ -5,23 +5,11 @@ use Rattle.own.proofs.Halving.{lower-half, upper-half}
 use Rattle.own.proofs.axis.narrowed.Statement.{statement}
 use Rattle.own.proofs.axis.narrowed.Tie as tie
 
-high-edge-requires : tie.Need-high-edge-requires
-high-edge-requires c κs = search needs
-
 returns : tie.Need-returns
 returns c = lower-half _ _ (c .before .before .before .before .before .before .pre .0) _ _ _ (c .before .before .before .before .before .before .pre .1) (omega arith) (omega arith) _ (c .before .high-edge .ensures) (c .if3 .taken)
-
-add-t9 : tie.Need-add-t9
-add-t9 c = omega arith
 
 returns-2 : tie.Need-returns-2
 returns-2 c = upper-half _ _ (c .before .before .before .before .before .before .pre .0) _ _ _ (c .before .before .before .before .before .before .pre .1) (omega arith) (omega arith) _ (c .before .high-edge .ensures) (c .if3 .left)
 
-returns-3 : tie.Need-returns-3
-returns-3 c = search needs
-
-returns-4 : tie.Need-returns-4
-returns-4 c = search needs
-
 pub narrowed-spec : {M : Type 1} → statement M
-narrowed-spec = tie.close (tie.spec high-edge-requires returns add-t9 returns-2 returns-3 returns-4)
+narrowed-spec = tie.close (tie.spec (λ c κs. search needs) returns (λ c. omega arith) returns-2 (λ c. search needs) (λ c. search needs))

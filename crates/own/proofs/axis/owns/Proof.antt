@@ -4,20 +4,8 @@ use borrow.Author.Needs.{needs}
 use Rattle.own.proofs.axis.owns.Statement.{statement}
 use Rattle.own.proofs.axis.owns.Tie as tie
 
-low-edge-requires : tie.Need-low-edge-requires
-low-edge-requires c κs = search needs
-
-high-edge-requires : tie.Need-high-edge-requires
-high-edge-requires c κs = search needs
-
 returns : tie.Need-returns
 returns c = owns-within _ _ _ _ (c .before .before .before .low-edge .ensures) _ (c .before .high-edge .ensures) (c .before .before .if1 .taken) (c .if2 .taken)
-
-add-if3 : tie.Need-add-if3
-add-if3 c = search needs
-
-cast-if3 : tie.Need-cast-if3
-cast-if3 c = search needs
 
 returns-2 : tie.Need-returns-2
 returns-2 c = owns-last _ _ _ _ (c .before .before .before .before .before .low-edge .ensures) _ (c .before .before .before .high-edge .ensures) (c .before .before .before .before .if1 .taken) (c .before .before .if2 .left) (c .if3 .taken)
@@ -32,11 +20,11 @@ pub owns-spec : {M : Type 1} → statement M
 owns-spec =
     tie.close
     (tie.spec
-    low-edge-requires
-    high-edge-requires
+    (λ c κs. search needs)
+    (λ c κs. search needs)
     returns
-    add-if3
-    cast-if3
+    (λ c. search needs)
+    (λ c. search needs)
     returns-2
     returns-3
     returns-4)

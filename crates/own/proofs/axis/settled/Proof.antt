@@ -13,17 +13,8 @@ returns c = λ e. absurd (true≢false (sym e))
 returns-2 : tie.Need-returns-2
 returns-2 c = λ e. absurd (true≢false (sym e))
 
-sub-high-edge : tie.Need-sub-high-edge
-sub-high-edge c = omega arith
-
-high-edge-requires : tie.Need-high-edge-requires
-high-edge-requires c κs = search needs
-
 returns-3 : tie.Need-returns-3
 returns-3 c = λ e. absurd (true≢false (sym e))
-
-owns-requires : tie.Need-owns-requires
-owns-requires c κs = search needs
 
 returns-4 : tie.Need-returns-4
 returns-4 c = λ e. at-guess _ _ (c .before .before .before .before .before .before .pre) _ (omega arith) (omega arith) _ (c .before .before .high-edge .ensures) (c .before .if3 .left) (sym e ∙ c .owns .ensures)
@@ -34,8 +25,8 @@ settled-spec =
     (tie.spec
     returns
     returns-2
-    sub-high-edge
-    high-edge-requires
+    (λ c. omega arith)
+    (λ c κs. search needs)
     returns-3
-    owns-requires
+    (λ c κs. search needs)
     returns-4)

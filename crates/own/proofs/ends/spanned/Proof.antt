@@ -7,15 +7,6 @@ use Rattle.own.proofs.ends.spanned.Tie as tie
 returns : tie.Need-returns
 returns c = no-ends _ _ (c .if1 .taken)
 
-low-edge-requires : tie.Need-low-edge-requires
-low-edge-requires c κs = search needs
-
-sub-high-edge : tie.Need-sub-high-edge
-sub-high-edge c = search needs
-
-high-edge-requires : tie.Need-high-edge-requires
-high-edge-requires c κs = search needs
-
 returns-2 : tie.Need-returns-2
 returns-2 c = up-to-end _ _ (c .before .before .before .before .if1 .left) _ (c .before .before .before .low-edge .ensures) (c .before .before .if2 .taken) _ (c .high-edge .ensures)
 
@@ -23,4 +14,4 @@ returns-3 : tie.Need-returns-3
 returns-3 c = under-ends _ _ (c .before .before .if1 .left) _ (c .before .low-edge .ensures) (c .if2 .left)
 
 pub spanned-spec : {M : Type 1} → statement M
-spanned-spec = tie.close (tie.spec returns low-edge-requires sub-high-edge high-edge-requires returns-2 returns-3)
+spanned-spec = tie.close (tie.spec returns (λ c κs. search needs) (λ c. search needs) (λ c κs. search needs) returns-2 returns-3)

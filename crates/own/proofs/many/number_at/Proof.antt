@@ -9,20 +9,8 @@ use Rattle.own.proofs.ManyLaws.{cell-below, number-fits}
 use Rattle.own.proofs.many.number_at.Statement.{statement}
 use Rattle.own.proofs.many.number_at.Tie as tie
 
-guessed-requires : tie.Need-guessed-requires
-guessed-requires c κs = search needs
-
-guessed-requires-2 : tie.Need-guessed-requires-2
-guessed-requires-2 c κs = search needs
-
-x-axis-requires : tie.Need-x-axis-requires
-x-axis-requires c κs = search needs
-
 settled-requires : tie.Need-settled-requires
 settled-requires c κs = asked _ _ _ (c .x-axis .ensures) (c .before .before .before .before .before .pre .across)
-
-y-axis-requires : tie.Need-y-axis-requires
-y-axis-requires c κs = search needs
 
 settled-requires-2 : tie.Need-settled-requires-2
 settled-requires-2 c κs = asked _ _ _ (c .y-axis .ensures) (c .before .before .before .before .before .before .before .before .pre .up)
@@ -37,9 +25,6 @@ returns : tie.Need-returns
 unfolding ownerNumber
 returns c = ap (ownerNumber _) (cell-of _ _ _ _ _ _ _ (c .before .before .before .before .before .before .x-axis .ensures) (c .before .before .before .y-axis .ensures) (c .before .before .before .before .before .settled .ensures (c .before .before .before .before .if1 .taken)) (c .before .before .settled2 .ensures (c .before .if2 .taken)))
 
-first-cell-requires : tie.Need-first-cell-requires
-first-cell-requires c κs = search needs
-
 numbered-requires : tie.Need-numbered-requires
 numbered-requires c κs = number-fits _ _ _ _ (c .before .before .before .before .before .before .before .before .pre .few) (c .first-cell .ensures)
 
@@ -50,15 +35,15 @@ pub number-at-spec : {M : Type 1} → statement M
 number-at-spec =
     tie.close
     (tie.spec
-    guessed-requires
-    guessed-requires-2
-    x-axis-requires
+    (λ c κs. search needs)
+    (λ c κs. search needs)
+    (λ c κs. search needs)
     settled-requires
-    y-axis-requires
+    (λ c κs. search needs)
     settled-requires-2
     mul-result
     add-result
     returns
-    first-cell-requires
+    (λ c κs. search needs)
     numbered-requires
     returns-2)

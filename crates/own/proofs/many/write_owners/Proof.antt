@@ -22,9 +22,6 @@ number-at-requires c κs = askable _ _ _ (c .before .before .before .before .bef
 loop-again : tie.Need-loop-again Inv-loop μ-loop
 loop-again c = telling-more (c .before .before .before .before .loop .inv) _ (omega arith) (c .number-at .ensures)
 
-same-length : tie.Need-same-length Inv-loop μ-loop
-same-length c = omega arith
-
 returns : tie.Need-returns Inv-loop μ-loop
 returns c = telling-over (c .before .loop .inv) (omega arith)
 
@@ -45,5 +42,5 @@ write-owners-spec =
     (λ c. omega arith)
     (λ c. omega arith)
     loop-again
-    same-length
+    (λ c. omega arith)
     returns)

@@ -8,8 +8,6 @@ use Rattle.grid.specs.Domain.{lines}
 use Rattle.resume.proofs.GlobalTurns.{Passing, passing-none, passed-out, passing-more, passed-here, passed-all}
 use Rattle.resume.proofs.globals.passed.Statement.{statement}
 use Rattle.resume.proofs.globals.passed.Tie as tie
-use Rattle.resume.proofs.globals.passed.Reads as reads
-use Rattle.resume.proofs.globals.passed.Lts as lts
 
 abbrev Inv-loop : tie.InvT-loop
 Inv-loop globals p k q₀ q = Passing globals p k q
@@ -35,9 +33,6 @@ returns-2 c = passed-here _ _ _ _ (c .before .before .before .loop .inv) (c .bef
 add-q : tie.Need-add-q Inv-loop μ-loop
 add-q c = omega (arith, c .before .before .before .loop .inv .inside, c .before .before .loop-test .taken)
 
-loop-less : tie.Need-loop-less Inv-loop μ-loop
-loop-less c = omega arith
-
 loop-again : tie.Need-loop-again Inv-loop μ-loop
 loop-again c = passing-more _ _ _ _ (c .before .before .before .loop .inv) (c .before .before .loop-test .taken) (c .if2 .left)
 
@@ -56,6 +51,6 @@ passed-spec =
     shared-slice-read-if2
     returns-2
     add-q
-    loop-less
+    (λ c. omega arith)
     loop-again
     returns-3)

@@ -10,11 +10,6 @@ use Rattle.resume.proofs.GlobalTurns.{GlobalsRun, globals-run, global-i
 use Rattle.resume.specs.Cursors.{globalsFrom}
 use Rattle.resume.proofs.globals.run_globals.Statement.{statement}
 use Rattle.resume.proofs.globals.run_globals.Tie as tie
-use Rattle.resume.proofs.globals.run_globals.Reads as reads
-use Rattle.resume.proofs.globals.run_globals.Lts as lts
-use Rattle.resume.proofs.lines.scan_lines.Reads as scan-lines-reads
-use Rattle.resume.proofs.settle.global_at.Reads as global-at-reads
-use Rattle.slices.proofs.least.Reads as least-reads
 
 abbrev Inv-loop : tie.InvT-loop
 Inv-loop globals p q k start-x start-y end-x end-y first₀ second₀ hits n p₀ q₀ k₀ tests₀ hits₀ first second p' q' k' tests hits' =
@@ -33,12 +28,6 @@ loop-holds c = globals-run _ _ _ _ _ _ _ _ _ (c .before .before .before .before 
 global-at-requires : tie.Need-global-at-requires Inv-loop μ-loop
 global-at-requires c κs = globals-place _ _ _ _ _ _ _ _ _ _ _ _ _ _ _ _ (c .before .loop .inv)
 
-enum-known-a : tie.Need-enum-known-a Inv-loop μ-loop
-enum-known-a c = search needs
-
-enum-told : tie.Need-enum-told Inv-loop μ-loop
-enum-told c = search needs
-
 sub-least : tie.Need-sub-least Inv-loop μ-loop
 sub-least c = omega (arith, (global-is _ _ _ _ _ _ (c .before .before .before .global-at .ensures) _ _ _ _ (c .before .a .given .1)) .one)
 
@@ -47,9 +36,6 @@ cast-least c = omega (arith, globals-stop _ _ _ _ _ _ _ _ _ _ _ _ _ _ _ _ (c .be
 
 sub-least-2 : tie.Need-sub-least-2 Inv-loop μ-loop
 sub-least-2 c = omega (arith, c .before .before .before .before .loop-test .taken)
-
-least-requires : tie.Need-least-requires Inv-loop μ-loop
-least-requires c κs = tt
 
 cast-count : tie.Need-cast-count Inv-loop μ-loop
 cast-count c = omega (arith, globals-few _ _ _ _ _ _ _ _ _ _ _ _ _ _ _ _ (c .before .before .before .before .before .before .loop .inv) _ _ _ _ (global-is _ _ _ _ _ _ (c .before .before .before .before .global-at .ensures) _ _ _ _ (c .before .before .a .given .1)) (c .before .before .before .before .before .loop-test .taken) _ (c .least .ensures))
@@ -105,12 +91,12 @@ run-globals-spec =
     cast-n
     loop-holds
     global-at-requires
-    enum-known-a
-    enum-told
+    (λ c. search needs)
+    (λ c. search needs)
     sub-least
     cast-least
     sub-least-2
-    least-requires
+    (λ c κs. tt)
     cast-count
     mul-scan-lines
     shared-slice-read-scan-lines

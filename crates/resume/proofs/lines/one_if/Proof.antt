@@ -5,8 +5,6 @@ use mathlib.Core.Path.{sym, ap, _∙_}
 use Rattle.listed.specs.Bytes.{byteOf}
 use Rattle.resume.proofs.lines.one_if.Statement.{statement}
 use Rattle.resume.proofs.lines.one_if.Tie as tie
-use Rattle.resume.proofs.lines.one_if.Reads as reads
-use Rattle.resume.proofs.lines.one_if.Lts as lts
 
 returns : tie.Need-returns
 returns c = sym (ap byteOf (c .if1 .taken) ∙ byte-true)

@@ -9,11 +9,6 @@ use Rattle.listed.proofs.ByteLaws.{byte-most}
 use Rattle.resume.proofs.LineTurns.{LinesTurn, lines-start, lines-asks, lines-more, lines-end, lines-in-first, lines-in-second}
 use Rattle.resume.proofs.lines.scan_lines.Statement.{statement}
 use Rattle.resume.proofs.lines.scan_lines.Tie as tie
-use Rattle.resume.proofs.lines.scan_lines.Reads as reads
-use Rattle.resume.proofs.lines.scan_lines.Lts as lts
-use Rattle.grid.proofs.Box.overlaps_with.Reads as overlaps-with-reads
-use Rattle.resume.proofs.lines.box_at.Reads as box-at-reads
-use Rattle.resume.proofs.lines.one_if.Reads as one-if-reads
 
 abbrev Inv-loop : tie.InvT-loop
 Inv-loop line from many start-x start-y end-x end-y first₀ second₀ hits bounds hits₀ u₀ first second hits' u =
@@ -50,12 +45,6 @@ mul-second c = omega (arith, lines-in-first _ _ _ _ _ _ _ _ _ _ _ _ (c .before .
 slice-write-second : tie.Need-slice-write-second Inv-loop μ-loop
 slice-write-second c = omega (arith, lines-in-first _ _ _ _ _ _ _ _ _ _ _ _ (c .before .before .before .before .loop .inv) (c .before .before .before .loop-test .taken), lines-in-second _ _ _ _ _ _ _ _ _ _ _ _ (c .before .before .before .before .loop .inv) (c .before .before .before .loop-test .taken), c .before .before .before .before .before .before .before .before .before .before .before .before)
 
-overlaps-with-requires : tie.Need-overlaps-with-requires Inv-loop μ-loop
-overlaps-with-requires c κs = search needs
-
-one-if-requires : tie.Need-one-if-requires Inv-loop μ-loop
-one-if-requires c κs = search needs
-
 add-hits : tie.Need-add-hits Inv-loop μ-loop
 add-hits c =
     let h = lines-in-first _ _ _ _ _ _ _ _ _ _ _ _ (c .before .before .before .before .loop .inv) (c .before .before .before .loop-test .taken) in
@@ -63,20 +52,8 @@ add-hits c =
     let q : c .one-if .result ≤ 1 = rw (c .one-if .ensures) o in
     omega (arith, h, q, c .before .before .before .before .before .before .before .before .before .before .before .before)
 
-add-u : tie.Need-add-u Inv-loop μ-loop
-add-u c = omega arith
-
-loop-less : tie.Need-loop-less Inv-loop μ-loop
-loop-less c = omega arith
-
 loop-again : tie.Need-loop-again Inv-loop μ-loop
 loop-again c = lines-more _ _ _ _ _ _ _ _ _ _ _ _ (c .before .before .before .before .loop .inv) (c .before .before .before .loop-test .taken) _ _ _ (c .before .before .box-at2 .ensures) (c .before .overlaps-with .ensures) (c .one-if .ensures)
-
-same-length : tie.Need-same-length Inv-loop μ-loop
-same-length c = omega arith
-
-same-length-2 : tie.Need-same-length-2 Inv-loop μ-loop
-same-length-2 c = omega arith
 
 returns : tie.Need-returns Inv-loop μ-loop
 returns c = lines-end _ _ _ _ _ _ _ _ _ _ _ _ (c .before .loop .inv) (c .loop-test .left)
@@ -91,17 +68,17 @@ scan-lines-spec =
     loop-holds
     add-box-at
     box-at-requires-2
-    overlaps-with-requires
-    one-if-requires
+    (λ c κs. search needs)
+    (λ c κs. search needs)
     mul-first
     slice-write-first
     add-second
     mul-second
     slice-write-second
     add-hits
-    add-u
-    loop-less
+    (λ c. omega arith)
+    (λ c. omega arith)
     loop-again
-    same-length
-    same-length-2
+    (λ c. omega arith)
+    (λ c. omega arith)
     returns)

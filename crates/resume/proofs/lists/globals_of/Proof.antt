@@ -5,18 +5,6 @@ use Rattle.resume.proofs.AsIs.{globals-beyond, globals-fit, globals-unf
 use borrow.Author.Needs.{needs}
 use Rattle.resume.proofs.lists.globals_of.Statement.{statement}
 use Rattle.resume.proofs.lists.globals_of.Tie as tie
-use Rattle.resume.proofs.lists.globals_of.Reads as reads
-use Rattle.resume.proofs.lists.globals_of.Lts as lts
-use Rattle.tables.proofs.is_increasing.Reads as is-increasing-reads
-
-sub-result : tie.Need-sub-result
-sub-result c = search needs
-
-part-result-start : tie.Need-part-result-start
-part-result-start c = search needs
-
-part-result-end : tie.Need-part-result-end
-part-result-end c = search needs
 
 returns : tie.Need-returns
 returns c =
@@ -26,9 +14,6 @@ returns c =
 slice-aggregate-is-increasing : tie.Need-slice-aggregate-is-increasing
 slice-aggregate-is-increasing c = sym (length-take-le _ _ (c .before .if1 .left))
 
-is-increasing-requires : tie.Need-is-increasing-requires
-is-increasing-requires c κs = search needs
-
 slice-aggregate-result : tie.Need-slice-aggregate-result
 slice-aggregate-result c = sym (length-take-le _ _ (c .before .before .before .before .if1 .left))
 
@@ -36,15 +21,6 @@ returns-2 : tie.Need-returns-2
 returns-2 c =
     let a = c .before .before .before .before .before .before .args in
     globals-fit (a .lines) (a .globals .now) (a .count) (c .before .before .before .before .if1 .left) _ (c .before .before .is-increasing .ensures) (c .before .if2 .taken)
-
-sub-result-2 : tie.Need-sub-result-2
-sub-result-2 c = search needs
-
-part-result-start-2 : tie.Need-part-result-start-2
-part-result-start-2 c = search needs
-
-part-result-end-2 : tie.Need-part-result-end-2
-part-result-end-2 c = search needs
 
 returns-3 : tie.Need-returns-3
 returns-3 c =
@@ -55,15 +31,15 @@ pub globals-of-spec : {M : Type 1} → statement M
 globals-of-spec =
     tie.close
     (tie.spec
-    sub-result
-    part-result-start
-    part-result-end
+    (λ c. search needs)
+    (λ c. search needs)
+    (λ c. search needs)
     returns
     slice-aggregate-is-increasing
-    is-increasing-requires
+    (λ c κs. search needs)
     slice-aggregate-result
     returns-2
-    sub-result-2
-    part-result-start-2
-    part-result-end-2
+    (λ c. search needs)
+    (λ c. search needs)
+    (λ c. search needs)
     returns-3)

@@ -9,32 +9,9 @@ use Rattle.resume.proofs.NextLaws.{go-runs, go-settles, go-is}
 use borrow.Author.Needs.{needs}
 use Rattle.resume.proofs.nexts.go.Statement.{statement}
 use Rattle.resume.proofs.nexts.go.Tie as tie
-use Rattle.resume.proofs.nexts.go.Reads as reads
-use Rattle.resume.proofs.nexts.go.Lts as lts
-use Rattle.resume.proofs.lists.globals_of.Reads as globals-of-reads
-use Rattle.resume.proofs.lists.reach.Reads as reach-reads
-use Rattle.slices.proofs.wide.Reads as wide-reads
-use Rattle.resume.proofs.nexts.finish.Reads as finish-reads
-use Rattle.resume.proofs.nexts.run.Reads as run-reads
-use Rattle.resume.proofs.settle.cursor_at.Reads as cursor-at-reads
-
-cast-n : tie.Need-cast-n
-cast-n c = search needs
-
-wide-requires : tie.Need-wide-requires
-wide-requires c κs = search needs
-
-wide-requires-2 : tie.Need-wide-requires-2
-wide-requires-2 c κs = search needs
 
 mul-reach : tie.Need-mul-reach
 mul-reach c = record { fits = wide-product (c .before .wide .result) (c .wide2 .result) (omega arith) (omega arith) }
-
-reach-requires : tie.Need-reach-requires
-reach-requires c κs = search needs
-
-globals-of-requires : tie.Need-globals-of-requires
-globals-of-requires c κs = search needs
 
 run-requires : tie.Need-run-requires
 run-requires c κs =
@@ -56,12 +33,6 @@ cursor-at-requires c κs =
     let m = reach-here (a .grid .rows) (a .grid .cols) (length (a .offsets .now)) _ _ _ (c .before .before .before .before .before .before .before .before .before .before .before .before .before .before .before .before .before .before .before .before .wide .ensures) (c .before .before .before .before .before .before .before .before .before .before .before .before .before .before .before .before .before .before .before .wide2 .ensures) (c .before .before .before .before .before .before .before .before .before .before .before .before .before .before .before .before .before .before .reach .ensures) in
     go-settles ls (a .grid) (a .offsets .now) (a .items .now) (a .globals .now) (a .global-count) (a .cursor) (a .first .now) (a .second .now) _ m _ (c .before .before .before .before .before .before .before .before .before .before .before .before .before .before .before .before .before .globals-of .ensures) _ _ _ (c .before .before .before .before .before .before .before .before .before .before .before .before .before .before .run .ensures) (c .before .before .before .before .before .before .before .before .before .before .before .before .before .before .before .before .before .before .before .before .before .before .before .before .before .before .before .before .before .before .pre)
 
-same-length : tie.Need-same-length
-same-length c = search needs
-
-same-length-2 : tie.Need-same-length-2
-same-length-2 c = search needs
-
 returns : tie.Need-returns
 returns c =
     let a = c .before .before .before .before .before .before .before .before .before .before .before .before .before .before .before .before .before .before .before .before .before .before .before .before .before .before .before .before .before .before .before .args in
@@ -74,16 +45,16 @@ pub go-spec : {M : Type 1} → statement M
 go-spec =
     tie.close
     (tie.spec
-    cast-n
-    wide-requires
-    wide-requires-2
+    (λ c. search needs)
+    (λ c κs. search needs)
+    (λ c κs. search needs)
     mul-reach
-    reach-requires
-    globals-of-requires
+    (λ c κs. search needs)
+    (λ c κs. search needs)
     run-requires
     finish-requires
     finish-requires-2
     cursor-at-requires
-    same-length
-    same-length-2
+    (λ c. search needs)
+    (λ c. search needs)
     returns)

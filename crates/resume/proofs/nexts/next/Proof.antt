@@ -8,22 +8,6 @@ use Rattle.resume.proofs.NextLaws.{next-refused, next-clears, next-fine
 use borrow.Author.Needs.{needs}
 use Rattle.resume.proofs.nexts.next.Statement.{statement}
 use Rattle.resume.proofs.nexts.next.Tie as tie
-use Rattle.resume.proofs.nexts.next.Reads as reads
-use Rattle.resume.proofs.nexts.next.Lts as lts
-use Rattle.through.proofs.cells.check_lent.Reads as check-lent-reads
-use Rattle.resume.proofs.nexts.go.Reads as go-reads
-
-check-lent-requires : tie.Need-check-lent-requires
-check-lent-requires c κs = search needs
-
-enum-known-check : tie.Need-enum-known-check
-enum-known-check c = search needs
-
-same-length : tie.Need-same-length
-same-length c = search needs
-
-same-length-2 : tie.Need-same-length-2
-same-length-2 c = search needs
 
 returns : tie.Need-returns
 returns c =
@@ -33,21 +17,12 @@ returns c =
     let e = sym (c .before .before .before .check-lent .ensures) ∙ c .before .check .given .1 in
     next-refused ls t (a .cursor) (a .first .now) (a .second .now) _ e (next-clears ls (a .first .now) (a .second .now) _ e)
 
-enum-told : tie.Need-enum-told
-enum-told c = search needs
-
 go-requires : tie.Need-go-requires
 go-requires c κs =
     let a = c .before .before .before .before .before .before .before .before .before .before .before .before .before .before .before .before .args in
     let ls = lines (a .start-x .now) (a .start-y .now) (a .end-x .now) (a .end-y .now) in
     let t = beside ls (a .grid) (a .offsets .now) (a .items .now) (a .globals .now) (a .global-count) in
     next-fine ls (a .first .now) (a .second .now) (sym (c .before .before .before .before .check-lent .ensures) ∙ c .before .before .enum-told .given .1)
-
-same-length-3 : tie.Need-same-length-3
-same-length-3 c = search needs
-
-same-length-4 : tie.Need-same-length-4
-same-length-4 c = search needs
 
 returns-2 : tie.Need-returns-2
 returns-2 c =
@@ -60,13 +35,13 @@ pub next-spec : {M : Type 1} → statement M
 next-spec =
     tie.close
     (tie.spec
-    check-lent-requires
-    enum-known-check
-    same-length
-    same-length-2
+    (λ c κs. search needs)
+    (λ c. search needs)
+    (λ c. search needs)
+    (λ c. search needs)
     returns
-    enum-told
+    (λ c. search needs)
     go-requires
-    same-length-3
-    same-length-4
+    (λ c. search needs)
+    (λ c. search needs)
     returns-2)

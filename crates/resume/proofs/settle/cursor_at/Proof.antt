@@ -9,13 +9,6 @@ use Rattle.resume.proofs.GlobalTurns.{global-is, global-past}
 use borrow.Author.Needs.{needs}
 use Rattle.resume.proofs.settle.cursor_at.Statement.{statement}
 use Rattle.resume.proofs.settle.cursor_at.Tie as tie
-use Rattle.resume.proofs.settle.cursor_at.Reads as reads
-use Rattle.resume.proofs.settle.cursor_at.Lts as lts
-use Rattle.slices.proofs.wide.Reads as wide-reads
-use Rattle.resume.proofs.settle.global_at.Reads as global-at-reads
-
-enum-known-found : tie.Need-enum-known-found
-enum-known-found c = search needs
 
 returns : tie.Need-returns
 returns c =
@@ -24,15 +17,6 @@ returns c =
     let s = c .before .before .before .before .before .before .before .pre in
     λ rest f. settled-cell t (a .reach) (s .reach-is) rest _ _ _ (cell-is t (a .reach) (s .reach-is) rest _ f _ _ _ (c .before .found .given .1)) _
 
-enum-told : tie.Need-enum-told
-enum-told c = search needs
-
-global-at-requires : tie.Need-global-at-requires
-global-at-requires c κs = search needs
-
-enum-known-line : tie.Need-enum-known-line
-enum-known-line c = search needs
-
 add-t19 : tie.Need-add-t19
 add-t19 c =
     let a = c .before .before .before .before .before .before .before .before .before .before .args in
@@ -40,18 +24,12 @@ add-t19 c =
     let s = c .before .before .before .before .before .before .before .before .before .before .pre in
     omega (arith, s .reach-is, reach-most (t .rows * t .cols) (length (t .offsets)), global-is _ _ _ _ _ _ (c .before .before .before .global-at .ensures) _ _ _ _ (c .before .line .given .1) .inside, c .before .before .before .before .before .before .before .before .before .before)
 
-wide-requires : tie.Need-wide-requires
-wide-requires c κs = search needs
-
 returns-2 : tie.Need-returns-2
 returns-2 c =
     let a = c .before .before .before .before .before .before .before .before .before .before .before .args in
     let t = tables (a .grid) (a .lines) (a .offsets .now) (a .items .now) (a .whole .now) (a .global-count) in
     let s = c .before .before .before .before .before .before .before .before .before .before .before .pre in
     λ rest f. settled-global t (a .reach) (s .reach-is) rest (cell-none t (a .reach) (s .reach-is) rest _ f (c .before .before .before .before .before .enum-told .given .1)) (a .lines) refl (a .globals .now) (s .globals-are) (a .p) (a .q) (a .k) (s .place) _ _ _ _ (global-is _ _ _ _ _ _ (c .before .before .before .before .global-at .ensures) _ _ _ _ (c .before .before .line .given .1)) _ (c .wide .ensures)
-
-enum-told-2 : tie.Need-enum-told-2
-enum-told-2 c = search needs
 
 add-t22 : tie.Need-add-t22
 add-t22 c =
@@ -71,14 +49,14 @@ pub cursor-at-spec : {M : Type 1} → statement M
 cursor-at-spec =
     tie.close
     (tie.spec
-    enum-known-found
+    (λ c. search needs)
     returns
-    enum-told
-    global-at-requires
-    enum-known-line
+    (λ c. search needs)
+    (λ c κs. search needs)
+    (λ c. search needs)
     add-t19
-    wide-requires
+    (λ c κs. search needs)
     returns-2
-    enum-told-2
+    (λ c. search needs)
     add-t22
     returns-3)

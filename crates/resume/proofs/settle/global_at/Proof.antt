@@ -8,9 +8,6 @@ use Rattle.grid.specs.Domain.{lines}
 use Rattle.visit.proofs.GlobalTurns.{Gliding, gliding-none, stop-asks, glided-here, glided-past, gliding-pass, gliding-next, stop-fits, global-less}
 use Rattle.resume.proofs.settle.global_at.Statement.{statement}
 use Rattle.resume.proofs.settle.global_at.Tie as tie
-use Rattle.resume.proofs.settle.global_at.Reads as reads
-use Rattle.resume.proofs.settle.global_at.Lts as lts
-use Rattle.resume.proofs.settle.stop_at.Reads as stop-at-reads
 
 abbrev Inv-loop : tie.InvT-loop
 Inv-loop lines globals p q k p₀ q₀ k₀ p' q' k' =
@@ -35,26 +32,17 @@ returns c =
     let l = c .before .before .before .loop in
     glided-here (a .lines) (length (a .globals .now)) (a .globals .now) (a .p) (a .q) (a .k) (l .p) (l .q) (l .k) (l .inv) (c .before .before .loop-test .taken) (c .before .stop-at .result) (c .before .stop-at .ensures) (c .if1 .taken)
 
-add-q : tie.Need-add-q Inv-loop μ-loop
-add-q c = omega arith
-
 add-k : tie.Need-add-k Inv-loop μ-loop
 add-k c =
     let a = c .before .before .before .before .before .before .args in
     let l = c .before .before .before .before .loop in
     record { fits = stop-fits (a .lines) (length (a .globals .now)) (a .globals .now) (a .p) (a .q) (a .k) (l .p) (l .q) (l .k) (l .inv) (c .before .before .before .loop-test .taken) (c .before .before .stop-at .result) (c .before .before .stop-at .ensures) (c .if2 .taken) (omega arith) }
 
-loop-less : tie.Need-loop-less Inv-loop μ-loop
-loop-less c = omega arith
-
 loop-again : tie.Need-loop-again Inv-loop μ-loop
 loop-again c =
     let a = c .before .before .before .before .before .before .args in
     let l = c .before .before .before .before .loop in
     gliding-pass (a .lines) (length (a .globals .now)) (a .globals .now) (a .p) (a .q) (a .k) (l .p) (l .q) (l .k) (l .inv) (c .before .before .before .loop-test .taken) (c .before .before .stop-at .result) (c .before .before .stop-at .ensures) (c .before .if1 .left) (c .if2 .taken)
-
-add-p : tie.Need-add-p Inv-loop μ-loop
-add-p c = omega arith
 
 loop-less-2 : tie.Need-loop-less-2 Inv-loop μ-loop
 loop-less-2 c =
@@ -83,11 +71,11 @@ global-at-spec =
     loop-holds
     stop-at-requires
     returns
-    add-q
+    (λ c. omega arith)
     add-k
-    loop-less
+    (λ c. omega arith)
     loop-again
-    add-p
+    (λ c. omega arith)
     loop-less-2
     loop-again-2
     returns-2)

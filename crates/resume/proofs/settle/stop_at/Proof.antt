@@ -4,8 +4,6 @@ use mathlib.Core.Path.{sym}
 use Rattle.seek.proofs.GlobalRests.{stop-in, stop-out}
 use Rattle.resume.proofs.settle.stop_at.Statement.{statement}
 use Rattle.resume.proofs.settle.stop_at.Tie as tie
-use Rattle.resume.proofs.settle.stop_at.Reads as reads
-use Rattle.resume.proofs.settle.stop_at.Lts as lts
 
 mul-result : tie.Need-mul-result
 mul-result c = omega (arith, c .before .pre .inside (c .if1 .taken))

@@ -8,8 +8,6 @@ use Rattle.grid.specs.Domain.{lines}
 use Rattle.resume.proofs.CursorLaws.{Seeking, seeking-none, seeking-here, seeking-more, seeking-over}
 use Rattle.resume.proofs.starts.index_in.Statement.{statement}
 use Rattle.resume.proofs.starts.index_in.Tie as tie
-use Rattle.resume.proofs.starts.index_in.Reads as reads
-use Rattle.resume.proofs.starts.index_in.Lts as lts
 
 abbrev Inv-loop : tie.InvT-loop
 Inv-loop list v u₀ u = Seeking list v u
@@ -20,20 +18,8 @@ abbrev μ-loop : tie.MeasureT-loop
 loop-holds : tie.Need-loop-holds Inv-loop μ-loop
 loop-holds c = seeking-none _ _
 
-mul-if1 : tie.Need-mul-if1 Inv-loop μ-loop
-mul-if1 c = omega arith
-
-shared-slice-read-if1 : tie.Need-shared-slice-read-if1 Inv-loop μ-loop
-shared-slice-read-if1 c = omega arith
-
 returns : tie.Need-returns Inv-loop μ-loop
 returns c = seeking-here _ _ _ (c .before .before .before .loop .inv) (c .before .before .loop-test .taken) (c .if1 .taken)
-
-add-u : tie.Need-add-u Inv-loop μ-loop
-add-u c = omega arith
-
-loop-less : tie.Need-loop-less Inv-loop μ-loop
-loop-less c = omega arith
 
 loop-again : tie.Need-loop-again Inv-loop μ-loop
 loop-again c = seeking-more _ _ _ (c .before .before .before .loop .inv) (c .before .before .loop-test .taken) (c .if1 .left)
@@ -48,10 +34,10 @@ index-in-spec =
     Inv-loop
     μ-loop
     loop-holds
-    mul-if1
-    shared-slice-read-if1
+    (λ c. omega arith)
+    (λ c. omega arith)
     returns
-    add-u
-    loop-less
+    (λ c. omega arith)
+    (λ c. omega arith)
     loop-again
     returns-2)

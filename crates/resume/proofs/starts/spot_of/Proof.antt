@@ -10,60 +10,18 @@ use Rattle.resume.proofs.CursorLaws.{reach-here, reach-most, spot-fits,
 use borrow.Author.Needs.{needs}
 use Rattle.resume.proofs.starts.spot_of.Statement.{statement}
 use Rattle.resume.proofs.starts.spot_of.Tie as tie
-use Rattle.resume.proofs.starts.spot_of.Reads as reads
-use Rattle.resume.proofs.starts.spot_of.Lts as lts
-use Rattle.listed.proofs.lists.list_of.Reads as list-of-reads
-use Rattle.resume.proofs.lists.reach.Reads as reach-reads
-use Rattle.slices.proofs.wide.Reads as wide-reads
-use Rattle.resume.proofs.starts.index_in.Reads as index-in-reads
-
-enum-known-place : tie.Need-enum-known-place
-enum-known-place c = search needs
-
-wide-requires : tie.Need-wide-requires
-wide-requires c κs = search needs
-
-wide-requires-2 : tie.Need-wide-requires-2
-wide-requires-2 c κs = search needs
 
 mul-cell : tie.Need-mul-cell
 mul-cell c = record { fits = wide-product (c .before .wide .result) (c .wide2 .result) (omega arith) (omega arith) }
 
-wide-requires-3 : tie.Need-wide-requires-3
-wide-requires-3 c κs = search needs
-
 add-cell : tie.Need-add-cell
 add-cell c = record { fits = spot-fits (c .before .before .wide .result) (c .before .wide2 .result) (c .wide3 .result) (omega arith) (omega arith) (omega arith) }
-
-list-of-requires : tie.Need-list-of-requires
-list-of-requires c κs = search needs
-
-index-in-requires : tie.Need-index-in-requires
-index-in-requires c κs = search needs
-
-index-in-requires-2 : tie.Need-index-in-requires-2
-index-in-requires-2 c κs = search needs
-
-enum-known-place-2 : tie.Need-enum-known-place-2
-enum-known-place-2 c = search needs
-
-wide-requires-4 : tie.Need-wide-requires-4
-wide-requires-4 c κs = search needs
-
-wide-requires-5 : tie.Need-wide-requires-5
-wide-requires-5 c κs = search needs
 
 mul-cells : tie.Need-mul-cells
 mul-cells c = record { fits = wide-product (c .before .wide4 .result) (c .wide5 .result) (omega arith) (omega arith) }
 
-reach-requires : tie.Need-reach-requires
-reach-requires c κs = search needs
-
 add-t25 : tie.Need-add-t25
 add-t25 c = omega (arith, c .reach .ensures, reach-most (c .before .before .wide4 .result * c .before .wide5 .result) (length (c .before .before .before .before .before .before .before .before .before .args .offsets .now)), spot-in (c .before .before .before .before .before .before .before .before .before .args .globals .now) (c .before .before .before .before .before .before .before .before .before .args .place) _ (c .before .before .before .before .before .before .before .before .before .pre) (c .before .before .before .before .place2 .given .1), c .before .before .before .before .before .before .before .before .before)
-
-wide-requires-6 : tie.Need-wide-requires-6
-wide-requires-6 c κs = search needs
 
 returns : tie.Need-returns
 returns c =
@@ -81,21 +39,21 @@ pub spot-of-spec : {M : Type 1} → statement M
 spot-of-spec =
     tie.close
     (tie.spec
-    enum-known-place
-    wide-requires
-    wide-requires-2
+    (λ c. search needs)
+    (λ c κs. search needs)
+    (λ c κs. search needs)
     mul-cell
-    wide-requires-3
+    (λ c κs. search needs)
     add-cell
-    list-of-requires
-    index-in-requires
-    index-in-requires-2
-    enum-known-place-2
-    wide-requires-4
-    wide-requires-5
+    (λ c κs. search needs)
+    (λ c κs. search needs)
+    (λ c κs. search needs)
+    (λ c. search needs)
+    (λ c κs. search needs)
+    (λ c κs. search needs)
     mul-cells
-    reach-requires
+    (λ c κs. search needs)
     add-t25
-    wide-requires-6
+    (λ c κs. search needs)
     returns
     returns-2)

@@ -14,22 +14,6 @@ use Rattle.resume.proofs.StartLaws.{start-refused, start-asks, start-ma
 use borrow.Author.Needs.{needs}
 use Rattle.resume.proofs.starts.start.Statement.{statement}
 use Rattle.resume.proofs.starts.start.Tie as tie
-use Rattle.resume.proofs.starts.start.Reads as reads
-use Rattle.resume.proofs.starts.start.Lts as lts
-use Rattle.resume.proofs.lists.globals_of.Reads as globals-of-reads
-use Rattle.resume.proofs.lists.reach.Reads as reach-reads
-use Rattle.slices.proofs.wide.Reads as wide-reads
-use Rattle.resume.proofs.starts.spot_of.Reads as spot-of-reads
-use Rattle.visit.proofs.visits.test_at.Reads as test-at-reads
-
-test-at-requires : tie.Need-test-at-requires
-test-at-requires c κs = search needs
-
-enum-known-answer : tie.Need-enum-known-answer
-enum-known-answer c = search needs
-
-enum-known-answer-2 : tie.Need-enum-known-answer-2
-enum-known-answer-2 c = search needs
 
 spot-of-requires : tie.Need-spot-of-requires
 spot-of-requires c κs =
@@ -38,23 +22,8 @@ spot-of-requires c κs =
     let t = beside ls (a .grid) (a .offsets .now) (a .items .now) (a .globals .now) (a .global-count) in
     start-asks ls (a .grid) t (a .bookmark) _ _ (c .before .before .before .test-at .ensures) (c .before .answer2 .given .1)
 
-enum-told : tie.Need-enum-told
-enum-told c = search needs
-
-wide-requires : tie.Need-wide-requires
-wide-requires c κs = search needs
-
-wide-requires-2 : tie.Need-wide-requires-2
-wide-requires-2 c κs = search needs
-
 mul-cells : tie.Need-mul-cells
 mul-cells c = record { fits = wide-product (c .before .wide .result) (c .wide2 .result) (omega arith) (omega arith) }
-
-reach-requires : tie.Need-reach-requires
-reach-requires c κs = search needs
-
-globals-of-requires : tie.Need-globals-of-requires
-globals-of-requires c κs = search needs
 
 add-t21 : tie.Need-add-t21
 add-t21 c =
@@ -88,16 +57,16 @@ pub start-spec : {M : Type 1} → statement M
 start-spec =
     tie.close
     (tie.spec
-    test-at-requires
-    enum-known-answer
-    enum-known-answer-2
+    (λ c κs. search needs)
+    (λ c. search needs)
+    (λ c. search needs)
     spot-of-requires
-    enum-told
-    wide-requires
-    wide-requires-2
+    (λ c. search needs)
+    (λ c κs. search needs)
+    (λ c κs. search needs)
     mul-cells
-    reach-requires
-    globals-of-requires
+    (λ c κs. search needs)
+    (λ c κs. search needs)
     add-t21
     returns
     returns-2

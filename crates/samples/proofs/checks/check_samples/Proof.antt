@@ -19,20 +19,8 @@ abbrev μ-loop : tie.MeasureT-loop
 loop-holds : tie.Need-loop-holds Inv-loop μ-loop
 loop-holds c = searched-none _
 
-line-at-requires : tie.Need-line-at-requires Inv-loop μ-loop
-line-at-requires c κs = search needs
-
-is-sampled-requires : tie.Need-is-sampled-requires Inv-loop μ-loop
-is-sampled-requires c κs = search needs
-
 returns : tie.Need-returns Inv-loop μ-loop
 returns c = searched-bad (c .before .before .before .before .loop .inv) (omega arith) (ap sampled (sym (c .before .before .line-at .ensures)) ∙ sym (c .before .is-sampled .ensures) ∙ not-true _ (c .if1 .taken))
-
-add-i : tie.Need-add-i Inv-loop μ-loop
-add-i c = omega arith
-
-loop-less : tie.Need-loop-less Inv-loop μ-loop
-loop-less c = omega arith
 
 loop-again : tie.Need-loop-again Inv-loop μ-loop
 loop-again c = searched-more (c .before .before .before .before .loop .inv) (omega arith) (ap sampled (sym (c .before .before .line-at .ensures)) ∙ sym (c .before .is-sampled .ensures) ∙ not-false _ (c .if1 .left))
@@ -43,4 +31,4 @@ returns-2 c = searched-over (c .before .loop .inv) (omega arith)
 pub check-samples-spec : {M : Type 1} → statement M
 check-samples-spec =
     tie.close
-    (tie.spec Inv-loop μ-loop loop-holds line-at-requires is-sampled-requires returns add-i loop-less loop-again returns-2)
+    (tie.spec Inv-loop μ-loop loop-holds (λ c κs. search needs) (λ c κs. search needs) returns (λ c. omega arith) (λ c. omega arith) loop-again returns-2)

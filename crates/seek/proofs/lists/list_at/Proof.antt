@@ -7,26 +7,6 @@ use Rattle.seek.proofs.PlaceLaws.{part-refused, number-few, part-cell, 
 use borrow.Author.Needs.{needs}
 use Rattle.seek.proofs.lists.list_at.Statement.{statement}
 use Rattle.seek.proofs.lists.list_at.Tie as tie
-use Rattle.seek.proofs.lists.list_at.Reads as reads
-use Rattle.seek.proofs.lists.list_at.Lts as lts
-use Rattle.slices.proofs.wide.Reads as wide-reads
-use Rattle.seek.proofs.lists.list_check.Reads as list-check-reads
-use Rattle.tables.proofs.list_of.Reads as list-of-reads
-
-list-check-requires : tie.Need-list-check-requires
-list-check-requires c κs = search needs
-
-enum-told : tie.Need-enum-told
-enum-told c = search needs
-
-sub-result : tie.Need-sub-result
-sub-result c = search needs
-
-part-result-start : tie.Need-part-result-start
-part-result-start c = search needs
-
-part-result-end : tie.Need-part-result-end
-part-result-end c = search needs
 
 returns : tie.Need-returns
 returns c =
@@ -34,35 +14,14 @@ returns c =
     let t = tables (a .grid) (a .lines) (a .offsets .now) (a .items .now) (a .globals .now) (a .global-count) in
     part-refused _ _ _ _ (sym (c .before .before .before .list-check .ensures) ∙ c .before .enum-told .given .1)
 
-enum-told-2 : tie.Need-enum-told-2
-enum-told-2 c = search needs
-
-enum-known-place : tie.Need-enum-known-place
-enum-known-place c = search needs
-
-wide-requires : tie.Need-wide-requires
-wide-requires c κs = search needs
-
-wide-requires-2 : tie.Need-wide-requires-2
-wide-requires-2 c κs = search needs
-
 mul-cell : tie.Need-mul-cell
 mul-cell c = record { fits = wide-product (c .before .wide .result) (c .wide2 .result) (omega arith) (omega arith) }
-
-wide-requires-3 : tie.Need-wide-requires-3
-wide-requires-3 c κs = search needs
 
 add-cell : tie.Need-add-cell
 add-cell c =
     let a = c .before .before .before .before .before .before .before .before .before .before .before .before .args in
     let t = tables (a .grid) (a .lines) (a .offsets .now) (a .items .now) (a .globals .now) (a .global-count) in
     omega (arith, number-few (a .grid) t refl refl (a .place) (sym (c .before .before .before .before .before .before .before .before .list-check .ensures) ∙ c .before .before .before .before .before .before .enum-told2 .given .1) (c .before .before .before .before .place .given .0 .0) (c .before .before .before .before .place .given .0 .1 .0) (c .before .before .before .before .place .given .1) (c .before .before .wide .result) (c .before .wide2 .result) (c .wide3 .result) (c .before .before .wide .ensures) (c .before .wide2 .ensures) (c .wide3 .ensures))
-
-list-of-requires : tie.Need-list-of-requires
-list-of-requires c κs = search needs
-
-enum-known-place-2 : tie.Need-enum-known-place-2
-enum-known-place-2 c = search needs
 
 mul-result : tie.Need-mul-result
 mul-result c =
@@ -104,21 +63,21 @@ pub list-at-spec : {M : Type 1} → statement M
 list-at-spec =
     tie.close
     (tie.spec
-    list-check-requires
-    enum-told
-    sub-result
-    part-result-start
-    part-result-end
+    (λ c κs. search needs)
+    (λ c. search needs)
+    (λ c. search needs)
+    (λ c. search needs)
+    (λ c. search needs)
     returns
-    enum-told-2
-    enum-known-place
-    wide-requires
-    wide-requires-2
+    (λ c. search needs)
+    (λ c. search needs)
+    (λ c κs. search needs)
+    (λ c κs. search needs)
     mul-cell
-    wide-requires-3
+    (λ c κs. search needs)
     add-cell
-    list-of-requires
-    enum-known-place-2
+    (λ c κs. search needs)
+    (λ c. search needs)
     mul-result
     sub-result-2
     part-result-start-2

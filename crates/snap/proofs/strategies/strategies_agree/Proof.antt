@@ -11,33 +11,15 @@ use borrow.Author.Needs.{needs}
 use Rattle.snap.proofs.strategies.strategies_agree.Statement.{statement}
 use Rattle.snap.proofs.strategies.strategies_agree.Tie as tie
 
-check-coordinate-requires : tie.Need-check-coordinate-requires
-check-coordinate-requires c κs = search needs
-
-enum-known-value : tie.Need-enum-known-value
-enum-known-value c = search needs
-
 returns : tie.Need-returns
 unfolding agreementAnswer
 returns c = refused-by _ _ _ _ _ (sym (c .before .before .before .check-coordinate .ensures) ∙ c .before .value .given .1)
-
-enum-told : tie.Need-enum-told
-enum-told c = search needs
-
-check-snap-size-requires : tie.Need-check-snap-size-requires
-check-snap-size-requires c κs = search needs
-
-enum-known-fit : tie.Need-enum-known-fit
-enum-known-fit c = search needs
 
 returns-2 : tie.Need-returns-2
 unfolding agreementAnswer
 returns-2 c =
     let p = sym (c .before .before .before .before .before .before .check-coordinate .ensures) ∙ c .before .before .before .before .enum-told .given .1 in
     refused-by _ _ _ _ _ (sym (c .before .before .before .check-snap-size .ensures) ∙ c .before .fit .given .1) ∙ past _ _ _ _ p
-
-enum-told-2 : tie.Need-enum-told-2
-enum-told-2 c = search needs
 
 compare-requires : tie.Need-compare-requires
 unfolding coordinateCheck snapSizeCheck
@@ -57,13 +39,13 @@ pub strategies-agree-spec : {M : Type 1} → statement M
 strategies-agree-spec =
     tie.close
     (tie.spec
-    check-coordinate-requires
-    enum-known-value
+    (λ c κs. search needs)
+    (λ c. search needs)
     returns
-    enum-told
-    check-snap-size-requires
-    enum-known-fit
+    (λ c. search needs)
+    (λ c κs. search needs)
+    (λ c. search needs)
     returns-2
-    enum-told-2
+    (λ c. search needs)
     compare-requires
     returns-3)

@@ -2,8 +2,6 @@
 use borrow.Author.Tests.{lt-ltb, le-ltb}
 use Rattle.tables.proofs.rising.begin_of.Statement.{statement}
 use Rattle.tables.proofs.rising.begin_of.Tie as tie
-use Rattle.tables.proofs.rising.begin_of.Reads as reads
-use Rattle.tables.proofs.rising.begin_of.Lts as lts
 
 returns : tie.Need-returns
 returns c = rw (lt-ltb (c .before .args .from) (c .before .args .to) (c .if1 .taken))

@@ -6,9 +6,6 @@ use Rattle.tables.specs.Inside.{BeginsMore}
 use Rattle.tables.proofs.Breaks.{begin-inside, begins-more, begins-all}
 use Rattle.tables.proofs.rising.count_begins.Statement.{statement}
 use Rattle.tables.proofs.rising.count_begins.Tie as tie
-use Rattle.tables.proofs.rising.count_begins.Reads as reads
-use Rattle.tables.proofs.rising.count_begins.Lts as lts
-use Rattle.tables.proofs.rising.begins.Reads as begins-reads
 
 abbrev Inv-loop : tie.InvT-loop
 Inv-loop cells most offsets items from to many₀ many₁ c₀ many c = BeginsMore most cells offsets items many c to
@@ -16,41 +13,11 @@ Inv-loop cells most offsets items from to many₀ many₁ c₀ many c = BeginsMo
 abbrev μ-loop : tie.MeasureT-loop
 μ-loop cells most offsets items from to many₀ many₁ c₀ many c = to - c
 
-loop-holds : tie.Need-loop-holds Inv-loop μ-loop
-loop-holds c = c .before .before .pre
-
-mul-begins : tie.Need-mul-begins Inv-loop μ-loop
-mul-begins c = omega arith
-
-shared-slice-read-begins : tie.Need-shared-slice-read-begins Inv-loop μ-loop
-shared-slice-read-begins c = omega arith
-
-add-begins : tie.Need-add-begins Inv-loop μ-loop
-add-begins c = omega arith
-
-mul-begins-2 : tie.Need-mul-begins-2 Inv-loop μ-loop
-mul-begins-2 c = omega arith
-
-shared-slice-read-begins-2 : tie.Need-shared-slice-read-begins-2 Inv-loop μ-loop
-shared-slice-read-begins-2 c = omega arith
-
 begins-requires : tie.Need-begins-requires Inv-loop μ-loop
 begins-requires c κs =
     let a = c .before .before .before .before .before .before .args in
     let l = c .before .before .before .loop in
     rw add-one (begin-inside (a .cells) (a .offsets .now) (a .items .now) (l .inv .seen .asks .laid) (l .inv .seen .asks .some) (l .c) (omega arith))
-
-cast-many : tie.Need-cast-many Inv-loop μ-loop
-cast-many c = omega arith
-
-add-many : tie.Need-add-many Inv-loop μ-loop
-add-many c = omega arith
-
-add-c : tie.Need-add-c Inv-loop μ-loop
-add-c c = omega arith
-
-loop-less : tie.Need-loop-less Inv-loop μ-loop
-loop-less c = omega arith
 
 loop-again : tie.Need-loop-again Inv-loop μ-loop
 loop-again c =
@@ -69,16 +36,16 @@ count-begins-spec =
     (tie.spec
     Inv-loop
     μ-loop
-    loop-holds
-    mul-begins
-    shared-slice-read-begins
-    add-begins
-    mul-begins-2
-    shared-slice-read-begins-2
+    (λ c. c .before .before .pre)
+    (λ c. omega arith)
+    (λ c. omega arith)
+    (λ c. omega arith)
+    (λ c. omega arith)
+    (λ c. omega arith)
     begins-requires
-    cast-many
-    add-many
-    add-c
-    loop-less
+    (λ c. omega arith)
+    (λ c. omega arith)
+    (λ c. omega arith)
+    (λ c. omega arith)
     loop-again
     returns)

@@ -3,11 +3,6 @@ use borrow.Author.Tests.{lt-ltb, le-ltb}
 use borrow.Author.Needs.{needs}
 use Rattle.tables.proofs.rising.least_32.Statement.{statement}
 use Rattle.tables.proofs.rising.least_32.Tie as tie
-use Rattle.tables.proofs.rising.least_32.Reads as reads
-use Rattle.tables.proofs.rising.least_32.Lts as lts
-
-cast-result : tie.Need-cast-result
-cast-result c = search needs
 
 returns : tie.Need-returns
 returns c = rw (lt-ltb (c .before .args .n) 4294967295 (c .if1 .taken))
@@ -16,4 +11,4 @@ returns-2 : tie.Need-returns-2
 returns-2 c = rw (le-ltb (c .before .args .n) 4294967295 (c .if1 .left))
 
 pub least-32-spec : {M : Type 1} → statement M
-least-32-spec = tie.close (tie.spec cast-result returns returns-2)
+least-32-spec = tie.close (tie.spec (λ c. search needs) returns returns-2)

@@ -5,8 +5,6 @@ use lib.ListN.{length}
 use Rattle.tables.proofs.Breaks.{OffsetsSeen, offsets-none, offsets-more, offsets-all}
 use Rattle.tables.proofs.rising.never_fall.Statement.{statement}
 use Rattle.tables.proofs.rising.never_fall.Tie as tie
-use Rattle.tables.proofs.rising.never_fall.Reads as reads
-use Rattle.tables.proofs.rising.never_fall.Lts as lts
 
 abbrev Inv-loop : tie.InvT-loop
 Inv-loop cells offsets all₀ c₀ all c = OffsetsSeen cells offsets all c
@@ -16,27 +14,6 @@ abbrev μ-loop : tie.MeasureT-loop
 
 loop-holds : tie.Need-loop-holds Inv-loop μ-loop
 loop-holds c = offsets-none (c .args .cells) (c .args .offsets .now) (c .pre)
-
-mul-all : tie.Need-mul-all Inv-loop μ-loop
-mul-all c = omega arith
-
-shared-slice-read-all : tie.Need-shared-slice-read-all Inv-loop μ-loop
-shared-slice-read-all c = omega arith
-
-add-all : tie.Need-add-all Inv-loop μ-loop
-add-all c = omega arith
-
-mul-all-2 : tie.Need-mul-all-2 Inv-loop μ-loop
-mul-all-2 c = omega arith
-
-shared-slice-read-all-2 : tie.Need-shared-slice-read-all-2 Inv-loop μ-loop
-shared-slice-read-all-2 c = omega arith
-
-add-c : tie.Need-add-c Inv-loop μ-loop
-add-c c = omega arith
-
-loop-less : tie.Need-loop-less Inv-loop μ-loop
-loop-less c = omega arith
 
 loop-again : tie.Need-loop-again Inv-loop μ-loop
 loop-again c =
@@ -56,12 +33,12 @@ never-fall-spec =
     Inv-loop
     μ-loop
     loop-holds
-    mul-all
-    shared-slice-read-all
-    add-all
-    mul-all-2
-    shared-slice-read-all-2
-    add-c
-    loop-less
+    (λ c. omega arith)
+    (λ c. omega arith)
+    (λ c. omega arith)
+    (λ c. omega arith)
+    (λ c. omega arith)
+    (λ c. omega arith)
+    (λ c. omega arith)
     loop-again
     returns)

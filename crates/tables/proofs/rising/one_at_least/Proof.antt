@@ -4,14 +4,10 @@ use native.Mathlib.Omega.{arith}
 use Rattle.tables.proofs.Breaks.{one-some, one-none}
 use Rattle.tables.proofs.rising.one_at_least.Statement.{statement}
 use Rattle.tables.proofs.rising.one_at_least.Tie as tie
-use Rattle.tables.proofs.rising.one_at_least.Reads as reads
-use Rattle.tables.proofs.rising.one_at_least.Lts as lts
 
--- src/rising.rt:106:9
 returns : tie.Need-returns
 returns c = sym (one-none _ (c .if1 .taken))
 
--- src/rising.rt:102:1
 returns-2 : tie.Need-returns-2
 returns-2 c = sym (one-some _ (omega (arith, c .if1 .left)))
 

@@ -8,11 +8,6 @@ use Rattle.grid.specs.Domain.{lines}
 use Rattle.through.proofs.BoxTurns.{Gathering, gather-start, gather-asks, gather-room, gather-more, gather-end, last-room, gathered}
 use Rattle.through.proofs.boxes.gather.Statement.{statement}
 use Rattle.through.proofs.boxes.gather.Tie as tie
-use Rattle.through.proofs.boxes.gather.Reads as reads
-use Rattle.through.proofs.boxes.gather.Lts as lts
-use Rattle.listed.proofs.boxes.inner_of.Reads as inner-of-reads
-use Rattle.through.proofs.boxes.box_at.Reads as box-at-reads
-use Rattle.through.proofs.boxes.put_box.Reads as put-box-reads
 
 abbrev Inv-loop : tie.InvT-loop
 Inv-loop list start-x start-y end-x end-y room₀ ax₀ ay₀ bx₀ by₀ u₀ room ax ay bx by u =
@@ -24,41 +19,14 @@ abbrev μ-loop : tie.MeasureT-loop
 loop-holds : tie.Need-loop-holds Inv-loop μ-loop
 loop-holds c = gather-start _ _ _ (search needs)
 
-mul-box-at : tie.Need-mul-box-at Inv-loop μ-loop
-mul-box-at c = omega arith
-
-shared-slice-read-box-at : tie.Need-shared-slice-read-box-at Inv-loop μ-loop
-shared-slice-read-box-at c = omega arith
-
 box-at-requires : tie.Need-box-at-requires Inv-loop μ-loop
 box-at-requires c κs = gather-asks _ _ _ _ _ (c .before .before .loop .inv) (c .before .loop-test .taken)
-
-higher-requires : tie.Need-higher-requires Inv-loop μ-loop
-higher-requires c κs = tt
-
-higher-requires-2 : tie.Need-higher-requires-2 Inv-loop μ-loop
-higher-requires-2 c κs = tt
-
-lower-requires : tie.Need-lower-requires Inv-loop μ-loop
-lower-requires c κs = tt
-
-lower-requires-2 : tie.Need-lower-requires-2 Inv-loop μ-loop
-lower-requires-2 c κs = tt
 
 put-box-requires : tie.Need-put-box-requires Inv-loop μ-loop
 put-box-requires c κs = gather-room _ _ _ _ _ (c .before .before .before .before .before .before .before .before .loop .inv) (c .before .before .before .before .before .before .before .loop-test .taken)
 
-add-u : tie.Need-add-u Inv-loop μ-loop
-add-u c = omega arith
-
-loop-less : tie.Need-loop-less Inv-loop μ-loop
-loop-less c = omega arith
-
 loop-again : tie.Need-loop-again Inv-loop μ-loop
 loop-again c = gather-more _ _ _ _ _ (c .before .before .before .before .before .before .before .before .before .before .before .loop .inv) (c .before .before .before .before .before .before .before .before .before .before .loop-test .taken) _ (c .before .before .before .before .before .before .before .before .box-at .ensures) _ (c .before .before .put-box .ensures)
-
-inner-of-requires : tie.Need-inner-of-requires Inv-loop μ-loop
-inner-of-requires c κs = tt
 
 put-box-requires-2 : tie.Need-put-box-requires-2 Inv-loop μ-loop
 put-box-requires-2 c κs = last-room _ _ _ _ (c .before .before .before .before .loop .inv .asks) (gather-end _ _ _ _ _ (c .before .before .before .before .loop .inv) (c .before .before .before .loop-test .left))
@@ -76,18 +44,18 @@ gather-spec =
     Inv-loop
     μ-loop
     loop-holds
-    mul-box-at
-    shared-slice-read-box-at
+    (λ c. omega arith)
+    (λ c. omega arith)
     box-at-requires
-    higher-requires
-    higher-requires-2
-    lower-requires
-    lower-requires-2
+    (λ c κs. tt)
+    (λ c κs. tt)
+    (λ c κs. tt)
+    (λ c κs. tt)
     put-box-requires
-    add-u
-    loop-less
+    (λ c. omega arith)
+    (λ c. omega arith)
     loop-again
-    inner-of-requires
+    (λ c κs. tt)
     put-box-requires-2
     same-length
     returns)

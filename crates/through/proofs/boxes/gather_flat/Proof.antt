@@ -7,9 +7,6 @@ use Rattle.grid.specs.Domain.{lines}
 use Rattle.through.proofs.BoxTurns.{Flattening, flat-start, flat-end, flat-asks, flat-room, flat-more}
 use Rattle.through.proofs.boxes.gather_flat.Statement.{statement}
 use Rattle.through.proofs.boxes.gather_flat.Tie as tie
-use Rattle.through.proofs.boxes.gather_flat.Reads as reads
-use Rattle.through.proofs.boxes.gather_flat.Lts as lts
-use Rattle.through.proofs.boxes.box_at.Reads as box-at-reads
 
 abbrev Inv-loop : tie.InvT-loop
 Inv-loop list start-x start-y end-x end-y flat₀ u₀ flat u = Flattening (lines start-x start-y end-x end-y) list flat₀ u flat
@@ -19,12 +16,6 @@ abbrev μ-loop : tie.MeasureT-loop
 
 loop-holds : tie.Need-loop-holds Inv-loop μ-loop
 loop-holds c = flat-start _ _ _ (search needs)
-
-mul-box-at : tie.Need-mul-box-at Inv-loop μ-loop
-mul-box-at c = omega arith
-
-shared-slice-read-box-at : tie.Need-shared-slice-read-box-at Inv-loop μ-loop
-shared-slice-read-box-at c = omega arith
 
 box-at-requires : tie.Need-box-at-requires Inv-loop μ-loop
 box-at-requires c κs = flat-asks _ _ _ _ _ (c .before .before .loop .inv) (c .before .loop-test .taken)
@@ -65,17 +56,8 @@ mul-flat-4 c = omega (arith, flat-room _ _ _ _ _ (c .before .before .before .loo
 slice-write-flat-4 : tie.Need-slice-write-flat-4 Inv-loop μ-loop
 slice-write-flat-4 c = simp length-set (omega (arith, flat-room _ _ _ _ _ (c .before .before .before .loop .inv) (c .before .before .loop-test .taken)))
 
-add-u : tie.Need-add-u Inv-loop μ-loop
-add-u c = omega arith
-
-loop-less : tie.Need-loop-less Inv-loop μ-loop
-loop-less c = omega arith
-
 loop-again : tie.Need-loop-again Inv-loop μ-loop
 loop-again c = flat-more _ _ _ _ _ (c .before .before .before .loop .inv) (c .before .before .loop-test .taken) _ (c .box-at .ensures)
-
-same-length : tie.Need-same-length Inv-loop μ-loop
-same-length c = c .before .loop .inv .done .long
 
 returns : tie.Need-returns Inv-loop μ-loop
 returns c = flat-end _ _ _ _ _ (c .before .loop .inv) (c .loop-test .left)
@@ -87,8 +69,8 @@ gather-flat-spec =
     Inv-loop
     μ-loop
     loop-holds
-    mul-box-at
-    shared-slice-read-box-at
+    (λ c. omega arith)
+    (λ c. omega arith)
     box-at-requires
     mul-at
     mul-flat
@@ -102,8 +84,8 @@ gather-flat-spec =
     add-flat-3
     mul-flat-4
     slice-write-flat-4
-    add-u
-    loop-less
+    (λ c. omega arith)
+    (λ c. omega arith)
     loop-again
-    same-length
+    (λ c. c .before .loop .inv .done .long)
     returns)

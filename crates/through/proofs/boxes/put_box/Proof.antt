@@ -6,44 +6,15 @@ use borrow.Author.Needs.{needs}
 use Rattle.through.specs.Inside.{withBox}
 use Rattle.through.proofs.boxes.put_box.Statement.{statement}
 use Rattle.through.proofs.boxes.put_box.Tie as tie
-use Rattle.through.proofs.boxes.put_box.Reads as reads
-use Rattle.through.proofs.boxes.put_box.Lts as lts
-
-mul-room : tie.Need-mul-room
-mul-room c = search needs
-
-slice-write-room : tie.Need-slice-write-room
-slice-write-room c = search needs
-
-add-room : tie.Need-add-room
-add-room c = search needs
-
-mul-room-2 : tie.Need-mul-room-2
-mul-room-2 c = search needs
 
 slice-write-room-2 : tie.Need-slice-write-room-2
 slice-write-room-2 c = simp length-set (omega arith)
 
-add-room-2 : tie.Need-add-room-2
-add-room-2 c = search needs
-
-mul-room-3 : tie.Need-mul-room-3
-mul-room-3 c = search needs
-
 slice-write-room-3 : tie.Need-slice-write-room-3
 slice-write-room-3 c = simp length-set (omega arith)
 
-add-room-3 : tie.Need-add-room-3
-add-room-3 c = search needs
-
-mul-room-4 : tie.Need-mul-room-4
-mul-room-4 c = search needs
-
 slice-write-room-4 : tie.Need-slice-write-room-4
 slice-write-room-4 c = simp length-set (omega arith)
-
-same-length : tie.Need-same-length
-same-length c = search needs
 
 returns : tie.Need-returns
 unfolding withBox
@@ -53,16 +24,16 @@ pub put-box-spec : {M : Type 1} → statement M
 put-box-spec =
     tie.close
     (tie.spec
-    mul-room
-    slice-write-room
-    add-room
-    mul-room-2
+    (λ c. search needs)
+    (λ c. search needs)
+    (λ c. search needs)
+    (λ c. search needs)
     slice-write-room-2
-    add-room-2
-    mul-room-3
+    (λ c. search needs)
+    (λ c. search needs)
     slice-write-room-3
-    add-room-3
-    mul-room-4
+    (λ c. search needs)
+    (λ c. search needs)
     slice-write-room-4
-    same-length
+    (λ c. search needs)
     returns)

@@ -7,38 +7,12 @@ use Rattle.grid.specs.Domain.{lines}
 use Rattle.through.proofs.RunLaws.{lent-outputs, lent-lengths, lent-count}
 use Rattle.through.proofs.cells.check_lent.Statement.{statement}
 use Rattle.through.proofs.cells.check_lent.Tie as tie
-use Rattle.through.proofs.cells.check_lent.Reads as reads
-use Rattle.through.proofs.cells.check_lent.Lts as lts
-use Rattle.grid.proofs.checks.check_count.Reads as check-count-reads
-use Rattle.grid.proofs.checks.check_lengths.Reads as check-lengths-reads
-use Rattle.refusals.proofs.refuse_unless.Reads as refuse-unless-reads
-
-refuse-unless-requires : tie.Need-refuse-unless-requires
-refuse-unless-requires c κs = tt
-
-enum-told : tie.Need-enum-told
-enum-told c = search needs
 
 returns : tie.Need-returns
 returns c = c .enum-told .given .1 ∙ lent-outputs _ _ _ _ (sym (c .before .before .refuse-unless .ensures) ∙ c .enum-told .given .1)
 
-enum-told-2 : tie.Need-enum-told-2
-enum-told-2 c = search needs
-
-check-lengths-requires : tie.Need-check-lengths-requires
-check-lengths-requires c κs = tt
-
-enum-told-3 : tie.Need-enum-told-3
-enum-told-3 c = search needs
-
 returns-2 : tie.Need-returns-2
 returns-2 c = c .enum-told3 .given .1 ∙ lent-lengths _ _ _ (sym (c .before .before .before .before .before .refuse-unless .ensures) ∙ c .before .before .before .enum-told2 .given .1) _ (sym (c .before .before .check-lengths .ensures) ∙ c .enum-told3 .given .1)
-
-enum-told-4 : tie.Need-enum-told-4
-enum-told-4 c = search needs
-
-check-count-requires : tie.Need-check-count-requires
-check-count-requires c κs = tt
 
 returns-3 : tie.Need-returns-3
 returns-3 c = c .check-count .ensures ∙ lent-count _ _ _ (sym (c .before .before .before .before .before .before .refuse-unless .ensures) ∙ c .before .before .before .before .enum-told2 .given .1) (sym (c .before .before .before .check-lengths .ensures) ∙ c .before .enum-told4 .given .1)
@@ -47,13 +21,13 @@ pub check-lent-spec : {M : Type 1} → statement M
 check-lent-spec =
     tie.close
     (tie.spec
-    refuse-unless-requires
-    enum-told
+    (λ c κs. tt)
+    (λ c. search needs)
     returns
-    enum-told-2
-    check-lengths-requires
-    enum-told-3
+    (λ c. search needs)
+    (λ c κs. tt)
+    (λ c. search needs)
     returns-2
-    enum-told-4
-    check-count-requires
+    (λ c. search needs)
+    (λ c κs. tt)
     returns-3)

@@ -6,14 +6,6 @@ use Rattle.grid.specs.Domain.{lines}
 use Rattle.through.proofs.RunLaws.{none-beyond, none-refused, run-gone, lent-fine}
 use Rattle.through.proofs.cells.run.Statement.{statement}
 use Rattle.through.proofs.cells.run.Tie as tie
-use Rattle.through.proofs.cells.run.Reads as reads
-use Rattle.through.proofs.cells.run.Lts as lts
-use Rattle.slices.proofs.least.Reads as least-reads
-use Rattle.through.proofs.cells.check_lent.Reads as check-lent-reads
-use Rattle.through.proofs.cells.go.Reads as go-reads
-
-least-requires : tie.Need-least-requires
-least-requires c κs = search needs
 
 returns : tie.Need-returns
 returns c =
@@ -21,38 +13,17 @@ returns c =
     let ls = lines (a .start-x .now) (a .start-y .now) (a .end-x .now) (a .end-y .now) in
     none-beyond ls (a .cols) (a .reach) (a .offsets .now) (a .items .now) (a .cell) (a .i) (a .j) (a .first .now) (a .second .now) _ (c .before .least .ensures) (c .if1 .taken)
 
-check-lent-requires : tie.Need-check-lent-requires
-check-lent-requires c κs = search needs
-
-enum-told : tie.Need-enum-told
-enum-told c = search needs
-
-same-length : tie.Need-same-length
-same-length c = search needs
-
-same-length-2 : tie.Need-same-length-2
-same-length-2 c = search needs
-
 returns-2 : tie.Need-returns-2
 returns-2 c =
     let a = c .before .before .before .before .before .before .before .before .before .before .before .before .before .before .before .args in
     let ls = lines (a .start-x .now) (a .start-y .now) (a .end-x .now) (a .end-y .now) in
     none-refused ls (a .cols) (a .reach) (a .offsets .now) (a .items .now) (a .cell) (a .i) (a .j) (a .first .now) (a .second .now) _ (sym (c .before .before .check-lent .ensures) ∙ c .enum-told .given .1)
 
-enum-told-2 : tie.Need-enum-told-2
-enum-told-2 c = search needs
-
 go-requires : tie.Need-go-requires
 go-requires c κs =
     let a = c .before .before .before .before .before .before .before .before .before .before .before .before .before .before .before .before .before .args in
     let ls = lines (a .start-x .now) (a .start-y .now) (a .end-x .now) (a .end-y .now) in
     lent-fine ls (a .first .now) (a .second .now) (sym (c .before .before .before .before .check-lent .ensures) ∙ c .before .before .enum-told2 .given .1) _ (omega (arith, c .before .before .before .before .before .before .before .before .least .ensures))
-
-same-length-3 : tie.Need-same-length-3
-same-length-3 c = search needs
-
-same-length-4 : tie.Need-same-length-4
-same-length-4 c = search needs
 
 returns-3 : tie.Need-returns-3
 returns-3 c =
@@ -64,15 +35,15 @@ pub run-spec : {M : Type 1} → statement M
 run-spec =
     tie.close
     (tie.spec
-    least-requires
+    (λ c κs. search needs)
     returns
-    check-lent-requires
-    enum-told
-    same-length
-    same-length-2
+    (λ c κs. search needs)
+    (λ c. search needs)
+    (λ c. search needs)
+    (λ c. search needs)
     returns-2
-    enum-told-2
+    (λ c. search needs)
     go-requires
-    same-length-3
-    same-length-4
+    (λ c. search needs)
+    (λ c. search needs)
     returns-3)

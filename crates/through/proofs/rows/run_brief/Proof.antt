@@ -8,11 +8,6 @@ use Rattle.grid.specs.Domain.{lines}
 use Rattle.through.proofs.BriefTurns.{BriefRun, brief-gathers, brief-start, brief-first-long, brief-second-long, brief-end, brief-box, brief-few-part, brief-small, brief-turn-part}
 use Rattle.through.proofs.rows.run_brief.Statement.{statement}
 use Rattle.through.proofs.rows.run_brief.Tie as tie
-use Rattle.through.proofs.rows.run_brief.Reads as reads
-use Rattle.through.proofs.rows.run_brief.Lts as lts
-use Rattle.through.proofs.boxes.flat_at.Reads as flat-at-reads
-use Rattle.through.proofs.boxes.gather_flat.Reads as gather-flat-reads
-use Rattle.through.proofs.scan.scan_few.Reads as scan-few-reads
 
 abbrev Inv-loop : tie.InvT-loop
 Inv-loop list start-x start-y end-x end-y flat first₀ second₀ hits i₀ tests₀ hits₀ first second i tests hits' =
@@ -27,47 +22,17 @@ gather-flat-requires c κs = brief-gathers _ _ _ _ _ _ (c .before .before .befor
 loop-holds : tie.Need-loop-holds Inv-loop μ-loop
 loop-holds c = brief-start _ _ _ _ _ _ (search needs) _ (c .before .before .gather-flat .ensures)
 
-mul-line : tie.Need-mul-line Inv-loop μ-loop
-mul-line c = omega arith
-
-shared-slice-read-line : tie.Need-shared-slice-read-line Inv-loop μ-loop
-shared-slice-read-line c = omega arith
-
 flat-at-requires : tie.Need-flat-at-requires Inv-loop μ-loop
 flat-at-requires c κs = brief-box _ _ _ _ _ _ _ _ _ _ _ (c .before .before .before .loop .inv) (c .before .before .loop-test .taken)
-
-add-i : tie.Need-add-i Inv-loop μ-loop
-add-i c = omega arith
-
-sub-tests : tie.Need-sub-tests Inv-loop μ-loop
-sub-tests c = omega arith
 
 add-tests : tie.Need-add-tests Inv-loop μ-loop
 add-tests c = omega (arith, brief-small _ _ _ _ _ _ _ _ _ _ _ (c .before .before .before .before .loop .inv) (c .before .before .before .loop-test .taken))
 
-mul-scan-few : tie.Need-mul-scan-few Inv-loop μ-loop
-mul-scan-few c = omega arith
-
-sub-scan-few : tie.Need-sub-scan-few Inv-loop μ-loop
-sub-scan-few c = omega arith
-
-part-scan-few-start : tie.Need-part-scan-few-start Inv-loop μ-loop
-part-scan-few-start c = omega arith
-
-part-scan-few-end : tie.Need-part-scan-few-end Inv-loop μ-loop
-part-scan-few-end c = omega arith
-
 scan-few-requires : tie.Need-scan-few-requires Inv-loop μ-loop
 scan-few-requires c κs = brief-few-part _ _ _ _ _ _ _ _ _ _ _ (c .before .before .before .before .before .before .before .before .loop .inv) (c .before .before .before .before .before .before .before .loop-test .taken)
 
-loop-less : tie.Need-loop-less Inv-loop μ-loop
-loop-less c = omega arith
-
 loop-again : tie.Need-loop-again Inv-loop μ-loop
 loop-again c = brief-turn-part _ _ _ _ _ _ _ _ _ _ _ (c .before .before .before .before .before .before .before .before .before .before .before .before .before .loop .inv) (c .before .before .before .before .before .before .before .before .before .before .before .before .loop-test .taken) _ (c .before .before .before .before .before .before .before .before .before .flat-at .ensures) _ _ _ (c .before .before .before .before .scan-few .ensures)
-
-same-length : tie.Need-same-length Inv-loop μ-loop
-same-length c = search needs
 
 same-length-2 : tie.Need-same-length-2 Inv-loop μ-loop
 same-length-2 c = brief-first-long _ _ _ _ _ _ _ _ _ _ _ (c .before .loop .inv)
@@ -86,20 +51,20 @@ run-brief-spec =
     μ-loop
     gather-flat-requires
     loop-holds
-    mul-line
-    shared-slice-read-line
+    (λ c. omega arith)
+    (λ c. omega arith)
     flat-at-requires
-    add-i
-    sub-tests
+    (λ c. omega arith)
+    (λ c. omega arith)
     add-tests
-    mul-scan-few
-    sub-scan-few
-    part-scan-few-start
-    part-scan-few-end
+    (λ c. omega arith)
+    (λ c. omega arith)
+    (λ c. omega arith)
+    (λ c. omega arith)
     scan-few-requires
-    loop-less
+    (λ c. omega arith)
     loop-again
-    same-length
+    (λ c. search needs)
     same-length-2
     same-length-3
     returns)

@@ -9,11 +9,6 @@ use Rattle.listed.proofs.CellLaws.{next-passed}
 use Rattle.through.proofs.CellTurns.{CellsRun, cells-run, cells-list, cells-small, cells-full, cells-turn, cells-passed, cells-over, cells-kept, cells-first-kept, cells-second-kept, cells-first-long, cells-second-long}
 use Rattle.through.proofs.rows.run_cells.Statement.{statement}
 use Rattle.through.proofs.rows.run_cells.Tie as tie
-use Rattle.through.proofs.rows.run_cells.Reads as reads
-use Rattle.through.proofs.rows.run_cells.Lts as lts
-use Rattle.listed.proofs.lists.list_of.Reads as list-of-reads
-use Rattle.listed.proofs.lists.next_cell.Reads as next-cell-reads
-use Rattle.through.proofs.rows.run_list.Reads as run-list-reads
 
 abbrev Inv-loop : tie.InvT-loop
 Inv-loop cols reach offsets items cell i j start-x start-y end-x end-y room₀ marks₀ first₀ second₀ cell₀ i₀ j₀ tests₀ hits₀ room marks first second cell' i' j' tests hits =
@@ -25,9 +20,6 @@ abbrev μ-loop : tie.MeasureT-loop
 
 loop-holds : tie.Need-loop-holds Inv-loop μ-loop
 loop-holds c = cells-run _ _ _ _ _ _ _ _ _ _ _ _ (c .before .before .before .before .before .before .before .before .before .before .pre)
-
-list-of-requires : tie.Need-list-of-requires Inv-loop μ-loop
-list-of-requires c κs = tt
 
 run-list-requires : tie.Need-run-list-requires Inv-loop μ-loop
 run-list-requires c κs = cells-list _ _ _ _ _ _ _ _ _ _ _ _ _ _ _ _ _ _ _ _ _ (c .before .before .before .before .before .before .loop .inv) (c .before .before .before .before .before .loop-test .taken) _ (c .before .before .before .before .list-of .ensures)
@@ -53,9 +45,6 @@ returns c = cells-full _ _ _ _ _ _ _ _ _ _ _ _ _ _ _ _ _ _ _ _ _ (c .before .bef
 add-next-cell : tie.Need-add-next-cell Inv-loop μ-loop
 add-next-cell c = omega (arith, c .before .before .before .before .before .before .before .before .before .before .before .before .before .before .before .before .loop-test .taken, c .before .before .before .before .before .before .before .before .before .before .before .before .before .before .before .before .before .before .before .before .before .before .before .before .before .before .before .before)
 
-next-cell-requires : tie.Need-next-cell-requires Inv-loop μ-loop
-next-cell-requires c κs = tt
-
 loop-less : tie.Need-loop-less Inv-loop μ-loop
 loop-less c = omega (arith, c .before .before .before .before .before .before .before .before .before .before .before .before .before .before .before .before .before .loop-test .taken, c .next-cell .ensures .onward)
 
@@ -64,12 +53,6 @@ loop-again c =
     cells-passed _ _ _ _ _ _ _ _ _ _ _ _ _ _ _ _ _ _ _ _
     (cells-turn _ _ _ _ _ _ _ _ _ _ _ _ _ _ _ _ _ _ _ _ _ (c .before .before .before .before .before .before .before .before .before .before .before .before .before .before .before .before .before .before .loop .inv) (c .before .before .before .before .before .before .before .before .before .before .before .before .before .before .before .before .before .loop-test .taken) _ (c .before .before .before .before .before .before .before .before .before .before .before .before .before .before .before .before .list-of .ensures) _ _ _ _ _ (c .before .before .before .before .before .before .before .before .before .before .before .run-list .ensures .0) (c .before .before .before .before .before .before .before .before .before .before .before .run-list .ensures .1) (c .before .if1 .left))
     (next-passed _ _ _ _ (c .next-cell .ensures))
-
-same-length-5 : tie.Need-same-length-5 Inv-loop μ-loop
-same-length-5 c = c .before .loop .inv .same .boxes
-
-same-length-6 : tie.Need-same-length-6 Inv-loop μ-loop
-same-length-6 c = c .before .loop .inv .same .bytes
 
 same-length-7 : tie.Need-same-length-7 Inv-loop μ-loop
 same-length-7 c = cells-first-long _ _ _ _ _ _ _ _ _ _ _ _ _ _ _ _ _ _ _ _ _ (c .before .loop .inv)
@@ -87,7 +70,7 @@ run-cells-spec =
     Inv-loop
     μ-loop
     loop-holds
-    list-of-requires
+    (λ c κs. tt)
     run-list-requires
     add-tests
     same-length
@@ -96,11 +79,11 @@ run-cells-spec =
     same-length-4
     returns
     add-next-cell
-    next-cell-requires
+    (λ c κs. tt)
     loop-less
     loop-again
-    same-length-5
-    same-length-6
+    (λ c. c .before .loop .inv .same .boxes)
+    (λ c. c .before .loop .inv .same .bytes)
     same-length-7
     same-length-8
     returns-2)

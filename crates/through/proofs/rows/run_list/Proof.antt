@@ -12,12 +12,6 @@ use Rattle.through.proofs.BriefTurns.{brief-says, brief-asks, brief-ran
 use Rattle.listed.specs.Lists.{listFrom}
 use Rattle.through.proofs.rows.run_list.Statement.{statement}
 use Rattle.through.proofs.rows.run_list.Tie as tie
-use Rattle.through.proofs.rows.run_list.Reads as reads
-use Rattle.through.proofs.rows.run_list.Lts as lts
-use Rattle.through.proofs.rows.scan_part.Reads as scan-part-reads
-use Rattle.listed.proofs.lists.is_brief.Reads as is-brief-reads
-use Rattle.listed.proofs.settle.row_at.Reads as row-at-reads
-use Rattle.through.proofs.rows.run_brief.Reads as run-brief-reads
 
 abbrev Inv-loop : tie.InvT-loop
 Inv-loop list i j start-x start-y end-x end-y room₀ marks₀ first₀ second₀ hits i₀ j₀ window₀ tests₀ hits₀ room marks first second i' j' window tests hits' =
@@ -27,23 +21,8 @@ abbrev μ-loop : tie.MeasureT-loop
 μ-loop list i j start-x start-y end-x end-y room₀ marks₀ first₀ second₀ hits i₀ j₀ window₀ tests₀ hits₀ room marks first second i' j' window tests hits' =
     length (listFrom (Global 0) list i' j')
 
-sub-is-brief : tie.Need-sub-is-brief Inv-loop μ-loop
-sub-is-brief c = search needs
-
-is-brief-requires : tie.Need-is-brief-requires Inv-loop μ-loop
-is-brief-requires c κs = tt
-
 run-brief-requires : tie.Need-run-brief-requires Inv-loop μ-loop
 run-brief-requires c κs = brief-asks _ _ _ _ _ _ _ _ _ (brief-says _ _ _ _ _ (c .before .before .before .before .is-brief .ensures) (c .before .before .before .if1 .taken)) (c .before .before .before .before .before .before .before .before .before .before .before .before .before .before .pre)
-
-same-length : tie.Need-same-length Inv-loop μ-loop
-same-length c = search needs
-
-same-length-2 : tie.Need-same-length-2 Inv-loop μ-loop
-same-length-2 c = search needs
-
-same-length-3 : tie.Need-same-length-3 Inv-loop μ-loop
-same-length-3 c = search needs
 
 returns : tie.Need-returns Inv-loop μ-loop
 returns c = (
@@ -53,15 +32,6 @@ returns c = (
 
 loop-holds : tie.Need-loop-holds Inv-loop μ-loop
 loop-holds c = list-run _ _ _ _ _ _ _ _ _ (c .before .before .before .before .before .before .before .before .before .before .before .pre)
-
-row-at-requires : tie.Need-row-at-requires Inv-loop μ-loop
-row-at-requires c κs = tt
-
-enum-known-a : tie.Need-enum-known-a Inv-loop μ-loop
-enum-known-a c = search needs
-
-enum-told : tie.Need-enum-told Inv-loop μ-loop
-enum-told c = search needs
 
 scan-part-requires : tie.Need-scan-part-requires Inv-loop μ-loop
 scan-part-requires c κs = list-part _ _ _ _ _ _ _ _ _ _ _ _ _ _ _ _ _ _ _ (c .before .before .before .before .before .before .before .before .before .loop .inv) _ _ (row-at-is _ _ _ _ (c .before .before .before .before .before .before .before .row-at .ensures) _ _ (c .before .before .before .before .before .a .given .1)) (c .before .before .before .before .before .before .before .before .loop-test .taken)
@@ -78,12 +48,6 @@ loop-less c = list-less _ _ _ _ _ _ _ _ _ _ _ _ _ _ _ _ _ _ _ (c .before .before
 loop-again : tie.Need-loop-again Inv-loop μ-loop
 loop-again c = list-turn _ _ _ _ _ _ _ _ _ _ _ _ _ _ _ _ _ _ _ (c .before .before .before .before .before .before .before .before .before .before .before .before .before .before .before .before .before .before .before .before .loop .inv) _ _ (row-at-is _ _ _ _ (c .before .before .before .before .before .before .before .before .before .before .before .before .before .before .before .before .before .before .row-at .ensures) _ _ (c .before .before .before .before .before .before .before .before .before .before .before .before .before .before .before .before .a .given .1)) _ _ _ _ _ (c .before .before .before .before .before .before .before .before .before .before .scan-part .ensures .0) (c .before .before .before .before .before .before .before .before .before .before .scan-part .ensures .1)
 
-same-length-4 : tie.Need-same-length-4 Inv-loop μ-loop
-same-length-4 c = c .before .loop .inv .same .boxes
-
-same-length-5 : tie.Need-same-length-5 Inv-loop μ-loop
-same-length-5 c = c .before .loop .inv .same .bytes
-
 same-length-6 : tie.Need-same-length-6 Inv-loop μ-loop
 same-length-6 c = list-first-long _ _ _ _ _ _ _ _ _ _ _ _ _ _ _ _ _ _ _ (c .before .loop .inv)
 
@@ -92,12 +56,6 @@ same-length-7 c = list-second-long _ _ _ _ _ _ _ _ _ _ _ _ _ _ _ _ _ _ _ (c .bef
 
 returns-2 : tie.Need-returns-2 Inv-loop μ-loop
 returns-2 c = (list-full _ _ _ _ _ _ _ _ _ _ _ _ _ _ _ _ _ _ _ (c .before .loop .inv) (omega (arith, list-first-long _ _ _ _ _ _ _ _ _ _ _ _ _ _ _ _ _ _ _ (c .before .loop .inv), c .loop-test .left)), c .before .loop .inv .same)
-
-same-length-8 : tie.Need-same-length-8 Inv-loop μ-loop
-same-length-8 c = c .before .before .before .before .loop .inv .same .boxes
-
-same-length-9 : tie.Need-same-length-9 Inv-loop μ-loop
-same-length-9 c = c .before .before .before .before .loop .inv .same .bytes
 
 same-length-10 : tie.Need-same-length-10 Inv-loop μ-loop
 same-length-10 c = list-first-long _ _ _ _ _ _ _ _ _ _ _ _ _ _ _ _ _ _ _ (c .before .before .before .before .loop .inv)
@@ -114,29 +72,29 @@ run-list-spec =
     (tie.spec
     Inv-loop
     μ-loop
-    sub-is-brief
-    is-brief-requires
+    (λ c. search needs)
+    (λ c κs. tt)
     run-brief-requires
-    same-length
-    same-length-2
-    same-length-3
+    (λ c. search needs)
+    (λ c. search needs)
+    (λ c. search needs)
     returns
     loop-holds
-    row-at-requires
-    enum-known-a
-    enum-told
+    (λ c κs. tt)
+    (λ c. search needs)
+    (λ c. search needs)
     scan-part-requires
     add-tests
     add-j
     loop-less
     loop-again
-    same-length-4
-    same-length-5
+    (λ c. c .before .loop .inv .same .boxes)
+    (λ c. c .before .loop .inv .same .bytes)
     same-length-6
     same-length-7
     returns-2
-    same-length-8
-    same-length-9
+    (λ c. c .before .before .before .before .loop .inv .same .boxes)
+    (λ c. c .before .before .before .before .loop .inv .same .bytes)
     same-length-10
     same-length-11
     returns-3)

@@ -10,11 +10,6 @@ use Rattle.listed.proofs.ByteLaws.{byte-most}
 use Rattle.through.proofs.BriefTurns.{FewTurn, few-start, few-first-long, few-second-long, few-end, few-box, few-in-first, few-in-second, few-more}
 use Rattle.through.proofs.scan.scan_few.Statement.{statement}
 use Rattle.through.proofs.scan.scan_few.Tie as tie
-use Rattle.through.proofs.scan.scan_few.Reads as reads
-use Rattle.through.proofs.scan.scan_few.Lts as lts
-use Rattle.through.proofs.boxes.flat_at.Reads as flat-at-reads
-use Rattle.listed.proofs.bytes.byte_of.Reads as byte-of-reads
-use Rattle.listed.proofs.boxes.meets.Reads as meets-reads
 
 abbrev Inv-loop : tie.InvT-loop
 Inv-loop line bounds list flat at first₀ second₀ hits hits₀ u₀ first second hits' u =
@@ -32,12 +27,6 @@ add-flat-at c = omega (arith, few-box _ _ _ _ _ _ _ _ _ _ _ _ (c .before .loop .
 flat-at-requires : tie.Need-flat-at-requires Inv-loop μ-loop
 flat-at-requires c κs = few-box _ _ _ _ _ _ _ _ _ _ _ _ (c .before .loop .inv) (c .loop-test .taken)
 
-meets-requires : tie.Need-meets-requires Inv-loop μ-loop
-meets-requires c κs = search needs
-
-byte-of-requires : tie.Need-byte-of-requires Inv-loop μ-loop
-byte-of-requires c κs = search needs
-
 cast-hit : tie.Need-cast-hit Inv-loop μ-loop
 cast-hit c = omega (arith, c .byte-of .ensures, byte-most (c .before .meets .result))
 
@@ -46,12 +35,6 @@ mul-first c = omega (arith, few-in-first _ _ _ _ _ _ _ _ _ _ _ _ (c .before .bef
 
 slice-write-first : tie.Need-slice-write-first Inv-loop μ-loop
 slice-write-first c = omega (arith, few-in-first _ _ _ _ _ _ _ _ _ _ _ _ (c .before .before .before .before .loop .inv) (c .before .before .before .loop-test .taken), few-in-second _ _ _ _ _ _ _ _ _ _ _ _ (c .before .before .before .before .loop .inv) (c .before .before .before .loop-test .taken), c .before .before .before .before .before, c .before .before .before .before .before .before, c .before .before .before .before .before .before .before, c .before .before .before .before .before .before .before .before, c .before .before .before .before .before .before .before .before .before)
-
-mul-second : tie.Need-mul-second Inv-loop μ-loop
-mul-second c = omega arith
-
-shared-slice-read-second : tie.Need-shared-slice-read-second Inv-loop μ-loop
-shared-slice-read-second c = omega arith
 
 mul-second-2 : tie.Need-mul-second-2 Inv-loop μ-loop
 mul-second-2 c = omega (arith, few-in-first _ _ _ _ _ _ _ _ _ _ _ _ (c .before .before .before .before .before .loop .inv) (c .before .before .before .before .loop-test .taken), few-in-second _ _ _ _ _ _ _ _ _ _ _ _ (c .before .before .before .before .before .loop .inv) (c .before .before .before .before .loop-test .taken), c .before .before .before .before .before, c .before .before .before .before .before .before, c .before .before .before .before .before .before .before, c .before .before .before .before .before .before .before .before, c .before .before .before .before .before .before .before .before .before)
@@ -65,12 +48,6 @@ add-hits c =
     let o = byte-most (c .before .before .meets .result) in
     let q : c .before .byte-of .result ≤ 1 = rw (c .before .byte-of .ensures) o in
     omega (arith, h, q, c .before .before .before .before .before, c .before .before .before .before .before .before, c .before .before .before .before .before .before .before, c .before .before .before .before .before .before .before .before, c .before .before .before .before .before .before .before .before .before)
-
-add-u : tie.Need-add-u Inv-loop μ-loop
-add-u c = omega arith
-
-loop-less : tie.Need-loop-less Inv-loop μ-loop
-loop-less c = omega arith
 
 loop-again : tie.Need-loop-again Inv-loop μ-loop
 loop-again c =
@@ -95,18 +72,18 @@ scan-few-spec =
     loop-holds
     add-flat-at
     flat-at-requires
-    meets-requires
-    byte-of-requires
+    (λ c κs. search needs)
+    (λ c κs. search needs)
     cast-hit
     mul-first
     slice-write-first
-    mul-second
-    shared-slice-read-second
+    (λ c. omega arith)
+    (λ c. omega arith)
     mul-second-2
     slice-write-second
     add-hits
-    add-u
-    loop-less
+    (λ c. omega arith)
+    (λ c. omega arith)
     loop-again
     same-length
     same-length-2

@@ -9,8 +9,6 @@ use mathlib.Core.Bool.{true≢false}
 use Rattle.through.proofs.ScanTurns.{Asking, whole-start, whole-more, whole-end}
 use Rattle.through.proofs.scan.whole.Statement.{statement}
 use Rattle.through.proofs.scan.whole.Tie as tie
-use Rattle.through.proofs.scan.whole.Reads as reads
-use Rattle.through.proofs.scan.whole.Lts as lts
 
 abbrev Inv-loop : tie.InvT-loop
 Inv-loop many marks all₀ u₀ all u = Asking many marks all u
@@ -23,15 +21,6 @@ returns c = λ e. absurd (true≢false (sym e))
 
 loop-holds : tie.Need-loop-holds Inv-loop μ-loop
 loop-holds c = whole-start _ _ (c .before .pre)
-
-shared-slice-read-all : tie.Need-shared-slice-read-all Inv-loop μ-loop
-shared-slice-read-all c = omega arith
-
-add-u : tie.Need-add-u Inv-loop μ-loop
-add-u c = omega arith
-
-loop-less : tie.Need-loop-less Inv-loop μ-loop
-loop-less c = omega arith
 
 loop-again : tie.Need-loop-again Inv-loop μ-loop
 loop-again c = whole-more _ _ _ _ (c .before .before .loop .inv) (c .before .loop-test .taken)
@@ -47,8 +36,8 @@ whole-spec =
     μ-loop
     returns
     loop-holds
-    shared-slice-read-all
-    add-u
-    loop-less
+    (λ c. omega arith)
+    (λ c. omega arith)
+    (λ c. omega arith)
     loop-again
     returns-2)

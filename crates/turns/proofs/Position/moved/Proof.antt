@@ -4,12 +4,9 @@ use Rattle.turns.specs.InsideModular.{advancedBy}
 use Rattle.turns.proofs.Position.moved.Statement.{statement}
 use Rattle.turns.proofs.Position.moved.Tie as tie
 
-stepped-requires : tie.Need-stepped-requires
-stepped-requires c κs = search needs
-
 returns : tie.Need-returns
 unfolding advancedBy
 returns c = rw (c .before .before .stepped .ensures)
 
 pub moved-spec : {M : Type 1} → statement M
-moved-spec = tie.close (tie.spec stepped-requires returns)
+moved-spec = tie.close (tie.spec (λ c κs. search needs) returns)

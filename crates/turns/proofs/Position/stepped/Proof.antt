@@ -4,12 +4,9 @@ use Rattle.turns.specs.InsideModular.{steppedBy}
 use Rattle.turns.proofs.Position.stepped.Statement.{statement}
 use Rattle.turns.proofs.Position.stepped.Tie as tie
 
-wrapping-add-u32-requires : tie.Need-wrapping-add-u32-requires
-wrapping-add-u32-requires c κs = search needs
-
 returns : tie.Need-returns
 unfolding steppedBy
 returns c = c .wrapping-add-u32 .ensures
 
 pub stepped-spec : {M : Type 1} → statement M
-stepped-spec = tie.close (tie.spec wrapping-add-u32-requires returns)
+stepped-spec = tie.close (tie.spec (λ c κs. search needs) returns)

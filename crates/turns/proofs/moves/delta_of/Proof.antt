@@ -5,19 +5,13 @@ use Rattle.turns.specs.Turns.{deltaOf}
 use Rattle.turns.proofs.moves.delta_of.Statement.{statement}
 use Rattle.turns.proofs.moves.delta_of.Tie as tie
 
-infinity-requires : tie.Need-infinity-requires
-infinity-requires c κs = search needs
-
 returns : tie.Need-returns
 unfolding deltaOf ofBits
 returns c = rw (c .before .if1 .taken) (c .infinity .ensures)
-
-magnitude-requires : tie.Need-magnitude-requires
-magnitude-requires c κs = search needs
 
 returns-2 : tie.Need-returns-2
 unfolding deltaOf ofBits
 returns-2 c = rw (c .before .if1 .left, c .magnitude .ensures)
 
 pub delta-of-spec : {M : Type 1} → statement M
-delta-of-spec = tie.close (tie.spec infinity-requires returns magnitude-requires returns-2)
+delta-of-spec = tie.close (tie.spec (λ c κs. search needs) returns (λ c κs. search needs) returns-2)

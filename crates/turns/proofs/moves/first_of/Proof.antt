@@ -5,18 +5,9 @@ use Rattle.turns.specs.Turns.{firstOn}
 use Rattle.turns.proofs.moves.first_of.Statement.{statement}
 use Rattle.turns.proofs.moves.first_of.Tie as tie
 
-infinity-requires : tie.Need-infinity-requires
-infinity-requires c κs = search needs
-
 returns : tie.Need-returns
 unfolding firstOn ofBits
 returns c = rw (c .before .if1 .taken) (c .infinity .ensures)
-
-next-boundary-requires : tie.Need-next-boundary-requires
-next-boundary-requires c κs = search needs
-
-greatest-requires : tie.Need-greatest-requires
-greatest-requires c κs = search needs
 
 returns-2 : tie.Need-returns-2
 unfolding firstOn ofBits
@@ -25,4 +16,4 @@ returns-2 c = rw (c .before .before .if1 .left, c .greatest .ensures, c .before 
 pub first-of-spec : {M : Type 1} → statement M
 first-of-spec =
     tie.close
-    (tie.spec infinity-requires returns next-boundary-requires greatest-requires returns-2)
+    (tie.spec (λ c κs. search needs) returns (λ c κs. search needs) (λ c κs. search needs) returns-2)

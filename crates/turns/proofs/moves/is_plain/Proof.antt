@@ -5,9 +5,6 @@ use Rattle.turns.specs.Inside.{plainly}
 use Rattle.turns.proofs.moves.is_plain.Statement.{statement}
 use Rattle.turns.proofs.moves.is_plain.Tie as tie
 
-greatest-requires : tie.Need-greatest-requires
-greatest-requires c κs = search needs
-
 returns : tie.Need-returns
 unfolding plainly ofBits
 returns c = rw (← c .before .greatest .ensures, c .before .before .if1 .taken, c .if2 .taken)
@@ -21,4 +18,4 @@ unfolding plainly ofBits
 returns-3 c = rw (c .if1 .left)
 
 pub is-plain-spec : {M : Type 1} → statement M
-is-plain-spec = tie.close (tie.spec greatest-requires returns (λ c κs. search needs) returns-2 returns-3)
+is-plain-spec = tie.close (tie.spec (λ c κs. search needs) returns (λ c κs. search needs) returns-2 returns-3)

@@ -5,15 +5,6 @@ use Rattle.turns.proofs.Floats.{all-true, first-false, last-false}
 use Rattle.turns.proofs.moves.near.Statement.{statement}
 use Rattle.turns.proofs.moves.near.Tie as tie
 
-magnitude-requires : tie.Need-magnitude-requires
-magnitude-requires c κs = search needs
-
-is-finite-requires : tie.Need-is-finite-requires
-is-finite-requires c κs = search needs
-
-is-finite-requires-2 : tie.Need-is-finite-requires-2
-is-finite-requires-2 c κs = search needs
-
 returns : tie.Need-returns
 unfolding nearOf
 returns c = rw (← c .is-finite2 .ensures, ← c .before .before .is-finite .ensures, ← c .before .before .before .before .magnitude .ensures) (all-true _ _ _ (c .before .before .before .if1 .taken) (c .before .if2 .taken))
@@ -30,9 +21,9 @@ pub near-spec : {M : Type 1} → statement M
 near-spec =
     tie.close
     (tie.spec
-    magnitude-requires
-    is-finite-requires
-    is-finite-requires-2
+    (λ c κs. search needs)
+    (λ c κs. search needs)
+    (λ c κs. search needs)
     returns
     returns-2
     returns-3)

@@ -4,15 +4,9 @@ use Rattle.turns.specs.InsideModular.{positionBy}
 use Rattle.turns.proofs.moves.position.Statement.{statement}
 use Rattle.turns.proofs.moves.position.Tie as tie
 
-index-requires : tie.Need-index-requires
-index-requires c κs = search needs
-
-first-of-requires : tie.Need-first-of-requires
-first-of-requires c κs = search needs
-
 returns : tie.Need-returns
 unfolding positionBy
 returns c = rw (c .before .index .ensures, c .first-of .ensures)
 
 pub position-spec : {M : Type 1} → statement M
-position-spec = tie.close (tie.spec index-requires first-of-requires returns)
+position-spec = tie.close (tie.spec (λ c κs. search needs) (λ c κs. search needs) returns)

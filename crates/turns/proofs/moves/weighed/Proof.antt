@@ -5,18 +5,9 @@ use Rattle.turns.specs.Turns.{furtherOf}
 use Rattle.turns.proofs.moves.weighed.Statement.{statement}
 use Rattle.turns.proofs.moves.weighed.Tie as tie
 
-tolerance-requires : tie.Need-tolerance-requires
-tolerance-requires c κs = search needs
-
-least-requires : tie.Need-least-requires
-least-requires c κs = search needs
-
 returns : tie.Need-returns
 unfolding furtherOf ofBits
 returns c = rw (← c .before .before .tolerance .ensures, ← c .before .least .ensures, c .if1 .taken)
-
-near-requires : tie.Need-near-requires
-near-requires c κs = search needs
 
 returns-2 : tie.Need-returns-2
 unfolding furtherOf ofBits
@@ -29,4 +20,4 @@ returns-3 c = rw (← c .before .before .before .before .tolerance .ensures, ←
 pub weighed-spec : {M : Type 1} → statement M
 weighed-spec =
     tie.close
-    (tie.spec tolerance-requires least-requires returns near-requires returns-2 returns-3)
+    (tie.spec (λ c κs. search needs) (λ c κs. search needs) returns (λ c κs. search needs) returns-2 returns-3)

@@ -8,18 +8,9 @@ use Rattle.turns.proofs.pushes.last_is.Tie as tie
 returns : tie.Need-returns
 returns c = last-none _ _ _ (omega arith)
 
-sub-result : tie.Need-sub-result
-sub-result c = search needs
-
-mul-result : tie.Need-mul-result
-mul-result c = search needs
-
-shared-slice-read-result : tie.Need-shared-slice-read-result
-shared-slice-read-result c = search needs
-
 returns-2 : tie.Need-returns-2
 returns-2 c = let a = c .before .before .args in last-one (a .s .now) (a .n) (a .c) (omega arith)
 
 pub last-is-spec : {M : Type 1} → statement M
 last-is-spec =
-    tie.close (tie.spec returns sub-result mul-result shared-slice-read-result returns-2)
+    tie.close (tie.spec returns (λ c. search needs) (λ c. search needs) (λ c. search needs) returns-2)

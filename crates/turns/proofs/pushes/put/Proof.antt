@@ -13,18 +13,6 @@ mul-s c = omega (arith, cell-inside _ _ _ _ (c .if2 .taken) (c .before .if1 .tak
 add-s : tie.Need-add-s
 add-s c = omega (arith, cell-inside _ _ _ _ (c .if2 .taken) (c .before .if1 .taken))
 
-mul-s-2 : tie.Need-mul-s-2
-mul-s-2 c = search needs
-
-slice-write-s : tie.Need-slice-write-s
-slice-write-s c = search needs
-
-add-result : tie.Need-add-result
-add-result c = search needs
-
-same-length : tie.Need-same-length
-same-length c = search needs
-
 returns : tie.Need-returns
 returns c = rw (inside _ _ _ _ (c .before .if1 .taken) (c .if2 .taken)) (one _ _ _ (omega arith))
 
@@ -37,4 +25,4 @@ returns-3 c = rw (beyond-col _ _ _ _ (c .if1 .left)) (none (omega arith))
 pub put-spec : {M : Type 1} → statement M
 put-spec =
     tie.close
-    (tie.spec mul-s add-s mul-s-2 slice-write-s add-result same-length returns returns-2 returns-3)
+    (tie.spec mul-s add-s (λ c. search needs) (λ c. search needs) (λ c. search needs) (λ c. search needs) returns returns-2 returns-3)

@@ -13,26 +13,8 @@ mul-c c = omega (arith, cell-inside _ _ _ _ (c .if2 .taken) (c .before .if1 .tak
 add-c : tie.Need-add-c
 add-c c = omega (arith, cell-inside _ _ _ _ (c .if2 .taken) (c .before .if1 .taken))
 
-last-is-requires : tie.Need-last-is-requires
-last-is-requires c κs = search needs
-
-same-length : tie.Need-same-length
-same-length c = search needs
-
 returns : tie.Need-returns
 returns c = left-out (inside _ _ _ _ (c .before .before .before .before .if1 .taken) (c .before .before .before .if2 .taken)) (omega arith) (sym (c .before .last-is .ensures) ∙ c .if3 .taken)
-
-mul-s : tie.Need-mul-s
-mul-s c = search needs
-
-slice-write-s : tie.Need-slice-write-s
-slice-write-s c = search needs
-
-add-result : tie.Need-add-result
-add-result c = search needs
-
-same-length-2 : tie.Need-same-length-2
-same-length-2 c = search needs
 
 returns-2 : tie.Need-returns-2
 returns-2 c = put-in (inside _ _ _ _ (c .before .before .before .before .if1 .taken) (c .before .before .before .if2 .taken)) (omega arith) (sym (c .before .last-is .ensures) ∙ c .if3 .left)
@@ -49,13 +31,13 @@ put-other-spec =
     (tie.spec
     mul-c
     add-c
-    last-is-requires
-    same-length
+    (λ c κs. search needs)
+    (λ c. search needs)
     returns
-    mul-s
-    slice-write-s
-    add-result
-    same-length-2
+    (λ c. search needs)
+    (λ c. search needs)
+    (λ c. search needs)
+    (λ c. search needs)
     returns-2
     returns-3
     returns-4)

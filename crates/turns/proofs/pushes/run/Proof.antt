@@ -18,34 +18,16 @@ abbrev μ-loop : tie.MeasureT-loop
 loop-holds : tie.Need-loop-holds Inv-loop μ-loop
 loop-holds c = (record { size = c .before .pre .0; room = omega arith; is = refl }, refl)
 
-turn-requires : tie.Need-turn-requires Inv-loop μ-loop
-turn-requires c κs = tt
-
-goes-requires : tie.Need-goes-requires Inv-loop μ-loop
-goes-requires c κs = tt
-
-same-length : tie.Need-same-length Inv-loop μ-loop
-same-length c = c .before .before .before .loop .inv .1
-
 returns : tie.Need-returns Inv-loop μ-loop
 returns c = done (c .before .before .before .loop .inv .0) (going-is _ _ _ _ (c .before .before .turn .ensures) (c .before .goes .ensures) ∙ not-true _ (c .if1 .taken))
 
-same-length-2 : tie.Need-same-length-2 Inv-loop μ-loop
-same-length-2 c = c .before .before .before .before .loop .inv .1
-
 returns-2 : tie.Need-returns-2 Inv-loop μ-loop
 returns-2 c = over (c .before .before .before .before .loop .inv .0) (going-is _ _ _ _ (c .before .before .before .turn .ensures) (c .before .before .goes .ensures) ∙ not-false _ (c .before .if1 .left)) (c .if2 .taken)
-
-sub-left : tie.Need-sub-left Inv-loop μ-loop
-sub-left c = omega arith
 
 stride-requires : tie.Need-stride-requires Inv-loop μ-loop
 stride-requires c κs =
     let g = c .before .before .before .before .before .loop .inv .0 in
     (omega (arith, g .room, g .size), c .before .before .before .before .before .before .before .pre .1)
-
-loop-less : tie.Need-loop-less Inv-loop μ-loop
-loop-less c = omega arith
 
 loop-again : tie.Need-loop-again Inv-loop μ-loop
 loop-again c =
@@ -63,13 +45,13 @@ run-spec =
     Inv-loop
     μ-loop
     loop-holds
-    turn-requires
-    goes-requires
-    same-length
+    (λ c κs. tt)
+    (λ c κs. tt)
+    (λ c. c .before .before .before .loop .inv .1)
     returns
-    same-length-2
+    (λ c. c .before .before .before .before .loop .inv .1)
     returns-2
-    sub-left
+    (λ c. omega arith)
     stride-requires
-    loop-less
+    (λ c. omega arith)
     loop-again)

@@ -5,18 +5,6 @@ use Rattle.window.proofs.Those.{met-marked, met-not}
 use Rattle.window.proofs.found.is_met.Statement.{statement}
 use Rattle.window.proofs.found.is_met.Tie as tie
 
-shared-slice-read-if1 : tie.Need-shared-slice-read-if1
-shared-slice-read-if1 c = search needs
-
-segment-at-requires : tie.Need-segment-at-requires
-segment-at-requires c κs = search needs
-
-bounding-box-requires : tie.Need-bounding-box-requires
-bounding-box-requires c κs = search needs
-
-overlaps-with-requires : tie.Need-overlaps-with-requires
-overlaps-with-requires c κs = search needs
-
 returns : tie.Need-returns
 returns c =
     let a = c .before .before .before .before .before .before .before .before .before .before .args in
@@ -33,9 +21,9 @@ pub is-met-spec : {M : Type 1} → statement M
 is-met-spec =
     tie.close
     (tie.spec
-    shared-slice-read-if1
-    segment-at-requires
-    bounding-box-requires
-    overlaps-with-requires
+    (λ c. search needs)
+    (λ c κs. search needs)
+    (λ c κs. search needs)
+    (λ c κs. search needs)
     returns
     returns-2)

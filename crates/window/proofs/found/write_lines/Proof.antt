@@ -20,12 +20,6 @@ loop-holds c = writing-none _ _ _
 write-line-requires : tie.Need-write-line-requires Inv-loop μ-loop
 write-line-requires c κs = (omega (arith, c .before .before .before .before .before .before .before .before .before .pre .room), (omega (arith, c .before .before .before .before .before .before .before .before .before .pre .few), writing-few _ _ _ _ _ _ (c .before .before .loop .inv)))
 
-add-i : tie.Need-add-i Inv-loop μ-loop
-add-i c = omega arith
-
-loop-less : tie.Need-loop-less Inv-loop μ-loop
-loop-less c = omega arith
-
 loop-again : tie.Need-loop-again Inv-loop μ-loop
 loop-again c = writing-more _ _ _ _ _ _ _ _ (c .before .before .before .before .before .loop .inv) (omega arith) (c .before .before .write-line .ensures)
 
@@ -43,8 +37,8 @@ write-lines-spec =
     μ-loop
     loop-holds
     write-line-requires
-    add-i
-    loop-less
+    (λ c. omega arith)
+    (λ c. omega arith)
     loop-again
     same-length
     returns)

@@ -13,61 +13,16 @@ returns c =
     let a = c .before .before .before .before .before .before .args in
     no-columns (a .grid) (a .lines) (a .offsets .now) (a .items .now) (a .globals .now) (a .global-count) (a .window) (omega arith) _
 
-x-axis-requires : tie.Need-x-axis-requires
-x-axis-requires c κs = search needs
-
-index-requires : tie.Need-index-requires
-index-requires c κs = search needs
-
-x-axis-requires-2 : tie.Need-x-axis-requires-2
-x-axis-requires-2 c κs = search needs
-
-index-requires-2 : tie.Need-index-requires-2
-index-requires-2 c κs = search needs
-
-y-axis-requires : tie.Need-y-axis-requires
-y-axis-requires c κs = search needs
-
-index-requires-3 : tie.Need-index-requires-3
-index-requires-3 c κs = search needs
-
-y-axis-requires-2 : tie.Need-y-axis-requires-2
-y-axis-requires-2 c κs = search needs
-
-index-requires-4 : tie.Need-index-requires-4
-index-requires-4 c κs = search needs
-
 returns-2 : tie.Need-returns-2
 returns-2 c =
     let a = c .before .before .before .before .before .before .before .before .before .before .before .before .before .before .before .args in
     crossed (a .grid) (a .lines) (a .offsets .now) (a .items .now) (a .globals .now) (a .global-count) (a .window) _ _ (c .before .before .before .before .before .before .before .index .ensures ∙ ap (λ (x : Axis). indexOn x (a .window .«min_x»)) (c .before .before .before .before .before .before .before .before .x-axis .ensures)) (c .before .before .before .before .before .index2 .ensures ∙ ap (λ (x : Axis). indexOn x (a .window .«max_x»)) (c .before .before .before .before .before .before .x-axis2 .ensures)) (omega arith) _
-
-wide-requires : tie.Need-wide-requires
-wide-requires c κs = search needs
-
-wide-requires-2 : tie.Need-wide-requires-2
-wide-requires-2 c κs = search needs
-
-wide-requires-3 : tie.Need-wide-requires-3
-wide-requires-3 c κs = search needs
-
-wide-requires-4 : tie.Need-wide-requires-4
-wide-requires-4 c κs = search needs
-
-wide-requires-5 : tie.Need-wide-requires-5
-wide-requires-5 c κs = search needs
-
-add-mark-rows : tie.Need-add-mark-rows
-add-mark-rows c = search needs
 
 mark-rows-requires : tie.Need-mark-rows-requires
 mark-rows-requires c κs =
     let a = c .before .before .before .before .before .before .before .before .before .before .before .before .before .before .before .before .before .before .before .before .before .args in
     let h = c .before .before .before .before .before .before .before .before .before .before .before .before .before .before .before .before .before .before .before .before .before .pre in
     block (a .grid) (a .lines) (a .offsets .now) (a .items .now) (a .globals .now) (a .global-count) (a .window) (h .0) (h .1 .0) (omega arith) _ _ _ _ (c .before .before .before .wide2 .ensures ∙ c .before .before .before .before .before .before .before .before .before .before .before .before .before .index .ensures ∙ ap (λ (x : Axis). indexOn x (a .window .«min_x»)) (c .before .before .before .before .before .before .before .before .before .before .before .before .before .before .x-axis .ensures)) (c .before .before .wide3 .ensures ∙ c .before .before .before .before .before .before .before .before .before .before .before .index2 .ensures ∙ ap (λ (x : Axis). indexOn x (a .window .«max_x»)) (c .before .before .before .before .before .before .before .before .before .before .before .before .x-axis2 .ensures)) (c .before .wide4 .ensures ∙ c .before .before .before .before .before .before .before .before .before .index3 .ensures ∙ ap (λ (x : Axis). indexOn x (a .window .«min_y»)) (c .before .before .before .before .before .before .before .before .before .before .y-axis .ensures)) (c .wide5 .ensures ∙ c .before .before .before .before .before .before .before .index4 .ensures ∙ ap (λ (x : Axis). indexOn x (a .window .«max_y»)) (c .before .before .before .before .before .before .before .before .y-axis2 .ensures)) (omega (arith, c .before .before .before .wide2 .ensures, c .before .before .wide3 .ensures)) _ _ _ (c .before .before .before .before .wide .ensures) refl (h .1 .1)
-
-same-length : tie.Need-same-length
-same-length c = search needs
 
 returns-3 : tie.Need-returns-3
 returns-3 c =
@@ -80,21 +35,21 @@ mark-block-spec =
     tie.close
     (tie.spec
     returns
-    x-axis-requires
-    index-requires
-    x-axis-requires-2
-    index-requires-2
-    y-axis-requires
-    index-requires-3
-    y-axis-requires-2
-    index-requires-4
+    (λ c κs. search needs)
+    (λ c κs. search needs)
+    (λ c κs. search needs)
+    (λ c κs. search needs)
+    (λ c κs. search needs)
+    (λ c κs. search needs)
+    (λ c κs. search needs)
+    (λ c κs. search needs)
     returns-2
-    wide-requires
-    wide-requires-2
-    wide-requires-3
-    wide-requires-4
-    wide-requires-5
-    add-mark-rows
+    (λ c κs. search needs)
+    (λ c κs. search needs)
+    (λ c κs. search needs)
+    (λ c κs. search needs)
+    (λ c κs. search needs)
+    (λ c. search needs)
     mark-rows-requires
-    same-length
+    (λ c. search needs)
     returns-3)

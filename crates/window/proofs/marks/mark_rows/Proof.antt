@@ -30,9 +30,6 @@ mul-wide c = let r = row-in _ _ _ _ _ _ _ (c .before .before .before .before .be
 shared-slice-read-wide : tie.Need-shared-slice-read-wide Inv-loop μ-loop
 shared-slice-read-wide c = let r = row-in _ _ _ _ _ _ _ (c .before .before .before .before .before .before .pre) (c .before .before .loop .row) (omega arith) in omega (arith, r .end, r .small, r .order)
 
-wide-requires : tie.Need-wide-requires Inv-loop μ-loop
-wide-requires c κs = tt
-
 add-wide-2 : tie.Need-add-wide-2 Inv-loop μ-loop
 add-wide-2 c = let r = row-in _ _ _ _ _ _ _ (c .before .before .before .before .before .before .before .pre) (c .before .before .before .loop .row) (omega arith) in omega (arith, r .end, r .small, r .order)
 
@@ -44,9 +41,6 @@ mul-wide-2 c = let r = row-in _ _ _ _ _ _ _ (c .before .before .before .before .
 
 shared-slice-read-wide-2 : tie.Need-shared-slice-read-wide-2 Inv-loop μ-loop
 shared-slice-read-wide-2 c = let r = row-in _ _ _ _ _ _ _ (c .before .before .before .before .before .before .before .before .pre) (c .before .before .before .before .loop .row) (omega arith) in omega (arith, r .end, r .small, r .order)
-
-wide-requires-2 : tie.Need-wide-requires-2 Inv-loop μ-loop
-wide-requires-2 c κs = tt
 
 mul-mark-list : tie.Need-mul-mark-list Inv-loop μ-loop
 mul-mark-list c = let r = row-in _ _ _ _ _ _ _ (c .before .before .before .before .before .before .before .before .before .before .pre) (c .before .before .before .before .before .before .loop .row) (omega arith) in omega (arith, r .rise, r .within, c .before .before .before .wide .ensures, c .before .wide2 .ensures)
@@ -63,17 +57,8 @@ part-mark-list-end c = let r = row-in _ _ _ _ _ _ _ (c .before .before .before .
 mark-list-requires : tie.Need-mark-list-requires Inv-loop μ-loop
 mark-list-requires c κs = let r = row-in _ _ _ _ _ _ _ (c .before .before .before .before .before .before .before .before .before .before .before .pre) (c .before .before .before .before .before .before .before .loop .row) (omega arith) in row-below r _ _ (c .before .before .before .before .before .before .before .loop .marks) (c .before .before .before .before .wide .ensures) (c .before .before .wide2 .ensures) (c .before .before .before .before .before .before .before .loop .inv .long)
 
-add-row : tie.Need-add-row Inv-loop μ-loop
-add-row c = omega arith
-
-loop-less : tie.Need-loop-less Inv-loop μ-loop
-loop-less c = omega arith
-
 loop-again : tie.Need-loop-again Inv-loop μ-loop
 loop-again c = rows-more _ _ _ _ _ _ _ _ _ _ _ (c .before .before .before .before .before .before .before .before .before .before .loop .inv) (omega arith) (c .before .before .mark-list .ensures ∙ ap (λ (xs : List ℕ). markedWith xs (c .before .before .before .before .before .before .before .before .before .before .loop .marks)) (part-is _ _ _ _ _ _ _ _ (c .before .before .before .before .before .before .before .wide .ensures) (c .before .before .before .before .before .wide2 .ensures)))
-
-same-length : tie.Need-same-length Inv-loop μ-loop
-same-length c = c .before .loop .inv .long
 
 returns : tie.Need-returns Inv-loop μ-loop
 returns c = rows-over _ _ _ _ _ _ _ _ _ _ (c .before .loop .inv) (omega arith)
@@ -89,19 +74,19 @@ mark-rows-spec =
     add-wide
     mul-wide
     shared-slice-read-wide
-    wide-requires
+    (λ c κs. tt)
     add-wide-2
     add-wide-3
     mul-wide-2
     shared-slice-read-wide-2
-    wide-requires-2
+    (λ c κs. tt)
     mul-mark-list
     sub-mark-list
     part-mark-list-start
     part-mark-list-end
     mark-list-requires
-    add-row
-    loop-less
+    (λ c. omega arith)
+    (λ c. omega arith)
     loop-again
-    same-length
+    (λ c. c .before .loop .inv .long)
     returns)

@@ -1,5 +1,6 @@
 //! Plain Rust that the port is timed against. Each public function is called, as the port's are: in line, a caller's constants would go into it.
 
+use crate::model::Standing;
 use crate::{oracle, Grid};
 
 /// Rust's own number functions.
@@ -83,4 +84,72 @@ pub fn owners(g: &Grid, x: &[f64], y: &[f64], answers: &mut [u32]) {
         let cell = first(g.min_x, g.cell_width, g.cols, x).and_then(|col| Some((first(g.min_y, g.cell_height, g.rows, y)?, col)));
         *answer = cell.map_or(u32::MAX, |(row, col)| row * g.cols + col);
     }
+}
+
+/// Each overlapping pair once, at its first test, in the order of a visit of the cells: boxes and lists by line are made once, and of each test whose boxes
+/// overlap it is looked up, backwards from where the two lines stand, whether a cell that is behind lists both. Nothing is checked, and there are no globals.
+/// Answers how many pairs there are.
+#[inline(never)]
+pub fn pairs_once(s: &Standing, first: &mut [u32], second: &mut [u32]) -> usize {
+    let l = &s.lines;
+    let n = l.start_x.len();
+    let boxes: Vec<[f64; 4]> = (0..n)
+        .map(|i| {
+            let (x0, y0, x1, y1) = (l.start_x[i], l.start_y[i], l.end_x[i], l.end_y[i]);
+            [x0.min(x1), y0.min(y1), x0.max(x1), y0.max(y1)]
+        })
+        .collect();
+    let mut starts = vec![0u32; n + 1];
+    for &line in s.items {
+        starts[line as usize + 1] += 1;
+    }
+    for i in 0..n {
+        starts[i + 1] += starts[i];
+    }
+    let lists = || s.offsets.windows(2).map(|w| &s.items[w[0] as usize..w[1] as usize]);
+    let (mut at, mut listing) = (starts[..n].to_vec(), vec![0u32; s.items.len()]);
+    for (cell, list) in lists().enumerate() {
+        for &line in list {
+            listing[at[line as usize] as usize] = cell as u32;
+            at[line as usize] += 1;
+        }
+    }
+    at.copy_from_slice(&starts[..n]);
+    let mut k = 0;
+    for list in lists() {
+        for (i, &a) in list.iter().enumerate() {
+            let [ax, ay, bx, by] = boxes[a as usize];
+            for &b in &list[i + 1..] {
+                let [cx, cy, dx, dy] = boxes[b as usize];
+                if ax <= dx && cx <= bx && ay <= dy && cy <= by {
+                    let front = |line: u32| &listing[starts[line as usize] as usize..at[line as usize] as usize];
+                    if !meet(front(a), front(b)) {
+                        first[k] = a;
+                        second[k] = b;
+                        k += 1;
+                    }
+                }
+            }
+        }
+        for &line in list {
+            at[line as usize] += 1;
+        }
+    }
+    k
+}
+
+/// Whether two increasing lists have an entry in common, from their ends back.
+#[inline]
+fn meet(mut a: &[u32], mut b: &[u32]) -> bool {
+    while let ([before_a @ .., x], [before_b @ .., y]) = (a, b) {
+        if x == y {
+            return true;
+        }
+        if x < y {
+            b = before_b;
+        } else {
+            a = before_a;
+        }
+    }
+    false
 }

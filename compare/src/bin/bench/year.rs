@@ -8,15 +8,15 @@ use compare::kinds::build::Columns;
 use compare::model::{OnceLent, Standing, SCRATCH};
 use compare::oracle::{self, Built, Lines};
 use compare::random::Random;
-use compare::{cases, port, Line, Mode, Sizing};
+use compare::{cases, plain, port, Line, Mode, Sizing};
 use std::hint::black_box;
 
 const BAR: Option<f64> = Some(1.0);
 const MEMORY_BAR: Option<f64> = Some(0.5);
-/// Of a visit that hands out each pair once, by a Rust that takes the repeats out of what it is handed, which is what a caller does without it.
+/// Of a visit that hands out each pair once: by a Rust that looks back in the same way, and by one that takes the repeats out of what it is handed, which is
+/// what a caller does without it.
+const BACK_BAR: Option<f64> = Some(0.8);
 const ONCE_BAR: Option<f64> = Some(0.5);
-/// The same by a plain visit of the port, and by the Rust's callback that only counts.
-const PLAIN_BAR: Option<f64> = Some(1.07);
 
 /// Of a visit that pays for its checks once, by the Rust's callback.
 const VISIT_BAR: Option<f64> = Some(0.6);
@@ -216,34 +216,37 @@ fn rust_once(y: &Year) -> usize {
     black_box(&pairs).len()
 }
 
-/// A visit that hands out each pair once, beside the plain visit in one batch, beside the Rust's callback that only counts, and beside a Rust that takes the
-/// repeats out of what it is handed. The port's outputs just hold the pairs, so there is nothing to clear in them. Where that Rust would hold more than 2^24
-/// pairs it is left out.
+/// A visit that hands out each pair once, beside a Rust that looks back for each test whether it is the first, beside the plain visit in one batch, beside
+/// the Rust's callback that only counts, and beside a Rust that takes the repeats out of what it is handed. The port's outputs just hold the pairs, so there is
+/// nothing to clear in them. Where that last Rust would hold more than 2^24 pairs it is left out.
 pub fn once(clock: &Clock, years: &[Year], seed: u64) {
     clock.head(
-        "Each pair once: lists by line, the visit, and zero in the scratch. Plain: one batch of the port that hands out every test's pair. Counted: the Rust's \
-         callback, which only counts\n  every test's pair. Sorted: the Rust's visit, whose pairs are collected, sorted and rid of repeats. The last two: 12 legs an orbit. \
-         Nanoseconds a test.",
+        "Each pair once: lists by line, the visit, and zero in the scratch. Back: a Rust that makes boxes and lists by line, and looks back for each test whose \
+         boxes overlap.\n  Plain: one batch of the port that hands out every test's pair. Counted: the Rust's callback, which only counts every test's pair. Sorted: \
+         the Rust's visit, whose\n  pairs are collected, sorted and rid of repeats. The last two: 12 legs an orbit. Nanoseconds a test.",
     );
     let long = [8192, 65536].map(|n| Year::of(&cases::orbits(&mut Random::new(seed), n, 12.0)));
     for y in years.iter().chain(&long) {
         let standing = y.standing();
+        assert!(y.globals.is_empty(), "the plain Rust has no globals");
         let lent = |room: usize| OnceLent {
             first: vec![0; room], second: vec![0; room], starts: vec![0; y.n + 1], listing: vec![0; y.items.len()], counts: vec![0; y.n],
         };
         let mut out = [0u64];
         // with no room the refusal says how many pairs there are
         port::pairs_once(&standing, &mut lent(0), &mut out);
-        let (mut each, mut all) = (lent(out[0] as usize), Pairs::new(y.overlaps as usize));
+        let (mut each, mut looked, mut all) = (lent(out[0] as usize), Pairs::new(out[0] as usize), Pairs::new(y.overlaps as usize));
         let mut once = || assert_eq!(port::pairs_once(&standing, &mut each, &mut [0]), 0);
-        let mut plain = || assert_eq!(port_visit(y, &mut all), y.overlaps);
+        let mut back = || assert_eq!(plain::pairs_once(&standing, &mut looked.first, &mut looked.second) as u64, out[0]);
+        let mut batch = || assert_eq!(port_visit(y, &mut all), y.overlaps);
         let mut counted = || assert_eq!(black_box(rust_counted(y)), y.overlaps);
         let mut sorted = || assert_eq!(rust_once(y) as u64, out[0]);
         let held = y.overlaps <= 1 << 24;
-        let others: &[(&str, Option<f64>)] = &[("plain", PLAIN_BAR), ("counted", PLAIN_BAR), ("sorted", ONCE_BAR)][..if held { 3 } else { 2 }];
+        let others: &[(&str, Option<f64>)] = &[("back", BACK_BAR), ("plain", None), ("counted", None), ("sorted", ONCE_BAR)][..if held { 4 } else { 3 }];
         let parties: &mut [&mut dyn FnMut()] =
-            if held { &mut [&mut once, &mut plain, &mut counted, &mut sorted] } else { &mut [&mut once, &mut plain, &mut counted] };
+            if held { &mut [&mut once, &mut back, &mut batch, &mut counted, &mut sorted] } else { &mut [&mut once, &mut back, &mut batch, &mut counted] };
         let times = clock.turns(parties);
+        assert!(each.first == looked.first && each.second == looked.second, "the pairs of {} lines", y.n);
         let of_a_test = |party: usize| times.of(party) * 1e9 / y.tests as f64;
         print!("  {:<64} once {:>6.2}", format!("{} lines: {} tests, {} overlaps, {} pairs", y.n, y.tests, y.overlaps, out[0]), of_a_test(0));
         for (&(name, bar), party) in others.iter().zip(1..) {

@@ -1,5 +1,7 @@
 // One more line on standing tables, without a rebuild: its number goes to the end of the list of each cell that it visits, in place, or to the end of
 // the globals. The grid stays.
+#![tactic(auto)]
+
 mod checks;
 mod items;
 mod offsets;
@@ -16,7 +18,7 @@ use refusals::{Check, Refusal};
 use walk::Mode;
 
 // How many cells list the line, which are none where it is global, and how many items and global lines the tables now have; or the refusal that is due.
-#[derive(Drop)]
+#[derive(Clone, Copy)]
 pub enum Added {
     Tables {
         cells: usize,
@@ -27,7 +29,7 @@ pub enum Added {
 }
 
 // In how many lists of cells, and of global lines, the line goes; or that its walk was cut off.
-#[derive(Drop)]
+#[derive(Clone, Copy)]
 pub(crate) enum Goes {
     To { cells: usize, globals: usize },
     Over,

@@ -1,4 +1,6 @@
 // The records of a file whose recorded answers are the exported functions' own, by their kind.
+#![tactic(auto)]
+
 ghost use Rattle.std.specs.Prelude.{◌≡◌, cond, ◌≤◌, length};
 ghost use Rattle.records.specs.Files.{records_of};
 ghost use Rattle.agreed.specs.Agreed.{Agrees, Tallied, AgreeTo};
@@ -7,7 +9,7 @@ ghost use Rattle.agreed.specs.Inside.{Tells};
 use records::{files, words};
 
 // How many records agree, and how many words they have.
-#[derive(Drop)]
+#[derive(Clone, Copy)]
 pub struct Tally {
     pub records: usize,
     pub words: usize,

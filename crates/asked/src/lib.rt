@@ -1,4 +1,6 @@
 // The questions of recorded answers, asked of the exported functions: those that have slices here, the others by `asked_points`.
+#![tactic(auto)]
+
 mod lines;
 mod owners;
 mod visits;

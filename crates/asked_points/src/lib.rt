@@ -1,4 +1,6 @@
 // The questions of recorded answers about numbers and single points, asked of the exported functions.
+#![tactic(auto)]
+
 mod numbers_of;
 mod points;
 

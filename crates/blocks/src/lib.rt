@@ -1,6 +1,8 @@
 // Counts per block: a summary beside standing tables that has, for each block of 16 by 16 cells, the number of items in it. Blocks are numbered in
 // row order, as cells are. `make` writes the summary, `items_in` adds its numbers over a rectangle of blocks, with no look at the tables,
 // and `owning::is_summary` says whether one is that of some offsets.
+#![tactic(auto)]
+
 mod adding;
 mod making;
 pub mod owning;
@@ -18,21 +20,21 @@ use refusals::{Check, Refusal};
 use slices::wide;
 
 // A block by its row and its column of blocks.
-#[derive(Drop)]
+#[derive(Clone, Copy)]
 pub struct Block {
     pub row: u32,
     pub col: u32,
 }
 
 // How many blocks the summary has, or the refusal that is due.
-#[derive(Drop)]
+#[derive(Clone, Copy)]
 pub enum Made {
     Blocks(usize),
     Refused(Refusal),
 }
 
 // How many items there are, or the refusal that is due.
-#[derive(Drop)]
+#[derive(Clone, Copy)]
 pub enum Count {
     Items(u64),
     Refused(Refusal),

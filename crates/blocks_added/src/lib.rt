@@ -1,5 +1,7 @@
 // One more line on standing tables that have a summary by blocks: the tables and the summary grow together. The line is one item more in the block of
 // each cell that lists it, and a global line is in no block.
+#![tactic(auto)]
+
 mod raising;
 
 ghost use Rattle.std.specs.Prelude.{◌≡◌, ◌&&◌, ltb, length};

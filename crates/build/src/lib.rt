@@ -1,4 +1,6 @@
 // The build: the tables of lines on a grid that fits them. What `new_impl` of grid.rs does, in lent slices.
+#![tactic(auto)]
+
 mod choose;
 
 ghost use Rattle.std.specs.Prelude.{length};
@@ -12,28 +14,28 @@ use sizing::Sizing;
 use walk::Mode;
 
 // What a build is asked for: how its cells are sized, and which cells a walk visits.
-#[derive(Drop)]
+#[derive(Clone, Copy)]
 pub struct Plan {
     pub sizing: Sizing,
     pub mode: Mode,
 }
 
 // The tables that stand after a build: their grid, and how many items and global lines there are.
-#[derive(Drop)]
+#[derive(Clone, Copy)]
 pub struct Standing {
     pub grid: Grid,
     pub items: usize,
     pub globals: usize,
 }
 
-#[derive(Drop)]
+#[derive(Clone, Copy)]
 pub enum Built {
     Tables(Standing),
     Refused(Refusal),
 }
 
 // What one grid tried leads to: the end of the build, or the next halving.
-#[derive(Drop)]
+#[derive(Clone, Copy)]
 enum Attempt {
     Ended(Built),
     Halve,

@@ -1,5 +1,7 @@
 // Lists by line: for each line the cells that list it, increasing. They are made from standing tables into lent slices, as tables are made
 // from walks: counts, running sums, one pass that places, and a shift back.
+#![tactic(auto)]
+
 ghost use Rattle.std.specs.Prelude.{◌≡◌};
 ghost use Rattle.tables.specs.Tables.{tables};
 ghost use Rattle.by_line.specs.ByLine.{lists_room_check, ByLineIs};
@@ -14,7 +16,7 @@ mod passes;
 mod sums;
 
 // How many cells the lists have in all, or a refusal.
-#[derive(Drop)]
+#[derive(Clone, Copy)]
 pub enum ByLine {
     Listed(u64),
     Refused(Refusal),

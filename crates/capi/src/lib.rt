@@ -3,6 +3,8 @@
 // as `replies` says: by document 01's number, with its values at the start of the lent `out`. Where `out` has fewer words than a success writes, or
 // none, the function answers 100 before all else; next, where a grid has fewer than six words, 101, where a number names no sizing, 102, and where one
 // names no mode of walk, 103. All four change nothing.
+#![tactic(auto)]
+
 pub mod building;
 pub mod naming;
 pub mod number;

@@ -1,5 +1,7 @@
 // The exported summary by blocks, and its query. They answer as all exported functions do: by document 01's number, with its values at the start of
 // the lent `out`. Where `out` has no word, the number is 100; next, where a grid has fewer than six words, 101. Both change nothing.
+#![tactic(auto)]
+
 ghost use Rattle.std.specs.Prelude.{◌≡◌};
 ghost use Rattle.grid.specs.Words.{grid_by};
 ghost use Rattle.tables.specs.Tables.{tables};

@@ -1,6 +1,8 @@
 // The exported function of one more line on standing tables that have a summary by blocks. It answers as all exported functions do: by document 01's number, with its values at the start of the
 // lent `out`. Where `out` has not three words, the number is 100; next, where a grid has fewer than six words, 101; then, where a number names no mode of
 // walk, 103. These change nothing.
+#![tactic(auto)]
+
 ghost use Rattle.std.specs.Prelude.{◌≤◌, length};
 ghost use Rattle.grid.specs.Domain.{segment_by};
 ghost use Rattle.grid.specs.Words.{grid_by};

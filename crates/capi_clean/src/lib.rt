@@ -1,5 +1,7 @@
 // The exported cleaning of chains. It answers as all exported functions do: by document 01's number, with its values at the start of the lent
 // `out`. Where `out` has fewer words than a success writes the number is 100, and nothing changes.
+#![tactic(auto)]
+
 ghost use Rattle.std.specs.Prelude.{[], ◌∷◌, ◌≤◌, length};
 ghost use Rattle.replies.specs.Replies.{success, Replies};
 ghost use Rattle.clean.specs.Calls.{outputs};

@@ -1,6 +1,8 @@
 // The exported batch that says where each pair was tested. It answers as all exported functions do: by a document's number, with its values at the
 // start of the lent `out`. Where `out` has fewer than three words, the number is 100; next, where a grid has fewer than six words, 101. Both
 // change nothing.
+#![tactic(auto)]
+
 ghost use Rattle.grid.specs.Domain.{lines};
 ghost use Rattle.grid.specs.Words.{grid_by};
 ghost use Rattle.tables.specs.Tables.{beside};

@@ -1,4 +1,6 @@
 // What the program prints for the bytes that it reads: one LineString in well-known binary, whose consecutive points are lines.
+#![tactic(auto)]
+
 ghost use Rattle.std.specs.Prelude.{◌≡◌, ◌≤◌, length, take};
 ghost use Rattle.grid.specs.Domain.{lines};
 ghost use Rattle.tables.specs.Tables.{beside};
@@ -14,7 +16,7 @@ mod show;
 mod whole;
 
 // A full visit: all tests and those of them that overlap, or why there was none.
-#[derive(Drop)]
+#[derive(Clone, Copy)]
 enum Visited {
     Counted { tests: u64, overlaps: u64 },
     Refused(Refusal),

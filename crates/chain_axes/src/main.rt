@@ -1,4 +1,6 @@
 // The program in the sizing by axis and the Rust's walk.
+#![tactic(auto)]
+
 use build::Plan;
 use sizing::Sizing;
 use walk::Mode;

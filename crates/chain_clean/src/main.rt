@@ -1,6 +1,8 @@
 // The cleaning program: one LineString or MultiLineString in well-known binary from standard input; what is kept of it to the file `clean.wkb`, and a
 // line for each dropped point to standard output. The file is written beside and renamed, so that it is there whole, or an older one as it was.
 // What fails is said on standard error, and then nothing is printed; but where the print itself fails, the file is there.
+#![tactic(auto)]
+
 use input::Input;
 use libc::{STDERR_FILENO, STDIN_FILENO, STDOUT_FILENO};
 

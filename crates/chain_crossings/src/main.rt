@@ -1,6 +1,8 @@
 // The program of crossings: one LineString of samples in well-known binary from standard input; its crossings to standard output. Its first word is the
 // sizing, `square` or `axes`, and its second the walk, `rust`, `sided` or `covering`: each by its first letter. A read or a write that fails is said on
 // standard error.
+#![tactic(auto)]
+
 use build::Plan;
 use input::Input;
 use libc::{STDERR_FILENO, STDIN_FILENO, STDOUT_FILENO};

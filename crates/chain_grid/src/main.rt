@@ -1,4 +1,6 @@
 // The program in the square sizing and the Rust's walk.
+#![tactic(auto)]
+
 use build::Plan;
 use sizing::Sizing;
 use walk::Mode;

@@ -1,5 +1,7 @@
 // Cleaning of chains that are held as points with member lengths: points outside the coordinate rule split a chain and are dropped, and so are
 // repeats, and pieces left with fewer than two points. Every point has a reason, as a number: 0 it is kept, 1 range, 2 repeat, 3 short.
+#![tactic(auto)]
+
 mod marks;
 mod points;
 mod values;
@@ -10,7 +12,7 @@ ghost use Rattle.clean.specs.Calls.{outputs, kept_room_check, CleanedAs};
 use refusals::{Check, Refusal};
 
 // What cleaning answers: how many points and pieces it kept, or why it cleaned nothing.
-#[derive(Drop)]
+#[derive(Clone, Copy)]
 pub enum Cleaned {
     Kept { points: usize, members: usize },
     Refused(Refusal),

@@ -1,4 +1,6 @@
 // What the cleaning program writes and prints for the bytes that it reads: one LineString or MultiLineString in well-known binary.
+#![tactic(auto)]
+
 mod either;
 mod text;
 
@@ -16,7 +18,7 @@ use members::Written;
 use wkb::MultiRead;
 
 // Where the file and the text end. A file of 0 bytes is none.
-#[derive(Drop)]
+#[derive(Clone, Copy)]
 pub struct Ends {
     pub bytes: usize,
     pub text: usize,

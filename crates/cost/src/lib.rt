@@ -1,5 +1,7 @@
 // What a visit of standing tables will cost, beforehand: its number of tests, and the longest list of a cell. Both come from the offsets and
 // the two counts, with no look at a line.
+#![tactic(auto)]
+
 ghost use Rattle.std.specs.Prelude.{◌≡◌, cond, ◌-◌, ◌*◌, leb};
 ghost use Rattle.tables.specs.Tables.{tables};
 ghost use Rattle.seek.specs.Inside.{tri};
@@ -10,13 +12,13 @@ use grid::Grid;
 use refusals::{Check, Refusal};
 
 // The tests of a full visit, and the lines of the longest list.
-#[derive(Drop)]
+#[derive(Clone, Copy)]
 pub struct Cost {
     pub tests: u64,
     pub longest: u64,
 }
 
-#[derive(Drop)]
+#[derive(Clone, Copy)]
 pub enum CostAnswer {
     Costs(Cost),
     Refused(Refusal),

@@ -1,5 +1,7 @@
 // Counting on several benches: each counts its own lines on one agreed grid, in one agreed mode of walk, and the count tables are added. Beside it the
 // agreed grid itself, and the tables of lines on it.
+#![tactic(auto)]
+
 pub mod adding;
 pub mod agreed;
 
@@ -17,21 +19,21 @@ use slices::wide;
 use walk::Mode;
 
 // The sum of all counts, and how many lines are global, which are counted in no cell; or the refusal that is due.
-#[derive(Drop)]
+#[derive(Clone, Copy)]
 pub enum Counted {
     Of { listed: usize, globals: usize },
     Refused(Refusal),
 }
 
 // How many items and global lines the tables have, or the refusal that is due.
-#[derive(Drop)]
+#[derive(Clone, Copy)]
 pub enum Tabled {
     Tables { items: usize, globals: usize },
     Refused(Refusal),
 }
 
 // The grid that benches agree on, or the refusal that is due.
-#[derive(Drop)]
+#[derive(Clone, Copy)]
 pub enum GridAnswer {
     On(Grid),
     Refused(Refusal),

@@ -1,5 +1,7 @@
 // The covering walk: the cells of a segment such that two segments with a common exact point always share one. The cells come out increasing and none
 // twice, no turn is counted, and no boundary rule is needed.
+#![tactic(auto)]
+
 mod fine;
 mod rows;
 mod runs;
@@ -15,7 +17,7 @@ use runs::put_run;
 
 // The number of cells, which stand in the lent scratch; or that the line is in every cell of a grid of more than 2,048, since one of its ends is off the
 // grid; or a refusal. Behind the last two the scratch is as it was.
-#[derive(Drop)]
+#[derive(Clone, Copy)]
 pub enum Covered {
     Found(usize),
     Everywhere,
@@ -23,7 +25,7 @@ pub enum Covered {
 }
 
 // The ends of a line in fine units, the lower one first.
-#[derive(Drop)]
+#[derive(Clone, Copy)]
 pub struct Ends {
     pub from_x: u64,
     pub from_y: u64,
@@ -32,7 +34,7 @@ pub struct Ends {
 }
 
 // The columns of a row that are covered: the first and the last.
-#[derive(Drop)]
+#[derive(Clone, Copy)]
 pub(crate) struct Columns {
     pub first: u64,
     pub last: u64,

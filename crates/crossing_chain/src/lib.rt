@@ -1,5 +1,7 @@
 // What the program of crossings prints for the bytes that it reads: one LineString of samples in well-known binary, whose consecutive points are
 // lines. It builds in a plan and lists the crossings.
+#![tactic(auto)]
+
 ghost use Rattle.std.specs.Prelude.{◌≡◌, ◌≤◌, length, take};
 ghost use Rattle.grid.specs.Domain.{lines};
 ghost use Rattle.samples.specs.Samples.{samples};

@@ -1,5 +1,7 @@
 // Crossings: a full visit of lines of samples that hands out two lines that share a point, at their first test alone. It goes as the visit of `once`
 // does, over its lists by line and its counts, and asks of each test whether the two lines share a point, exactly.
+#![tactic(auto)]
+
 ghost use Rattle.seek.specs.Tests.{tests_of};
 ghost use Rattle.first_tests.specs.Firsts.{keeps, PairsAre};
 ghost use Rattle.first_tests.specs.InsideScan.{HandedOut, RunAsks};

@@ -10,7 +10,7 @@ ghost use Rattle.crossings.specs.Inside.{row_of, RaisedHeld};
 use samples::Raised;
 
 // The first line of a row, raised, and 1 if the marks that the row goes by are sure, else 0.
-#[derive(Drop)]
+#[derive(Clone, Copy)]
 pub(crate) struct Row {
     pub first: u32,
     pub sure: u32,

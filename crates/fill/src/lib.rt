@@ -1,6 +1,8 @@
 // Counting lines on a given grid, and filling the tables of a grid: what `count_cells` and the second half of `new_impl` of grid.rs do, in lent
 // slices. How a grid is chosen is no matter here, and the
 // mode of walk is handed on.
+#![tactic(auto)]
+
 mod filling;
 mod lent;
 mod offsets;
@@ -20,14 +22,14 @@ use refusals::{Check, Refusal};
 use walk::Mode;
 
 // A number, or the refusal that is due.
-#[derive(Drop)]
+#[derive(Clone, Copy)]
 pub enum Count {
     Of(usize),
     Refused(Refusal),
 }
 
 // How many items and global lines the tables have; or that some cell would list more lines than it may; or the refusal that is due.
-#[derive(Drop)]
+#[derive(Clone, Copy)]
 pub enum Filled {
     Tables { items: usize, globals: usize },
     Crowded,

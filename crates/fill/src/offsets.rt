@@ -4,7 +4,7 @@ ghost use Rattle.tables.specs.Lists.{sum};
 ghost use Rattle.fill.specs.Inside.{SumsAre, ShiftedBack};
 
 // Whether some cell has more lines than it may; and else the total.
-#[derive(Drop)]
+#[derive(Clone, Copy)]
 pub(crate) struct SumsEnd {
     pub crowded: bool,
     pub total: u32,

@@ -21,7 +21,7 @@ pub(crate) fn cell_count(grid: Grid) -> usize
 }
 
 // Whether a walk is over its turns; and else how many cells it visits.
-#[derive(Drop)]
+#[derive(Clone, Copy)]
 struct Walked {
     over: bool,
     cells: usize,

@@ -1,11 +1,13 @@
 // The grid record, its axes, its words, segments and their boxes, and the checks of document 01's domain. Every crate above cites these.
+#![tactic(auto)]
+
 pub mod axes;
 pub mod checks;
 pub mod segments;
 pub mod words;
 
 // A uniform grid: its lower corner, the width and the height of its cells, and how many there are each way.
-#[derive(Drop)]
+#[derive(Clone, Copy)]
 pub struct Grid {
     pub min_x: f64,
     pub min_y: f64,
@@ -16,7 +18,7 @@ pub struct Grid {
 }
 
 // One axis of a grid: where it begins, the size of a cell on it, and how many there are.
-#[derive(Drop)]
+#[derive(Clone, Copy)]
 pub struct Axis {
     pub low: f64,
     pub size: f64,
@@ -24,7 +26,7 @@ pub struct Axis {
 }
 
 // Where a coordinate is, seen from the boundaries of an axis: off them all, at one or just above it, just below one.
-#[derive(Drop)]
+#[derive(Clone, Copy)]
 pub enum Side {
     Off,
     Above,
@@ -32,7 +34,7 @@ pub enum Side {
 }
 
 // A line by value: from its start to its end.
-#[derive(Drop)]
+#[derive(Clone, Copy)]
 pub struct Segment {
     pub start_x: f64,
     pub start_y: f64,
@@ -41,7 +43,7 @@ pub struct Segment {
 }
 
 // A bounding box.
-#[derive(Drop)]
+#[derive(Clone, Copy)]
 pub struct Box {
     pub min_x: f64,
     pub min_y: f64,

@@ -1,5 +1,7 @@
 // The walk of one line by the function that a build calls, in the Rust's mode and in the covering mode, and the ordering of its cells, for whoever times or
 // compares them. They are no part of the library.
+#![tactic(auto)]
+
 ghost use Rattle.std.specs.Prelude.{◌≡◌, length, set};
 ghost use Rattle.grid.specs.Domain.{segment_by};
 ghost use Rattle.slices.specs.Slices.{sorted};

@@ -1,8 +1,10 @@
 // The whole of an input, read into a buffer.
+#![tactic(auto)]
+
 ghost use Rattle.input.specs.Whole.{Within};
 
 // What a read of the whole input comes to: so many bytes, or a read that failed.
-#[derive(Drop)]
+#[derive(Clone, Copy)]
 pub enum Input {
     Bytes(usize),
     Failed,

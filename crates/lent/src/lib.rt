@@ -1,5 +1,7 @@
 // What a visit that hands out each pair once is lent: two outputs, and scratch for the lists by line and for the counts. The check of what is lent, the
 // beginning, a pair in the outputs, and what the visit leaves.
+#![tactic(auto)]
+
 ghost use Rattle.std.specs.Prelude.{◌≡◌, set};
 ghost use Rattle.tables.specs.Tables.{tables};
 ghost use Rattle.lent.specs.Lent.{rooms_check, Begun, EndIs};
@@ -9,7 +11,7 @@ use grid::Grid;
 use refusals::{Check, Refusal};
 
 // The number of pairs, or a refusal.
-#[derive(Drop)]
+#[derive(Clone, Copy)]
 pub enum OnceAnswer {
     Pairs(u64),
     Refused(Refusal),

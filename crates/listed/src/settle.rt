@@ -6,7 +6,7 @@ ghost use Rattle.listed.specs.Places.{row_at, LeftAt};
 use crate::{CellAt, lists};
 
 // Two entries of a list, or that no test is left in it.
-#[derive(Drop)]
+#[derive(Clone, Copy)]
 pub enum RowAt {
     At { i: usize, j: usize },
     Past,

@@ -1,5 +1,7 @@
 // Chains held as points with member lengths: the points of all members stand one after another in x and y, as bit patterns, and `lengths` says
 // how many each member has. Written as a MultiLineString, and turned into the lines of a build.
+#![tactic(auto)]
+
 mod bytes;
 pub mod lines;
 pub mod write;
@@ -12,14 +14,14 @@ use refusals::{Check, Refusal};
 use slices::wide;
 
 // What the writer answers: how many bytes it wrote, or why it wrote none.
-#[derive(Drop)]
+#[derive(Clone, Copy)]
 pub enum Written {
     Bytes(usize),
     Refused(Refusal),
 }
 
 // What is answered for the lines of members: how many there are, or why they were not made.
-#[derive(Drop)]
+#[derive(Clone, Copy)]
 pub enum Lined {
     Lines(usize),
     Refused(Refusal),

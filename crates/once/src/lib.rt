@@ -1,6 +1,8 @@
 // Each pair once: a full visit that hands out two lines at their first test alone. A test in a cell is the first if no cell before lists both
 // lines, a global's if no cell at all does. The lists by line are made first; as the visit goes on, it counts for each line how many of its
 // cells are behind, and looks back from there.
+#![tactic(auto)]
+
 ghost use Rattle.grid.specs.Domain.{lines};
 ghost use Rattle.seek.specs.Tests.{tests_of};
 ghost use Rattle.visit.specs.Overlap.{overlap};

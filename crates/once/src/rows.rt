@@ -12,7 +12,7 @@ use crate::boxes;
 use grid::Box;
 
 // The first line of a row, with its box, and 1 if the marks that the row goes by are sure, else 0.
-#[derive(Drop)]
+#[derive(Clone, Copy)]
 pub(crate) struct Row {
     pub first: u32,
     pub sure: u32,

@@ -9,7 +9,7 @@ use crate::Found;
 use grid::Axis;
 
 // The indexes from `low` to `high`.
-#[derive(Drop)]
+#[derive(Clone, Copy)]
 struct Stretch {
     low: u32,
     high: u32,

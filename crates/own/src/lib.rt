@@ -1,5 +1,7 @@
 // Which cell owns a point or a collinear overlap, by the Rust's tests in `process_cell_candidate` and `handle_collinear`, and the
 // cell that owns a point, or those that own many.
+#![tactic(auto)]
+
 mod axis;
 mod ends;
 pub mod many;
@@ -14,7 +16,7 @@ use refusals::{Check, Refusal};
 use snap::Snapped;
 
 // Whether a cell owns what it was asked about, or the refusal that is due.
-#[derive(Drop)]
+#[derive(Clone, Copy)]
 pub enum Owned {
     Yes,
     No,
@@ -22,7 +24,7 @@ pub enum Owned {
 }
 
 // Whose a point is: a cell's, or nobody's, in a seam between cells or outside the grid.
-#[derive(Drop)]
+#[derive(Clone, Copy)]
 pub enum Owner {
     Cell { row: u32, col: u32 },
     Seam,
@@ -30,14 +32,14 @@ pub enum Owner {
 }
 
 // Whose a point is, or the refusal that is due.
-#[derive(Drop)]
+#[derive(Clone, Copy)]
 pub enum OwnerAnswer {
     Found(Owner),
     Refused(Refusal),
 }
 
 // The first number that passes a test, if there is one.
-#[derive(Drop)]
+#[derive(Clone, Copy)]
 pub enum Found {
     At(u32),
     Nowhere,

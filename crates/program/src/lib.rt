@@ -1,6 +1,8 @@
 // What the programs do: one LineString in well-known binary from standard input; what document 01 says of it in a plan, to standard output.
 // A read or a write that fails is said on standard error, and so is the value of a refusal. A report is whole if its last line is that of the visit, or a
 // refusal.
+#![tactic(auto)]
+
 use build::Plan;
 use input::Input;
 use libc::{STDERR_FILENO, STDIN_FILENO, STDOUT_FILENO};

@@ -1,5 +1,7 @@
 // The program: recorded questions and answers of the Rust from standard input; how many of each kind the port answers alike, to standard output.
 // The last line is `all agree`, or says at which word the first record begins that does not.
+#![tactic(auto)]
+
 ghost use Rattle.std.specs.Prelude.{◌≡◌, ◌≤◌, length};
 
 use libc::{STDIN_FILENO, STDOUT_FILENO};

@@ -1,6 +1,8 @@
 // The answers of the entries for a caller in another language: document 01's number, 0 for success, is returned, and the values go to the start of
 // the lent `out`: the words of the result, or the one value of a refusal. The rest of `out` stays as it was. Where `out` has fewer words than a
 // success writes, or none, the number is 100, and nothing changes.
+#![tactic(auto)]
+
 mod stores;
 
 ghost use Rattle.std.specs.Prelude.{◌≡◌, cond, ◌+◌, ◌≤◌, length};

@@ -1,6 +1,8 @@
 // The lines that the program prints, in ASCII. Each function puts one line into a buffer, from a
 // position on and as far as there is room, and answers the position after it. `clear` is for what
 // stands beyond the last.
+#![tactic(auto)]
+
 ghost use Rattle.std.specs.Prelude.{◌≡◌, ◌<◌, [], ◌∷◌, length, replicate};
 ghost use Rattle.report.specs.Pages.{page, Puts};
 ghost use Rattle.report.specs.Numbers.{glyph as Numbers·glyph};

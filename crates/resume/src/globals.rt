@@ -6,7 +6,7 @@ use crate::settle::GlobalAt;
 use crate::{lines, settle};
 use slices::least;
 
-#[derive(Drop)]
+#[derive(Clone, Copy)]
 pub(crate) struct GlobalsRan {
     pub p: usize,
     pub q: usize,

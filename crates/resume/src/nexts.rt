@@ -34,7 +34,7 @@ fn line_at(lines: u32, place: usize, reach: usize, j: usize) -> u32
 }
 
 // Where the runs through the cells and through the globals stopped.
-#[derive(Drop)]
+#[derive(Clone, Copy)]
 pub(crate) struct Ran {
     pub found: CellAt,
     pub p: usize,

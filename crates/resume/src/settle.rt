@@ -12,7 +12,7 @@ use crate::Cursor;
 use grid::Grid;
 use listed::CellAt;
 
-#[derive(Drop)]
+#[derive(Clone, Copy)]
 pub(crate) enum GlobalAt {
     At {
         p: usize,

@@ -1,5 +1,7 @@
 // Lines of samples: whole numbers of magnitude at most 2^29, as the bench logger delivers them. A sample is raised by 2^29, which spares all
 // signs. Two lines of raised samples are decided exactly in 64 bits: whether they share a point.
+#![tactic(auto)]
+
 pub mod checks;
 mod sides;
 
@@ -8,7 +10,7 @@ ghost use Rattle.samples.specs.Samples.{samples, raised, raised_in, raised_at};
 ghost use Rattle.samples.specs.Sharing.{sharing};
 
 // A line of raised samples. What is no sample is 2^32 - 1 in it.
-#[derive(Drop)]
+#[derive(Clone, Copy)]
 pub struct Raised {
     pub start_x: u32,
     pub start_y: u32,

@@ -13,20 +13,20 @@ use grid::Grid;
 use refusals::{Check, Refusal};
 use slices::wide;
 
-#[derive(Drop)]
+#[derive(Clone, Copy)]
 pub(crate) enum Sought {
     At(Cursor),
     Beyond,
 }
 
 // Where it was found, and how many tests of it are to be passed still.
-#[derive(Drop)]
+#[derive(Clone, Copy)]
 struct Found {
     at: usize,
     left: u64,
 }
 
-#[derive(Drop)]
+#[derive(Clone, Copy)]
 struct FoundLine {
     q: usize,
     k: u32,

@@ -1,11 +1,13 @@
 // Where a visit of standing tables stands: a list by its place, and the cursor of a bookmark.
+#![tactic(auto)]
+
 use refusals::Refusal;
 
 pub mod bookmarks;
 pub mod lists;
 
 // Where a test is made: a cell, or a global line by its position.
-#[derive(Drop)]
+#[derive(Clone, Copy)]
 pub enum Place {
     Cell { row: u32, col: u32 },
     Global(usize),
@@ -13,7 +15,7 @@ pub enum Place {
 
 // Where a visit stands, by value: in the cells, the cell and the places i and j in its list; among the globals, the position p, the next
 // line k, and the position q of the next global that is passed over.
-#[derive(Drop)]
+#[derive(Clone, Copy)]
 pub struct Cursor {
     pub cell: usize,
     pub i: usize,
@@ -24,14 +26,14 @@ pub struct Cursor {
 }
 
 // What is found of a bookmark: the cursor, or a refusal.
-#[derive(Drop)]
+#[derive(Clone, Copy)]
 pub enum SeekAnswer {
     At(Cursor),
     Refused(Refusal),
 }
 
 // What stands at a bookmark: the place and the two lines of a test, the end mark, or a refusal.
-#[derive(Drop)]
+#[derive(Clone, Copy)]
 pub enum PairAnswer {
     Made {
         place: Place,

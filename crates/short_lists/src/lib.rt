@@ -1,5 +1,7 @@
 // The rows of a short list whose boxes stand ready, by marks. Each pair is written, and one that is not handed out is written over: no branch goes by
 // what cannot be foreseen.
+#![tactic(auto)]
+
 ghost use Rattle.std.specs.Prelude.{◌+◌, ◌-◌, ◌*◌, ◌≤◌, ◌≡◌, length};
 ghost use Rattle.short_lists.specs.Short.{ready_box, decide_by, ready, pair_outputs, try_row, short_fits, short_rows, ShortRowAsks};
 

@@ -1,5 +1,7 @@
 // The first half of document 01's "The build", in either sizing: the bounds over all endpoints, the first size of the cells, the grid of a size, and half
 // of a size.
+#![tactic(auto)]
+
 ghost use Rattle.std.specs.Prelude.{◌≡◌, ◌≤◌, min, length};
 ghost use Rattle.grid.specs.Domain.{lines};
 ghost use Rattle.sizing.specs.Bounds.{lowest, highest, extent_of};
@@ -12,7 +14,7 @@ use numbers::order::{greatest, least};
 use numbers::root::square_root;
 
 // Where all lines lie: the lower corner of their bounds, and how far they reach from it.
-#[derive(Drop)]
+#[derive(Clone, Copy)]
 pub struct Extent {
     pub min_x: f64,
     pub min_y: f64,
@@ -21,21 +23,21 @@ pub struct Extent {
 }
 
 // How the first size is found: one length for both axes, or for each axis its own.
-#[derive(Drop)]
+#[derive(Clone, Copy)]
 pub enum Sizing {
     Square,
     Axes,
 }
 
 // The size of a grid's cells. Whoever tries one size after another hands it on, and never looks inside.
-#[derive(Drop)]
+#[derive(Clone, Copy)]
 pub struct Size {
     pub cell_width: f64,
     pub cell_height: f64,
 }
 
 // The bounds on one axis.
-#[derive(Drop)]
+#[derive(Clone, Copy)]
 struct Span {
     low: f64,
     high: f64,

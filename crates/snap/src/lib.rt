@@ -1,4 +1,6 @@
 // Snap rounding of a point, the Rust's `SnapNoder::snap` with its strategy Grid; and whether GeosCompat, which is retired, gave the same.
+#![tactic(auto)]
+
 pub mod checks;
 pub mod strategies;
 
@@ -8,14 +10,14 @@ ghost use Rattle.snap.specs.Snap.{grid_snap, snap_of, snap_answer};
 use refusals::{Check, Refusal};
 
 // The snapped point, or the refusal that is due.
-#[derive(Drop)]
+#[derive(Clone, Copy)]
 pub enum Snapped {
     Point { x: f64, y: f64 },
     Refused(Refusal),
 }
 
 // Whether the two strategies give the same bits, or the refusal that is due.
-#[derive(Drop)]
+#[derive(Clone, Copy)]
 pub enum Agreement {
     Same,
     Differ,

@@ -1,4 +1,6 @@
 // Standing tables, and the check that they fit.
+#![tactic(auto)]
+
 ghost use Rattle.std.specs.Prelude.{◌≡◌, ℕ, ◌-◌, ◌<◌, ◌≤◌, ◌&&◌, length, get_or, take, leb, ltb};
 ghost use Rattle.tables.specs.Tables.{tables, part_in};
 ghost use Rattle.tables.specs.Fit.{increases, lists_fit, tables_fit, standing_check};

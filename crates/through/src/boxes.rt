@@ -9,7 +9,7 @@ use grid::Box;
 use listed::boxes::{box_of, higher, inner_of, lower};
 
 // The boxes of `held` entries of a list stand ready, from its entry `from` on.
-#[derive(Drop)]
+#[derive(Clone, Copy)]
 pub(crate) struct Window {
     pub from: usize,
     pub held: usize,

@@ -1,4 +1,6 @@
 // From list to list through the cells of tables as they are: the tests of each list row by row, until the outputs are full or none is left.
+#![tactic(auto)]
+
 mod boxes;
 pub mod cells;
 mod rows;
@@ -7,7 +9,7 @@ mod scan;
 use listed::CellAt;
 
 // What a run through the cells did: the tests made, the overlaps among them, and where it stopped.
-#[derive(Drop)]
+#[derive(Clone, Copy)]
 pub struct CellsMade {
     pub tests: u64,
     pub overlaps: usize,

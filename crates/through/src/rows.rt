@@ -9,7 +9,7 @@ use listed::settle::RowAt;
 use listed::{lists, settle};
 use slices::least;
 
-#[derive(Drop)]
+#[derive(Clone, Copy)]
 pub(crate) struct ListRan {
     pub i: usize,
     pub j: usize,
@@ -17,7 +17,7 @@ pub(crate) struct ListRan {
     pub hits: usize,
 }
 
-#[derive(Drop)]
+#[derive(Clone, Copy)]
 pub(crate) struct CellsRan {
     pub cell: usize,
     pub i: usize,
@@ -27,7 +27,7 @@ pub(crate) struct CellsRan {
 }
 
 // What a part of a row came to: its tests, the pairs in the outputs, and the boxes that stand ready.
-#[derive(Drop)]
+#[derive(Clone, Copy)]
 struct PartRan {
     many: usize,
     hits: usize,

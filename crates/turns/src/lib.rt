@@ -1,4 +1,6 @@
 // The walk of a segment by turns: document 01, "The walk", without what a boundary adds.
+#![tactic(auto)]
+
 mod moves;
 mod pushes;
 
@@ -10,7 +12,7 @@ use pushes::walked;
 use refusals::{Check, Refusal};
 
 // One axis of the line: what a move adds to the index, modulo 2^32, and to t_max; and the index of the end.
-#[derive(Drop)]
+#[derive(Clone, Copy)]
 pub(crate) struct Course {
     pub step: u32,
     pub t_delta: f64,
@@ -18,47 +20,47 @@ pub(crate) struct Course {
 }
 
 // One axis of the state: the index, modulo 2^32, and t at the next boundary.
-#[derive(Drop)]
+#[derive(Clone, Copy)]
 pub(crate) struct Position {
     pub index: u32,
     pub t_max: f64,
 }
 
-#[derive(Drop)]
+#[derive(Clone, Copy)]
 pub(crate) struct Way {
     pub x: Course,
     pub y: Course,
 }
 
-#[derive(Drop)]
+#[derive(Clone, Copy)]
 pub(crate) struct Walk {
     pub x: Position,
     pub y: Position,
 }
 
 // On which axes a turn moves. On none, the walk stops.
-#[derive(Drop)]
+#[derive(Clone, Copy)]
 pub(crate) struct Turn {
     pub x: bool,
     pub y: bool,
 }
 
 // What a turn comes to: the state, and how many are pushed.
-#[derive(Drop)]
+#[derive(Clone, Copy)]
 pub(crate) struct Next {
     pub at: Walk,
     pub count: usize,
 }
 
 // How a run of turns ends: at a stop, with so many pushed, or with no turn left.
-#[derive(Drop)]
+#[derive(Clone, Copy)]
 pub(crate) enum Ran {
     Done(usize),
     Over,
 }
 
 // What was walked: how many cells stand in the lent scratch, and where the ends of the line are.
-#[derive(Drop)]
+#[derive(Clone, Copy)]
 pub struct Trod {
     pub count: usize,
     pub start_col: u32,
@@ -68,7 +70,7 @@ pub struct Trod {
 }
 
 // A walk, or a refusal.
-#[derive(Drop)]
+#[derive(Clone, Copy)]
 pub enum Trail {
     Walked(Trod),
     Refused(Refusal),

@@ -4,7 +4,7 @@ ghost use Rattle.seek.specs.Inside.{stop_of};
 ghost use Rattle.visit.specs.Inside.{CellAsks, CellFound, GlobalAsks, GlobalFound, StopAsks};
 
 // A pair of a cell's list, and where the list stands in the items.
-#[derive(Drop)]
+#[derive(Clone, Copy)]
 pub(crate) enum CellAt {
     At {
         cell: usize,
@@ -16,7 +16,7 @@ pub(crate) enum CellAt {
     Past,
 }
 
-#[derive(Drop)]
+#[derive(Clone, Copy)]
 pub(crate) enum GlobalAt {
     At {
         p: usize,

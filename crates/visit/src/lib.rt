@@ -1,4 +1,6 @@
 // A visit of standing tables: one test by its bookmark, and batches of tests from a bookmark.
+#![tactic(auto)]
+
 use refusals::Refusal;
 use seek::Place;
 
@@ -8,7 +10,7 @@ mod scan;
 pub mod visits;
 
 // One test: its place, its two lines, and whether their boxes overlap.
-#[derive(Drop)]
+#[derive(Clone, Copy)]
 pub struct Test {
     pub place: Place,
     pub first: u32,
@@ -17,7 +19,7 @@ pub struct Test {
 }
 
 // What a bookmark stands at: a test, the end mark, or a refusal.
-#[derive(Drop)]
+#[derive(Clone, Copy)]
 pub enum TestAnswer {
     Made(Test),
     End,
@@ -25,14 +27,14 @@ pub enum TestAnswer {
 }
 
 // What a batch did: the tests made, the overlaps among them, and the new bookmark.
-#[derive(Drop)]
+#[derive(Clone, Copy)]
 pub struct Tally {
     pub tests: u64,
     pub overlaps: u64,
     pub bookmark: u64,
 }
 
-#[derive(Drop)]
+#[derive(Clone, Copy)]
 pub enum BatchAnswer {
     Done(Tally),
     Refused(Refusal),

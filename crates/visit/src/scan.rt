@@ -13,7 +13,7 @@ use grid::Box;
 use seek::Place;
 
 // The first line of a row, with its box.
-#[derive(Drop)]
+#[derive(Clone, Copy)]
 pub(crate) struct Row {
     pub place: Place,
     pub first: u32,
@@ -21,25 +21,25 @@ pub(crate) struct Row {
 }
 
 // One test, or the end mark.
-#[derive(Drop)]
+#[derive(Clone, Copy)]
 pub(crate) enum Step {
     Made(Test),
     End,
 }
 
-#[derive(Drop)]
+#[derive(Clone, Copy)]
 pub(crate) struct ListEnd {
     pub j: usize,
     pub hits: usize,
 }
 
-#[derive(Drop)]
+#[derive(Clone, Copy)]
 pub(crate) struct LinesEnd {
     pub k: u32,
     pub hits: usize,
 }
 
-#[derive(Drop)]
+#[derive(Clone, Copy)]
 pub(crate) struct Ran {
     pub tests: u64,
     pub hits: usize,

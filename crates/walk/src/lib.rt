@@ -1,4 +1,6 @@
 // The cells of a uniform grid that a segment visits: document 01, "The walk", and the Rust's `segment_cells`.
+#![tactic(auto)]
+
 mod beside;
 
 ghost use Rattle.std.specs.Prelude.{◌≡◌, false, [], length};
@@ -15,7 +17,7 @@ use turns::Trail;
 
 // Which cells a line visits. By turns, and beside a boundary those that the Rust adds, or by the side of the boundary that a value lies on; or those of the
 // covering walk, so that two lines with a common exact point share a cell.
-#[derive(Drop)]
+#[derive(Clone, Copy)]
 pub enum Mode {
     Rust,
     Sided,
@@ -23,7 +25,7 @@ pub enum Mode {
 }
 
 // Which neighbour of a cell is added on an axis.
-#[derive(Drop)]
+#[derive(Clone, Copy)]
 pub enum Neighbour {
     None,
     Lower,
@@ -31,14 +33,14 @@ pub enum Neighbour {
 }
 
 // The number of cells, which stand in the lent scratch, or a refusal.
-#[derive(Drop)]
+#[derive(Clone, Copy)]
 pub enum Cells {
     Found(usize),
     Refused(Refusal),
 }
 
 // The same inside a larger call; or that the line is in every cell of a grid of more than 2,048. Their number is then the grid's, and they are not listed.
-#[derive(Drop)]
+#[derive(Clone, Copy)]
 pub enum Reached {
     Found(usize),
     Everywhere,

@@ -1,4 +1,6 @@
 // Why the program refuses the bytes that it reads: the refusal with its value, which the report leaves out.
+#![tactic(auto)]
+
 ghost use Rattle.std.specs.Prelude.{◌≡◌, ◌≤◌, length, take};
 ghost use Rattle.grid.specs.Domain.{lines};
 ghost use Rattle.chain.specs.Printed.{chain_of};

@@ -1,5 +1,7 @@
 // The lines in a window: a query over standing tables. Nothing is lent but the output. Lines are marked in a local array: the global ones,
 // and those in the lists of the block. Then the lines are gone through in order, so each comes once and they increase.
+#![tactic(auto)]
+
 mod found;
 mod marks;
 
@@ -15,7 +17,7 @@ use grid::{Box, Grid};
 use refusals::{Check, Refusal};
 
 // How many lines are in the window, or the refusal that is due.
-#[derive(Drop)]
+#[derive(Clone, Copy)]
 pub enum Listing {
     Listed(usize),
     Refused(Refusal),

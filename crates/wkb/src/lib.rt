@@ -1,5 +1,7 @@
 // The readers of well-known binary (OGC 06-103r4). A LineString is a byte that names the byte order, the type 2, the number of points, the
 // points; a MultiLineString, read in `members`, has the type 5, the number of its members, and LineStrings.
+#![tactic(auto)]
+
 pub mod members;
 
 ghost use Rattle.std.specs.Prelude.{◌≡◌, ◌+◌, ◌*◌, ◌-◌, ◌^◌, ◌≤◌, ◌<◌, [], ◌∷◌, ◌++◌, map, length, take, replicate};
@@ -13,42 +15,42 @@ ghost use Rattle.wkb.specs.Inside.{numbers_at, HeadAs, CheckedAs};
 use refusals::{Check, Refusal};
 
 // Which byte of a number comes first: the most significant one, or the least significant one.
-#[derive(Drop)]
+#[derive(Clone, Copy)]
 pub enum Order {
     Big,
     Little,
 }
 
 // What the reader of a LineString answers: how many points it read, or why it read none.
-#[derive(Drop)]
+#[derive(Clone, Copy)]
 pub enum Read {
     Points(usize),
     Refused(Refusal),
 }
 
 // What the reader of a MultiLineString answers: how many points and members it read, or why it read none.
-#[derive(Drop)]
+#[derive(Clone, Copy)]
 pub enum MultiRead {
     Members { points: usize, members: usize },
     Refused(Refusal),
 }
 
 // What a look at a byte order and a type finds: the order, or the byte position of the first fault.
-#[derive(Drop)]
+#[derive(Clone, Copy)]
 enum Head {
     Named(Order),
     Fault(usize),
 }
 
 // What a look at all fields of a LineString finds: its order and its points, or the byte position of the first fault.
-#[derive(Drop)]
+#[derive(Clone, Copy)]
 enum Checked {
     Line { order: Order, count: usize },
     Fault(usize),
 }
 
 // What a look at all fields of a MultiLineString finds: how many members and points it has, or the byte position of the first fault.
-#[derive(Drop)]
+#[derive(Clone, Copy)]
 enum Looked {
     Whole { members: usize, points: usize },
     Fault(usize),

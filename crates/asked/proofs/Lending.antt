@@ -101,19 +101,19 @@ pub batch_read : (q f s ws : List ℕ) →
     BatchedWith w ls (beside ls (grid_by w) (shorts_in q 4 5) (shorts_in q 4 6) (shorts_in q 4 7) (get_or q 0 0)) (get_or q 1 0) f s ws → batch_tables q f s (drop 4 q) ws
 batch_read q f s ws b = read_as (tables_read q 4 (get_or q 0 0) _) b
 
-batch_from_lem : (q : List ℕ) → BatchAnswer q ≡ read_lent 4096 (drop 2 q) (λ f left. read_lent 4096 left (batch_tables q f))
+batch_from : (q : List ℕ) → BatchAnswer q ≡ read_lent 4096 (drop 2 q) (λ f left. read_lent 4096 left (batch_tables q f))
 unfolding BatchAnswer
-batch_from_lem q = word_read q 0 _ ∙ word_read q 1 _
+batch_from q = word_read q 0 _ ∙ word_read q 1 _
 
 module _ (q : List ℕ) {n : ℕ} (e : n ≡ get_or q 2 0) where
   pub batch_no_first : 4096 < n → BatchAnswer q []
-  batch_no_first h = read_as (batch_from_lem q) (lent_none q 2 4096 _ e h)
+  batch_no_first h = read_as (batch_from q) (lent_none q 2 4096 _ e h)
 
   pub batch_no_second : {m : ℕ} → n ≤ 4096 → m ≡ get_or q 3 0 → 4096 < m → BatchAnswer q []
-  batch_no_second h f k = read_as (batch_from_lem q) (lent_room q 2 4096 _ e h (lent_none q 3 4096 _ f k))
+  batch_no_second h f k = read_as (batch_from q) (lent_room q 2 4096 _ e h (lent_none q 3 4096 _ f k))
 
   pub batch_lent : {m : ℕ} → n ≤ 4096 → m ≡ get_or q 3 0 → m ≤ 4096 → (ws : List ℕ) → batch_tables q (take n (zeros 4096)) (take m (zeros 4096)) (drop 4 q) ws → BatchAnswer q ws
-  batch_lent {m} h f k ws w = read_as (batch_from_lem q) (lent_room q 2 4096 _ e h (lent_room q 3 4096 _ f k (rw (part_of_zeros n 4096 h, part_of_zeros m 4096 k) at w)))
+  batch_lent {m} h f k ws w = read_as (batch_from q) (lent_room q 2 4096 _ e h (lent_room q 3 4096 _ f k (rw (part_of_zeros n 4096 h, part_of_zeros m 4096 k) at w)))
 
 -- ---- kind 3
 
@@ -188,8 +188,8 @@ module _ {kind : ℕ} {q ws : List ℕ} (l : length q ≤ 16384) where
     other = λ _ _ n. absurd (n e);
   }
 
-  pub of_batch_lem : kind ≡ 4 → BatchAnswer q ws → AnswersFor kind q ws
-  of_batch_lem e w = record {
+  pub of_batch : kind ≡ 4 → BatchAnswer q ws → AnswersFor kind q ws
+  of_batch e w = record {
     long = λ h. absurd (omega (arith, h));
     walk = λ _ f. absurd (omega (arith, e, f));
     build = λ _ f. absurd (omega (arith, e, f));

@@ -30,9 +30,9 @@ multi_one_outcome {out = out} h k =
     let a = one_outcome h.replies k.replies in (
       a.0,
       a.1,
-      by_size 2 (length out) (λ l. (wkb.multi_outcome_lem (h.called l) (k.called l)).1) (λ l. (h.short l).0 ∙ sym (k.short l).0),
-      by_size 2 (length out) (λ l. (wkb.multi_outcome_lem (h.called l) (k.called l)).2) (λ l. (h.short l).1 ∙ sym (k.short l).1),
-      by_size 2 (length out) (λ l. (wkb.multi_outcome_lem (h.called l) (k.called l)).3) (λ l. (h.short l).2 ∙ sym (k.short l).2),
+      by_size 2 (length out) (λ l. (wkb.multi_outcome (h.called l) (k.called l)).1) (λ l. (h.short l).0 ∙ sym (k.short l).0),
+      by_size 2 (length out) (λ l. (wkb.multi_outcome (h.called l) (k.called l)).2) (λ l. (h.short l).1 ∙ sym (k.short l).1),
+      by_size 2 (length out) (λ l. (wkb.multi_outcome (h.called l) (k.called l)).3) (λ l. (h.short l).2 ∙ sym (k.short l).2),
     )
 
 pub write_one_outcome : {x y l bytes bytes' bytes₁ out out' out₁ : List ℕ} {r r₁ : ℕ}

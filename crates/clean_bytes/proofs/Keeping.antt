@@ -36,7 +36,7 @@ use Rattle.clean.proofs.Again.{Gave, gave}
 use Rattle.clean_bytes.specs.declared.Ends.{Ends}
 use Rattle.clean_bytes.specs.Printed.{sizes_check, chains_in, text_from, text_of, file_of, file_left, CleansAs}
 use Rattle.clean_bytes.specs.Inside.{Widened, NoFile, PutsAs, BytesAsk, Fits, WroteText}
-use Rattle.clean_bytes.proofs.Sizes.{AllMost, cleaned_size, cleaned_most, kept_lengths_lem}
+use Rattle.clean_bytes.proofs.Sizes.{AllMost, cleaned_size, cleaned_most, kept_lengths}
 use Rattle.clean_bytes.proofs.Reading.{Few, few_lines, none_clears}
 use Rattle.clean_bytes.proofs.Loading.{within, Loaded, loaded, held, chains_are, unread, members_read}
 use Rattle.clean_bytes.proofs.Texts.{cut_reasons}
@@ -93,7 +93,7 @@ kept_few pss f =
     let s = cleaned_size pss in
     record {
       bytes = omega arith;
-      each = kept_lengths_lem (cleaned pss) c (cleaned_most 1024 pss (each_most pss f.each));
+      each = kept_lengths (cleaned pss) c (cleaned_most 1024 pss (each_most pss f.each));
       some = some_fewer (cleaned pss) (clean_some (cleaned pss) c);
     }
 

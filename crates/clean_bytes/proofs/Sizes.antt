@@ -99,7 +99,7 @@ cleaned_most k [] h = tt
 cleaned_most k (ps ∷ pss) h = most_append k (cleaned_member ps) (flat_map cleaned_member pss) (split_most k (split ps) h.0) (cleaned_most k pss h.1)
 
 -- pieces of at most 1,024 points have lengths that members may have
-pub kept_lengths_lem : (pss : List (List Point)) → AllClean pss → AllMost 1024 pss → all_lengths (map length pss) ≡ true
+pub kept_lengths : (pss : List (List Point)) → AllClean pss → AllMost 1024 pss → all_lengths (map length pss) ≡ true
 unfolding all_lengths
-kept_lengths_lem [] h k = refl
-kept_lengths_lem (ps ∷ pss) h k = rw (is_length_lem (length ps) (let u = h.0.long in omega arith) k.0, kept_lengths_lem pss h.1 k.1)
+kept_lengths [] h k = refl
+kept_lengths (ps ∷ pss) h k = rw (is_length_lem (length ps) (let u = h.0.long in omega arith) k.0, kept_lengths pss h.1 k.1)

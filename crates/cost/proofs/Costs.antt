@@ -171,8 +171,8 @@ module _ (g : Grid) (n : ℕ) (offsets items globals : List ℕ) (m : ℕ) where
       pub cost_fits : l.tests + x < 2 ^ 64
       cost_fits = omega (arith, w.small, globals_small n m globals_ask)
 
-      all_tests_lem : l.tests + x ≡ length (tests_of t)
-      all_tests_lem =
+      all_tests : l.tests + x ≡ length (tests_of t)
+      all_tests =
           let u : sum_below (cells t) (λ c. half_down (length (list_of t c))) ≡ l.tests =
           sum_alike (cells t) (λ c. half_down (length (list_of t c))) (λ c. tri (gap offsets c)) (λ c h. half_is (length (list_of t c)) ∙ ap tri (gap_at c h)) ∙ sym w.tests in
           let v : m * (n - 1) - half_down m ≡ x = ap (λ (y : ℕ). m * (n - 1) - y) (half_is m) ∙ sym e in
@@ -183,4 +183,4 @@ module _ (g : Grid) (n : ℕ) (offsets items globals : List ℕ) (m : ℕ) where
 
       pub cost_is : answer.Costs (record { tests = l.tests + x; longest = l.longest }) ≡ cost_answer g t
       unfolding cost_answer answer_by
-      cost_is = rw (all_tests_lem, longest_is) (past answer.Refused answer.Costs _ (gives (cost_of t)) f)
+      cost_is = rw (all_tests, longest_is) (past answer.Refused answer.Costs _ (gives (cost_of t)) f)

@@ -56,9 +56,9 @@ module _ (mode : Mode) (g : Grid) (ls : Lines) (room scratch : ℕ) where
   passes_fine h =
       rw (
         le-leb 16384 scratch h.space,
-        eq-eqb _ _ h.same.«start_y_lem»,
-        eq-eqb _ _ h.same.«end_x_lem»,
-        eq-eqb _ _ h.same.«end_y_lem»,
+        eq-eqb _ _ h.same.«start_y»,
+        eq-eqb _ _ h.same.«end_x»,
+        eq-eqb _ _ h.same.«end_y»,
         le-leb (count ls) 65536 h.few,
         each_fine (line_fits ls) 1 (count ls) 0 (λ k _ l. h.each k (omega arith)),
         h.fits,

@@ -122,9 +122,9 @@ module _ (ls : Lines) (is : List ℕ) where
   unfolding taken
   taken_alike =
       record {
-        «start_y_lem» = entries_count ls.start_y is ∙ sym (entries_count ls.start_x is);
-        «end_x_lem» = entries_count ls.end_x is ∙ sym (entries_count ls.start_x is);
-        «end_y_lem» = entries_count ls.end_y is ∙ sym (entries_count ls.start_x is);
+        «start_y» = entries_count ls.start_y is ∙ sym (entries_count ls.start_x is);
+        «end_x» = entries_count ls.end_x is ∙ sym (entries_count ls.start_x is);
+        «end_y» = entries_count ls.end_y is ∙ sym (entries_count ls.start_x is);
       }
 
   taken_at : (j : ℕ) → j < length is → segment_at (taken ls is) j ≡ segment_at ls (get_or is j 0)
@@ -366,10 +366,10 @@ module _ (mode : Mode) (g : Grid) (room scratch : ℕ) (ls : Lines) where
 -- ---- the two numbers
 
 module _ (mode : Mode) (g : Grid) (ls : Lines) where
-  globals_by_lem : (bs : Benches) → globals_on_all mode g ls bs ≡ over_on (is_global mode g ls) bs
+  globals_by : (bs : Benches) → globals_on_all mode g ls bs ≡ over_on (is_global mode g ls) bs
   unfolding globals_on_all over_on
-  globals_by_lem (bench is) = taken_globals mode g ls is
-  globals_by_lem (both a b) = ap₂ ◌+◌ (globals_by_lem a) (globals_by_lem b)
+  globals_by (bench is) = taken_globals mode g ls is
+  globals_by (both a b) = ap₂ ◌+◌ (globals_by a) (globals_by b)
 
   listed_by_lem : (bs : Benches) → listed_by mode g ls bs ≡ sum (λ c. over_on (lists mode g ls c) bs) (grid_cells g)
   unfolding listed_by over_on total
@@ -379,7 +379,7 @@ module _ (mode : Mode) (g : Grid) (ls : Lines) where
 
   module _ (bs : Benches) (h : Shared (count ls) bs) where
     pub globals_shared : globals_on_all mode g ls bs ≡ length (globals_on mode g ls)
-    globals_shared = globals_by_lem bs ∙ shared_globals mode g ls bs h
+    globals_shared = globals_by bs ∙ shared_globals mode g ls bs h
 
     pub listed_shared : listed_by mode g ls bs ≡ total mode g ls
     unfolding total

@@ -60,11 +60,11 @@ module _ {cols rows : ℕ} {e : Ends} {s last r : ℕ} (p : CoveredRow cols rows
   steep = omega (arith, p.rises)
 
   pub last_few : last < 4096
-  last_few = omega (arith, p.last_is_lem, p.some_rows, p.few_rows)
+  last_few = omega (arith, p.last_is, p.some_rows, p.few_rows)
 
   -- the first row is not the last
   pub starts : r ≡ first_row rows e → r < last
-  starts h = omega (arith, p.rises, p.last_is_lem)
+  starts h = omega (arith, p.rises, p.last_is)
 
   pub across_bottom : (y : ℕ) → y ≡ bottom_of e r → Across e s y
   unfolding bottom_of
@@ -85,8 +85,8 @@ module _ {cols rows : ℕ} {e : Ends} {s last r : ℕ} (p : CoveredRow cols rows
       → left ≡ left_of e near far → first ≡ fine_cell cols left → right ≡ right_of e near far → to ≡ fine_cell cols right → ColumnsAre cols rows e r first to
   columns_rising a b c d f g h k =
       record {
-        first_is = g ∙ ap (fine_cell cols) (rw (f, b, d, a, c, p.last_is_lem)) ∙ sym (first_rising cols rows e r p.rises);
-        last_is_lem = k ∙ ap (fine_cell cols) (rw (h, b, d, a, c, p.last_is_lem)) ∙ sym (last_rising cols rows e r p.rises);
+        first_is = g ∙ ap (fine_cell cols) (rw (f, b, d, a, c, p.last_is)) ∙ sym (first_rising cols rows e r p.rises);
+        last_is = k ∙ ap (fine_cell cols) (rw (h, b, d, a, c, p.last_is)) ∙ sym (last_rising cols rows e r p.rises);
       }
 
   -- the line begins in the first row, and has come no way there
@@ -142,7 +142,7 @@ module _ (cols rows : ℕ) (e : Ends) (r : ℕ) where
   module _ {first last : ℕ} (c : ColumnsAre cols rows e r first last) where
     row_is : run (last + 1 - first) (r * cols + first) ≡ row_cells cols rows e r
     unfolding row_cells
-    row_is = rw (c.first_is, c.last_is_lem)
+    row_is = rw (c.first_is, c.last_is)
 
     row_length : length (row_cells cols rows e r) ≡ last + 1 - first
     row_length = ap length (sym row_is) ∙ length_run (last + 1 - first) (r * cols + first)
@@ -150,7 +150,7 @@ module _ (cols rows : ℕ) (e : Ends) (r : ℕ) where
     row_room : {n room : ℕ} → r < 4096 → 0 < cols → cols < 4096 → n + 8 ≤ room → n + (last + 1 - first) ≤ room → RowRoom cols r first last n room
     row_room h C F a b =
         let u : first < cols = rw c.first_is (first_in cols rows e C r) in
-        let v : last < cols = rw c.last_is_lem (last_in cols rows e C r) in
+        let v : last < cols = rw c.last_is (last_in cols rows e C r) in
         let w : r * cols ≤ 4095 * cols = mul-le-mul_right cols (omega arith) in
         record { eight = a; all = b; few = omega arith; narrow = omega arith }
 
@@ -180,7 +180,7 @@ module _ {cols rows : ℕ} {e : Ends} {first last s : ℕ} where
         count = refl;
         from = omega arith;
         to = let u = p.rises in omega arith;
-        left = ap₂ (λ (x y : ℕ). rows_from (x + 1 - y) cols rows e y) (sym p.last_is_lem) (sym p.first_is);
+        left = ap₂ (λ (x y : ℕ). rows_from (x + 1 - y) cols rows e y) (sym p.last_is) (sym p.first_is);
       }
 
   module _ {xs ys : List ℕ} {r n : ℕ} (p : Climbing cols rows e first last s xs ys r n) where
@@ -196,10 +196,10 @@ module _ {cols rows : ℕ} {e : Ends} {first last s : ℕ} where
           some_cols = f.some_cols;
           few_cols = f.few_cols;
           slope_is = p.slope_is;
-          last_is_lem = b.last_is_lem;
+          last_is = b.last_is;
           rises = omega (arith, b.rises);
           from = omega (arith, p.from);
-          to = omega (arith, b.last_is_lem);
+          to = omega (arith, b.last_is);
         }
 
     module _ (h : r ≤ last) {a b : ℕ} (c : ColumnsAre cols rows e r a b) where
@@ -210,7 +210,7 @@ module _ {cols rows : ℕ} {e : Ends} {first last s : ℕ} where
       pub climbing_room : RowRoom cols r a b n (length ys)
       climbing_room =
           let f = p.base.frame in
-          let l : last < 4096 = omega (arith, p.base.last_is_lem, f.some_rows, f.few_rows) in
+          let l : last < 4096 = omega (arith, p.base.last_is, f.some_rows, f.few_rows) in
           let m = cells_few cols rows e f.small f.some_cols f.some_rows in
           let c1 : length (cells_between cols rows e) ≡ length (take n ys) + length (rows_from (last + 1 - r) cols rows e r) = ap length p.left ∙ length-append (take n ys) (rows_from (last + 1 - r) cols rows e r) in
           let c2 : length (rows_from (last + 1 - r) cols rows e r) ≡ length (row_cells cols rows e r) + length rest = ap length (rows_step cols rows e last r h) ∙ length-append (row_cells cols rows e r) rest in
@@ -267,7 +267,7 @@ module _ {cols rows : ℕ} {e : Ends} {r room : ℕ} (p : Level cols rows e r ro
   columns_level =
       record {
         first_is = g ∙ ap (fine_cell cols) f ∙ sym (first_level cols rows e r one_row);
-        last_is_lem = i ∙ ap (fine_cell cols) h ∙ sym (last_level cols rows e r one_row);
+        last_is = i ∙ ap (fine_cell cols) h ∙ sym (last_level cols rows e r one_row);
       }
 
   -- the cells of the row are those of the line

@@ -33,10 +33,10 @@ use Rattle.cover.proofs.Guarding.{fine_small}
 -- ---- the guard
 
 pub record Passed (g : Grid) (line : Segment) : Type 0 where
-  pub start_x_lem : near_on (x_axis g) line.start_x ≡ true
-  pub start_y_lem : near_on (y_axis g) line.start_y ≡ true
-  pub end_x_lem : near_on (x_axis g) line.end_x ≡ true
-  pub end_y_lem : near_on (y_axis g) line.end_y ≡ true
+  pub start_x : near_on (x_axis g) line.start_x ≡ true
+  pub start_y : near_on (y_axis g) line.start_y ≡ true
+  pub end_x : near_on (x_axis g) line.end_x ≡ true
+  pub end_y : near_on (y_axis g) line.end_y ≡ true
 
 pub passes_says : (g : Grid) (line : Segment) → passes g line ≡ true → Passed g line
 unfolding passes end_passes
@@ -47,7 +47,7 @@ passes_says g line h =
     let d = near_on (y_axis g) line.end_y in
     let s = and_left (a && b) (c && d) h in
     let e = and_right (a && b) (c && d) h in
-    record { start_x_lem = and_left a b s; start_y_lem = and_right a b s; end_x_lem = and_left c d e; end_y_lem = and_right c d e }
+    record { start_x = and_left a b s; start_y = and_right a b s; end_x = and_left c d e; end_y = and_right c d e }
 
 pub near_by : {a b : Axis} (v : Float) → a ≡ b → near_on b v ≡ true → near_on a v ≡ true
 near_by v e h = rw e h
@@ -80,7 +80,7 @@ module _ (g : Grid) (line : Segment) (h : passes g line ≡ true) where
   ends_small =
       let p = passes_says g line h in
       ordered_small (fine_on (x_axis g) line.start_x) (fine_on (y_axis g) line.start_y) (fine_on (x_axis g) line.end_x) (fine_on (y_axis g) line.end_y)
-      (fine_small (x_axis g) line.start_x p.start_x_lem) (fine_small (y_axis g) line.start_y p.start_y_lem) (fine_small (x_axis g) line.end_x p.end_x_lem) (fine_small (y_axis g) line.end_y p.end_y_lem)
+      (fine_small (x_axis g) line.start_x p.start_x) (fine_small (y_axis g) line.start_y p.start_y) (fine_small (x_axis g) line.end_x p.end_x) (fine_small (y_axis g) line.end_y p.end_y)
 
   pub frame_of : (e : Ends) (n : ℕ) → e ≡ fine_ends g line → Shape g.cols g.rows → 0 < g.cols → 16384 ≤ n → Frame g.cols g.rows e n
   frame_of e n k s c l =

@@ -170,10 +170,10 @@ module _ (g : Grid) (h : fit g ≡ true) where
   ready line p =
       let q = passes_says g line p in
       record {
-        start_x_lem = inside (x_axis g) f.«min_x» f.«cell-width» line.start_x q.start_x_lem;
-        start_y_lem = inside (y_axis g) f.«min_y» f.«cell-height» line.start_y q.start_y_lem;
-        end_x_lem = inside (x_axis g) f.«min_x» f.«cell-width» line.end_x q.end_x_lem;
-        end_y_lem = inside (y_axis g) f.«min_y» f.«cell-height» line.end_y q.end_y_lem;
+        start_x = inside (x_axis g) f.«min_x» f.«cell-width» line.start_x q.start_x;
+        start_y = inside (y_axis g) f.«min_y» f.«cell-height» line.start_y q.start_y;
+        end_x = inside (x_axis g) f.«min_x» f.«cell-width» line.end_x q.end_x;
+        end_y = inside (y_axis g) f.«min_y» f.«cell-height» line.end_y q.end_y;
       }
 
   -- ---- its cells

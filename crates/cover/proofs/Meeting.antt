@@ -74,10 +74,10 @@ module _ (f : Format) (a : Measure f) (x y : Float) (p : Inside f a x) (q : Insi
 -- ---- a line
 
 pub record Ready (f : Format) (X Y : Measure f) (l : Segment) : Type 0 where
-  pub start_x_lem : Inside f X l.start_x
-  pub start_y_lem : Inside f Y l.start_y
-  pub end_x_lem : Inside f X l.end_x
-  pub end_y_lem : Inside f Y l.end_y
+  pub start_x : Inside f X l.start_x
+  pub start_y : Inside f Y l.start_y
+  pub end_x : Inside f X l.end_x
+  pub end_y : Inside f Y l.end_y
 
 -- its ends in fine units, as the code computes them
 unfoldable pub line_ends : (f : Format) → Measure f → Measure f → Segment → Ends
@@ -89,33 +89,33 @@ module _ (f : Format) (X Y : Measure f) (cols rows : ℕ) where
     abbrev pub offsets : Offsets
     offsets =
         record {
-          x0 = first_off f X l.start_x l.end_x k.start_x_lem k.end_x_lem;
-          x1 = second_off f X l.start_x l.end_x k.start_x_lem k.end_x_lem;
-          over_x = over f X l.start_x l.end_x k.start_x_lem k.end_x_lem;
-          y0 = first_off f Y l.start_y l.end_y k.start_y_lem k.end_y_lem;
-          y1 = second_off f Y l.start_y l.end_y k.start_y_lem k.end_y_lem;
-          over_y = over f Y l.start_y l.end_y k.start_y_lem k.end_y_lem;
+          x0 = first_off f X l.start_x l.end_x k.start_x k.end_x;
+          x1 = second_off f X l.start_x l.end_x k.start_x k.end_x;
+          over_x = over f X l.start_x l.end_x k.start_x k.end_x;
+          y0 = first_off f Y l.start_y l.end_y k.start_y k.end_y;
+          y1 = second_off f Y l.start_y l.end_y k.start_y k.end_y;
+          over_y = over f Y l.start_y l.end_y k.start_y k.end_y;
         }
 
     placed : Placed f X.unit Y.unit offsets
     placed =
         record {
-          x_pos = over_pos f X l.start_x l.end_x k.start_x_lem k.end_x_lem;
-          y_pos = over_pos f Y l.start_y l.end_y k.start_y_lem k.end_y_lem;
-          in_x0 = first_within f X l.start_x l.end_x k.start_x_lem k.end_x_lem;
-          in_y0 = first_within f Y l.start_y l.end_y k.start_y_lem k.end_y_lem;
-          in_x1 = second_within f X l.start_x l.end_x k.start_x_lem k.end_x_lem;
-          in_y1 = second_within f Y l.start_y l.end_y k.start_y_lem k.end_y_lem;
+          x_pos = over_pos f X l.start_x l.end_x k.start_x k.end_x;
+          y_pos = over_pos f Y l.start_y l.end_y k.start_y k.end_y;
+          in_x0 = first_within f X l.start_x l.end_x k.start_x k.end_x;
+          in_y0 = first_within f Y l.start_y l.end_y k.start_y k.end_y;
+          in_x1 = second_within f X l.start_x l.end_x k.start_x k.end_x;
+          in_y1 = second_within f Y l.start_y l.end_y k.start_y k.end_y;
         }
 
     same_ends : ends_at f X.unit Y.unit offsets ≡ line_ends f X Y l
     unfolding ends_at line_ends
     same_ends =
         rw (
-          first_fine f X l.start_x l.end_x k.start_x_lem k.end_x_lem,
-          first_fine f Y l.start_y l.end_y k.start_y_lem k.end_y_lem,
-          second_fine f X l.start_x l.end_x k.start_x_lem k.end_x_lem,
-          second_fine f Y l.start_y l.end_y k.start_y_lem k.end_y_lem,
+          first_fine f X l.start_x l.end_x k.start_x k.end_x,
+          first_fine f Y l.start_y l.end_y k.start_y k.end_y,
+          second_fine f X l.start_x l.end_x k.start_x k.end_x,
+          second_fine f Y l.start_y l.end_y k.start_y k.end_y,
         )
 
     -- the cell of the point with the weights v and w
@@ -181,8 +181,8 @@ shared f X Y cols rows l l' k k' t =
       first = line_covered f X Y cols rows l k t.v t.w t.some;
       second =
           rw (
-            ap (fine_cell rows) (same_fine f Y l.start_y l.end_y l'.start_y l'.end_y k.start_y_lem k.end_y_lem k'.start_y_lem k'.end_y_lem t.v t.w t.v' t.w' t.some t.some' t.on_y_lem),
-            ap (fine_cell cols) (same_fine f X l.start_x l.end_x l'.start_x l'.end_x k.start_x_lem k.end_x_lem k'.start_x_lem k'.end_x_lem t.v t.w t.v' t.w' t.some t.some' t.on_x_lem),
+            ap (fine_cell rows) (same_fine f Y l.start_y l.end_y l'.start_y l'.end_y k.start_y k.end_y k'.start_y k'.end_y t.v t.w t.v' t.w' t.some t.some' t.on_y_lem),
+            ap (fine_cell cols) (same_fine f X l.start_x l.end_x l'.start_x l'.end_x k.start_x k.end_x k'.start_x k'.end_x t.v t.w t.v' t.w' t.some t.some' t.on_x_lem),
           )
           (line_covered f X Y cols rows l' k' t.v' t.w' t.some');
     }

@@ -238,13 +238,13 @@ module _ (f : Format) (x t s hi : Float) (c : T (clear x)) (held : T (fits f x))
   x+ : T (nonneg x)
   x+ = clear_nonneg x c (add_out f x t c t+ A_fine)
 
-  more_than_lem : (a d b e : ℕ) → a * (d * e) ≤ (a * e + b * d) * d
-  more_than_lem a d b e = omega arith
+  more_than : (a d b e : ℕ) → a * (d * e) ≤ (a * e + b * d) * d
+  more_than a d b e = omega arith
 
   x≤A : T (le x A)
   x≤A =
       subst (λ (z : Float). T (le z A)) (own_round f x x+ held)
-      (rw (add_is f x t x+ t+) (round_mono f (num x) (den x) (num x * den t + num t * den x) (den x * den t) (den_pos x) (mul-pos (den_pos x) (den_pos t)) (more_than_lem (num x) (den x) (num t) (den t))))
+      (rw (add_is f x t x+ t+) (round_mono f (num x) (den x) (num x * den t + num t * den x) (den x * den t) (den_pos x) (mul-pos (den_pos x) (den_pos t)) (more_than (num x) (den x) (num t) (den t))))
 
   abbrev QA : Float
   QA = round f false (num A * den s) (num s * den A)
@@ -395,8 +395,8 @@ module _ (f : Format) (s d : Float) (z : Scaled s d) (room : 4199546880 ≤ 2 ^ 
       nonneg_under f (G * den d) (num d * 2 ^ low f) (round f false 4199546880 1) (over f d z.unit_above)
       (nonneg_of_value (round f false 4199546880 1) 4199546880 1 (whole 4199546880 (lit≤ tt))) W≤
 
-  far_in_lem : T (lt (div f (round f false a c) d) limit)
-  far_in_lem =
+  far_in : T (lt (div f (round f false a c) d) limit)
+  far_in =
       rw (quotient f d z.unit_above a c fine)
       (cross→lt W W+ (under (num W) (den W) (den_pos W) (values_of_le W (round f false 4199546880 1) (num W) (den W) 4199546880 1 (own_value W W+) (whole 4199546880 (lit≤ tt)) W≤)))
     where
@@ -417,7 +417,7 @@ module _ (s d : Float) (z : Scaled s d) where
 
   by_round : (a c : ℕ) → 0 < c → T (le (div binary64 (add binary64 (round binary64 false a c) bit) s) (round binary64 false 4004 1)) → T (lt (div binary64 (round binary64 false a c) d) limit)
   by_round a c C h =
-      far_in_lem binary64 s d z (lit≤ tt) a c C
+      far_in binary64 s d z (lit≤ tt) a c C
       (narrower binary64 (round binary64 false a c) bit s (round binary64 false 4004 1) (round_clear binary64 a c) (round-fits binary64 false a c) bit+ z.size_above 4004+ h)
 
   high_in : (m M : Float) (a c : ℕ) → 0 < c → Apart M m a c → T (le (div binary64 (add binary64 (sub binary64 M m) bit) s) (round binary64 false 4004 1)) → T (lt (div binary64 (sub binary64 M m) d) limit)

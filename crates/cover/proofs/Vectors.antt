@@ -48,8 +48,8 @@ crossing =
       above = lit< tt;
       s = record { start_x = pos 0; start_y = pos 0; end_x = pos 2; end_y = pos 2 };
       t = record { start_x = pos 0; start_y = pos 2; end_x = pos 2; end_y = pos 0 };
-      s_is = record { «start_x_lem» = refl; «start_y_lem» = refl; «end_x_lem» = refl; «end_y_lem» = refl };
-      t_is = record { «start_x_lem» = refl; «start_y_lem» = refl; «end_x_lem» = refl; «end_y_lem» = refl };
+      s_is = record { «start_x» = refl; «start_y» = refl; «end_x» = refl; «end_y» = refl };
+      t_is = record { «start_x» = refl; «start_y» = refl; «end_x» = refl; «end_y» = refl };
       share = record { q = 2; a = 1; b = 1; above = lit< tt; a_to = lit≤ tt; b_to = lit≤ tt; on_x_lem = refl; on_y_lem = refl };
     }
 

@@ -139,8 +139,8 @@ meet_of l k p =
       w' = h.b;
       some = some h.q h.a h.above h.a_to;
       some' = some h.q h.b h.above h.b_to;
-      on_x_lem = on_axis p.n h.q h.a h.b p.above h.a_to h.b_to l.start_x l.end_x k.start_x k.end_x s.start_x s.end_x t.start_x t.end_x i.«start_x_lem» i.«end_x_lem» j.«start_x_lem» j.«end_x_lem» h.on_x_lem;
-      on_y_lem = on_axis p.n h.q h.a h.b p.above h.a_to h.b_to l.start_y l.end_y k.start_y k.end_y s.start_y s.end_y t.start_y t.end_y i.«start_y_lem» i.«end_y_lem» j.«start_y_lem» j.«end_y_lem» h.on_y_lem;
+      on_x_lem = on_axis p.n h.q h.a h.b p.above h.a_to h.b_to l.start_x l.end_x k.start_x k.end_x s.start_x s.end_x t.start_x t.end_x i.«start_x» i.«end_x» j.«start_x» j.«end_x» h.on_x_lem;
+      on_y_lem = on_axis p.n h.q h.a h.b p.above h.a_to h.b_to l.start_y l.end_y k.start_y k.end_y s.start_y s.end_y t.start_y t.end_y i.«start_y» i.«end_y» j.«start_y» j.«end_y» h.on_y_lem;
     }
   where
     some : (q a : ℕ) → 0 < q → a ≤ q → 0 < q - a + a

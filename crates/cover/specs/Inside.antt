@@ -53,7 +53,7 @@ pub record Level (cols rows : ℕ) (e : Ends) (r room : ℕ) : Type 0 where
 pub record Rises (cols rows : ℕ) (e : Ends) (first last room : ℕ) : Type 0 where
   pub frame : Frame cols rows e room
   pub first_is : first ≡ first_row rows e
-  pub last_is_lem : last ≡ last_row rows e
+  pub last_is : last ≡ last_row rows e
   pub rises : first < last
 
 -- the row r of such a line, whose slope is s
@@ -65,7 +65,7 @@ pub record CoveredRow (cols rows : ℕ) (e : Ends) (s last r : ℕ) : Type 0 whe
   pub some_cols : 0 < cols
   pub few_cols : cols < 4096
   pub slope_is : s ≡ slope_of e
-  pub last_is_lem : last ≡ last_row rows e
+  pub last_is : last ≡ last_row rows e
   pub rises : first_row rows e < last_row rows e
   pub from : first_row rows e ≤ r
   pub to : r ≤ last_row rows e
@@ -73,7 +73,7 @@ pub record CoveredRow (cols rows : ℕ) (e : Ends) (s last r : ℕ) : Type 0 whe
 -- its columns
 pub record ColumnsAre (cols rows : ℕ) (e : Ends) (r first last : ℕ) : Type 0 where
   pub first_is : first ≡ first_col cols rows e r
-  pub last_is_lem : last ≡ last_col cols rows e r
+  pub last_is : last ≡ last_col cols rows e r
 
 -- room for the cells from the column `first` to the column `last` of the row r, in a scratch of so many entries with n written
 pub record RowRoom (cols r first last n room : ℕ) : Type 0 where

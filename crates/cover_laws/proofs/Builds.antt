@@ -40,8 +40,8 @@ few_of x size K p q k h =
     same : (y n d K : ℕ) → K ≤ 4004 → y ≤ K * n * d → y * 1 ≤ 4004 * (n * d)
     same y n d K k h = let u : K * (n * d) ≤ 4004 * (n * d) = mul-le-mul_right (n * d) k in omega arith
 
-least_of_lem : (n d j : ℕ) → j ≤ 4 → 4722366482869645 * d ≤ n * (4722366482869645213696 * j) → 1 * d ≤ n * 1099511627776
-least_of_lem n d j l h = let u : n * (4722366482869645213696 * j) ≤ n * (4722366482869645213696 * 4) = mul-le-mul_left n (mul-le-mul_left 4722366482869645213696 l) in omega arith
+least_of : (n d j : ℕ) → j ≤ 4 → 4722366482869645 * d ≤ n * (4722366482869645213696 * j) → 1 * d ≤ n * 1099511627776
+least_of n d j l h = let u : n * (4722366482869645213696 * j) ≤ n * (4722366482869645213696 * 4) = mul-le-mul_left n (mul-le-mul_left 4722366482869645213696 l) in omega arith
 
 -- the axis of the first n lines, one of them at least
 module _ (starts ends : List Float) (m : ℕ) (h : Lie starts ends (suc m)) (size : Float) (j cells : ℕ) (l : j ≤ 4) (a : Across (reach starts ends (suc m)) j size) where
@@ -53,7 +53,7 @@ module _ (starts ends : List Float) (m : ℕ) (h : Lie starts ends (suc m)) (siz
       record {
         size_above = z.above;
         size_held = z.held;
-        size_least = least_of_lem (num size) (den size) j l z.least;
+        size_least = least_of (num size) (den size) j l z.least;
         low_known = coordinate_finite (lowest starts ends (suc m)) (lowest_obeys starts ends m h);
         high_known = coordinate_finite (highest starts ends (suc m)) (highest_obeys starts ends m h);
         order = float_le_trans (lowest starts ends (suc m)) (get_or starts 0 nan) (highest starts ends (suc m)) (lowest_below starts ends m h 0 (omega arith)).0 (highest_above starts ends m h 0 (omega arith)).0;

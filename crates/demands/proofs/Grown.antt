@@ -83,9 +83,9 @@ module _ (ls : Lines) (line : Segment) where
     line_last =
         rw (
           at_end ls.start_x line.start_x refl,
-          at_end ls.start_y line.start_y same.«start_y_lem»,
-          at_end ls.end_x line.end_x same.«end_x_lem»,
-          at_end ls.end_y line.end_y same.«end_y_lem»,
+          at_end ls.start_y line.start_y same.«start_y»,
+          at_end ls.end_x line.end_x same.«end_x»,
+          at_end ls.end_y line.end_y same.«end_y»,
         )
 
     line_before : (i : ℕ) → i < count ls → segment_at (with_line ls line) i ≡ segment_at ls i
@@ -93,27 +93,27 @@ module _ (ls : Lines) (line : Segment) where
     line_before i l =
         rw (
           get_or-append ls.start_x (line.start_x ∷ []) nan i l,
-          get_or-append ls.start_y (line.start_y ∷ []) nan i (omega (arith, same.«start_y_lem»)),
-          get_or-append ls.end_x (line.end_x ∷ []) nan i (omega (arith, same.«end_x_lem»)),
-          get_or-append ls.end_y (line.end_y ∷ []) nan i (omega (arith, same.«end_y_lem»)),
+          get_or-append ls.start_y (line.start_y ∷ []) nan i (omega (arith, same.«start_y»)),
+          get_or-append ls.end_x (line.end_x ∷ []) nan i (omega (arith, same.«end_x»)),
+          get_or-append ls.end_y (line.end_y ∷ []) nan i (omega (arith, same.«end_y»)),
         )
 
     more_alike : Alike (with_line ls line)
     unfolding with_line
     more_alike =
         record {
-          «start_y_lem» = omega (arith, length-append ls.start_x (line.start_x ∷ []), length-append ls.start_y (line.start_y ∷ []), same.«start_y_lem»);
-          «end_x_lem» = omega (arith, length-append ls.start_x (line.start_x ∷ []), length-append ls.end_x (line.end_x ∷ []), same.«end_x_lem»);
-          «end_y_lem» = omega (arith, length-append ls.start_x (line.start_x ∷ []), length-append ls.end_y (line.end_y ∷ []), same.«end_y_lem»);
+          «start_y» = omega (arith, length-append ls.start_x (line.start_x ∷ []), length-append ls.start_y (line.start_y ∷ []), same.«start_y»);
+          «end_x» = omega (arith, length-append ls.start_x (line.start_x ∷ []), length-append ls.end_x (line.end_x ∷ []), same.«end_x»);
+          «end_y» = omega (arith, length-append ls.start_x (line.start_x ∷ []), length-append ls.end_y (line.end_y ∷ []), same.«end_y»);
         }
 
 -- lines that fit pass 3, 2 and 1
 fit_passes : (ls : Lines) → LinesFit ls → lines_check ls ≡ Fine
 unfolding lines_check lengths_check count_check coordinates_check unless and_then
 fit_passes ls f =
-    let a = eq-eqb (length ls.start_y) (count ls) f.same.«start_y_lem» in
-    let b = eq-eqb (length ls.end_x) (count ls) f.same.«end_x_lem» in
-    let c = eq-eqb (length ls.end_y) (count ls) f.same.«end_y_lem» in
+    let a = eq-eqb (length ls.start_y) (count ls) f.same.«start_y» in
+    let b = eq-eqb (length ls.end_x) (count ls) f.same.«end_x» in
+    let c = eq-eqb (length ls.end_y) (count ls) f.same.«end_y» in
     let d = le-leb (count ls) 65536 f.few in
     rw (a, b, c, d) (each_fine (line_fits ls) 1 (count ls) 0 (λ k l m. f.each k (omega arith)))
 
@@ -141,9 +141,9 @@ module _ {mode : Mode} {g : Grid} {ls : Lines} {t : Tables} {line : Segment} {t'
   unfolding walk_on
   walk_last = ap (segment_of mode g) (line_last ls line fits.same) ∙ added_line.walked
 
-  cells_before_lem : (i : ℕ) → i < count ls → cells_on mode g ls i ≡ cells_on mode g more i
+  cells_before : (i : ℕ) → i < count ls → cells_on mode g ls i ≡ cells_on mode g more i
   unfolding cells_on
-  cells_before_lem i l = sym (ap visited (walk_before i l))
+  cells_before i l = sym (ap visited (walk_before i l))
 
   cells_last : cells_on mode g more (count ls) ≡ added_line.visited
   unfolding cells_on
@@ -153,14 +153,14 @@ module _ {mode : Mode} {g : Grid} {ls : Lines} {t : Tables} {line : Segment} {t'
   unfolding spelt
   line_stands =
       let a : Stands (cells_on mode g ls) (count ls) g spelt = subst (λ (x : Tables). Stands (cells_on mode g ls) (count ls) g x) s.stands.on_grid s.stands in
-      rw (h.left, count_more ls line) (add_stands (cells_on mode g more) mode g line (count ls) (stands_alike cells_before_lem a) added_line cells_last)
+      rw (h.left, count_more ls line) (add_stands (cells_on mode g more) mode g line (count ls) (stands_alike cells_before a) added_line cells_last)
 
   -- they are those of all lines, counted and placed in slices of as many entries
   line_filled : AsFilled mode g more t t'
   unfolding spelt list_on globals_on
   line_filled =
       let a : Stands (cells_on mode g ls) (count ls) g spelt = subst (λ (x : Tables). Stands (cells_on mode g ls) (count ls) g x) s.stands.on_grid s.stands in
-      let b = stands_alike cells_before_lem a in
+      let b = stands_alike cells_before a in
       let n : suc (count ls) ≡ count more = sym (count_more ls line) in
       let W : ℕ → List ℕ = cells_on mode g more in
       record {
@@ -197,7 +197,7 @@ module _ {mode : Mode} {g : Grid} {ls : Lines} {t : Tables} {line : Segment} {t'
   line_walks : (k : ℕ) → k < count more → walk_on mode g more k ≡ gives (cells_on mode g more k)
   line_walks k l = elim (ℕ_discrete k (count ls)) [
     | yes e ↦ rw (e, cells_last) walk_last
-    | no d ↦ let b : k < count ls = omega (arith, d, count_more ls line) in walk_before k b ∙ s.walks k b ∙ ap gives (cells_before_lem k b)
+    | no d ↦ let b : k < count ls = omega (arith, d, count_more ls line) in walk_before k b ∙ s.walks k b ∙ ap gives (cells_before k b)
   ]
 
   line_says : Says mode g more t'

@@ -40,8 +40,8 @@ module _ {W : ℕ → List ℕ} {n : ℕ} {g : Grid} {t : Tables} (s : Stands W 
   listed_line k c l m h = listed s c m k ∙ rw (lt-ltb k n l, h)
 
   -- the global list holds a line exactly where it is global
-  pub global_line_lem : (k : ℕ) → k < n → elem k (globals_of t) ≡ is_global W k
-  global_line_lem k l = global s k ∙ rw (lt-ltb k n l)
+  pub global_line : (k : ℕ) → k < n → elem k (globals_of t) ≡ is_global W k
+  global_line k l = global s k ∙ rw (lt-ltb k n l)
 
   -- A GLOBAL LINE STANDS IN NO CELL'S LIST
   pub apart : Apart t

@@ -16,7 +16,7 @@ use Rattle.visit.proofs.Number.{sum_zero, sum_suc}
 use Rattle.visit.proofs.Often.{tests_no_global, tests_global, tests_most}
 use Rattle.visit.proofs.Different.{tests_different}
 use Rattle.demands.specs.Words.{is_global, visits, shared_cells, due}
-use Rattle.demands.proofs.Listed.{listed_line, global_line_lem, apart, few_cells}
+use Rattle.demands.proofs.Listed.{listed_line, global_line, apart, few_cells}
 
 count_same : (m : ℕ) (f g : ℕ → Bool) → ((c : ℕ) → c < m → f c ≡ g c) → count_below m f ≡ count_below m g
 unfolding count_below
@@ -48,7 +48,7 @@ module _ {W : ℕ → List ℕ} {n : ℕ} {g : Grid} {t : Tables} (s : Stands W 
     pub once_per_cell : is_global W a ≡ false → is_global W b ≡ false → times a b (tests_of t) ≡ shared_cells g W a b
     unfolding shared_cells
     once_per_cell p q =
-        tests_no_global t s.tables_fit_lem a b d in_a in_b (global_line_lem s a la ∙ p) (global_line_lem s b lb ∙ q)
+        tests_no_global t s.tables_fit_lem a b d in_a in_b (global_line s a la ∙ p) (global_line s b lb ∙ q)
         ∙ count_same (cells t) (λ c. elem a (list_of t c) && elem b (list_of t c)) (λ c. visits W a c && visits W b c)
         (λ c l. rw (listed_line s a c la l p, listed_line s b c lb l q))
         ∙ ap (λ (x : Tables). count_below (cells x) (λ c. visits W a c && visits W b c)) s.on_grid
@@ -56,11 +56,11 @@ module _ {W : ℕ → List ℕ} {n : ℕ} {g : Grid} {t : Tables} (s : Stands W 
     -- AND SO AT MOST 2,048 TIMES
     pub at_most : is_global W a ≡ false → is_global W b ≡ false → times a b (tests_of t) ≤ 2048
     at_most p q =
-        tests_most t s.tables_fit_lem a b d in_a in_b 2048 (global_line_lem s a la ∙ p) (global_line_lem s b lb ∙ q) (few_cells s a)
+        tests_most t s.tables_fit_lem a b d in_a in_b 2048 (global_line s a la ∙ p) (global_line s b lb ∙ q) (few_cells s a)
 
     -- at least one is global: EXACTLY ONCE
     pub exactly_once : (is_global W a || is_global W b) ≡ true → times a b (tests_of t) ≡ 1
-    exactly_once p = tests_global t s.tables_fit_lem a b d in_a in_b (apart s) (rw (global_line_lem s a la, global_line_lem s b lb) p)
+    exactly_once p = tests_global t s.tables_fit_lem a b d in_a in_b (apart s) (rw (global_line s a la, global_line s b lb) p)
 
     -- the two in one
     pub tested : times a b (tests_of t) ≡ due g W a b

@@ -67,8 +67,8 @@ pub record Runs (chosen : ℕ → ℕ → Bool) (N n p : ℕ) (globals starts li
   pub first_long : length fs ≡ length fs₀
   pub second_long : length ss ≡ length ss₀
 
-pub global_line_lem : {N n p : ℕ} {globals starts listing counts : List ℕ} {hits : ℕ} → GlobalAsks N n p globals starts listing counts hits → get_or globals p 0 < N
-global_line_lem {p = p} a = omega (arith, a.lines, a.fits.below p a.inside)
+pub global_line : {N n p : ℕ} {globals starts listing counts : List ℕ} {hits : ℕ} → GlobalAsks N n p globals starts listing counts hits → get_or globals p 0 < N
+global_line {p = p} a = omega (arith, a.lines, a.fits.below p a.inside)
 
 pub global_in : {N n p : ℕ} {globals starts listing counts : List ℕ} {hits : ℕ} → GlobalAsks N n p globals starts listing counts hits → p < length globals
 global_in a = omega (arith, a.inside, a.fits.long)
@@ -116,7 +116,7 @@ module _ {chosen : ℕ → ℕ → Bool} {N n p : ℕ} {globals starts listing c
     run_scan =
         record {
           place = s.asks.place;
-          one = rw s.row_is (global_line_lem s.asks);
+          one = rw s.row_is (global_line s.asks);
           below = below_numbers N (stop - k) k (omega (arith, up, most, s.asks.lines));
           small = omega (arith, length_numbers (stop - k) k, s.few, up, most, s.asks.few, s.asks.small);
         }

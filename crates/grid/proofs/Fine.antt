@@ -23,9 +23,9 @@ alike ls = eqb (length ls.start_y) (count ls) && (eqb (length ls.end_x) (count l
 pub alike_says : (ls : Lines) → alike ls ≡ true → Alike ls
 alike_says ls h =
     record {
-      «start_y_lem» = eqb-true _ _ (and_left sy (ex && ey) h);
-      «end_x_lem» = eqb-true _ _ (and_left ex ey (and_right sy (ex && ey) h));
-      «end_y_lem» = eqb-true _ _ (and_right ex ey (and_right sy (ex && ey) h));
+      «start_y» = eqb-true _ _ (and_left sy (ex && ey) h);
+      «end_x» = eqb-true _ _ (and_left ex ey (and_right sy (ex && ey) h));
+      «end_y» = eqb-true _ _ (and_right ex ey (and_right sy (ex && ey) h));
     }
   where
     sy : Bool

@@ -49,9 +49,9 @@ segment_at ls i = segment_by (get_or ls.start_x i nan) (get_or ls.start_y i nan)
 
 -- the four slices have one length
 pub record Alike (ls : Lines) : Type 0 where
-  pub «start_y_lem» : length ls.start_y ≡ count ls
-  pub «end_x_lem» : length ls.end_x ≡ count ls
-  pub «end_y_lem» : length ls.end_y ≡ count ls
+  pub «start_y» : length ls.start_y ≡ count ls
+  pub «end_x» : length ls.end_x ≡ count ls
+  pub «end_y» : length ls.end_y ≡ count ls
 
 -- the coordinates of line i obey the rule
 unfoldable pub line_fits : Lines → ℕ → Bool

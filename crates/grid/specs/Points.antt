@@ -41,10 +41,10 @@ Exactly (fin true m e) z n = neg_ℤ (pos (m * up e * n)) ≡ z *ℤ pos (down e
 
 -- the coordinates of a segment are those of w, each by n
 pub record InParts (n : ℕ) (line : Segment) (w : WholeSegment) : Type 0 where
-  pub «start_x_lem» : Exactly line.start_x w.start_x n
-  pub «start_y_lem» : Exactly line.start_y w.start_y n
-  pub «end_x_lem» : Exactly line.end_x w.end_x n
-  pub «end_y_lem» : Exactly line.end_y w.end_y n
+  pub «start_x» : Exactly line.start_x w.start_x n
+  pub «start_y» : Exactly line.start_y w.start_y n
+  pub «end_x» : Exactly line.end_x w.end_x n
+  pub «end_y» : Exactly line.end_y w.end_y n
 
 -- two segments share a point if they do in some n-ths, in which the coordinates of both are whole numbers; floats always have such n
 pub record SharePoint (first second : Segment) : Type 0 where

@@ -135,10 +135,10 @@ take_and_drop zero xs = refl
 take_and_drop (suc n) [] = refl
 take_and_drop (suc n) (x ∷ xs) = ap (λ (l : List ℕ). x ∷ l) (take_and_drop n xs)
 
-pub row_part_lem : (pl : Place) (xs : List ℕ) (a b many : ℕ) (later : List Pair) → a < b
+pub row_part : (pl : Place) (xs : List ℕ) (a b many : ℕ) (later : List Pair) → a < b
     → list_from pl xs a b ++ later ≡ with_each pl (get_or xs a 0) (take many (drop b xs)) ++ (list_from pl xs a (b + many) ++ later)
 unfolding rest_in
-row_part_lem pl xs a b many later h =
+row_part pl xs a b many later h =
     let e : drop b xs ≡ take many (drop b xs) ++ drop (b + many) xs = sym (take_and_drop many (drop b xs)) ∙ ap (λ (l : List ℕ). take many (drop b xs) ++ l) (drop-drop many b xs) in
     let k : a < b + many = omega arith in
     ap (λ (l : List Pair). l ++ later) (from_later pl xs a b h)

@@ -95,19 +95,19 @@ module _ (A B : ℕ → Bool) (cols rows : ℕ) where
   abbrev cell : ℕ → Bool
   cell k = A (k % cols) && B (k / cols)
 
-  column_of_lem : (k : ℕ) → k < rows * cols → k % cols < cols
-  column_of_lem k h = mod-lt k (some cols rows h)
+  column_of : (k : ℕ) → k < rows * cols → k % cols < cols
+  column_of k h = mod-lt k (some cols rows h)
     where
       some : (cols rows : ℕ) → k < rows * cols → 0 < cols
       some zero rows h = absurd (omega arith)
       some (suc n) rows h = omega arith
 
   pub no_column : None A 0 cols → None cell 0 (rows * cols)
-  no_column none k l h = ap (λ (b : Bool). b && B (k / cols)) (none (k % cols) (omega arith) (column_of_lem k h))
+  no_column none k l h = ap (λ (b : Bool). b && B (k / cols)) (none (k % cols) (omega arith) (column_of k h))
 
   pub no_row : None B 0 rows → None cell 0 (rows * cols)
   no_row none k l h =
-      let some : 0 < cols = omega (arith, column_of_lem k h) in
+      let some : 0 < cols = omega (arith, column_of k h) in
       and_off (A (k % cols)) (B (k / cols)) (none (k / cols) (omega arith) ((div-lt_iff_lt-mul some).1 h))
 
   module _ (c r : ℕ) (col : First A 0 cols c) (row : First B 0 rows r) where

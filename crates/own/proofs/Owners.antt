@@ -51,8 +51,8 @@ module _ (g : Grid) (x y : Float) where
       ∙ ap₂ Cell (row_is column row n g.rows c r a b) (column_is column row n g.rows c r a b))
 
   -- on axes that were read off the grid
-  pub cell_of_lem : (ax ay : Axis) (c r : ℕ) → ax ≡ x_axis g → ay ≡ y_axis g → At c ≡ first_owning ax x → At r ≡ first_owning ay y → Cell r c ≡ owner_of g x y
-  cell_of_lem ax ay c r d k h j = both_own c r (answered ax (x_axis g) x (At c) (At c) h d refl) (answered ay (y_axis g) y (At r) (At r) j k refl)
+  pub cell_of : (ax ay : Axis) (c r : ℕ) → ax ≡ x_axis g → ay ≡ y_axis g → At c ≡ first_owning ax x → At r ≡ first_owning ay y → Cell r c ≡ owner_of g x y
+  cell_of ax ay c r d k h j = both_own c r (answered ax (x_axis g) x (At c) (At c) h d refl) (answered ay (y_axis g) y (At r) (At r) j k refl)
 
   -- ---- where no cell owns it: u and v are what the two axes answer
 

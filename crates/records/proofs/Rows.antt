@@ -34,15 +34,15 @@ size_whole (x ∷ q ∷ []) h = absurd (omega (arith, h))
 size_whole (x ∷ q ∷ a ∷ w) h = rw (le-leb (q + a) (length w) (omega (arith, h)))
 
 -- the same at a place of a longer row
-pub short_at_lem : (at : ℕ) (w : List ℕ) → length w - at < 3 → size_of (drop at w) ≡ 0
-short_at_lem at w h = size_short (drop at w) (rw (length-drop at w) h)
+pub short_at : (at : ℕ) (w : List ℕ) → length w - at < 3 → size_of (drop at w) ≡ 0
+short_at at w h = size_short (drop at w) (rw (length-drop at w) h)
 
 pub cut_at : (at : ℕ) (w : List ℕ) → length w - at < 3 + (get_or w (at + 1) 0 + get_or w (at + 2) 0) → size_of (drop at w) ≡ 0
 cut_at at w h = size_cut (drop at w) (rw (length-drop at w, get_or-drop at w 1 0, get_or-drop at w 2 0) h)
 
-pub whole_at_lem : (at : ℕ) (w : List ℕ) → 3 + (get_or w (at + 1) 0 + get_or w (at + 2) 0) ≤ length w - at →
+pub whole_at : (at : ℕ) (w : List ℕ) → 3 + (get_or w (at + 1) 0 + get_or w (at + 2) 0) ≤ length w - at →
     size_of (drop at w) ≡ 3 + (get_or w (at + 1) 0 + get_or w (at + 2) 0)
-whole_at_lem at w h =
+whole_at at w h =
     size_whole (drop at w) (rw (length-drop at w, get_or-drop at w 1 0, get_or-drop at w 2 0) h) ∙ rw (get_or-drop at w 1 0, get_or-drop at w 2 0)
 
 -- ---- the next record

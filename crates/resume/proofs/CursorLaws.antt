@@ -95,9 +95,9 @@ pub cursor_end : (t : Tables) → cursor_of t [] ≡ cursor (cells_to_look t + l
 unfolding cursor_of
 cursor_end t = refl
 
-cursor_at_lem : (t : Tables) (pl : Place) (a b : ℕ) (rest : List Pair) → cursor_of t (pair pl a b ∷ rest) ≡ spot_of t pl a b
+cursor_at : (t : Tables) (pl : Place) (a b : ℕ) (rest : List Pair) → cursor_of t (pair pl a b ∷ rest) ≡ spot_of t pl a b
 unfolding cursor_of
-cursor_at_lem t pl a b rest = refl
+cursor_at t pl a b rest = refl
 
 pub cursor_global : (t : Tables) (a x y : ℕ) (rest : List Pair) → cursor_of t (pair (Global a) x y ∷ rest) ≡ cursor (cells_to_look t + a) 0 y
 unfolding cursor_of spot_of
@@ -139,7 +139,7 @@ module _ (t : Tables) (m : ℕ) (em : m ≡ cells_to_look t) where
       let x : ℕ = get_or (list_as t c) a 0 in
       let y : ℕ = get_or (list_as t c) b 0 in
       spot_cell c a b f.inside (omega (arith, f.later, f.among)) f.among
-      ∙ sym (cursor_at_lem t (place_of t.cols c) x y ((rest_in (place_of t.cols c) (list_as t c) a (suc b) ++ tests_of_cells t.cols (list_as t) (m - suc c) (suc c)) ++ later))
+      ∙ sym (cursor_at t (place_of t.cols c) x y ((rest_in (place_of t.cols c) (list_as t c) a (suc b) ++ tests_of_cells t.cols (list_as t) (m - suc c) (suc c)) ++ later))
       ∙ ap (cursor_of t)
       (sym
       (ap (λ (l : List Pair). l ++ later)

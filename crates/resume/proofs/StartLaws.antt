@@ -114,9 +114,9 @@ all_globals m n globals (suc left) p h =
     (all_append m (with_each (Global p) (get_or globals p 0) (others (take (suc p) globals) n 0)) (global_tests n globals left (suc p))
     (all_with m (Global p) (get_or globals p 0) (others (take (suc p) globals) n 0) (in_global m p (omega arith))) (all_globals m n globals left (suc p) (omega arith)))
 
-all_tests_lem : (t : Tables) → AllIn t.global_count (tests_of t)
+all_tests : (t : Tables) → AllIn t.global_count (tests_of t)
 unfolding tests_of
-all_tests_lem t =
+all_tests t =
     all_append t.global_count (cell_tests t.cols t.offsets t.items (cells t) 0) (global_tests t.lines t.globals t.global_count 0)
     (all_cells t.global_count t.cols t.offsets t.items (cells t) 0) (all_globals t.global_count t.lines t.globals t.global_count 0 (omega arith))
 
@@ -150,7 +150,7 @@ asks_by ls g t b x (gives ps) e h =
     let f = from_is (visit_check ls g t) (bookmark_check t b) (drop b (tests_of t)) (gives ps) e ps refl in
     let s = stands ls g t f.0 in
     spot_asks t.globals t.global_count x.place s.tables.counted
-    (in_by ls t x ps h (rw f.1 (all_drop t.global_count b (tests_of t) (all_tests_lem t))))
+    (in_by ls t x ps h (rw f.1 (all_drop t.global_count b (tests_of t) (all_tests t))))
 
 module _ (ls : Lines) (g : Grid) (t : Tables) (b : ℕ) where
   pub start_refused : (a : TestAnswer) (r : Refusal) → a ≡ test_at ls g t b → a ≡ answer.Refused r → start.Refused r ≡ start_answer ls g t b

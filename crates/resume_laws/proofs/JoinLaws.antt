@@ -89,9 +89,9 @@ rest_more : (pl : Place) (x : ℕ) (xs : List ℕ) (i j : ℕ) → rest_in pl (x
 unfolding rest_in
 rest_more pl x xs i j = refl
 
-first_row_lem : (pl : Place) (x : ℕ) (xs : List ℕ) (b : ℕ) → b < length xs → drop b (pairs pl (x ∷ xs)) ≡ rest_in pl (x ∷ xs) 0 (suc b)
+first_row : (pl : Place) (x : ℕ) (xs : List ℕ) (b : ℕ) → b < length xs → drop b (pairs pl (x ∷ xs)) ≡ rest_in pl (x ∷ xs) 0 (suc b)
 unfolding rest_in
-first_row_lem pl x xs b h =
+first_row pl x xs b h =
     ap (drop b) (pairs_cons pl x xs) ∙ drop-append-le b (with_each pl x xs) (pairs pl xs) (rw (length_with pl x xs) (omega arith))
     ∙ ap (λ (l : List Pair). l ++ pairs pl xs) (drop_with pl x b xs)
 
@@ -104,7 +104,7 @@ spot_in_list pl (x ∷ xs) b h =
     go (yes k) later = here k
       where
         here : b < length xs → Spot pl (x ∷ xs) (drop b (pairs pl (x ∷ xs)))
-        here k = record { i = 0; j = suc b; later = omega arith; inside = omega arith; is = first_row_lem pl x xs b k }
+        here k = record { i = 0; j = suc b; later = omega arith; inside = omega arith; is = first_row pl x xs b k }
     go (no k) later = further (later k)
       where
         further : Spot pl xs (drop (b - length xs) (pairs pl xs)) → Spot pl (x ∷ xs) (drop b (pairs pl (x ∷ xs)))

@@ -58,10 +58,10 @@ module _ (q a b v v' : ℕ) (g : q ≡ v + a) (h : q ≡ v' + b) (s e t f : ℤ)
 
 -- what a line of samples says
 record AllSamples (s : WholeSegment) : Type 0 where
-  start_x_lem : sample s.start_x ≡ true
-  start_y_lem : sample s.start_y ≡ true
-  end_x_lem : sample s.end_x ≡ true
-  end_y_lem : sample s.end_y ≡ true
+  start_x : sample s.start_x ≡ true
+  start_y : sample s.start_y ≡ true
+  end_x : sample s.end_x ≡ true
+  end_y : sample s.end_y ≡ true
 
 all_say : (s : WholeSegment) → all_samples s ≡ true → AllSamples s
 unfolding all_samples
@@ -72,7 +72,7 @@ all_say s h =
     let d = sample s.end_y in
     let h₁ = and_right a (b && (c && d)) h in
     let h₂ = and_right b (c && d) h₁ in
-    record { start_x_lem = and_left a (b && (c && d)) h; start_y_lem = and_left b (c && d) h₁; end_x_lem = and_left c d h₂; end_y_lem = and_right c d h₂ }
+    record { start_x = and_left a (b && (c && d)) h; start_y = and_left b (c && d) h₁; end_x = and_left c d h₂; end_y = and_right c d h₂ }
 
 -- two raised lines
 abbrev Meet : Raised → Raised → Type 0
@@ -94,12 +94,12 @@ module _ (s t : WholeSegment) (p : all_samples s ≡ true) (r : all_samples t �
         w' = w.b;
         above = omega (arith, w.above);
         alike = sym g ∙ h;
-        on_x_lem = to_weights w.q w.a w.b (w.q - w.a) (w.q - w.b) g h s.start_x s.end_x t.start_x t.end_x i.start_x_lem i.end_x_lem j.start_x_lem j.end_x_lem w.on_x_lem;
-        on_y_lem = to_weights w.q w.a w.b (w.q - w.a) (w.q - w.b) g h s.start_y s.end_y t.start_y t.end_y i.start_y_lem i.end_y_lem j.start_y_lem j.end_y_lem w.on_y_lem;
+        on_x_lem = to_weights w.q w.a w.b (w.q - w.a) (w.q - w.b) g h s.start_x s.end_x t.start_x t.end_x i.start_x i.end_x j.start_x j.end_x w.on_x_lem;
+        on_y_lem = to_weights w.q w.a w.b (w.q - w.a) (w.q - w.b) g h s.start_y s.end_y t.start_y t.end_y i.start_y i.end_y j.start_y j.end_y w.on_y_lem;
       }
 
-  share_of_lem : Meet (raised_of s) (raised_of t) → WholeShare s t
-  share_of_lem m =
+  share_of : Meet (raised_of s) (raised_of t) → WholeShare s t
+  share_of m =
       let i = all_say s p in
       let j = all_say t r in
       record {
@@ -109,8 +109,8 @@ module _ (s t : WholeSegment) (p : all_samples s ≡ true) (r : all_samples t �
         above = m.above;
         a_to = omega arith;
         b_to = omega (arith, m.alike);
-        on_x_lem = from_weights (m.v + m.w) m.w m.w' m.v m.v' refl m.alike s.start_x s.end_x t.start_x t.end_x i.start_x_lem i.end_x_lem j.start_x_lem j.end_x_lem m.on_x_lem;
-        on_y_lem = from_weights (m.v + m.w) m.w m.w' m.v m.v' refl m.alike s.start_y s.end_y t.start_y t.end_y i.start_y_lem i.end_y_lem j.start_y_lem j.end_y_lem m.on_y_lem;
+        on_x_lem = from_weights (m.v + m.w) m.w m.w' m.v m.v' refl m.alike s.start_x s.end_x t.start_x t.end_x i.start_x i.end_x j.start_x j.end_x m.on_x_lem;
+        on_y_lem = from_weights (m.v + m.w) m.w m.w' m.v m.v' refl m.alike s.start_y s.end_y t.start_y t.end_y i.start_y i.end_y j.start_y j.end_y m.on_y_lem;
       }
 
 -- ---- from tests to sides and boxes
@@ -198,7 +198,7 @@ shared s t p r w = decided_no (raised_of s) (raised_of t) (sampled_raised s ∙ 
 pub exact : (s t : WholeSegment) → all_samples s ≡ true → all_samples t ≡ true → Exact s t
 exact s t p r =
     record {
-      says_yes = λ h. share_of_lem s t p r (decided_yes (raised_of s) (raised_of t) h);
+      says_yes = λ h. share_of s t p r (decided_yes (raised_of s) (raised_of t) h);
       says_no = λ h w. true≢false (sym (shared s t p r w) ∙ h);
     }
 

@@ -43,9 +43,9 @@ module _ {ss : Samples} {i : ℕ} (h : Searched ss i) where
 -- ---- what lines say that pass
 
 pub record SamplesFit (ss : Samples) : Type 0 where
-  pub start_y_lem : length ss.start_y ≡ sample_count ss
-  pub end_x_lem : length ss.end_x ≡ sample_count ss
-  pub end_y_lem : length ss.end_y ≡ sample_count ss
+  pub start_y : length ss.start_y ≡ sample_count ss
+  pub end_x : length ss.end_x ≡ sample_count ss
+  pub end_y : length ss.end_y ≡ sample_count ss
   pub few : sample_count ss ≤ 65536
   pub each : (i : ℕ) → i < sample_count ss → all_samples (whole_at ss i) ≡ true
 
@@ -55,9 +55,9 @@ sample_lines_fine ss h =
     let a = unless_fine _ _ _ (and_then_left _ _ h) in
     let b = and_right sy (ex && ey) a in
     record {
-      start_y_lem = eqb-true _ _ (and_left sy (ex && ey) a);
-      end_x_lem = eqb-true _ _ (and_left ex ey b);
-      end_y_lem = eqb-true _ _ (and_right ex ey b);
+      start_y = eqb-true _ _ (and_left sy (ex && ey) a);
+      end_x = eqb-true _ _ (and_left ex ey b);
+      end_y = eqb-true _ _ (and_right ex ey b);
       few = leb-true _ _ (unless_fine _ _ _ (and_then_left _ _ (and_then_right _ _ h)));
       each = λ i l. each_says (fits ss) 15 (sample_count ss) 0 i (and_then_right _ _ (and_then_right _ _ h)) (omega arith) (omega arith);
     }

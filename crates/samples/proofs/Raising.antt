@@ -76,10 +76,10 @@ module _ (z : ℤ) (fits : SFits w32 z) (h : sample z ≡ true) where
 -- ---- a line
 
 pub record Small (a : Raised) : Type 0 where
-  pub start_x_lem : a.start_x ≤ 1073741824
-  pub start_y_lem : a.start_y ≤ 1073741824
-  pub end_x_lem : a.end_x ≤ 1073741824
-  pub end_y_lem : a.end_y ≤ 1073741824
+  pub start_x : a.start_x ≤ 1073741824
+  pub start_y : a.start_y ≤ 1073741824
+  pub end_x : a.end_x ≤ 1073741824
+  pub end_y : a.end_y ≤ 1073741824
 
 pub sampled_small : (a : Raised) → sampled a ≡ true → Small a
 unfolding sampled
@@ -90,10 +90,10 @@ sampled_small a h = go (leb a.start_x 1073741824) (leb a.start_y 1073741824) (le
         let h₁ = and_right p (q && (r && s)) h in
         let h₂ = and_right q (r && s) h₁ in
         record {
-          start_x_lem = leb-true _ _ (e ∙ and_left p (q && (r && s)) h);
-          start_y_lem = leb-true _ _ (f ∙ and_left q (r && s) h₁);
-          end_x_lem = leb-true _ _ (g ∙ and_left r s h₂);
-          end_y_lem = leb-true _ _ (i ∙ and_right r s h₂);
+          start_x = leb-true _ _ (e ∙ and_left p (q && (r && s)) h);
+          start_y = leb-true _ _ (f ∙ and_left q (r && s) h₁);
+          end_x = leb-true _ _ (g ∙ and_left r s h₂);
+          end_y = leb-true _ _ (i ∙ and_right r s h₂);
         }
 
 pub product_most : (a b : ℕ) → a ≤ 1073741824 → b ≤ 1073741824 → a * b ≤ 1152921504606846976
@@ -103,12 +103,12 @@ product_most a b h k = mul-le-mul h k
 pub left_most : (a : Raised) (x y : ℕ) → Small a → x ≤ 1073741824 → y ≤ 1073741824 → left_sum a x y ≤ 3458764513820540928
 unfolding left_sum
 left_most a x y s h k =
-    omega (arith, product_most a.end_x y s.end_x_lem k, product_most a.start_x a.end_y s.start_x_lem s.end_y_lem, product_most x a.start_y h s.start_y_lem)
+    omega (arith, product_most a.end_x y s.end_x k, product_most a.start_x a.end_y s.start_x s.end_y, product_most x a.start_y h s.start_y)
 
 pub right_most : (a : Raised) (x y : ℕ) → Small a → x ≤ 1073741824 → y ≤ 1073741824 → right_sum a x y ≤ 3458764513820540928
 unfolding right_sum
 right_most a x y s h k =
-    omega (arith, product_most a.end_x a.start_y s.end_x_lem s.start_y_lem, product_most a.start_x y s.start_x_lem k, product_most x a.end_y h s.end_y_lem)
+    omega (arith, product_most a.end_x a.start_y s.end_x s.start_y, product_most a.start_x y s.start_x k, product_most x a.end_y h s.end_y)
 
 -- a number is a sample where it is at most 2^30 when raised
 sample_raised : (z : ℤ) → leb (raised z) 1073741824 ≡ sample z

@@ -82,9 +82,9 @@ pub record LinesOf (ls : Lines) (n x y : ℕ) : Type 0 where
   pub first : x < n
   pub second : y < n
 
-pub pair_lines_lem : (ls : Lines) (g : Grid) (t : Tables) (b : ℕ) (pl : Place) (x y : ℕ) → answer.Made pl x y ≡ pair_at ls g t b → LinesOf ls t.lines x y
+pub pair_lines : (ls : Lines) (g : Grid) (t : Tables) (b : ℕ) (pl : Place) (x y : ℕ) → answer.Made pl x y ≡ pair_at ls g t b → LinesOf ls t.lines x y
 unfolding pair_at answer_by first_of tests_from
-pair_lines_lem ls g t b pl x y e = go (tests_from ls g t b) refl e
+pair_lines ls g t b pl x y e = go (tests_from ls g t b) refl e
   where
     head : (ps : List Pair) → Within t.lines ps → lines_check ls ≡ Fine → answer.Made pl x y ≡ first_of ps → LinesOf ls t.lines x y
     head [] w f d = absurd (let z : ◌≡◌ {A = ℕ} 0 1 = cc in omega arith)

@@ -84,11 +84,11 @@ module _ (g : Grid) (t : Tables) (pl : Place) where
 -- a cell's list: r, k and l are the row, the columns and the column, as the code has them
 module _ (g : Grid) (t : Tables) (rows : t.rows ≡ g.rows) (cols : t.cols ≡ g.cols) (pl : Place) (h : list_check g t pl ≡ Fine)
     (row col : ℕ) (e : pl ≡ Cell row col) (r k l : ℕ) (er : r ≡ row) (ek : k ≡ g.cols) (el : l ≡ col) where
-  at_cell_lem : list_check g t (Cell row col) ≡ Fine
-  at_cell_lem = rw e at h
+  at_cell : list_check g t (Cell row col) ≡ Fine
+  at_cell = rw e at h
 
   facts : CellPlace g t row col
-  facts = cell_place g t row col at_cell_lem
+  facts = cell_place g t row col at_cell
 
   number : r * k + l < g.rows * g.cols
   number = rw (er, ek, el) (cell_inside g.rows g.cols row col facts.rows facts.cols)
@@ -103,7 +103,7 @@ module _ (g : Grid) (t : Tables) (rows : t.rows ≡ g.rows) (cols : t.cols ≡ g
   unfolding list_at
   part_cell q =
       let n : r * k + l ≡ row * t.cols + col = rw (er, ek, el, cols) in
-      q ∙ part_fits (fit_cells t facts.table) (r * k + l) number_in ∙ rw (n, e) (part_fine g t (Cell row col) at_cell_lem)
+      q ∙ part_fits (fit_cells t facts.table) (r * k + l) number_in ∙ rw (n, e) (part_fine g t (Cell row col) at_cell)
 
 -- the globals from a position on
 module _ (g : Grid) (t : Tables) (pl : Place) (h : list_check g t pl ≡ Fine) (p : ℕ) (e : pl ≡ Global p) where

@@ -115,11 +115,11 @@ unfolding ray_of
 ray_by_lem true g line = refl
 ray_by_lem false g line = refl
 
-start_by_lem : (v : Bool) (g : Grid) (line : Segment)
+start_by : (v : Bool) (g : Grid) (line : Segment)
     → start_of g line ≡ state_by v (progress_on (held_of v g) (held_start v line) (held_end v line)) (progress_on (run_of v g) (run_start v line) (run_end v line))
 unfolding start_of
-start_by_lem true g line = refl
-start_by_lem false g line = refl
+start_by true g line = refl
+start_by false g line = refl
 
 -- what is pushed, too: the walked cells, what they add, and what the two ends add
 module _ (mode : Mode) where
@@ -218,7 +218,7 @@ module _ (mode : Mode) (turns : turning mode ≡ true) (v : Bool) (g : Grid) (li
 
   start_is : start_of g line ≡ at v i (pos j) (first_on (run_of v g) (run_start v line) (difference (run_start v line) (run_end v line)))
   unfolding progress_on i j
-  start_is = start_by_lem v g line ∙ rw (first_far (held_of v g) (held_start v line) (held_end v line) keeps.none)
+  start_is = start_by v g line ∙ rw (first_far (held_of v g) (held_start v line) (held_end v line) keeps.none)
 
   shape' : Shape g.cols g.rows
   shape' = shape_says g.cols g.rows shaped
@@ -287,10 +287,10 @@ module _ (mode : Mode) (turns : turning mode ≡ true) (v : Bool) (g : Grid) (li
         ∙ any_adds (eqb hu i) (next_to a i hu) (eqb ru) (λ k. next_to b k ru) stops'
         ∙ ap (λ (c : Bool). adds (eqb hu i) (next_to a i hu) c (passed b)) (stops_between ru)
 
-    end_in_lem : (a b : Neighbour) (k : ℕ) → k < (run_of v g).count → elem u (beside_by v a b g.cols (g.rows * g.cols) (cell_by v g.cols i k))
+    end_in : (a b : Neighbour) (k : ℕ) → k < (run_of v g).count → elem u (beside_by v a b g.cols (g.rows * g.cols) (cell_by v g.cols i k))
         ≡ adds (eqb hu i) (next_to a i hu) (eqb ru k) (next_to b k ru)
     unfolding hu ru
-    end_in_lem a b k h = beside_by_lem g.cols some u v a b g.rows i k within (inside_at k h)
+    end_in a b k h = beside_by_lem g.cols some u v a b g.rows i k within (inside_at k h)
 
     -- what the whole line adds on the axis along which it runs, its start adds too: then it is a point
     passed_start : passed (along_on mode (run_of v g) (run_start v line) (run_end v line)) ≡ true → next_to (neighbour_on mode (run_of v g) (run_start v line)) j ru ≡ true
@@ -323,8 +323,8 @@ module _ (mode : Mode) (turns : turning mode ≡ true) (v : Bool) (g : Grid) (li
           ← keeps.index,
           walked_in,
           added_in (neighbour_on mode (held_of v g) (held_start v line)) (along_on mode (run_of v g) (run_start v line) (run_end v line)),
-          end_in_lem (neighbour_on mode (held_of v g) (held_start v line)) (neighbour_on mode (run_of v g) (run_start v line)) j (run_in (run_start v line)),
-          end_in_lem (neighbour_on mode (held_of v g) (held_start v line)) (neighbour_on mode (run_of v g) (run_end v line)) e (run_in (run_end v line)),
+          end_in (neighbour_on mode (held_of v g) (held_start v line)) (neighbour_on mode (run_of v g) (run_start v line)) j (run_in (run_start v line)),
+          end_in (neighbour_on mode (held_of v g) (held_start v line)) (neighbour_on mode (run_of v g) (run_end v line)) e (run_in (run_end v line)),
         )
         (pushed_said (eqb hu i) (next_to (neighbour_on mode (held_of v g) (held_start v line)) i hu) (between j e ru)
         (passed (along_on mode (run_of v g) (run_start v line) (run_end v line))) (eqb ru j) (next_to (neighbour_on mode (run_of v g) (run_start v line)) j ru)

@@ -198,12 +198,12 @@ module _ (plan : Plan) (ls : Lines) (lines_fit : LinesFit ls) (straight : AllStr
         «min_x» =
             subst (λ (m : ℕ). T (fits binary64 (lowest ls.start_x ls.end_x m))) (sym k)
             (among_in_format ls.start_x ls.end_x (suc n) (lowest ls.start_x ls.end_x (suc n))
-            (λ i l. ((in-format i (omega arith)).«start_x_lem», (in-format i (omega arith)).«end_x_lem»))
+            (λ i l. ((in-format i (omega arith)).«start_x», (in-format i (omega arith)).«end_x»))
             (lowest_among ls.start_x ls.end_x n x));
         «min_y» =
             subst (λ (m : ℕ). T (fits binary64 (lowest ls.start_y ls.end_y m))) (sym k)
             (among_in_format ls.start_y ls.end_y (suc n) (lowest ls.start_y ls.end_y (suc n))
-            (λ i l. ((in-format i (omega arith)).«start_y_lem», (in-format i (omega arith)).«end_y_lem»))
+            (λ i l. ((in-format i (omega arith)).«start_y», (in-format i (omega arith)).«end_y»))
             (lowest_among ls.start_y ls.end_y n y));
       }
 

@@ -72,13 +72,13 @@ module _ (mode : Mode) (g : Grid) (line : Segment) (ok : fit g ≡ true) (in-dom
   unfolding point
   sound_x =
       sound (x_axis g) line.start_x line.end_x fit_axes.0 (and_left (coordinate line.start_x) (coordinate line.start_y) both.0)
-      (and_left (coordinate line.end_x) (coordinate line.end_y) both.1) in-format.«start_x_lem» in-format.«end_x_lem»
+      (and_left (coordinate line.end_x) (coordinate line.end_y) both.1) in-format.«start_x» in-format.«end_x»
 
   sound_y : Sound (y_axis g) line.start_y line.end_y
   unfolding point
   sound_y =
       sound (y_axis g) line.start_y line.end_y fit_axes.1 (and_right (coordinate line.start_x) (coordinate line.start_y) both.0)
-      (and_right (coordinate line.end_x) (coordinate line.end_y) both.1) in-format.«start_y_lem» in-format.«end_y_lem»
+      (and_right (coordinate line.end_x) (coordinate line.end_y) both.1) in-format.«start_y» in-format.«end_y»
 
   -- a grid without columns has no cells
   no_columns : turning mode ≡ true → (v : Bool) → g.cols ≡ 0 → segment_of mode g line ≡ gives (cells_by mode v g line)

@@ -140,8 +140,8 @@ module _ (f : Format) (g : ℕ) {v w : Float} (u : Units f v) (t : Units f w) wh
 -- where min has far more units than the coordinates, the differences are one value
 module _ (f : Format) {x y m : Float} (u : Units f x) (w : Units f y) (z : Units f m) (t : ℕ) (few : u.more + u.less ≤ t) (few' : w.more + w.less ≤ t)
     (large : 8 * (2 ^ (prec f - 1) * t) + t ≤ z.more + z.less) (normal : 2 ^ prec f + t ≤ z.more + z.less) where
-  more_than_lem : t < z.more + z.less
-  more_than_lem = go (2 ^ prec f) (pow_pos (prec f)) normal
+  more_than : t < z.more + z.less
+  more_than = go (2 ^ prec f) (pow_pos (prec f)) normal
     where
       go : (p : ℕ) → 0 < p → p + t ≤ z.more + z.less → t < z.more + z.less
       go p h k = omega arith
@@ -161,10 +161,10 @@ module _ (f : Format) {x y m : Float} (u : Units f x) (w : Units f y) (z : Units
       go (inr e) (over l k) (over l' k') =
           k ∙ rounded false (u.more + z.less - (u.less + z.more)) (w.more + z.less - (w.less + z.more)) (omega (arith, few)) (omega (arith, few))
           (omega (arith, few')) (omega (arith, few')) ∙ sym k'
-      go (inl e) (over l k) r = absurd (omega (arith, few, more_than_lem))
-      go (inl e) (short l k) (over l' k') = absurd (omega (arith, few', more_than_lem))
-      go (inr e) (short l k) r = absurd (omega (arith, few, more_than_lem))
-      go (inr e) (over l k) (short l' k') = absurd (omega (arith, few', more_than_lem))
+      go (inl e) (over l k) r = absurd (omega (arith, few, more_than))
+      go (inl e) (short l k) (over l' k') = absurd (omega (arith, few', more_than))
+      go (inr e) (short l k) r = absurd (omega (arith, few, more_than))
+      go (inr e) (over l k) (short l' k') = absurd (omega (arith, few', more_than))
 
 -- where both have few, the difference is at most W units
 difference_small : (f : Format) {x m : Float} (u : Units f x) (z : Units f m) (W : ℕ) → u.more + z.less ≤ W → T (le (sub f x m) (round f false W (2 ^ low f)))

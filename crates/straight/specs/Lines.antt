@@ -20,10 +20,10 @@ straight line = vertical line || horizontal line
 -- Values of the format, as every f64 of a program is. It has to be said because definitions are over all floats that can be written down: two different
 -- ones that are no values of the format can have a difference that is rounded to 0.
 pub record InFormat (line : Segment) : Type 0 where
-  pub «start_x_lem» : T (fits binary64 line.start_x)
-  pub «start_y_lem» : T (fits binary64 line.start_y)
-  pub «end_x_lem» : T (fits binary64 line.end_x)
-  pub «end_y_lem» : T (fits binary64 line.end_y)
+  pub «start_x» : T (fits binary64 line.start_x)
+  pub «start_y» : T (fits binary64 line.start_y)
+  pub «end_x» : T (fits binary64 line.end_x)
+  pub «end_y» : T (fits binary64 line.end_y)
 
 pub record GridInFormat (g : Grid) : Type 0 where
   pub «min_x» : T (fits binary64 g.min_x)

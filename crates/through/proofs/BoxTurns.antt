@@ -23,13 +23,13 @@ use Rattle.through.specs.Inside.{LineAsks, with_box, flat_in, FlatAsks, FlatFill
 
 module _ (ls : Lines) (i : ℕ) (h : LineAsks ls i) where
   pub in_start_y : i < length ls.start_y
-  in_start_y = rw h.alike.«start_y_lem» h.one
+  in_start_y = rw h.alike.«start_y» h.one
 
   pub in_end_x : i < length ls.end_x
-  in_end_x = rw h.alike.«end_x_lem» h.one
+  in_end_x = rw h.alike.«end_x» h.one
 
   pub in_end_y : i < length ls.end_y
-  in_end_y = rw h.alike.«end_y_lem» h.one
+  in_end_y = rw h.alike.«end_y» h.one
 
 -- ---- a box in a room
 
@@ -299,8 +299,8 @@ module _ (ls : Lines) (xs : List ℕ) (bs bs' : List Float) (a : GatherAsks ls x
   last_room = record { few = omega arith; long = omega (arith, f.long, a.room.long) }
 
   module _ (ends b : Box) (n : b ≡ inner_of ends (length xs) bs') (bs'' : List Float) (k : bs'' ≡ with_box bs' 512 b) where
-    last_is_lem : box_in (with_box bs' 512 b) 512 ≡ b
-    last_is_lem = with_same bs' 512 b (omega arith) last_room.long
+    last_is : box_in (with_box bs' 512 b) 512 ≡ b
+    last_is = with_same bs' 512 b (omega arith) last_room.long
 
     others_are : (t : ℕ) → t < length xs → box_in (with_box bs' 512 b) t ≡ box_in bs' t
     others_are t h = with_other bs' 512 b (omega arith) t (omega (arith, a.most)) (λ e. omega (arith, a.most))
@@ -311,5 +311,5 @@ module _ (ls : Lines) (xs : List ℕ) (bs bs' : List Float) (a : GatherAsks ls x
         (record {
           each = λ t h. others_are t h ∙ f.each t h;
           long = with_long bs' 512 b ∙ f.long;
-          says = record { each = λ t h o j. ap (overlaps o) (others_are t h) ∙ (inner_says ends (length xs) bs' b n).each t h o (sym (ap (overlaps o) last_is_lem) ∙ j) };
+          says = record { each = λ t h o j. ap (overlaps o) (others_are t h) ∙ (inner_says ends (length xs) bs' b n).each t h o (sym (ap (overlaps o) last_is) ∙ j) };
         })

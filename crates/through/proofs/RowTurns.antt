@@ -21,7 +21,7 @@ use Rattle.listed.specs.Lists.{list_from}
 use Rattle.listed.specs.Rooms.{box_in, BoxRoom}
 use Rattle.through.specs.Inside.{GatherAsks, Gathered, Holds, WindowAsks, ReadyIs, RoomFor, ScanAsks, Scanned, Goes, Lent, Scratch, SameScratch, PartAsks, PartIs, ListAsks, ListRanIs}
 use Rattle.through.proofs.Goings.{goes_none, goes_then, goes_row}
-use Rattle.listed.proofs.ListLaws.{RowIs, row_part_lem}
+use Rattle.listed.proofs.ListLaws.{RowIs, row_part}
 
 -- a part of a list
 pub part_at : (xs : List ℕ) (b many u : ℕ) → u < many → get_or (take many (drop b xs)) u 0 ≡ get_or xs (b + u) 0
@@ -151,7 +151,7 @@ module _ (ls : Lines) (xs : List ℕ) (i₀ j₀ : ℕ) (bs : List Float) (marks
           let l = part_long xs b r.many v.inside in
           let m : TestsMoved ls (with_each pl (get_or xs a 0) (take r.many (drop b xs)) ++ (list_from pl xs a (b + r.many) ++ later)) (list_from pl xs a (b + r.many) ++ later) (length (take r.many (drop b xs))) (length fs') fs' ss' hits fs'' ss'' r.hits =
           rw l (v.moved pl (list_from pl xs a (b + r.many) ++ later)) in
-          rw (f.same pl xs refl, row_part_lem pl xs a b r.many later f.later)
+          rw (f.same pl xs refl, row_part pl xs a b r.many later f.later)
           (rw (list_first_long, l) at (goes_row ls (length fs') pl (get_or xs a 0) (take r.many (drop b xs)) (list_from pl xs a (b + r.many) ++ later) fs' ss' hits fs'' ss'' r.hits m))
 
       step_counts : r.many + length (list_from (Global 0) xs a (b + r.many)) ≡ length (list_from (Global 0) xs i j)

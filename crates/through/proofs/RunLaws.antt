@@ -70,8 +70,8 @@ module _ (ls : Lines) (C C' : List Pair) (t : ℕ) (fs ss fs₁ ss₁ : List ℕ
   all_seconds : take h ss₁ ≡ seconds (handed ls C (length fs))
   all_seconds = sym (rw sub-zero at g.moved.seconds_are ∙ rw (none_handed ls (length fs) C' h e) (append-nil (take h ss₁)))
 
-  all_tests_lem : t ≡ length (made ls C (length fs))
-  all_tests_lem =
+  all_tests : t ≡ length (made ls C (length fs))
+  all_tests =
       let x : length (made ls C (length fs)) ≡ t + length (made ls C' (length fs - h)) = rw sub-zero at g.moved.made_is in
       let y : length (made ls C' (length fs - h)) ≡ 0 = rw (none_made ls (length fs) C' h e) in
       omega arith
@@ -124,7 +124,7 @@ module _ (ls : Lines) (cols m : ℕ) (offsets items : List ℕ) (cell i j : ℕ)
     go_is fs₂ ss₂ n at ef es en f =
         let hits : r.hits ≡ length (handed ls C (length fs)) = all_hits ls C C' r.tests fs ss fs₁ ss₁ r.hits goes ends in
         record {
-          tests = all_tests_lem ls C C' r.tests fs ss fs₁ ss₁ r.hits goes ends;
+          tests = all_tests ls C C' r.tests fs ss fs₁ ss₁ r.hits goes ends;
           overlaps = hits;
           at = rw (sym goes.left) (rw en at (f cols));
           first_is = cleared fs₁ fs₂ (firsts (handed ls C (length fs))) (length fs) r.hits ef (all_firsts ls C C' r.tests fs ss fs₁ ss₁ r.hits goes ends) go_first_long

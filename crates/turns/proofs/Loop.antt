@@ -211,10 +211,10 @@ unfolding ended_in ◌into◌
 ran_on (refused why) m r s t ys p g = absurd p
 ran_on (gives xs) m r s t ys p g = (g.within, g.is ∙ ap (λ (l : List ℕ). l ++ unless_there l ys) p.1)
 
-over_on_lem : (o : Outcome) (s ys : List ℕ) → RanTo o Over s → RanTo (ended_in o ys) Over s
+over_on : (o : Outcome) (s ys : List ℕ) → RanTo o Over s → RanTo (ended_in o ys) Over s
 unfolding ended_in ◌into◌
-over_on_lem (refused why) s ys p = p
-over_on_lem (gives xs) s ys p = absurd p
+over_on (refused why) s ys p = p
+over_on (gives xs) s ys p = absurd p
 
 module _ (cols rows : ℕ) (way : Way) (w : Walk) {s₀ s₁ s₂ : List ℕ} {n : ℕ} {R : Ran}
     (g : Appended s₀ s₁ 0 n (push_by cols rows w.x.index w.y.index))
@@ -229,4 +229,4 @@ module _ (cols rows : ℕ) (way : Way) (w : Walk) {s₀ s₁ s₂ : List ℕ} {n
 
   pub walked_over : R ≡ Over → RanTo (trodden_by cols rows way w) Over s₂
   unfolding trodden_by
-  walked_over e = over_on_lem (onward_by cols rows way w) s₂ (push_by cols rows way.x.end way.y.end) (ran Over e)
+  walked_over e = over_on (onward_by cols rows way w) s₂ (push_by cols rows way.x.end way.y.end) (ran Over e)

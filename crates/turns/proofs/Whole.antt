@@ -137,9 +137,9 @@ module _ (cols rows : ℕ) (wide : cols ≤ 4004) (high : rows ≤ 4004) {r : Ra
       ap (λ (l : List ℕ). l ++ push_of cols rows n.x.index n.y.index) (sides_are left (k.x && k.y) o)
       ∙ ap (λ (l : List ℕ). sides_by (k.x && k.y) cols rows way w ++ l) (push_is cols rows left left n.x.index n.y.index v.x.index v.y.index wide high m.x.index m.y.index)
 
-  next_on_lem : (left : ℕ) {s : State} {w : Walk} → On (suc left) s w → On left (next_of r s) (next_by way w)
+  next_on : (left : ℕ) {s : State} {w : Walk} → On (suc left) s w → On left (next_of r s) (next_by way w)
   unfolding next_of next_by
-  next_on_lem left {s} {w} o = subst (λ (k : Turn). On left (moved_of k r s) (moved_by (turn_by way w) way w)) (sym (turn_is (suc left) o)) (moved_on left (turn_by way w) o)
+  next_on left {s} {w} o = subst (λ (k : Turn). On left (moved_of k r s) (moved_by (turn_by way w) way w)) (sym (turn_is (suc left) o)) (moved_on left (turn_by way w) o)
 
   going_is : (left : ℕ) {s : State} {w : Walk} → On left s w → going_of r s ≡ going_by way w
   unfolding going_of going_by
@@ -151,7 +151,7 @@ module _ (cols rows : ℕ) (wide : cols ≤ 4004) (high : rows ≤ 4004) {r : Ra
   turns_are (suc left) s w o =
       let p : pushed_of (turn_of r s) cols rows r s ≡ pushed_by (turn_by way w) cols rows way w =
       ap (λ (k : Turn). pushed_of k cols rows r s) (turn_is (suc left) o) ∙ pushed_is left (turn_by way w) o in
-      rw (going_is (suc left) o, p, turns_are left (next_of r s) (next_by way w) (next_on_lem left o))
+      rw (going_is (suc left) o, p, turns_are left (next_of r s) (next_by way w) (next_on left o))
 
   onward_are : (s : State) (w : Walk) → On 5000 s w → onward_of cols rows r s ≡ onward_by cols rows way w
   onward_are s w o =
@@ -189,13 +189,13 @@ module _ (g : Grid) (line : Segment) (h : Shape g.cols g.rows) where
   onward_is : onward_of g.cols g.rows (ray_of g line) (start_of g line) ≡ onward_by g.cols g.rows (way_by g line) (start_by g line)
   onward_is = onward_are g.cols g.rows h.wide h.high along_both (start_of g line) (start_by g line) on_start
 
-  last_is_lem : push_of g.cols g.rows (ray_of g line).x.end (ray_of g line).y.end ≡ push_by g.cols g.rows (way_by g line).x.end (way_by g line).y.end
-  last_is_lem = end_is g.cols g.rows h.wide h.high along_both
+  last_is : push_of g.cols g.rows (ray_of g line).x.end (ray_of g line).y.end ≡ push_by g.cols g.rows (way_by g line).x.end (way_by g line).y.end
+  last_is = end_is g.cols g.rows h.wide h.high along_both
 
   pub walked_is : walked_of g.cols g.rows (ray_of g line) (start_of g line) ≡ walked_by g.cols g.rows (way_by g line) (start_by g line)
   unfolding walked_of walked_by
-  walked_is = ap₂ followed_by onward_is last_is_lem
+  walked_is = ap₂ followed_by onward_is last_is
 
   pub trodden_is : trodden_of g.cols g.rows (ray_of g line) (start_of g line) ≡ trodden_by g.cols g.rows (way_by g line) (start_by g line)
   unfolding trodden_of trodden_by
-  trodden_is = ap₂ ended_in onward_is last_is_lem
+  trodden_is = ap₂ ended_in onward_is last_is

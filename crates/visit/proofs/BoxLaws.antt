@@ -43,13 +43,13 @@ module _ (ls : Lines) (i : ℕ) (h : LineAsks ls i) where
   y_number = number (get_or ls.start_y i nan) (and_right (coordinate (get_or ls.start_x i nan)) (coordinate (get_or ls.start_y i nan)) starts)
 
   pub in_start_y : i < length ls.start_y
-  in_start_y = rw fit.same.«start_y_lem» h.one
+  in_start_y = rw fit.same.«start_y» h.one
 
   pub in_end_x : i < length ls.end_x
-  in_end_x = rw fit.same.«end_x_lem» h.one
+  in_end_x = rw fit.same.«end_x» h.one
 
   pub in_end_y : i < length ls.end_y
-  in_end_y = rw fit.same.«end_y_lem» h.one
+  in_end_y = rw fit.same.«end_y» h.one
 
   -- the box as the code makes it, by one comparison each
   pub box_is : (a b d e : Float)

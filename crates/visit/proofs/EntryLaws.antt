@@ -38,7 +38,7 @@ use Rattle.visit.specs.Inside.{LineAsks, row_of, TestAsks, RunAsks, RanAll, Batc
 use Rattle.seek.proofs.Lengths.{total_fits}
 use Rattle.seek.proofs.Passed.{here}
 use Rattle.seek.proofs.FindLaws.{from_none, from_cursor, from_spares}
-use Rattle.seek.proofs.PairLines.{pair_lines_lem}
+use Rattle.seek.proofs.PairLines.{pair_lines}
 
 -- ---- one test
 
@@ -68,12 +68,12 @@ module _ (ls : Lines) (g : Grid) (t : Tables) (b : ℕ) where
 
   module _ (pl : Place) (x y : ℕ) (e : one.Made pl x y ≡ pair_at ls g t b) where
     pub first_asks : t.lines ≡ count ls → LineAsks ls x
-    first_asks l = let k = pair_lines_lem ls g t b pl x y e in record { fine = k.fine; one = rw l at k.first }
+    first_asks l = let k = pair_lines ls g t b pl x y e in record { fine = k.fine; one = rw l at k.first }
 
     module _ (row : Row) (er : row ≡ row_of ls pl x) where
       pub second_asks : t.lines ≡ count ls → TestAsks ls row y
       second_asks l =
-          let k = pair_lines_lem ls g t b pl x y e in
+          let k = pair_lines ls g t b pl x y e in
           record { row_fits = record { fine = k.fine; held = rw er }; one = rw l at k.second }
 
       pub test_made : (v : Test) → v ≡ test_of ls (pair row.place row.first y) → answer.Made v ≡ test_at ls g t b

@@ -83,10 +83,10 @@ module _ (t : Tables) where
   after (suc b) (p ∷ ps) h = after b ps h.1
 
   module _ (ls : Lines) where
-    of_made_lem : (ps : List Pair) (room : ℕ) → AllListed t ps → AllListed t (made ls ps room)
-    of_made_lem [] room h = rw made_none tt
-    of_made_lem (p ∷ ps) zero h = rw made_full tt
-    of_made_lem (p ∷ ps) (suc room) h = go (overlap ls p.first p.second) refl (of_made_lem ps room h.1) (of_made_lem ps (suc room) h.1)
+    of_made : (ps : List Pair) (room : ℕ) → AllListed t ps → AllListed t (made ls ps room)
+    of_made [] room h = rw made_none tt
+    of_made (p ∷ ps) zero h = rw made_full tt
+    of_made (p ∷ ps) (suc room) h = go (overlap ls p.first p.second) refl (of_made ps room h.1) (of_made ps (suc room) h.1)
       where
         go : (b : Bool) → overlap ls p.first p.second ≡ b → AllListed t (made ls ps room) → AllListed t (made ls ps (suc room)) → AllListed t (made ls (p ∷ ps) (suc room))
         go true e hit miss = rw (made_hit ls p ps room e) (h.0, hit)
@@ -102,4 +102,4 @@ module _ (t : Tables) where
 
     -- WHERE EACH PAIR WAS TESTED, of a batch from any bookmark, into outputs of any length
     pub handed_listed : (b room : ℕ) → AllListed t (handed ls (drop b (tests_of t)) room)
-    handed_listed b room = of_overlapping (made ls (drop b (tests_of t)) room) (of_made_lem (drop b (tests_of t)) room (after b (tests_of t) tests_listed))
+    handed_listed b room = of_overlapping (made ls (drop b (tests_of t)) room) (of_made (drop b (tests_of t)) room (after b (tests_of t) tests_listed))

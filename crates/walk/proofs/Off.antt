@@ -147,7 +147,7 @@ module _ (mode : Mode) where
 
   pub clear_complete : (g : Grid) (line : Segment) (s : List ℕ) (n : ℕ) → n ≤ length s → Clear g line → Complete s n (pushes_of mode g line (take n s))
   clear_complete g line s n l c =
-      completes mode g line None None (none_along (x_axis g) line.start_x line.end_x c.start_x_lem) (none_along (y_axis g) line.start_y line.end_y c.start_y_lem)
+      completes mode g line None None (none_along (x_axis g) line.start_x line.end_x c.start_x) (none_along (y_axis g) line.start_y line.end_y c.start_y)
       (nothing_covers None None g.cols (g.rows * g.cols) refl refl l)
-      (same (no_end g line.start_x line.start_y c.start_x_lem c.start_y_lem) (none l))
-      (same (no_end g line.end_x line.end_y c.end_x_lem c.end_y_lem) (none l))
+      (same (no_end g line.start_x line.start_y c.start_x c.start_y) (none l))
+      (same (no_end g line.end_x line.end_y c.end_x c.end_y) (none l))

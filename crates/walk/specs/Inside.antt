@@ -55,7 +55,7 @@ share_of mode g line =
 
 -- no coordinate of the line is on a boundary
 pub record Clear (g : Grid) (line : Segment) : Type 0 where
-  pub start_x_lem : side_on (x_axis g) line.start_x ≡ Off
-  pub start_y_lem : side_on (y_axis g) line.start_y ≡ Off
-  pub end_x_lem : side_on (x_axis g) line.end_x ≡ Off
-  pub end_y_lem : side_on (y_axis g) line.end_y ≡ Off
+  pub start_x : side_on (x_axis g) line.start_x ≡ Off
+  pub start_y : side_on (y_axis g) line.start_y ≡ Off
+  pub end_x : side_on (x_axis g) line.end_x ≡ Off
+  pub end_y : side_on (y_axis g) line.end_y ≡ Off

@@ -23,7 +23,7 @@ use Rattle.tables.specs.Fit.{ListsFit, TablesFit}
 use Rattle.tables.proofs.Facts.{not_true, all_within, part_slice}
 use Rattle.window.specs.Window.{within, in_block, some, listed}
 use Rattle.window.specs.Inside.{row_part, marked_rows, Block, LinesMarked}
-use Rattle.window.proofs.Marking.{rows_length_lem, rows_at}
+use Rattle.window.proofs.Marking.{rows_length, rows_at}
 use Rattle.window.proofs.Blocks.{some_says, within_says, rise, row_fits, row_lists, across, block_lists}
 
 -- ---- a row
@@ -130,7 +130,7 @@ module _ (g : Grid) (n : ℕ) (offsets items globals : List ℕ) (count : ℕ) (
     pub marked : (cols below : ℕ) (was now : List ℕ) → cols ≡ g.cols → below ≡ to + 1 → now ≡ marked_rows cols offsets items first last (below - from) from was
         → LinesMarked (listed g t w) was now
     unfolding listed in_block
-    marked cols below was now ec eb e = record { len = ap (λ (xs : List ℕ). length xs) same ∙ rows_length_lem g.cols offsets items first last (to + 1 - from) from was; at = each }
+    marked cols below was now ec eb e = record { len = ap (λ (xs : List ℕ). length xs) same ∙ rows_length g.cols offsets items first last (to + 1 - from) from was; at = each }
       where
         same : now ≡ marked_rows g.cols offsets items first last (to + 1 - from) from was
         same = e ∙ ap₂ (λ (c b : ℕ). marked_rows c offsets items first last (b - from) from was) ec eb

@@ -75,10 +75,10 @@ module _ (cols : ℕ) (offsets items : List ℕ) (first last : ℕ) where
   abbrev part : ℕ → List ℕ
   part = row_part cols offsets items first last
 
-  pub rows_length_lem : (left row : ℕ) (marks : List ℕ) → length (rows left row marks) ≡ length marks
+  pub rows_length : (left row : ℕ) (marks : List ℕ) → length (rows left row marks) ≡ length marks
   unfolding marked_rows
-  rows_length_lem zero row marks = refl
-  rows_length_lem (suc left) row marks = rows_length_lem left (suc row) (marked_with (part row) marks) ∙ marked_length (part row) marks
+  rows_length zero row marks = refl
+  rows_length (suc left) row marks = rows_length left (suc row) (marked_with (part row) marks) ∙ marked_length (part row) marks
 
   pub rows_at : (left row : ℕ) (marks : List ℕ) (i : ℕ) → i < length marks
       → get_or (rows left row marks) i 0 ≡ cond (any_from (λ r. elem i (part r)) left row) 1 (get_or marks i 0)

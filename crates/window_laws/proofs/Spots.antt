@@ -202,8 +202,8 @@ module _ (g : Grid) (ok : fit g ≡ true) (C : 0 < g.cols) (l : Segment) (p : pa
         row_in = least_below _ g.rows ((fit_says g ok).counts.alike C);
         col_in = least_below _ g.cols C;
         lists = spot_lists;
-        col_from = cell_from (x_axis g) (good_x g ok) hx l.start_x l.end_x k.start_x_lem k.end_x_lem v w Q;
-        col_to = cell_to (x_axis g) (good_x g ok) hx l.start_x l.end_x k.start_x_lem k.end_x_lem v w Q;
-        row_from = cell_from (y_axis g) (good_y g ok) hy l.start_y l.end_y k.start_y_lem k.end_y_lem v w Q;
-        row_to = cell_to (y_axis g) (good_y g ok) hy l.start_y l.end_y k.start_y_lem k.end_y_lem v w Q;
+        col_from = cell_from (x_axis g) (good_x g ok) hx l.start_x l.end_x k.start_x k.end_x v w Q;
+        col_to = cell_to (x_axis g) (good_x g ok) hx l.start_x l.end_x k.start_x k.end_x v w Q;
+        row_from = cell_from (y_axis g) (good_y g ok) hy l.start_y l.end_y k.start_y k.end_y v w Q;
+        row_to = cell_to (y_axis g) (good_y g ok) hy l.start_y l.end_y k.start_y k.end_y v w Q;
       }

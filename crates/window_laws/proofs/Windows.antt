@@ -63,10 +63,10 @@ use Rattle.window_laws.proofs.Found.{Meets, found, Answered, answered}
 -- ---- a point of a line, with the weights v and u of its ends, in a window
 
 record Known (l : Segment) : Type 0 where
-  start_x_lem : T (finite l.start_x)
-  start_y_lem : T (finite l.start_y)
-  end_x_lem : T (finite l.end_x)
-  end_y_lem : T (finite l.end_y)
+  start_x : T (finite l.start_x)
+  start_y : T (finite l.start_y)
+  end_x : T (finite l.end_x)
+  end_y : T (finite l.end_y)
 
 record PointIn (l : Segment) (w : Box) : Type 0 where
   known : Known l
@@ -134,18 +134,18 @@ module _ (l : Segment) (w : Box) (c : Window w) (p : PointIn l w) where
   unfolding in_order
   ordered =
       rw (
-        in_order_lem p.v p.u p.some l.start_x l.end_x w.min_x w.max_x p.known.start_x_lem p.known.end_x_lem min_x_fine max_x_fine p.from_x p.to_x,
-        in_order_lem p.v p.u p.some l.start_y l.end_y w.min_y w.max_y p.known.start_y_lem p.known.end_y_lem min_y_fine max_y_fine p.from_y p.to_y,
+        in_order_lem p.v p.u p.some l.start_x l.end_x w.min_x w.max_x p.known.start_x p.known.end_x min_x_fine max_x_fine p.from_x p.to_x,
+        in_order_lem p.v p.u p.some l.start_y l.end_y w.min_y w.max_y p.known.start_y p.known.end_y min_y_fine max_y_fine p.from_y p.to_y,
       )
 
   overlapping : overlaps (box_of l) w ≡ true
   unfolding overlaps box_of
   overlapping =
       rw (
-        below_most p.v p.u p.some l.start_x l.end_x w.min_x w.max_x p.known.start_x_lem p.known.end_x_lem min_x_fine max_x_fine p.from_x p.to_x,
-        above_least p.v p.u p.some l.start_x l.end_x w.min_x w.max_x p.known.start_x_lem p.known.end_x_lem min_x_fine max_x_fine p.from_x p.to_x,
-        below_most p.v p.u p.some l.start_y l.end_y w.min_y w.max_y p.known.start_y_lem p.known.end_y_lem min_y_fine max_y_fine p.from_y p.to_y,
-        above_least p.v p.u p.some l.start_y l.end_y w.min_y w.max_y p.known.start_y_lem p.known.end_y_lem min_y_fine max_y_fine p.from_y p.to_y,
+        below_most p.v p.u p.some l.start_x l.end_x w.min_x w.max_x p.known.start_x p.known.end_x min_x_fine max_x_fine p.from_x p.to_x,
+        above_least p.v p.u p.some l.start_x l.end_x w.min_x w.max_x p.known.start_x p.known.end_x min_x_fine max_x_fine p.from_x p.to_x,
+        below_most p.v p.u p.some l.start_y l.end_y w.min_y w.max_y p.known.start_y p.known.end_y min_y_fine max_y_fine p.from_y p.to_y,
+        above_least p.v p.u p.some l.start_y l.end_y w.min_y w.max_y p.known.start_y p.known.end_y min_y_fine max_y_fine p.from_y p.to_y,
       )
 
   -- ---- its cells meet the block
@@ -211,18 +211,18 @@ enters_in l w e =
     record {
       known =
           record {
-            start_x_lem = exact_finite l.start_x s.start_x e.n i.«start_x_lem»;
-            start_y_lem = exact_finite l.start_y s.start_y e.n i.«start_y_lem»;
-            end_x_lem = exact_finite l.end_x s.end_x e.n i.«end_x_lem»;
-            end_y_lem = exact_finite l.end_y s.end_y e.n i.«end_y_lem»;
+            start_x = exact_finite l.start_x s.start_x e.n i.«start_x»;
+            start_y = exact_finite l.start_y s.start_y e.n i.«start_y»;
+            end_x = exact_finite l.end_x s.end_x e.n i.«end_x»;
+            end_y = exact_finite l.end_y s.end_y e.n i.«end_y»;
           };
       v = e.q - e.a;
       u = e.a;
       some = weights e.q e.a e.some e.a_to;
-      from_x = before_whole e.n e.q e.a e.above e.a_to l.start_x l.end_x w.min_x s.start_x s.end_x t.start_x i.«start_x_lem» i.«end_x_lem» j.«start_x_lem» e.on_x_lem.from;
-      to_x = after_whole e.n e.q e.a e.above e.a_to l.start_x l.end_x w.max_x s.start_x s.end_x t.end_x i.«start_x_lem» i.«end_x_lem» j.«end_x_lem» e.on_x_lem.to;
-      from_y = before_whole e.n e.q e.a e.above e.a_to l.start_y l.end_y w.min_y s.start_y s.end_y t.start_y i.«start_y_lem» i.«end_y_lem» j.«start_y_lem» e.on_y_lem.from;
-      to_y = after_whole e.n e.q e.a e.above e.a_to l.start_y l.end_y w.max_y s.start_y s.end_y t.end_y i.«start_y_lem» i.«end_y_lem» j.«end_y_lem» e.on_y_lem.to;
+      from_x = before_whole e.n e.q e.a e.above e.a_to l.start_x l.end_x w.min_x s.start_x s.end_x t.start_x i.«start_x» i.«end_x» j.«start_x» e.on_x_lem.from;
+      to_x = after_whole e.n e.q e.a e.above e.a_to l.start_x l.end_x w.max_x s.start_x s.end_x t.end_x i.«start_x» i.«end_x» j.«end_x» e.on_x_lem.to;
+      from_y = before_whole e.n e.q e.a e.above e.a_to l.start_y l.end_y w.min_y s.start_y s.end_y t.start_y i.«start_y» i.«end_y» j.«start_y» e.on_y_lem.from;
+      to_y = after_whole e.n e.q e.a e.above e.a_to l.start_y l.end_y w.max_y s.start_y s.end_y t.end_y i.«start_y» i.«end_y» j.«end_y» e.on_y_lem.to;
     }
   where
     weights : (q a : ℕ) → 0 < q → a ≤ q → 0 < q - a + a
@@ -254,23 +254,23 @@ module _ (l : Segment) (w : Box) (c : Window w) (k : Known l) where
         v = 1;
         u = 0;
         some = lit< tt;
-        from_x = before_start l.start_x l.end_x w.min_x (coordinate_finite w.min_x c.min_x) k.start_x_lem i.from_x;
-        to_x = after_start l.start_x l.end_x w.max_x (coordinate_finite w.max_x c.max_x) k.start_x_lem i.to_x;
-        from_y = before_start l.start_y l.end_y w.min_y (coordinate_finite w.min_y c.min_y) k.start_y_lem i.from_y;
-        to_y = after_start l.start_y l.end_y w.max_y (coordinate_finite w.max_y c.max_y) k.start_y_lem i.to_y;
+        from_x = before_start l.start_x l.end_x w.min_x (coordinate_finite w.min_x c.min_x) k.start_x i.from_x;
+        to_x = after_start l.start_x l.end_x w.max_x (coordinate_finite w.max_x c.max_x) k.start_x i.to_x;
+        from_y = before_start l.start_y l.end_y w.min_y (coordinate_finite w.min_y c.min_y) k.start_y i.from_y;
+        to_y = after_start l.start_y l.end_y w.max_y (coordinate_finite w.max_y c.max_y) k.start_y i.to_y;
       }
 
-  end_in_lem : In w l.end_x l.end_y → PointIn l w
-  end_in_lem i =
+  end_in : In w l.end_x l.end_y → PointIn l w
+  end_in i =
       record {
         known = k;
         v = 0;
         u = 1;
         some = lit< tt;
-        from_x = before_end l.start_x l.end_x w.min_x (coordinate_finite w.min_x c.min_x) k.end_x_lem i.from_x;
-        to_x = after_end l.start_x l.end_x w.max_x (coordinate_finite w.max_x c.max_x) k.end_x_lem i.to_x;
-        from_y = before_end l.start_y l.end_y w.min_y (coordinate_finite w.min_y c.min_y) k.end_y_lem i.from_y;
-        to_y = after_end l.start_y l.end_y w.max_y (coordinate_finite w.max_y c.max_y) k.end_y_lem i.to_y;
+        from_x = before_end l.start_x l.end_x w.min_x (coordinate_finite w.min_x c.min_x) k.end_x i.from_x;
+        to_x = after_end l.start_x l.end_x w.max_x (coordinate_finite w.max_x c.max_x) k.end_x i.to_x;
+        from_y = before_end l.start_y l.end_y w.min_y (coordinate_finite w.min_y c.min_y) k.end_y i.from_y;
+        to_y = after_end l.start_y l.end_y w.max_y (coordinate_finite w.max_y c.max_y) k.end_y i.to_y;
       }
 
 -- the cell of an end that is in the window is in the block
@@ -347,7 +347,7 @@ module _ (plan : Plan) {ls : Lines} {o t gs s : List ℕ} {r : Built} {o' t' gs'
     known : Known line
     known =
         let k = line_known in
-        record { start_x_lem = coordinate_finite line.start_x k.0; start_y_lem = coordinate_finite line.start_y k.1; end_x_lem = coordinate_finite line.end_x k.2; end_y_lem = coordinate_finite line.end_y k.3 }
+        record { start_x = coordinate_finite line.start_x k.0; start_y = coordinate_finite line.start_y k.1; end_x = coordinate_finite line.end_x k.2; end_y = coordinate_finite line.end_y k.3 }
 
     by_turns_lem : turning plan.mode ≡ true → (elem (index_on (y_axis g) line.start_y * g.cols + index_on (x_axis g) line.start_x) (cells_on plan.mode g ls i) ≡ true) × (elem (index_on (y_axis g) line.end_y * g.cols + index_on (x_axis g) line.end_x) (cells_on plan.mode g ls i) ≡ true)
     by_turns_lem e = ends_listed plan.mode g line e columns ((fit_says g (grid_fits plan h ok).0).counts.alike columns) (cells_on plan.mode g ls i) cells_given
@@ -366,9 +366,9 @@ module _ (plan : Plan) {ls : Lines} {o t gs s : List ℕ} {r : Built} {o' t' gs'
       where
         go : (z : Bool) → turning plan.mode ≡ z → elem i (take n now) ≡ true
         go true e =
-            by_meeting (end_in_lem line w corners_fit known j)
+            by_meeting (end_in line w corners_fit known j)
             (end_meets g (grid_fits plan h ok).0 columns w corners_fit (cells_on plan.mode g ls i) line.end_x line.end_y line_known.2 line_known.3 j (by_turns_lem e).1)
-        go false e = by_covering e (end_in_lem line w corners_fit known j)
+        go false e = by_covering e (end_in line w corners_fit known j)
 
     one_end : has_end line w ≡ true → elem i (take n now) ≡ true
     unfolding has_end

@@ -77,9 +77,9 @@ members_complete (more {rest = rest} l r) at bs e =
 
 -- ---- the whole
 
-count_below_lem : (bs : List ℕ) → Small bs → 9 ≤ length bs → count_at 0 bs < 2 ^ 32
+count_below : (bs : List ℕ) → Small bs → 9 ≤ length bs → count_at 0 bs < 2 ^ 32
 unfolding count_at
-count_below_lem bs s l = at_below (order_at 0 bs) 4 5 bs s (omega arith)
+count_below bs s l = at_below (order_at 0 bs) 4 5 bs s (omega arith)
 
 multi_there : (bs : List ℕ) → Small bs → bs ≡ order_byte (order_at 0 bs) ∷ (word_bytes (order_at 0 bs) 4 5 ++ (word_bytes (order_at 0 bs) 4 (count_at 0 bs) ++ drop 9 bs))
     → 9 ≤ length bs → Members (drop 9 bs) (chains_at (count_at 0 bs) 9 bs) → MultiLineString bs (chains_at (count_at 0 bs) 9 bs)
@@ -90,7 +90,7 @@ multi_there bs s b l ms =
       order = order_at 0 bs;
       rest = drop 9 bs;
       bytes = b ∙ simp (n, append_assoc);
-      most = rw n (count_below_lem bs s l);
+      most = rw n (count_below bs s l);
       members = ms;
     }
 

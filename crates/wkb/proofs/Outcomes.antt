@@ -12,7 +12,7 @@ pub one_outcome : {bytes : List ℕ} {x y x' x₁ y' y₁ : List Float} {r r₁ 
     → ReadAs bytes x y r x' y' → ReadAs bytes x y r₁ x₁ y₁ → (r ≡ r₁) × (x' ≡ x₁) × (y' ≡ y₁)
 one_outcome h k = (h.answer ∙ sym k.answer, h.in_x ∙ sym k.in_x, h.in_y ∙ sym k.in_y)
 
-pub multi_outcome_lem : {bytes x y l x' x₁ y' y₁ l' l₁ : List ℕ} {r r₁ : MultiRead}
+pub multi_outcome : {bytes x y l x' x₁ y' y₁ l' l₁ : List ℕ} {r r₁ : MultiRead}
     → MultiReadAs bytes x y l r x' y' l' → MultiReadAs bytes x y l r₁ x₁ y₁ l₁ → (r ≡ r₁) × (x' ≡ x₁) × (y' ≡ y₁) × (l' ≡ l₁)
-multi_outcome_lem h k =
+multi_outcome h k =
     (h.answer ∙ sym k.answer, h.in_x ∙ sym k.in_x, h.in_y ∙ sym k.in_y, h.in_lengths ∙ sym k.in_lengths)

@@ -64,9 +64,9 @@ module _ (bs : List ℕ) (x₀ y₀ : List Float) (small : Small bs) where
     every = complete bs;
   }
 
-  pub read_lent_lem : (r : Refusal) → slices_check (length x₀) (length y₀) ≡ check.Refused r → ReadAs bs x₀ y₀ (Refused r) x₀ y₀
+  pub read_lent : (r : Refusal) → slices_check (length x₀) (length y₀) ≡ check.Refused r → ReadAs bs x₀ y₀ (Refused r) x₀ y₀
   unfolding outcome slices_check clears
-  read_lent_lem r e = none r (then_refused _ _ r e) ((clearing_unless (eqb (length x₀) (length y₀) && leb 1024 (length x₀)) 3 0 refl).says r e)
+  read_lent r e = none r (then_refused _ _ r e) ((clearing_unless (eqb (length x₀) (length y₀) && leb 1024 (length x₀)) 3 0 refl).says r e)
 
   module _ (h : slices_check (length x₀) (length y₀) ≡ check.Fine) where
     finds : outcome (length x₀) (length y₀) bs ≡ found bs

@@ -17,18 +17,18 @@ held : (c : tie.After-enum-told) → let a = c.before.before.before.before.befor
 held c = sym c.before.before.check-held.ensures ∙ c.enum_told.given.1
 
 -- the outputs have room
-lent : (c : tie.After-enum-told2) → let a = c.before.before.before.before.before.before.before.before.before.before.before.before.before.before.before.before.before.args in kept_room_check (length a.x.now) (outputs a.kept-x.now a.kept-y.now a.kept_lengths_lem.now a.reasons.now) ≡ Fine
+lent : (c : tie.After-enum-told2) → let a = c.before.before.before.before.before.before.before.before.before.before.before.before.before.before.before.before.before.args in kept_room_check (length a.x.now) (outputs a.kept-x.now a.kept-y.now a.kept_lengths.now a.reasons.now) ≡ Fine
 lent c = sym c.before.before.check-outputs.ensures ∙ c.enum-told2.given.1
 
 returns : tie.Need-returns
 returns c =
     let a = c.before.before.before.before.before.before.before.before.before.before.before.args in
-    clean_held a.x.now a.y.now a.lengths.now (outputs a.kept-x.now a.kept-y.now a.kept_lengths_lem.now a.reasons.now) _ (sym c.before.before.before.check-held.ensures ∙ c.before.held.given.1)
+    clean_held a.x.now a.y.now a.lengths.now (outputs a.kept-x.now a.kept-y.now a.kept_lengths.now a.reasons.now) _ (sym c.before.before.before.check-held.ensures ∙ c.before.held.given.1)
 
 returns_2 : tie.Need-returns-2
 returns_2 c =
     let a = c.before.before.before.before.before.before.before.before.before.before.before.before.before.before.before.before.before.before.args in
-    clean_lent a.x.now a.y.now a.lengths.now (outputs a.kept-x.now a.kept-y.now a.kept_lengths_lem.now a.reasons.now) (held c.before.before.before.before.before.before.before.before) _ (sym c.before.before.before.check-outputs.ensures ∙ c.before.room.given.1)
+    clean_lent a.x.now a.y.now a.lengths.now (outputs a.kept-x.now a.kept-y.now a.kept_lengths.now a.reasons.now) (held c.before.before.before.before.before.before.before.before) _ (sym c.before.before.before.check-outputs.ensures ∙ c.before.room.given.1)
 
 mark_members_requires : tie.Need-mark-members-requires
 mark_members_requires c κs = (held c.before.before.before.before.before.before.before.before.before, room_of (lent_says _ _ (lent c.before.before)))
@@ -47,7 +47,7 @@ put_kept_requires_2 c κs =
 returns_3 : tie.Need-returns-3
 returns_3 c =
     let a = c.before.before.before.before.before.before.before.before.before.before.before.before.before.before.before.before.before.before.before.before.before.before.before.before.before.before.before.before.before.before.before.before.before.before.args in
-    clean_all a.x.now a.y.now a.lengths.now (outputs a.kept-x.now a.kept-y.now a.kept_lengths_lem.now a.reasons.now) (held c.before.before.before.before.before.before.before.before.before.before.before.before.before.before.before.before.before.before.before.before.before.before.before.before) (lent c.before.before.before.before.before.before.before.before.before.before.before.before.before.before.before.before.before) c.before.before.before.before.before.before.before.before.before.before.before.before.before.before.mark-members.ensures c.before.before.before.before.before.before.before.put-kept.ensures c.before.before.put-kept2.ensures
+    clean_all a.x.now a.y.now a.lengths.now (outputs a.kept-x.now a.kept-y.now a.kept_lengths.now a.reasons.now) (held c.before.before.before.before.before.before.before.before.before.before.before.before.before.before.before.before.before.before.before.before.before.before.before.before) (lent c.before.before.before.before.before.before.before.before.before.before.before.before.before.before.before.before.before) c.before.before.before.before.before.before.before.before.before.before.before.before.before.before.mark-members.ensures c.before.before.before.before.before.before.before.put-kept.ensures c.before.before.put-kept2.ensures
 
 pub clean_spec : {M : Type 1} → statement M
 clean_spec =

@@ -11,7 +11,7 @@ use Rattle.once.proofs.pairs_once.Tie as tie
 returns : tie.Need-returns
 returns c =
     let a = c.before.before.before.before.before.before.before.before.before.before.before.before.before.before.before.before.before.before.before.before.before.before.before.before.before.before.args in
-    let ls = lines a.start_x_lem.now a.start_y_lem.now a.end_x_lem.now a.end_y_lem.now in
+    let ls = lines a.start_x.now a.start_y.now a.end_x.now a.end_y.now in
     once_stopped ls a.grid a.offsets.now a.items.now a.globals.now a.global-count a.first.now a.second.now a.starts.now a.listing.now a.counts.now c.before.before.before.before.before.before.before.before.before.before.before.before.before.check-lines.ensures c.before.before.before.before.before.before.before.before.before.begin.ensures _ c.before.begun.given.1
 
 run_requires : tie.Need-run-requires
@@ -38,7 +38,7 @@ same_length_8 c = c.before.before.before.before.before.before.before.before.befo
 returns_2 : tie.Need-returns-2
 returns_2 c =
     let a = c.before.before.before.before.before.before.before.before.before.before.before.before.before.before.before.before.before.before.before.before.before.before.before.before.before.before.before.before.before.before.before.before.before.before.before.before.before.before.before.before.before.before.before.before.before.before.before.before.before.before.before.before.before.args in
-    let ls = lines a.start_x_lem.now a.start_y_lem.now a.end_x_lem.now a.end_y_lem.now in
+    let ls = lines a.start_x.now a.start_y.now a.end_x.now a.end_y.now in
     let w = c.before.before.before.before.before.before.before.before.before.before.before.before.before.before.before.before.before.before.before.before.before.before.before.before.before.before.before.before.before.before.before.before.before.before.before.before.begin in
     let v = c.before.before.before.before.before.before.before.before.before.before.before.before.before.before.before.before.before.before.before.before.before.before.run in
     once_done ls a.grid a.offsets.now a.items.now a.globals.now a.global-count a.first.now a.second.now a.starts.now a.listing.now a.counts.now c.before.before.before.before.before.before.before.before.before.before.before.before.before.before.before.before.before.before.before.before.before.before.before.before.before.before.before.before.before.before.before.before.before.before.before.before.before.before.before.before.check-lines.ensures w.ensures c.before.before.before.before.before.before.before.before.before.before.before.before.before.before.before.before.before.before.before.before.before.before.before.before.before.before.before.before.enum_told.given.1 v.ensures w.auto.1.1.1.1.1.1.1.1.1.0 w.auto.1.1.1.1.1.1.1.1.1.1.0 (v.auto.1.1.1.1.1.1.1.1.1.1.1.0 ∙ w.auto.1.1.1.1.1.1.1.1.1.1.1.0) c.before.before.before.before.before.before.before.before.before.before.finish.ensures

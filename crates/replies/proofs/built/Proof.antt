@@ -12,7 +12,7 @@ use Rattle.replies.proofs.built.Statement.{statement}
 use Rattle.replies.proofs.built.Tie as tie
 
 -- the patterns of the grid's floats, as they were found
-of_grid_lem : (t : Standing) (p q w h : ℕ) → p ≡ toBits binary64 t.grid.min_x → q ≡ toBits binary64 t.grid.min_y → w ≡ toBits binary64 t.grid.cell_width
+of_grid : (t : Standing) (p q w h : ℕ) → p ≡ toBits binary64 t.grid.min_x → q ≡ toBits binary64 t.grid.min_y → w ≡ toBits binary64 t.grid.cell_width
     → h ≡ toBits binary64 t.grid.cell_height →
     success (p ∷ q ∷ w ∷ h ∷ t.grid.cols ∷ t.grid.rows ∷ t.items ∷ t.globals ∷ [])
     ≡ success
@@ -25,7 +25,7 @@ of_grid_lem : (t : Standing) (p q w h : ℕ) → p ≡ toBits binary64 t.grid.mi
     ∷ t.items
     ∷ t.globals
     ∷ [])
-of_grid_lem t p q w h a b c d = rw (a, b, c, d)
+of_grid t p q w h a b c d = rw (a, b, c, d)
 
 returns : tie.Need-returns
 returns c = short_replies 8 _ _ c.if1.true
@@ -34,7 +34,7 @@ returns_2 : tie.Need-returns-2
 unfolding of_built
 returns_2 c =
     handed 8 c.before.before.before.before.before.before.before.before.before.before.before.before.before.before.if1.false
-    (of_grid_lem _ _ _ _ _ c.before.before.before.before.before.before.before.before.before.to-bits.ensures c.before.before.before.before.before.before.before.before.to-bits2.ensures c.before.before.before.before.before.before.before.to-bits3.ensures c.before.before.before.before.before.before.to-bits4.ensures
+    (of_grid _ _ _ _ _ c.before.before.before.before.before.before.before.before.before.to-bits.ensures c.before.before.before.before.before.before.before.before.to-bits2.ensures c.before.before.before.before.before.before.before.to-bits3.ensures c.before.before.before.before.before.before.to-bits4.ensures
     ∙ ap of_built (sym c.before.before.before.before.before.before.before.before.before.before.before.before.answer.given.1))
     c.before.before.eight.ensures
 

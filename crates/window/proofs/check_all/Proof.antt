@@ -10,21 +10,21 @@ use Rattle.window.proofs.check_all.Tie as tie
 returns : tie.Need-returns
 returns c =
     let a = c.before.before.before.before.before.before.before.before.before.before.before.args in
-    let ls = lines a.start_x_lem.now a.start_y_lem.now a.end_x_lem.now a.end_y_lem.now in
+    let ls = lines a.start_x.now a.start_y.now a.end_x.now a.end_y.now in
     let t = beside ls a.grid a.offsets.now a.items.now a.globals.now a.global-count in
     lines_refused ls a.grid t a.window _ (sym c.before.before.before.check-lines.ensures ∙ c.before.lines.given.1)
 
 returns_2 : tie.Need-returns-2
 returns_2 c =
     let a = c.before.before.before.before.before.before.before.before.before.before.before.before.before.before.args in
-    let ls = lines a.start_x_lem.now a.start_y_lem.now a.end_x_lem.now a.end_y_lem.now in
+    let ls = lines a.start_x.now a.start_y.now a.end_x.now a.end_y.now in
     let t = beside ls a.grid a.offsets.now a.items.now a.globals.now a.global-count in
     window_refused ls a.grid t a.window _ (sym c.before.before.before.before.before.before.check-lines.ensures ∙ c.before.before.before.before.enum_told.given.1) (sym c.before.before.before.check-window.ensures ∙ c.before.corners.given.1)
 
 returns_3 : tie.Need-returns-3
 returns_3 c =
     let a = c.before.before.before.before.before.before.before.before.before.before.before.before.before.before.args in
-    let ls = lines a.start_x_lem.now a.start_y_lem.now a.end_x_lem.now a.end_y_lem.now in
+    let ls = lines a.start_x.now a.start_y.now a.end_x.now a.end_y.now in
     let t = beside ls a.grid a.offsets.now a.items.now a.globals.now a.global-count in
     c.check-tables.ensures ∙ tables_checked ls a.grid t a.window (sym c.before.before.before.before.before.before.check-lines.ensures ∙ c.before.before.before.before.enum_told.given.1) (sym c.before.before.before.check-window.ensures ∙ c.before.enum-told2.given.1) refl
 

@@ -14,7 +14,7 @@ slice_aggregate_mark_list_2 c = sym (length-take-le _ _ c.before.before.before.b
 mark_list_requires : tie.Need-mark-list-requires
 mark_list_requires c κs =
     let a = c.before.before.before.before.before.before.before.before.before.before.args in
-    let ls = lines a.start_x_lem.now a.start_y_lem.now a.end_x_lem.now a.end_y_lem.now in
+    let ls = lines a.start_x.now a.start_y.now a.end_x.now a.end_y.now in
     let t = beside ls a.grid a.offsets.now a.items.now a.globals.now a.global-count in
     let h = c.before.before.before.before.before.before.before.before.before.before.requires.0 in
     globals_below t h.tables_fit_lem _ (fresh_few _ _ fresh h.few)
@@ -22,7 +22,7 @@ mark_list_requires c κs =
 mark_block_requires : tie.Need-mark-block-requires
 mark_block_requires c κs =
     let a = c.before.before.before.before.before.before.before.before.before.before.before.before.before.args in
-    let ls = lines a.start_x_lem.now a.start_y_lem.now a.end_x_lem.now a.end_y_lem.now in
+    let ls = lines a.start_x.now a.start_y.now a.end_x.now a.end_y.now in
     let t = beside ls a.grid a.offsets.now a.items.now a.globals.now a.global-count in
     let h = c.before.before.before.before.before.before.before.before.before.before.before.before.before.requires.0 in
     (h.grid_fit, (h.tables_fit_lem, mid_enough ls a.grid t a.window h.few _ _ fresh c.before.before.mark-list.ensures))
@@ -30,7 +30,7 @@ mark_block_requires c κs =
 write_lines_requires : tie.Need-write-lines-requires
 write_lines_requires c κs =
     let a = c.before.before.before.before.before.before.before.before.before.before.before.before.before.before.before.before.before.args in
-    let ls = lines a.start_x_lem.now a.start_y_lem.now a.end_x_lem.now a.end_y_lem.now in
+    let ls = lines a.start_x.now a.start_y.now a.end_x.now a.end_y.now in
     let t = beside ls a.grid a.offsets.now a.items.now a.globals.now a.global-count in
     let h = c.before.before.before.before.before.before.before.before.before.before.before.before.before.before.before.before.before.requires.0 in
     record { alike = h.alike; few = h.few; room = marks_enough ls a.grid t a.window h.few _ _ fresh c.before.before.before.before.before.before.mark-list.ensures _ c.before.before.before.mark-block.ensures }
@@ -38,7 +38,7 @@ write_lines_requires c κs =
 returns : tie.Need-returns
 returns c =
     let a = c.before.before.before.before.before.before.before.before.before.before.before.before.before.before.before.before.before.before.before.before.args in
-    let ls = lines a.start_x_lem.now a.start_y_lem.now a.end_x_lem.now a.end_y_lem.now in
+    let ls = lines a.start_x.now a.start_y.now a.end_x.now a.end_y.now in
     let t = beside ls a.grid a.offsets.now a.items.now a.globals.now a.global-count in
     let h = c.before.before.before.before.before.before.before.before.before.before.before.before.before.before.before.before.before.before.before.before.requires.0 in
     met_all ls a.grid t a.window h.few _ _ fresh c.before.before.before.before.before.before.before.before.before.mark-list.ensures _ c.before.before.before.before.before.before.mark-block.ensures c.before.before.before.before.before.before.before.before.before.before.before.before.before.before.before.before.before.before.before.before.requires.1 _ _ _ c.before.before.write-lines.ensures

@@ -8,7 +8,7 @@ use Rattle.wkb.specs.Reading.{slices_check}
 use Rattle.wkb.specs.Inside.{LineAt}
 use Rattle.wkb.proofs.Words.{Small, small_of}
 use Rattle.wkb.proofs.Looks.{lined, line_faulted}
-use Rattle.wkb.proofs.Readings.{slices_fine, found_fault, found_more, found_line, read_lent_lem, read_none, read_all}
+use Rattle.wkb.proofs.Readings.{slices_fine, found_fault, found_more, found_line, read_lent, read_none, read_all}
 use Rattle.wkb.proofs.read_line_string.Statement.{statement}
 use Rattle.wkb.proofs.read_line_string.Tie as tie
 
@@ -27,7 +27,7 @@ line c = lined c.before.before.before.check-line.ensures c.before.order.given.1
 returns : tie.Need-returns
 returns c =
     let a = c.before.before.before.before.before.before.before.args in
-    read_lent_lem a.bytes.now a.x.now a.y.now (small c.before.before.before.before.before.before) _ (sym c.before.before.before.check-slices.ensures ∙ c.before.lent.given.1)
+    read_lent a.bytes.now a.x.now a.y.now (small c.before.before.before.before.before.before) _ (sym c.before.before.before.check-slices.ensures ∙ c.before.lent.given.1)
 
 returns_2 : tie.Need-returns-2
 returns_2 c =

@@ -8,11 +8,11 @@ use Rattle.build.proofs.choose.build_some.Statement.{statement}
 use Rattle.build.proofs.choose.build_some.Tie as tie
 
 abbrev invariant_loop : tie.invariant_loop
-invariant_loop start_x_lem start_y_lem end_x_lem end_y_lem offsets₀ items₀ globals₀ scratch₀ extent mode size₀ left₀ offsets items globals scratch size left =
-    Choosing mode (lines start_x_lem start_y_lem end_x_lem end_y_lem) offsets₀ items₀ globals₀ scratch₀ extent size₀ offsets items globals scratch size left
+invariant_loop start_x start_y end_x end_y offsets₀ items₀ globals₀ scratch₀ extent mode size₀ left₀ offsets items globals scratch size left =
+    Choosing mode (lines start_x start_y end_x end_y) offsets₀ items₀ globals₀ scratch₀ extent size₀ offsets items globals scratch size left
 
 abbrev decreases_loop : tie.decreases_loop
-decreases_loop start_x_lem start_y_lem end_x_lem end_y_lem offsets₀ items₀ globals₀ scratch₀ extent mode size₀ left₀ offsets items globals scratch size left =
+decreases_loop start_x start_y end_x end_y offsets₀ items₀ globals₀ scratch₀ extent mode size₀ left₀ offsets items globals scratch size left =
     left
 
 loop_holds : tie.Need-loop-init invariant_loop decreases_loop

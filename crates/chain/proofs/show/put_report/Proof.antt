@@ -16,7 +16,7 @@ returns c =
     let s = c.before.before.before.before.before.before.before.before.before.before.before.before.before.before.before in
     rw (← s.before.before.before.to-bits.ensures, ← s.before.before.to-bits2.ensures)
     (puts_then s.grid-line.ensures
-    (puts_then c.before.before.before.before.before.before.before.before.before.before.before.put-cells.ensures (puts_then c.before.before.before.before.before.before.global_line_lem.ensures c.before.before.visit-line.ensures)))
+    (puts_then c.before.before.before.before.before.before.before.before.before.before.before.put-cells.ensures (puts_then c.before.before.before.before.before.before.global_line.ensures c.before.before.visit-line.ensures)))
 
 pub put_report_spec : {M : Type 1} → statement M
 put_report_spec =

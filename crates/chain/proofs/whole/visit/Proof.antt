@@ -11,34 +11,34 @@ use Rattle.chain.proofs.whole.visit.Statement.{statement}
 use Rattle.chain.proofs.whole.visit.Tie as tie
 
 abbrev invariant_loop : tie.invariant_loop
-invariant_loop start_x_lem start_y_lem end_x_lem end_y_lem grid offsets items globals global-count tests₀ overlaps₀ tests overlaps =
-    Visiting (lines start_x_lem start_y_lem end_x_lem end_y_lem) (beside (lines start_x_lem start_y_lem end_x_lem end_y_lem) grid offsets items globals global-count) tests overlaps
+invariant_loop start_x start_y end_x end_y grid offsets items globals global-count tests₀ overlaps₀ tests overlaps =
+    Visiting (lines start_x start_y end_x end_y) (beside (lines start_x start_y end_x end_y) grid offsets items globals global-count) tests overlaps
 
 abbrev decreases_loop : tie.decreases_loop
-decreases_loop start_x_lem start_y_lem end_x_lem end_y_lem grid offsets items globals global-count tests₀ overlaps₀ tests overlaps =
-    length (tests_of (beside (lines start_x_lem start_y_lem end_x_lem end_y_lem) grid offsets items globals global-count)) - tests
+decreases_loop start_x start_y end_x end_y grid offsets items globals global-count tests₀ overlaps₀ tests overlaps =
+    length (tests_of (beside (lines start_x start_y end_x end_y) grid offsets items globals global-count)) - tests
 
 loop_holds : tie.Need-loop-init invariant_loop decreases_loop
 loop_holds c = visiting_none _ _
 
 returns : tie.Need-returns invariant_loop decreases_loop
 returns c =
-    visit_refused _ _ _ _ _ _ c.before.before.before.batch_from_lem.ensures c.before.before.before.before.loop.invariant c.before.answer.given.0.0 c.before.answer.given.1
+    visit_refused _ _ _ _ _ _ c.before.before.before.batch_from.ensures c.before.before.before.before.loop.invariant c.before.answer.given.0.0 c.before.answer.given.1
 
 returns_2 : tie.Need-returns-2 invariant_loop decreases_loop
 returns_2 c =
-    visit_counted _ _ _ _ _ _ c.before.before.before.before.before.batch_from_lem.ensures c.before.before.before.before.before.before.loop.invariant c.before.before.before.answer2.given.0.0 c.before.before.before.answer2.given.1 c.if1.true
+    visit_counted _ _ _ _ _ _ c.before.before.before.before.before.batch_from.ensures c.before.before.before.before.before.before.loop.invariant c.before.before.before.answer2.given.0.0 c.before.before.before.answer2.given.1 c.if1.true
 
 add_overlaps : tie.Need-overflow-add-overlaps invariant_loop decreases_loop
 add_overlaps c =
-    let f = visiting_few _ _ _ _ c.before.before.before.before.answer2.given.0.0 (visit_tally _ _ _ _ _ _ c.before.before.before.before.before.before.batch_from_lem.ensures c.before.before.before.before.before.before.before.loop.invariant c.before.before.before.before.answer2.given.0.0 c.before.before.before.before.answer2.given.1) c.before.before.before.before.before.before.before.loop.invariant in
+    let f = visiting_few _ _ _ _ c.before.before.before.before.answer2.given.0.0 (visit_tally _ _ _ _ _ _ c.before.before.before.before.before.before.batch_from.ensures c.before.before.before.before.before.before.before.loop.invariant c.before.before.before.before.answer2.given.0.0 c.before.before.before.before.answer2.given.1) c.before.before.before.before.before.before.before.loop.invariant in
     omega (arith, c.struct-known2.given)
 
 loop_less : tie.Need-loop-smaller invariant_loop decreases_loop
-loop_less c = visiting_less _ _ _ _ c.before.before.before.before.answer2.given.0.0 (visit_tally _ _ _ _ _ _ c.before.before.before.before.before.before.batch_from_lem.ensures c.before.before.before.before.before.before.before.loop.invariant c.before.before.before.before.answer2.given.0.0 c.before.before.before.before.answer2.given.1) c.before.before.before.before.before.before.before.loop.invariant c.before.if1.false
+loop_less c = visiting_less _ _ _ _ c.before.before.before.before.answer2.given.0.0 (visit_tally _ _ _ _ _ _ c.before.before.before.before.before.before.batch_from.ensures c.before.before.before.before.before.before.before.loop.invariant c.before.before.before.before.answer2.given.0.0 c.before.before.before.before.answer2.given.1) c.before.before.before.before.before.before.before.loop.invariant c.before.if1.false
 
 loop_again : tie.Need-loop-preserved invariant_loop decreases_loop
-loop_again c = visiting_more _ _ _ _ c.before.before.before.before.answer2.given.0.0 (visit_tally _ _ _ _ _ _ c.before.before.before.before.before.before.batch_from_lem.ensures c.before.before.before.before.before.before.before.loop.invariant c.before.before.before.before.answer2.given.0.0 c.before.before.before.before.answer2.given.1) c.before.before.before.before.before.before.before.loop.invariant
+loop_again c = visiting_more _ _ _ _ c.before.before.before.before.answer2.given.0.0 (visit_tally _ _ _ _ _ _ c.before.before.before.before.before.before.batch_from.ensures c.before.before.before.before.before.before.before.loop.invariant c.before.before.before.before.answer2.given.0.0 c.before.before.before.before.answer2.given.1) c.before.before.before.before.before.before.before.loop.invariant
 
 pub visit_spec : {M : Type 1} → statement M
 visit_spec =

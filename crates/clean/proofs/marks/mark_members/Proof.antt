@@ -12,10 +12,10 @@ use Rattle.clean.proofs.marks.mark_members.Statement.{statement}
 use Rattle.clean.proofs.marks.mark_members.Tie as tie
 
 abbrev invariant_loop : tie.invariant_loop
-invariant_loop x y lengths reasons₀ kept-lengths₀ at₀ from₀ k₀ reasons kept_lengths_lem at from k = Walked x y lengths reasons₀ kept-lengths₀ reasons kept_lengths_lem at from k
+invariant_loop x y lengths reasons₀ kept-lengths₀ at₀ from₀ k₀ reasons kept_lengths at from k = Walked x y lengths reasons₀ kept-lengths₀ reasons kept_lengths at from k
 
 abbrev decreases_loop : tie.decreases_loop
-decreases_loop x y lengths reasons₀ kept-lengths₀ at₀ from₀ k₀ reasons kept_lengths_lem at from k = length lengths - k
+decreases_loop x y lengths reasons₀ kept-lengths₀ at₀ from₀ k₀ reasons kept_lengths at from k = length lengths - k
 
 loop_holds : tie.Need-loop-init invariant_loop decreases_loop
 loop_holds c = let p = c.before.before.before.before.before.requires in walked_none (held_says _ _ _ p.0) p.1

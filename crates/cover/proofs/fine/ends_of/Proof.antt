@@ -6,16 +6,16 @@ use Rattle.cover.proofs.fine.ends_of.Statement.{statement}
 use Rattle.cover.proofs.fine.ends_of.Tie as tie
 
 fine_requires : tie.Need-fine-requires
-fine_requires c κs = near_by _ c.x-axis.ensures (passes_says _ _ c.before.requires).start_x_lem
+fine_requires c κs = near_by _ c.x-axis.ensures (passes_says _ _ c.before.requires).start_x
 
 fine_requires_2 : tie.Need-fine-requires-2
-fine_requires_2 c κs = near_by _ c.y-axis.ensures (passes_says _ _ c.before.before.before.requires).start_y_lem
+fine_requires_2 c κs = near_by _ c.y-axis.ensures (passes_says _ _ c.before.before.before.requires).start_y
 
 fine_requires_3 : tie.Need-fine-requires-3
-fine_requires_3 c κs = near_by _ c.x-axis2.ensures (passes_says _ _ c.before.before.before.before.before.requires).end_x_lem
+fine_requires_3 c κs = near_by _ c.x-axis2.ensures (passes_says _ _ c.before.before.before.before.before.requires).end_x
 
 fine_requires_4 : tie.Need-fine-requires-4
-fine_requires_4 c κs = near_by _ c.y-axis2.ensures (passes_says _ _ c.before.before.before.before.before.before.before.requires).end_y_lem
+fine_requires_4 c κs = near_by _ c.y-axis2.ensures (passes_says _ _ c.before.before.before.before.before.before.before.requires).end_y
 
 returns : tie.Need-returns
 returns c =

@@ -12,11 +12,11 @@ use Rattle.crossings.proofs.globals.scan_global.Statement.{statement}
 use Rattle.crossings.proofs.globals.scan_global.Tie as tie
 
 abbrev invariant_loop : tie.invariant_loop
-invariant_loop n p globals start_x_lem start_y_lem end_x_lem end_y_lem starts listing counts first₀ second₀ hits row hits₀ k₀ q₀ first second hits' k q =
-    let ss = samples start_x_lem start_y_lem end_x_lem end_y_lem in RaisedHeld ss row (Runs (shares ss) (sample_count ss) n p globals starts listing counts row.first first₀ second₀ hits first second hits' k q)
+invariant_loop n p globals start_x start_y end_x end_y starts listing counts first₀ second₀ hits row hits₀ k₀ q₀ first second hits' k q =
+    let ss = samples start_x start_y end_x end_y in RaisedHeld ss row (Runs (shares ss) (sample_count ss) n p globals starts listing counts row.first first₀ second₀ hits first second hits' k q)
 
 abbrev decreases_loop : tie.decreases_loop
-decreases_loop n p globals start_x_lem start_y_lem end_x_lem end_y_lem starts listing counts first₀ second₀ hits row hits₀ k₀ q₀ first second hits' k q =
+decreases_loop n p globals start_x start_y end_x end_y starts listing counts first₀ second₀ hits row hits₀ k₀ q₀ first second hits' k q =
     (p + 1) - q
 
 mul_row_of : tie.Need-overflow-mul-row-of invariant_loop decreases_loop

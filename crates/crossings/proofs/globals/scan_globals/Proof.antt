@@ -8,11 +8,11 @@ use Rattle.crossings.proofs.globals.scan_globals.Statement.{statement}
 use Rattle.crossings.proofs.globals.scan_globals.Tie as tie
 
 abbrev invariant_loop : tie.invariant_loop
-invariant_loop n globals global-count start_x_lem start_y_lem end_x_lem end_y_lem starts listing counts first₀ second₀ hits hits₀ p₀ first second hits' p =
-    let ss = samples start_x_lem start_y_lem end_x_lem end_y_lem in (Globals (shares ss) (sample_count ss) n globals global-count starts listing counts first₀ second₀ hits first second hits' p)
+invariant_loop n globals global-count start_x start_y end_x end_y starts listing counts first₀ second₀ hits hits₀ p₀ first second hits' p =
+    let ss = samples start_x start_y end_x end_y in (Globals (shares ss) (sample_count ss) n globals global-count starts listing counts first₀ second₀ hits first second hits' p)
 
 abbrev decreases_loop : tie.decreases_loop
-decreases_loop n globals global-count start_x_lem start_y_lem end_x_lem end_y_lem starts listing counts first₀ second₀ hits hits₀ p₀ first second hits' p =
+decreases_loop n globals global-count start_x start_y end_x end_y starts listing counts first₀ second₀ hits hits₀ p₀ first second hits' p =
     global-count - p
 
 loop_holds : tie.Need-loop-init invariant_loop decreases_loop

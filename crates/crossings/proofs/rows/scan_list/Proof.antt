@@ -13,12 +13,12 @@ use Rattle.crossings.proofs.rows.scan_list.Statement.{statement}
 use Rattle.crossings.proofs.rows.scan_list.Tie as tie
 
 abbrev invariant_loop : tie.invariant_loop
-invariant_loop row mark list marks start_x_lem start_y_lem end_x_lem end_y_lem starts listing counts first₀ second₀ hits hits₀ j₀ first second hits' j =
-    let ss = samples start_x_lem start_y_lem end_x_lem end_y_lem in
+invariant_loop row mark list marks start_x start_y end_x end_y starts listing counts first₀ second₀ hits hits₀ j₀ first second hits' j =
+    let ss = samples start_x start_y end_x end_y in
     RaisedHeld ss row (MarkScan (shares ss) (sample_count ss) row.first mark row.sure list marks starts listing counts first₀ second₀ hits first second hits' j)
 
 abbrev decreases_loop : tie.decreases_loop
-decreases_loop row mark list marks start_x_lem start_y_lem end_x_lem end_y_lem starts listing counts first₀ second₀ hits hits₀ j₀ first second hits' j =
+decreases_loop row mark list marks start_x start_y end_x end_y starts listing counts first₀ second₀ hits hits₀ j₀ first second hits' j =
     length list - j
 
 loop_holds : tie.Need-loop-init invariant_loop decreases_loop

@@ -9,11 +9,11 @@ use Rattle.fill.proofs.passes.count_lines.Statement.{statement}
 use Rattle.fill.proofs.passes.count_lines.Tie as tie
 
 abbrev invariant_loop : tie.invariant_loop
-invariant_loop mode start_x_lem start_y_lem end_x_lem end_y_lem grid offsets₀ scratch₀ globals₀ i₀ offsets scratch globals i =
-    CountingAll mode grid (lines start_x_lem start_y_lem end_x_lem end_y_lem) offsets₀ scratch₀ offsets scratch globals i
+invariant_loop mode start_x start_y end_x end_y grid offsets₀ scratch₀ globals₀ i₀ offsets scratch globals i =
+    CountingAll mode grid (lines start_x start_y end_x end_y) offsets₀ scratch₀ offsets scratch globals i
 
 abbrev decreases_loop : tie.decreases_loop
-decreases_loop mode start_x_lem start_y_lem end_x_lem end_y_lem grid offsets₀ scratch₀ globals₀ i₀ offsets scratch globals i = length start_x_lem - i
+decreases_loop mode start_x start_y end_x end_y grid offsets₀ scratch₀ globals₀ i₀ offsets scratch globals i = length start_x - i
 
 loop_holds : tie.Need-loop-init invariant_loop decreases_loop
 loop_holds c = counting_all c.before.before.before.before.before.before.requires

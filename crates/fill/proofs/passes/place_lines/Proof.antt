@@ -8,12 +8,12 @@ use Rattle.fill.proofs.passes.place_lines.Statement.{statement}
 use Rattle.fill.proofs.passes.place_lines.Tie as tie
 
 abbrev invariant_loop : tie.invariant_loop
-invariant_loop mode start_x_lem start_y_lem end_x_lem end_y_lem grid offsets₀ items₀ globals₀ scratch₀ found₀ i₀ offsets items globals scratch found i =
-    PlacingAll mode grid (lines start_x_lem start_y_lem end_x_lem end_y_lem) offsets₀ items₀ globals₀ scratch₀ offsets items globals scratch found i
+invariant_loop mode start_x start_y end_x end_y grid offsets₀ items₀ globals₀ scratch₀ found₀ i₀ offsets items globals scratch found i =
+    PlacingAll mode grid (lines start_x start_y end_x end_y) offsets₀ items₀ globals₀ scratch₀ offsets items globals scratch found i
 
 abbrev decreases_loop : tie.decreases_loop
-decreases_loop mode start_x_lem start_y_lem end_x_lem end_y_lem grid offsets₀ items₀ globals₀ scratch₀ found₀ i₀ offsets items globals scratch found i =
-    length start_x_lem - i
+decreases_loop mode start_x start_y end_x end_y grid offsets₀ items₀ globals₀ scratch₀ found₀ i₀ offsets items globals scratch found i =
+    length start_x - i
 
 loop_holds : tie.Need-loop-init invariant_loop decreases_loop
 loop_holds c = placing_all c.before.before.before.before.before.before.before.before.requires

@@ -9,10 +9,10 @@ use Rattle.grid.proofs.checks.all_obey.Statement.{statement}
 use Rattle.grid.proofs.checks.all_obey.Tie as tie
 
 abbrev invariant_loop : tie.invariant_loop
-invariant_loop start_x_lem start_y_lem end_x_lem end_y_lem all₀ i₀ all i = Looked (lines start_x_lem start_y_lem end_x_lem end_y_lem) all i
+invariant_loop start_x start_y end_x end_y all₀ i₀ all i = Looked (lines start_x start_y end_x end_y) all i
 
 abbrev decreases_loop : tie.decreases_loop
-decreases_loop start_x_lem start_y_lem end_x_lem end_y_lem all₀ i₀ all i = length start_x_lem - i
+decreases_loop start_x start_y end_x end_y all₀ i₀ all i = length start_x - i
 
 loop_holds : tie.Need-loop-init invariant_loop decreases_loop
 loop_holds c = looked_none _ c.before.before.before.before.requires

@@ -11,10 +11,10 @@ use Rattle.grid.proofs.checks.check_coordinates.Statement.{statement}
 use Rattle.grid.proofs.checks.check_coordinates.Tie as tie
 
 abbrev invariant_loop : tie.invariant_loop
-invariant_loop start_x_lem start_y_lem end_x_lem end_y_lem i₀ i = Searched (lines start_x_lem start_y_lem end_x_lem end_y_lem) i
+invariant_loop start_x start_y end_x end_y i₀ i = Searched (lines start_x start_y end_x end_y) i
 
 abbrev decreases_loop : tie.decreases_loop
-decreases_loop start_x_lem start_y_lem end_x_lem end_y_lem i₀ i = length start_x_lem - i
+decreases_loop start_x start_y end_x end_y i₀ i = length start_x - i
 
 returns : tie.Need-returns invariant_loop decreases_loop
 returns c = c.before.all-obey.ensures c.if1.true

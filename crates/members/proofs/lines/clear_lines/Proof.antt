@@ -11,8 +11,8 @@ returns : tie.Need-returns
 unfolding zero_lines
 returns c =
     let a = c.before.before.before.before.before.before.before.before.before.before.before.before.before.before.before.before.before.before.before.before.args in
-    lines_eq _ _ (cleared_all nought a.start_x_lem.now c.before.before.before.before.before.before.before.before.before.before.before.before.before.before.zero-from.ensures) (cleared_all nought a.start_y_lem.now c.before.before.before.before.before.before.before.before.before.before.zero-from2.ensures)
-    (cleared_all nought a.end_x_lem.now c.before.before.before.before.before.before.zero-from3.ensures) (cleared_all nought a.end_y_lem.now c.before.before.zero-from4.ensures)
+    lines_eq _ _ (cleared_all nought a.start_x.now c.before.before.before.before.before.before.before.before.before.before.before.before.before.before.zero-from.ensures) (cleared_all nought a.start_y.now c.before.before.before.before.before.before.before.before.before.before.zero-from2.ensures)
+    (cleared_all nought a.end_x.now c.before.before.before.before.before.before.zero-from3.ensures) (cleared_all nought a.end_y.now c.before.before.zero-from4.ensures)
 
 pub clear_lines_spec : {M : Type 1} → statement M
 clear_lines_spec =

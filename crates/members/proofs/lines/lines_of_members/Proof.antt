@@ -21,7 +21,7 @@ patterns c =
     patterns_of a.x.now a.y.now (λ i. omega (arith, c.before.shared-slice-known.given i)) (λ i. omega (arith, c.shared-slice-known2.given i))
 
 -- the four slices have one length
-alike : (c : tie.After-enum-told) → let a = c.before.before.before.before.before.before.before.before.before.before.before.before.before.before.args in lengths_check (lines a.start_x_lem.now a.start_y_lem.now a.end_x_lem.now a.end_y_lem.now) ≡ Fine
+alike : (c : tie.After-enum-told) → let a = c.before.before.before.before.before.before.before.before.before.before.before.before.before.before.args in lengths_check (lines a.start_x.now a.start_y.now a.end_x.now a.end_y.now) ≡ Fine
 alike c = sym c.before.before.check-lengths.ensures ∙ c.enum_told.given.1
 
 -- points and lengths go together
@@ -35,28 +35,28 @@ counted c = let a = c.before.before.before.before.before.before.before.before.be
 few : (c : tie.After-enum-told3) → let a = c.before.before.before.before.before.before.before.before.before.before.before.before.before.before.before.before.before.before.before.before.args in count_check (length a.x.now - length a.lengths.now) ≡ Fine
 few c = sym c.before.before.check-count.ensures ∙ c.enum-told3.given.1
 
-room : (c : tie.After-enum-told4) → let a = c.before.before.before.before.before.before.before.before.before.before.before.before.before.before.before.before.before.before.before.before.before.before.before.args in fit_check (length a.start_x_lem.now) (length a.x.now - length a.lengths.now) ≡ Fine
+room : (c : tie.After-enum-told4) → let a = c.before.before.before.before.before.before.before.before.before.before.before.before.before.before.before.before.before.before.before.before.before.before.before.args in fit_check (length a.start_x.now) (length a.x.now - length a.lengths.now) ≡ Fine
 room c = sym c.before.before.check-fit.ensures ∙ c.enum-told4.given.1
 
 returns : tie.Need-returns
 returns c =
     let a = c.before.before.before.before.before.before.before.before.before.before.before.before.before.before.before.args in
-    line_alike a.x.now a.y.now a.lengths.now (lines a.start_x_lem.now a.start_y_lem.now a.end_x_lem.now a.end_y_lem.now) (patterns c.before.before.before.before.before.before.before.before.before.before.before.before.before) _ (sym c.before.before.before.check-lengths.ensures ∙ c.before.alike.given.1)
+    line_alike a.x.now a.y.now a.lengths.now (lines a.start_x.now a.start_y.now a.end_x.now a.end_y.now) (patterns c.before.before.before.before.before.before.before.before.before.before.before.before.before) _ (sym c.before.before.before.check-lengths.ensures ∙ c.before.alike.given.1)
 
 returns_2 : tie.Need-returns-2
 returns_2 c =
     let a = c.before.before.before.before.before.before.before.before.before.before.before.before.before.before.before.before.before.before.args in
-    line_lent a.x.now a.y.now a.lengths.now (lines a.start_x_lem.now a.start_y_lem.now a.end_x_lem.now a.end_y_lem.now) (patterns c.before.before.before.before.before.before.before.before.before.before.before.before.before.before.before.before) (alike c.before.before.before.before) _ (sym c.before.before.before.check-held.ensures ∙ c.before.held.given.1)
+    line_lent a.x.now a.y.now a.lengths.now (lines a.start_x.now a.start_y.now a.end_x.now a.end_y.now) (patterns c.before.before.before.before.before.before.before.before.before.before.before.before.before.before.before.before) (alike c.before.before.before.before) _ (sym c.before.before.before.check-held.ensures ∙ c.before.held.given.1)
 
 returns_3 : tie.Need-returns-3
 returns_3 c =
     let a = c.before.before.before.before.before.before.before.before.before.before.before.before.before.before.before.before.before.before.before.before.before.args in
-    line_many a.x.now a.y.now a.lengths.now (lines a.start_x_lem.now a.start_y_lem.now a.end_x_lem.now a.end_y_lem.now) (patterns c.before.before.before.before.before.before.before.before.before.before.before.before.before.before.before.before.before.before.before) (alike c.before.before.before.before.before.before.before) (held c.before.before.before.before) _ (sym c.before.before.before.check-count.ensures ∙ c.before.few.given.1)
+    line_many a.x.now a.y.now a.lengths.now (lines a.start_x.now a.start_y.now a.end_x.now a.end_y.now) (patterns c.before.before.before.before.before.before.before.before.before.before.before.before.before.before.before.before.before.before.before) (alike c.before.before.before.before.before.before.before) (held c.before.before.before.before) _ (sym c.before.before.before.check-count.ensures ∙ c.before.few.given.1)
 
 returns_4 : tie.Need-returns-4
 returns_4 c =
     let a = c.before.before.before.before.before.before.before.before.before.before.before.before.before.before.before.before.before.before.before.before.before.before.before.before.before.before.before.before.before.before.before.before.before.before.before.before.before.args in
-    line_short a.x.now a.y.now a.lengths.now (lines a.start_x_lem.now a.start_y_lem.now a.end_x_lem.now a.end_y_lem.now) (patterns c.before.before.before.before.before.before.before.before.before.before.before.before.before.before.before.before.before.before.before.before.before.before.before.before.before.before.before.before.before.before.before.before.before.before.before) (alike c.before.before.before.before.before.before.before.before.before.before.before.before.before.before.before.before.before.before.before.before.before.before.before) (held c.before.before.before.before.before.before.before.before.before.before.before.before.before.before.before.before.before.before.before.before) (few c.before.before.before.before.before.before.before.before.before.before.before.before.before.before.before.before.before) _ _
+    line_short a.x.now a.y.now a.lengths.now (lines a.start_x.now a.start_y.now a.end_x.now a.end_y.now) (patterns c.before.before.before.before.before.before.before.before.before.before.before.before.before.before.before.before.before.before.before.before.before.before.before.before.before.before.before.before.before.before.before.before.before.before.before) (alike c.before.before.before.before.before.before.before.before.before.before.before.before.before.before.before.before.before.before.before.before.before.before.before) (held c.before.before.before.before.before.before.before.before.before.before.before.before.before.before.before.before.before.before.before.before) (few c.before.before.before.before.before.before.before.before.before.before.before.before.before.before.before.before.before) _ _
     (sym c.before.before.before.before.before.before.before.before.before.before.before.before.before.before.before.before.check-fit.ensures ∙ c.before.before.before.before.before.before.before.before.before.before.before.before.before.before.room.given.1) c.before.before.before.before.before.before.before.before.clear_lines.ensures
 
 put_lines_requires : tie.Need-put-lines-requires
@@ -65,7 +65,7 @@ put_lines_requires c κs = (held c.before.before.before.before.before.before.bef
 returns_5 : tie.Need-returns-5
 returns_5 c =
     let a = c.before.before.before.before.before.before.before.before.before.before.before.before.before.before.before.before.before.before.before.before.before.before.before.before.before.before.before.before.before.before.before.before.before.before.before.before.args in
-    line_all a.x.now a.y.now a.lengths.now (lines a.start_x_lem.now a.start_y_lem.now a.end_x_lem.now a.end_y_lem.now) (patterns c.before.before.before.before.before.before.before.before.before.before.before.before.before.before.before.before.before.before.before.before.before.before.before.before.before.before.before.before.before.before.before.before.before.before) (alike c.before.before.before.before.before.before.before.before.before.before.before.before.before.before.before.before.before.before.before.before.before.before) (held c.before.before.before.before.before.before.before.before.before.before.before.before.before.before.before.before.before.before.before) (few c.before.before.before.before.before.before.before.before.before.before.before.before.before.before.before.before) _ (room c.before.before.before.before.before.before.before.before.before.before.before.before.before) c.before.before.before.before.before.before.before.before.put-lines.ensures
+    line_all a.x.now a.y.now a.lengths.now (lines a.start_x.now a.start_y.now a.end_x.now a.end_y.now) (patterns c.before.before.before.before.before.before.before.before.before.before.before.before.before.before.before.before.before.before.before.before.before.before.before.before.before.before.before.before.before.before.before.before.before.before) (alike c.before.before.before.before.before.before.before.before.before.before.before.before.before.before.before.before.before.before.before.before.before.before) (held c.before.before.before.before.before.before.before.before.before.before.before.before.before.before.before.before.before.before.before) (few c.before.before.before.before.before.before.before.before.before.before.before.before.before.before.before.before) _ (room c.before.before.before.before.before.before.before.before.before.before.before.before.before) c.before.before.before.before.before.before.before.before.put-lines.ensures
 
 pub lines_of_members_spec : {M : Type 1} → statement M
 lines_of_members_spec =

@@ -29,20 +29,20 @@ asks : (skip : ℕ) (ns cs : List ℕ) (m : ℕ) → skip ≤ 1 → all_lengths 
 asks skip ns cs m h a e l = record { one = h; each = a; sum = e; room = let n = length_ends skip ns cs h a e in omega arith }
 
 asked : (c : tie.After-slice-known4) → let a = c.before.before.before.before.before.before.before.args in
-    Asks 0 a.lengths.now a.x.now (length a.start_x_lem.now) × Asks 0 a.lengths.now a.y.now (length a.start_y_lem.now)
-    × Asks 1 a.lengths.now a.x.now (length a.end_x_lem.now) × Asks 1 a.lengths.now a.y.now (length a.end_y_lem.now)
+    Asks 0 a.lengths.now a.x.now (length a.start_x.now) × Asks 0 a.lengths.now a.y.now (length a.start_y.now)
+    × Asks 1 a.lengths.now a.x.now (length a.end_x.now) × Asks 1 a.lengths.now a.y.now (length a.end_y.now)
 asked c =
     let a = c.before.before.before.before.before.before.before.args in
     let p = c.before.before.before.before.before.before.before.requires in
     let ns = a.lengths.now in
     let h = held_says (length a.x.now) (length a.y.now) ns p.0 in
-    let l = lengths_fine (lines a.start_x_lem.now a.start_y_lem.now a.end_x_lem.now a.end_y_lem.now) p.1 in
-    let f = fit_says (length a.start_x_lem.now) (length a.x.now - length ns) p.2 in
+    let l = lengths_fine (lines a.start_x.now a.start_y.now a.end_x.now a.end_y.now) p.1 in
+    let f = fit_says (length a.start_x.now) (length a.x.now - length ns) p.2 in
     let y : sum_of ns ≡ length a.y.now = h.sum ∙ sym h.alike in (
-      asks 0 ns a.x.now (length a.start_x_lem.now) (omega arith) h.each h.sum f,
-      asks 0 ns a.y.now (length a.start_y_lem.now) (omega arith) h.each y (omega (arith, h.alike, l.start_y_lem)),
-      asks 1 ns a.x.now (length a.end_x_lem.now) (omega arith) h.each h.sum (omega (arith, l.end_x_lem)),
-      asks 1 ns a.y.now (length a.end_y_lem.now) (omega arith) h.each y (omega (arith, h.alike, l.end_y_lem)),
+      asks 0 ns a.x.now (length a.start_x.now) (omega arith) h.each h.sum f,
+      asks 0 ns a.y.now (length a.start_y.now) (omega arith) h.each y (omega (arith, h.alike, l.start_y)),
+      asks 1 ns a.x.now (length a.end_x.now) (omega arith) h.each h.sum (omega (arith, l.end_x)),
+      asks 1 ns a.y.now (length a.end_y.now) (omega arith) h.each y (omega (arith, h.alike, l.end_y)),
     )
 
 put_ends_requires : tie.Need-put-ends-requires

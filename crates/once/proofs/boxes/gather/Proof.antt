@@ -8,10 +8,10 @@ use Rattle.once.proofs.boxes.gather.Statement.{statement}
 use Rattle.once.proofs.boxes.gather.Tie as tie
 
 abbrev invariant_loop : tie.invariant_loop
-invariant_loop list start_x_lem start_y_lem end_x_lem end_y_lem room₀ u₀ room u = Gathering (lines start_x_lem start_y_lem end_x_lem end_y_lem) list room₀ room u
+invariant_loop list start_x start_y end_x end_y room₀ u₀ room u = Gathering (lines start_x start_y end_x end_y) list room₀ room u
 
 abbrev decreases_loop : tie.decreases_loop
-decreases_loop list start_x_lem start_y_lem end_x_lem end_y_lem room₀ u₀ room u = length list - u
+decreases_loop list start_x start_y end_x end_y room₀ u₀ room u = length list - u
 
 loop_holds : tie.Need-loop-init invariant_loop decreases_loop
 loop_holds c = let h = c.before.before.before.before.before.before.requires in gather_begin h.fine h.asks

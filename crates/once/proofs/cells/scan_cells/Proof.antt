@@ -12,12 +12,12 @@ use Rattle.once.proofs.cells.scan_cells.Statement.{statement}
 use Rattle.once.proofs.cells.scan_cells.Tie as tie
 
 abbrev invariant_loop : tie.invariant_loop
-invariant_loop cells cols offsets items start_x_lem start_y_lem end_x_lem end_y_lem starts listing counts₀ first₀ second₀ marks₀ room₀ hits₀ cell₀ counts first second marks room hits cell =
-    let ls = lines start_x_lem start_y_lem end_x_lem end_y_lem in
+invariant_loop cells cols offsets items start_x start_y end_x end_y starts listing counts₀ first₀ second₀ marks₀ room₀ hits₀ cell₀ counts first second marks room hits cell =
+    let ls = lines start_x start_y end_x end_y in
     Beside 4096 marks (WithRoom 256 room (LinesChecked ls (Cells (overlap ls) (count ls) cells offsets items starts listing counts₀ first₀ second₀ counts first second hits cell)))
 
 abbrev decreases_loop : tie.decreases_loop
-decreases_loop cells cols offsets items start_x_lem start_y_lem end_x_lem end_y_lem starts listing counts₀ first₀ second₀ marks₀ room₀ hits₀ cell₀ counts first second marks room hits cell =
+decreases_loop cells cols offsets items start_x start_y end_x end_y starts listing counts₀ first₀ second₀ marks₀ room₀ hits₀ cell₀ counts first second marks room hits cell =
     cells - cell
 
 loop_holds : tie.Need-loop-init invariant_loop decreases_loop

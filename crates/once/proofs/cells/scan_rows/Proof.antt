@@ -12,11 +12,11 @@ use Rattle.once.proofs.cells.scan_rows.Statement.{statement}
 use Rattle.once.proofs.cells.scan_rows.Tie as tie
 
 abbrev invariant_loop : tie.invariant_loop
-invariant_loop sure list marks start_x_lem start_y_lem end_x_lem end_y_lem starts listing counts first₀ second₀ hits hits₀ i₀ first second hits' i =
-    let ls = lines start_x_lem start_y_lem end_x_lem end_y_lem in LinesChecked ls (MarkRows (overlap ls) (count ls) sure list marks starts listing counts first₀ second₀ hits first second hits' i)
+invariant_loop sure list marks start_x start_y end_x end_y starts listing counts first₀ second₀ hits hits₀ i₀ first second hits' i =
+    let ls = lines start_x start_y end_x end_y in LinesChecked ls (MarkRows (overlap ls) (count ls) sure list marks starts listing counts first₀ second₀ hits first second hits' i)
 
 abbrev decreases_loop : tie.decreases_loop
-decreases_loop sure list marks start_x_lem start_y_lem end_x_lem end_y_lem starts listing counts first₀ second₀ hits hits₀ i₀ first second hits' i =
+decreases_loop sure list marks start_x start_y end_x end_y starts listing counts first₀ second₀ hits hits₀ i₀ first second hits' i =
     length list - i
 
 loop_holds : tie.Need-loop-init invariant_loop decreases_loop

@@ -6,16 +6,16 @@ use Rattle.grid.specs.Domain.{lines, count}
 use Rattle.visit.specs.Overlap.{overlap}
 use Rattle.once.specs.Inside.{RowHeld}
 use Rattle.once.proofs.Boxed.{row_first, row_held, line_asks, held_other}
-use Rattle.first_tests.proofs.Runs.{global_line_lem, global_in, Runs, runs_begin, stop_here, stop_inside, stop_small, stop_fits, stop_last, run_scan, runs_next, runs_done}
+use Rattle.first_tests.proofs.Runs.{global_line, global_in, Runs, runs_begin, stop_here, stop_inside, stop_small, stop_fits, stop_last, run_scan, runs_next, runs_done}
 use Rattle.once.proofs.globals.scan_global.Statement.{statement}
 use Rattle.once.proofs.globals.scan_global.Tie as tie
 
 abbrev invariant_loop : tie.invariant_loop
-invariant_loop n p globals start_x_lem start_y_lem end_x_lem end_y_lem starts listing counts first₀ second₀ hits row hits₀ k₀ q₀ first second hits' k q =
-    let ls = lines start_x_lem start_y_lem end_x_lem end_y_lem in RowHeld ls row (Runs (overlap ls) (count ls) n p globals starts listing counts row.first first₀ second₀ hits first second hits' k q)
+invariant_loop n p globals start_x start_y end_x end_y starts listing counts first₀ second₀ hits row hits₀ k₀ q₀ first second hits' k q =
+    let ls = lines start_x start_y end_x end_y in RowHeld ls row (Runs (overlap ls) (count ls) n p globals starts listing counts row.first first₀ second₀ hits first second hits' k q)
 
 abbrev decreases_loop : tie.decreases_loop
-decreases_loop n p globals start_x_lem start_y_lem end_x_lem end_y_lem starts listing counts first₀ second₀ hits row hits₀ k₀ q₀ first second hits' k q =
+decreases_loop n p globals start_x start_y end_x end_y starts listing counts first₀ second₀ hits row hits₀ k₀ q₀ first second hits' k q =
     (p + 1) - q
 
 mul_row_of : tie.Need-overflow-mul-row-of invariant_loop decreases_loop
@@ -25,7 +25,7 @@ shared_slice_read_row_of : tie.Need-shared-slice-read-row-of invariant_loop decr
 shared_slice_read_row_of c = global_in c.before.before.before.before.before.before.before.before.before.before.before.requires.asks
 
 row_of_requires : tie.Need-row-of-requires invariant_loop decreases_loop
-row_of_requires c κs = let h = c.before.before.before.before.before.before.before.before.before.before.before.requires in line_asks h.fine (global_line_lem h.asks)
+row_of_requires c κs = let h = c.before.before.before.before.before.before.before.before.before.before.before.requires in line_asks h.fine (global_line h.asks)
 
 loop_holds : tie.Need-loop-init invariant_loop decreases_loop
 loop_holds c = let h = c.before.before.before.before.before.before.before.before.before.before.before.before.requires in let e = c.row_of_lem.ensures in row_held e h.fine (omega arith) (runs_begin h.asks (row_first e))

@@ -12,11 +12,11 @@ use Rattle.once.proofs.rows.scan_lines.Statement.{statement}
 use Rattle.once.proofs.rows.scan_lines.Tie as tie
 
 abbrev invariant_loop : tie.invariant_loop
-invariant_loop row k stop start_x_lem start_y_lem end_x_lem end_y_lem starts listing counts first₀ second₀ hits hits₀ b₀ first second hits' b =
-    let ls = lines start_x_lem start_y_lem end_x_lem end_y_lem in RowHeld ls row (LineScan (overlap ls) (count ls) row.first k stop starts listing counts first₀ second₀ hits first second hits' b)
+invariant_loop row k stop start_x start_y end_x end_y starts listing counts first₀ second₀ hits hits₀ b₀ first second hits' b =
+    let ls = lines start_x start_y end_x end_y in RowHeld ls row (LineScan (overlap ls) (count ls) row.first k stop starts listing counts first₀ second₀ hits first second hits' b)
 
 abbrev decreases_loop : tie.decreases_loop
-decreases_loop row k stop start_x_lem start_y_lem end_x_lem end_y_lem starts listing counts first₀ second₀ hits hits₀ b₀ first second hits' b =
+decreases_loop row k stop start_x start_y end_x end_y starts listing counts first₀ second₀ hits hits₀ b₀ first second hits' b =
     stop - b
 
 loop_holds : tie.Need-loop-init invariant_loop decreases_loop

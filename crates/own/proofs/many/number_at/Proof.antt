@@ -2,7 +2,7 @@
 -- nothing.
 use Rattle.std.proofs.Common.{ap, ◌∙◌, arith, rules}
 use Rattle.own.specs.Many.{owner_number}
-use Rattle.own.proofs.Owners.{asked, cell_of_lem}
+use Rattle.own.proofs.Owners.{asked, cell_of}
 use Rattle.own.proofs.ManyLaws.{cell_below, number_fits}
 use Rattle.own.proofs.many.number_at.Statement.{statement}
 use Rattle.own.proofs.many.number_at.Tie as tie
@@ -14,14 +14,14 @@ settled_requires_2 : tie.Need-settled-requires-2
 settled_requires_2 c κs = asked _ _ _ c.y-axis.ensures c.before.before.before.before.before.before.before.before.requires.up
 
 mul_result : tie.Need-overflow-mul-result
-mul_result c = let l = cell_below _ _ _ _ _ (cell_of_lem _ _ _ _ _ _ _ c.before.before.before.before.before.before.x-axis.ensures c.before.before.before.y-axis.ensures (c.before.before.before.before.before.settled.ensures c.before.before.before.before.if1.true) (c.before.before.settled2.ensures c.before.if2.true)) in omega (arith, c.before.before.before.before.before.before.before.before.before.before.before.requires.few)
+mul_result c = let l = cell_below _ _ _ _ _ (cell_of _ _ _ _ _ _ _ c.before.before.before.before.before.before.x-axis.ensures c.before.before.before.y-axis.ensures (c.before.before.before.before.before.settled.ensures c.before.before.before.before.if1.true) (c.before.before.settled2.ensures c.before.if2.true)) in omega (arith, c.before.before.before.before.before.before.before.before.before.before.before.requires.few)
 
 add_result : tie.Need-overflow-add-result
-add_result c = let l = cell_below _ _ _ _ _ (cell_of_lem _ _ _ _ _ _ _ c.before.before.before.before.before.before.x-axis.ensures c.before.before.before.y-axis.ensures (c.before.before.before.before.before.settled.ensures c.before.before.before.before.if1.true) (c.before.before.settled2.ensures c.before.if2.true)) in omega (arith, c.before.before.before.before.before.before.before.before.before.before.before.requires.few)
+add_result c = let l = cell_below _ _ _ _ _ (cell_of _ _ _ _ _ _ _ c.before.before.before.before.before.before.x-axis.ensures c.before.before.before.y-axis.ensures (c.before.before.before.before.before.settled.ensures c.before.before.before.before.if1.true) (c.before.before.settled2.ensures c.before.if2.true)) in omega (arith, c.before.before.before.before.before.before.before.before.before.before.before.requires.few)
 
 returns : tie.Need-returns
 unfolding owner_number
-returns c = ap (owner_number _) (cell_of_lem _ _ _ _ _ _ _ c.before.before.before.before.before.before.x-axis.ensures c.before.before.before.y-axis.ensures (c.before.before.before.before.before.settled.ensures c.before.before.before.before.if1.true) (c.before.before.settled2.ensures c.before.if2.true))
+returns c = ap (owner_number _) (cell_of _ _ _ _ _ _ _ c.before.before.before.before.before.before.x-axis.ensures c.before.before.before.y-axis.ensures (c.before.before.before.before.before.settled.ensures c.before.before.before.before.if1.true) (c.before.before.settled2.ensures c.before.if2.true))
 
 numbered_requires : tie.Need-numbered-requires
 numbered_requires c κs = number_fits _ _ _ _ c.before.before.before.before.before.before.before.before.requires.few c.first_cell.ensures

@@ -1,7 +1,7 @@
 -- `records::files::size_at` meets its contract. Assumes nothing.
 use mathlib.Core.Path.{◌≡◌, sym, ◌∙◌}
 use native.Mathlib.Omega.{arith}
-use Rattle.records.proofs.Rows.{short_at_lem, cut_at, whole_at_lem}
+use Rattle.records.proofs.Rows.{short_at, cut_at, whole_at}
 use Rattle.records.proofs.files.size_at.Statement.{statement}
 use Rattle.records.proofs.files.size_at.Tie as tie
 
@@ -9,9 +9,9 @@ pub size_at_spec : {M : Type 1} → statement M
 size_at_spec =
     tie.close
     (tie.spec
-    (λ c. let a = c.before.args in (sym (short_at_lem a.at a.w.now (omega arith)), omega arith))
+    (λ c. let a = c.before.args in (sym (short_at a.at a.w.now (omega arith)), omega arith))
     (λ c. omega arith)
-    (λ c. let a = c.before.before.args in (sym (short_at_lem a.at a.w.now (omega arith)), omega arith))
+    (λ c. let a = c.before.before.args in (sym (short_at a.at a.w.now (omega arith)), omega arith))
     (λ c. omega arith)
     (λ c. omega arith)
     (λ c. omega arith)
@@ -24,4 +24,4 @@ size_at_spec =
     (λ c. let a = c.before.before.before.before.before.before.args in (sym (cut_at a.at a.w.now (omega arith)), omega arith))
     (λ c. omega arith)
     (λ c. omega arith)
-    (λ c. let a = c.before.before.before.before.before.before.args in let e = whole_at_lem a.at a.w.now (omega arith) in (omega (arith, e), omega arith)))
+    (λ c. let a = c.before.before.before.before.before.before.args in let e = whole_at a.at a.w.now (omega arith) in (omega (arith, e), omega arith)))

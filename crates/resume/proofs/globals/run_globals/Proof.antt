@@ -12,12 +12,12 @@ use Rattle.resume.proofs.globals.run_globals.Statement.{statement}
 use Rattle.resume.proofs.globals.run_globals.Tie as tie
 
 abbrev invariant_loop : tie.invariant_loop
-invariant_loop globals p q k start_x_lem start_y_lem end_x_lem end_y_lem first₀ second₀ hits n p₀ q₀ k₀ tests₀ hits₀ first second p' q' k' tests hits' =
-    GlobalsRun (lines start_x_lem start_y_lem end_x_lem end_y_lem) globals p q k first₀ second₀ hits n first second p' q' k' tests hits'
+invariant_loop globals p q k start_x start_y end_x end_y first₀ second₀ hits n p₀ q₀ k₀ tests₀ hits₀ first second p' q' k' tests hits' =
+    GlobalsRun (lines start_x start_y end_x end_y) globals p q k first₀ second₀ hits n first second p' q' k' tests hits'
 
 abbrev decreases_loop : tie.decreases_loop
-decreases_loop globals p q k start_x_lem start_y_lem end_x_lem end_y_lem first₀ second₀ hits n p₀ q₀ k₀ tests₀ hits₀ first second p' q' k' tests hits' =
-    length (globals_from (length start_x_lem) globals p' k')
+decreases_loop globals p q k start_x start_y end_x end_y first₀ second₀ hits n p₀ q₀ k₀ tests₀ hits₀ first second p' q' k' tests hits' =
+    length (globals_from (length start_x) globals p' k')
 
 cast_n : tie.Need-overflow-cast-n invariant_loop decreases_loop
 cast_n c = omega (arith, c.before.before.before.before.before.before.before.requires.few)

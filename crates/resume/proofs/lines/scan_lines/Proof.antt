@@ -11,11 +11,11 @@ use Rattle.resume.proofs.lines.scan_lines.Statement.{statement}
 use Rattle.resume.proofs.lines.scan_lines.Tie as tie
 
 abbrev invariant_loop : tie.invariant_loop
-invariant_loop line from many start_x_lem start_y_lem end_x_lem end_y_lem first₀ second₀ hits bounds hits₀ u₀ first second hits' u =
-    LinesTurn (lines start_x_lem start_y_lem end_x_lem end_y_lem) line from many first₀ second₀ hits bounds first second hits' u
+invariant_loop line from many start_x start_y end_x end_y first₀ second₀ hits bounds hits₀ u₀ first second hits' u =
+    LinesTurn (lines start_x start_y end_x end_y) line from many first₀ second₀ hits bounds first second hits' u
 
 abbrev decreases_loop : tie.decreases_loop
-decreases_loop line from many start_x_lem start_y_lem end_x_lem end_y_lem first₀ second₀ hits bounds hits₀ u₀ first second hits' u =
+decreases_loop line from many start_x start_y end_x end_y first₀ second₀ hits bounds hits₀ u₀ first second hits' u =
     many - u
 
 box_at_requires : tie.Need-box-at-requires invariant_loop decreases_loop

@@ -16,7 +16,7 @@ mul_reach c = record { fits = wide_product c.before.wide.result c.wide2.result (
 run_requires : tie.Need-run-requires
 run_requires c κs =
     let a = c.before.before.before.before.before.before.before.before.before.before.before.before.before.before.before.args in
-    let ls = lines a.start_x_lem.now a.start_y_lem.now a.end_x_lem.now a.end_y_lem.now in
+    let ls = lines a.start_x.now a.start_y.now a.end_x.now a.end_y.now in
     let m = reach_here a.grid.rows a.grid.cols (length a.offsets.now) _ _ _ c.before.before.before.before.before.wide.ensures c.before.before.before.before.wide2.ensures c.before.before.before.reach.ensures in
     go_runs ls a.grid a.offsets.now a.items.now a.globals.now a.global-count a.cursor a.first.now a.second.now _ m _ c.before.before.globals_of.ensures c.before.before.before.before.before.before.before.before.before.before.before.before.before.before.before.requires
 
@@ -29,17 +29,17 @@ finish_requires_2 c κs = λ h. c.before.before.before.before.before.before.befo
 cursor_at_requires : tie.Need-cursor-at-requires
 cursor_at_requires c κs =
     let a = c.before.before.before.before.before.before.before.before.before.before.before.before.before.before.before.before.before.before.before.before.before.before.before.before.before.before.before.before.before.before.args in
-    let ls = lines a.start_x_lem.now a.start_y_lem.now a.end_x_lem.now a.end_y_lem.now in
+    let ls = lines a.start_x.now a.start_y.now a.end_x.now a.end_y.now in
     let m = reach_here a.grid.rows a.grid.cols (length a.offsets.now) _ _ _ c.before.before.before.before.before.before.before.before.before.before.before.before.before.before.before.before.before.before.before.before.wide.ensures c.before.before.before.before.before.before.before.before.before.before.before.before.before.before.before.before.before.before.before.wide2.ensures c.before.before.before.before.before.before.before.before.before.before.before.before.before.before.before.before.before.before.reach.ensures in
     go_settles ls a.grid a.offsets.now a.items.now a.globals.now a.global-count a.cursor a.first.now a.second.now _ m _ c.before.before.before.before.before.before.before.before.before.before.before.before.before.before.before.before.before.globals_of.ensures _ _ _ c.before.before.before.before.before.before.before.before.before.before.before.before.before.before.run.ensures c.before.before.before.before.before.before.before.before.before.before.before.before.before.before.before.before.before.before.before.before.before.before.before.before.before.before.before.before.before.before.requires
 
 returns : tie.Need-returns
 returns c =
     let a = c.before.before.before.before.before.before.before.before.before.before.before.before.before.before.before.before.before.before.before.before.before.before.before.before.before.before.before.before.before.before.before.args in
-    let ls = lines a.start_x_lem.now a.start_y_lem.now a.end_x_lem.now a.end_y_lem.now in
+    let ls = lines a.start_x.now a.start_y.now a.end_x.now a.end_y.now in
     let m = reach_here a.grid.rows a.grid.cols (length a.offsets.now) _ _ _ c.before.before.before.before.before.before.before.before.before.before.before.before.before.before.before.before.before.before.before.before.before.wide.ensures c.before.before.before.before.before.before.before.before.before.before.before.before.before.before.before.before.before.before.before.before.wide2.ensures c.before.before.before.before.before.before.before.before.before.before.before.before.before.before.before.before.before.before.before.reach.ensures in
     let w = c.before.before.before.before.before.before.before.before.before.before.before.before.before.before.before.run.ensures in
-    go_is ls a.grid a.offsets.now a.items.now a.globals.now a.global-count a.cursor a.first.now a.second.now _ m _ c.before.before.before.before.before.before.before.before.before.before.before.before.before.before.before.before.before.before.globals_of.ensures _ _ _ w _ _ _ c.before.before.before.before.before.before.before.before.finish.ensures c.before.before.before.finish2.ensures (c.cursor_at_lem.ensures w.rest w.at)
+    go_is ls a.grid a.offsets.now a.items.now a.globals.now a.global-count a.cursor a.first.now a.second.now _ m _ c.before.before.before.before.before.before.before.before.before.before.before.before.before.before.before.before.before.before.globals_of.ensures _ _ _ w _ _ _ c.before.before.before.before.before.before.before.before.finish.ensures c.before.before.before.finish2.ensures (c.cursor_at.ensures w.rest w.at)
 
 pub go_spec : {M : Type 1} → statement M
 go_spec =

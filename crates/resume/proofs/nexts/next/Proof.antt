@@ -12,7 +12,7 @@ use Rattle.resume.proofs.nexts.next.Tie as tie
 returns : tie.Need-returns
 returns c =
     let a = c.before.before.before.before.before.before.before.before.before.before.before.before.before.before.before.args in
-    let ls = lines a.start_x_lem.now a.start_y_lem.now a.end_x_lem.now a.end_y_lem.now in
+    let ls = lines a.start_x.now a.start_y.now a.end_x.now a.end_y.now in
     let t = beside ls a.grid a.offsets.now a.items.now a.globals.now a.global-count in
     let e = sym c.before.before.before.check-lent.ensures ∙ c.before.check.given.1 in
     next_refused ls t a.cursor a.first.now a.second.now _ e (next_clears ls a.first.now a.second.now _ e)
@@ -20,14 +20,14 @@ returns c =
 go_requires : tie.Need-go-requires
 go_requires c κs =
     let a = c.before.before.before.before.before.before.before.before.before.before.before.before.before.before.before.before.args in
-    let ls = lines a.start_x_lem.now a.start_y_lem.now a.end_x_lem.now a.end_y_lem.now in
+    let ls = lines a.start_x.now a.start_y.now a.end_x.now a.end_y.now in
     let t = beside ls a.grid a.offsets.now a.items.now a.globals.now a.global-count in
     next_fine ls a.first.now a.second.now (sym c.before.before.before.before.check-lent.ensures ∙ c.before.before.enum_told.given.1)
 
 returns_2 : tie.Need-returns-2
 returns_2 c =
     let a = c.before.before.before.before.before.before.before.before.before.before.before.before.before.before.before.before.before.before.before.before.before.args in
-    let ls = lines a.start_x_lem.now a.start_y_lem.now a.end_x_lem.now a.end_y_lem.now in
+    let ls = lines a.start_x.now a.start_y.now a.end_x.now a.end_y.now in
     let t = beside ls a.grid a.offsets.now a.items.now a.globals.now a.global-count in
     next_went ls t a.cursor a.first.now a.second.now (sym c.before.before.before.before.before.before.before.before.before.check-lent.ensures ∙ c.before.before.before.before.before.before.before.enum_told.given.1) _ _ _ c.before.before.before.before.go.ensures
 

@@ -11,10 +11,10 @@ use Rattle.samples.proofs.checks.check_samples.Statement.{statement}
 use Rattle.samples.proofs.checks.check_samples.Tie as tie
 
 abbrev invariant_loop : tie.invariant_loop
-invariant_loop start_x_lem start_y_lem end_x_lem end_y_lem i₀ i = Searched (samples start_x_lem start_y_lem end_x_lem end_y_lem) i
+invariant_loop start_x start_y end_x end_y i₀ i = Searched (samples start_x start_y end_x end_y) i
 
 abbrev decreases_loop : tie.decreases_loop
-decreases_loop start_x_lem start_y_lem end_x_lem end_y_lem i₀ i = length start_x_lem - i
+decreases_loop start_x start_y end_x end_y i₀ i = length start_x - i
 
 loop_holds : tie.Need-loop-init invariant_loop decreases_loop
 loop_holds c = searched_none _

@@ -10,28 +10,28 @@ use Rattle.seek.proofs.bookmarks.find.Tie as tie
 returns : tie.Need-returns
 returns c =
     let a = c.before.before.before.before.before.before.before.before.before.before.before.args in
-    let ls = lines a.start_x_lem.now a.start_y_lem.now a.end_x_lem.now a.end_y_lem.now in
+    let ls = lines a.start_x.now a.start_y.now a.end_x.now a.end_y.now in
     let t = beside ls a.grid a.offsets.now a.items.now a.globals.now a.global-count in
     find_refused ls a.grid t a.bookmark _ (sym c.before.before.before.check-visit.ensures ∙ c.before.check.given.1)
 
 seek_requires : tie.Need-seek-requires
 seek_requires c κs =
     let a = c.before.before.before.before.before.before.before.before.before.before.args in
-    let ls = lines a.start_x_lem.now a.start_y_lem.now a.end_x_lem.now a.end_y_lem.now in
+    let ls = lines a.start_x.now a.start_y.now a.end_x.now a.end_y.now in
     let t = beside ls a.grid a.offsets.now a.items.now a.globals.now a.global-count in
     sym c.before.before.check-visit.ensures ∙ c.enum_told.given.1
 
 returns_2 : tie.Need-returns-2
 returns_2 c =
     let a = c.before.before.before.before.before.before.before.before.before.before.before.before.before.args in
-    let ls = lines a.start_x_lem.now a.start_y_lem.now a.end_x_lem.now a.end_y_lem.now in
+    let ls = lines a.start_x.now a.start_y.now a.end_x.now a.end_y.now in
     let t = beside ls a.grid a.offsets.now a.items.now a.globals.now a.global-count in
     find_beyond ls a.grid t a.bookmark (sym c.before.before.before.before.before.check-visit.ensures ∙ c.before.before.before.enum_told.given.1) (seek_beyond ls a.grid t a.bookmark _ c.before.before.seek.ensures c.enum-told2.given.1)
 
 returns_3 : tie.Need-returns-3
 returns_3 c =
     let a = c.before.before.before.before.before.before.before.before.before.before.before.before.before.before.args in
-    let ls = lines a.start_x_lem.now a.start_y_lem.now a.end_x_lem.now a.end_y_lem.now in
+    let ls = lines a.start_x.now a.start_y.now a.end_x.now a.end_y.now in
     let t = beside ls a.grid a.offsets.now a.items.now a.globals.now a.global-count in
     (seek_at ls a.grid t a.bookmark _ c.before.before.before.seek.ensures c.before.sought.given.0.0 c.before.sought.given.1).is
 

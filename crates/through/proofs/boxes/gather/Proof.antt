@@ -10,11 +10,11 @@ use Rattle.through.proofs.boxes.gather.Statement.{statement}
 use Rattle.through.proofs.boxes.gather.Tie as tie
 
 abbrev invariant_loop : tie.invariant_loop
-invariant_loop list start_x_lem start_y_lem end_x_lem end_y_lem room₀ ax₀ ay₀ bx₀ by₀ u₀ room ax ay bx by u =
-    Gathering (lines start_x_lem start_y_lem end_x_lem end_y_lem) list room₀ u room
+invariant_loop list start_x start_y end_x end_y room₀ ax₀ ay₀ bx₀ by₀ u₀ room ax ay bx by u =
+    Gathering (lines start_x start_y end_x end_y) list room₀ u room
 
 abbrev decreases_loop : tie.decreases_loop
-decreases_loop list start_x_lem start_y_lem end_x_lem end_y_lem room₀ ax₀ ay₀ bx₀ by₀ u₀ room ax ay bx by u = length list - u
+decreases_loop list start_x start_y end_x end_y room₀ ax₀ ay₀ bx₀ by₀ u₀ room ax ay bx by u = length list - u
 
 loop_holds : tie.Need-loop-init invariant_loop decreases_loop
 loop_holds c = gather_start _ _ _ (search rules)

@@ -9,10 +9,10 @@ use Rattle.through.proofs.boxes.gather_flat.Statement.{statement}
 use Rattle.through.proofs.boxes.gather_flat.Tie as tie
 
 abbrev invariant_loop : tie.invariant_loop
-invariant_loop list start_x_lem start_y_lem end_x_lem end_y_lem flat₀ u₀ flat u = Flattening (lines start_x_lem start_y_lem end_x_lem end_y_lem) list flat₀ u flat
+invariant_loop list start_x start_y end_x end_y flat₀ u₀ flat u = Flattening (lines start_x start_y end_x end_y) list flat₀ u flat
 
 abbrev decreases_loop : tie.decreases_loop
-decreases_loop list start_x_lem start_y_lem end_x_lem end_y_lem flat₀ u₀ flat u = length list - u
+decreases_loop list start_x start_y end_x end_y flat₀ u₀ flat u = length list - u
 
 loop_holds : tie.Need-loop-init invariant_loop decreases_loop
 loop_holds c = flat_start _ _ _ (search rules)

@@ -10,11 +10,11 @@ use Rattle.through.proofs.rows.run_brief.Statement.{statement}
 use Rattle.through.proofs.rows.run_brief.Tie as tie
 
 abbrev invariant_loop : tie.invariant_loop
-invariant_loop list start_x_lem start_y_lem end_x_lem end_y_lem flat first₀ second₀ hits i₀ tests₀ hits₀ first second i tests hits' =
-    BriefRun (lines start_x_lem start_y_lem end_x_lem end_y_lem) list flat first₀ second₀ hits first second i tests hits'
+invariant_loop list start_x start_y end_x end_y flat first₀ second₀ hits i₀ tests₀ hits₀ first second i tests hits' =
+    BriefRun (lines start_x start_y end_x end_y) list flat first₀ second₀ hits first second i tests hits'
 
 abbrev decreases_loop : tie.decreases_loop
-decreases_loop list start_x_lem start_y_lem end_x_lem end_y_lem flat first₀ second₀ hits i₀ tests₀ hits₀ first second i tests hits' = length list - i
+decreases_loop list start_x start_y end_x end_y flat first₀ second₀ hits i₀ tests₀ hits₀ first second i tests hits' = length list - i
 
 gather_flat_requires : tie.Need-gather-flat-requires invariant_loop decreases_loop
 gather_flat_requires c κs = brief_gathers _ _ _ _ _ _ c.before.before.before.before.before.before.before.before.before.requires

@@ -11,11 +11,11 @@ use Rattle.through.proofs.rows.run_cells.Statement.{statement}
 use Rattle.through.proofs.rows.run_cells.Tie as tie
 
 abbrev invariant_loop : tie.invariant_loop
-invariant_loop cols reach offsets items cell i j start_x_lem start_y_lem end_x_lem end_y_lem room₀ marks₀ first₀ second₀ cell₀ i₀ j₀ tests₀ hits₀ room marks first second cell' i' j' tests hits =
-    CellsRun (lines start_x_lem start_y_lem end_x_lem end_y_lem) cols reach offsets items cell i j room₀ marks₀ first₀ second₀ room marks first second cell' i' j' tests hits
+invariant_loop cols reach offsets items cell i j start_x start_y end_x end_y room₀ marks₀ first₀ second₀ cell₀ i₀ j₀ tests₀ hits₀ room marks first second cell' i' j' tests hits =
+    CellsRun (lines start_x start_y end_x end_y) cols reach offsets items cell i j room₀ marks₀ first₀ second₀ room marks first second cell' i' j' tests hits
 
 abbrev decreases_loop : tie.decreases_loop
-decreases_loop cols reach offsets items cell i j start_x_lem start_y_lem end_x_lem end_y_lem room₀ marks₀ first₀ second₀ cell₀ i₀ j₀ tests₀ hits₀ room marks first second cell' i' j' tests hits =
+decreases_loop cols reach offsets items cell i j start_x start_y end_x end_y room₀ marks₀ first₀ second₀ cell₀ i₀ j₀ tests₀ hits₀ room marks first second cell' i' j' tests hits =
     reach - cell'
 
 loop_holds : tie.Need-loop-init invariant_loop decreases_loop

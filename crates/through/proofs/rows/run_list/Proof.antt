@@ -14,11 +14,11 @@ use Rattle.through.proofs.rows.run_list.Statement.{statement}
 use Rattle.through.proofs.rows.run_list.Tie as tie
 
 abbrev invariant_loop : tie.invariant_loop
-invariant_loop list i j start_x_lem start_y_lem end_x_lem end_y_lem room₀ marks₀ first₀ second₀ hits i₀ j₀ window₀ tests₀ hits₀ room marks first second i' j' window tests hits' =
-    ListRun (lines start_x_lem start_y_lem end_x_lem end_y_lem) list i j room₀ marks₀ first₀ second₀ hits room marks first second i' j' window.from window.held tests hits'
+invariant_loop list i j start_x start_y end_x end_y room₀ marks₀ first₀ second₀ hits i₀ j₀ window₀ tests₀ hits₀ room marks first second i' j' window tests hits' =
+    ListRun (lines start_x start_y end_x end_y) list i j room₀ marks₀ first₀ second₀ hits room marks first second i' j' window.from window.held tests hits'
 
 abbrev decreases_loop : tie.decreases_loop
-decreases_loop list i j start_x_lem start_y_lem end_x_lem end_y_lem room₀ marks₀ first₀ second₀ hits i₀ j₀ window₀ tests₀ hits₀ room marks first second i' j' window tests hits' =
+decreases_loop list i j start_x start_y end_x end_y room₀ marks₀ first₀ second₀ hits i₀ j₀ window₀ tests₀ hits₀ room marks first second i' j' window tests hits' =
     length (list_from (Global 0) list i' j')
 
 run_brief_requires : tie.Need-run-brief-requires invariant_loop decreases_loop

@@ -12,10 +12,10 @@ add_c : tie.Need-overflow-add-c
 add_c c = omega (arith, cell_inside _ _ _ _ c.if2.true c.before.if1.true)
 
 returns : tie.Need-returns
-returns c = left_out (inside _ _ _ _ c.before.before.before.before.if1.true c.before.before.before.if2.true) (omega arith) (sym c.before.last_is_lem.ensures ∙ c.if3.true)
+returns c = left_out (inside _ _ _ _ c.before.before.before.before.if1.true c.before.before.before.if2.true) (omega arith) (sym c.before.last_is.ensures ∙ c.if3.true)
 
 returns_2 : tie.Need-returns-2
-returns_2 c = put_in (inside _ _ _ _ c.before.before.before.before.if1.true c.before.before.before.if2.true) (omega arith) (sym c.before.last_is_lem.ensures ∙ c.if3.false)
+returns_2 c = put_in (inside _ _ _ _ c.before.before.before.before.if1.true c.before.before.before.if2.true) (omega arith) (sym c.before.last_is.ensures ∙ c.if3.false)
 
 returns_3 : tie.Need-returns-3
 returns_3 c = nothing_there (beyond_row _ _ _ _ c.before.if1.true c.if2.false) (omega arith)

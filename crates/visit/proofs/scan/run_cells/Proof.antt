@@ -10,11 +10,11 @@ use Rattle.visit.proofs.scan.run_cells.Statement.{statement}
 use Rattle.visit.proofs.scan.run_cells.Tie as tie
 
 abbrev invariant_loop : tie.invariant_loop
-invariant_loop cols cells offsets items cell₀ i₀ j₀ start_x_lem start_y_lem end_x_lem end_y_lem first₀ second₀ places₀ tests₀ hits₀ cell i j first second places tests hits =
-    CellsRun (lines start_x_lem start_y_lem end_x_lem end_y_lem) cols cells offsets items cell₀ i₀ j₀ first₀ second₀ places₀ first second places cell i j tests hits
+invariant_loop cols cells offsets items cell₀ i₀ j₀ start_x start_y end_x end_y first₀ second₀ places₀ tests₀ hits₀ cell i j first second places tests hits =
+    CellsRun (lines start_x start_y end_x end_y) cols cells offsets items cell₀ i₀ j₀ first₀ second₀ places₀ first second places cell i j tests hits
 
 abbrev decreases_loop : tie.decreases_loop
-decreases_loop cols cells offsets items cell₀ i₀ j₀ start_x_lem start_y_lem end_x_lem end_y_lem first₀ second₀ places₀ tests₀ hits₀ cell i j first second places tests hits =
+decreases_loop cols cells offsets items cell₀ i₀ j₀ start_x start_y end_x end_y first₀ second₀ places₀ tests₀ hits₀ cell i j first second places tests hits =
     length (cells_rest cols offsets items (cells - cell) cell i j)
 
 loop_holds : tie.Need-loop-init invariant_loop decreases_loop

@@ -11,17 +11,17 @@ use Rattle.visit.proofs.scan.run_globals.Statement.{statement}
 use Rattle.visit.proofs.scan.run_globals.Tie as tie
 
 abbrev invariant_loop : tie.invariant_loop
-invariant_loop cells globals count p₀ q₀ k₀ start_x_lem start_y_lem end_x_lem end_y_lem first₀ second₀ places₀ hits₀ n tests₀ p q k first second places hits tests =
-    GlobalsRun (lines start_x_lem start_y_lem end_x_lem end_y_lem) cells count globals p₀ k₀ first₀ second₀ places₀ hits₀ first second places p q k tests hits
+invariant_loop cells globals count p₀ q₀ k₀ start_x start_y end_x end_y first₀ second₀ places₀ hits₀ n tests₀ p q k first second places hits tests =
+    GlobalsRun (lines start_x start_y end_x end_y) cells count globals p₀ k₀ first₀ second₀ places₀ hits₀ first second places p q k tests hits
 
 abbrev decreases_loop : tie.decreases_loop
-decreases_loop cells globals count p₀ q₀ k₀ start_x_lem start_y_lem end_x_lem end_y_lem first₀ second₀ places₀ hits₀ n tests₀ p q k first second places hits tests =
-    length (globals_rest (length start_x_lem) globals (count - p) p k)
+decreases_loop cells globals count p₀ q₀ k₀ start_x start_y end_x end_y first₀ second₀ places₀ hits₀ n tests₀ p q k first second places hits tests =
+    length (globals_rest (length start_x) globals (count - p) p k)
 
 cast_n : tie.Need-overflow-cast-n invariant_loop decreases_loop
 cast_n c =
     let a = c.before.before.before.before.before.before.before.before.args in
-    omega (arith, (lines_fine (lines a.start_x_lem.now a.start_y_lem.now a.end_x_lem.now a.end_y_lem.now) c.before.before.before.before.before.before.before.before.requires.fine).few)
+    omega (arith, (lines_fine (lines a.start_x.now a.start_y.now a.end_x.now a.end_y.now) c.before.before.before.before.before.before.before.before.requires.fine).few)
 
 loop_holds : tie.Need-loop-init invariant_loop decreases_loop
 loop_holds c = globals_run c.before.before.before.before.before.before.before.before.requires

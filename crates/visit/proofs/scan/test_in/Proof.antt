@@ -15,7 +15,7 @@ use Rattle.visit.proofs.scan.test_in.Tie as tie
 returns : tie.Need-returns
 returns c =
     let a = c.before.before.before.before.before.before.args in
-    let ls = lines a.start_x_lem.now a.start_y_lem.now a.end_x_lem.now a.end_y_lem.now in
+    let ls = lines a.start_x.now a.start_y.now a.end_x.now a.end_y.now in
     next_end ls a.row.place a.row.first (drop a.j a.list.now) (drop_of_length-le a.list.now {i = a.j} c.if1.true)
 
 test_with_requires : tie.Need-test-with-requires
@@ -26,7 +26,7 @@ test_with_requires c κs =
 returns_2 : tie.Need-returns-2
 returns_2 c =
     let a = c.before.before.before.before.before.before.before.before.args in
-    let ls = lines a.start_x_lem.now a.start_y_lem.now a.end_x_lem.now a.end_y_lem.now in
+    let ls = lines a.start_x.now a.start_y.now a.end_x.now a.end_y.now in
     ap (λ (t : Test). step.Made t) c.test-with.ensures ∙ next_made ls a.row.place a.row.first (get_or a.list.now a.j 0) (drop a.j a.list.now) (drop (suc a.j) a.list.now) (drop-cons a.list.now a.j 0 c.before.before.if1.false)
 
 pub test_in_spec : {M : Type 1} → statement M

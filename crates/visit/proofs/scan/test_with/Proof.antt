@@ -8,7 +8,7 @@ use Rattle.visit.proofs.scan.test_with.Tie as tie
 returns : tie.Need-returns
 returns c =
     let a = c.before.before.before.before.before.before.before.args in
-    let ls = lines a.start_x_lem.now a.start_y_lem.now a.end_x_lem.now a.end_y_lem.now in
+    let ls = lines a.start_x.now a.start_y.now a.end_x.now a.end_y.now in
     row_test ls a.row a.second c.before.before.before.before.before.before.before.requires.row_fits _ _ c.before.before.box-at.ensures c.overlaps-with.ensures
 
 pub test_with_spec : {M : Type 1} → statement M

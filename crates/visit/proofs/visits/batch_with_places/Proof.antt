@@ -9,14 +9,14 @@ use Rattle.visit.proofs.visits.batch_with_places.Tie as tie
 returns : tie.Need-returns
 returns c =
     let a = c.before.before.before.before.before.before.before.before.before.before.before.args in
-    let ls = lines a.start_x_lem.now a.start_y_lem.now a.end_x_lem.now a.end_y_lem.now in
+    let ls = lines a.start_x.now a.start_y.now a.end_x.now a.end_y.now in
     let t = beside ls a.grid a.offsets.now a.items.now a.globals.now a.global-count in
     placed_unlike ls a.grid t a.bookmark a.first.now a.second.now a.places.now _ (places_unlike a.first.now a.places.now c.if1.true)
 
 returns_2 : tie.Need-returns-2
 returns_2 c =
     let a = c.before.before.before.before.before.before.before.before.before.before.before.before.before.before.before.before.before.before.before.before.before.args in
-    let ls = lines a.start_x_lem.now a.start_y_lem.now a.end_x_lem.now a.end_y_lem.now in
+    let ls = lines a.start_x.now a.start_y.now a.end_x.now a.end_y.now in
     let t = beside ls a.grid a.offsets.now a.items.now a.globals.now a.global-count in
     placed_made ls a.grid t a.bookmark a.first.now a.second.now a.places.now (places_alike a.first.now a.places.now c.before.before.before.before.before.before.before.before.before.before.if1.false) _ _ _ _ c.before.before.before.before.before.before.make-batch.ensures
 

@@ -14,10 +14,10 @@ returns c = λ h.
     let x = c.before.before.before.before.before.before.before.before.x-axis.ensures in
     let y = c.before.before.before.before.before.before.before.y-axis.ensures in
     record {
-      start_x_lem = subst (λ (a : Axis). side_on a l.start_x ≡ Off) x (c.before.before.before.before.before.before.is-between.ensures c.before.before.before.before.before.if1.true);
-      start_y_lem = subst (λ (a : Axis). side_on a l.start_y ≡ Off) y (c.before.before.before.before.is-between2.ensures c.before.before.before.if2.true);
-      end_x_lem = subst (λ (a : Axis). side_on a l.end_x ≡ Off) x (c.before.before.is-between3.ensures c.before.if3.true);
-      end_y_lem = subst (λ (a : Axis). side_on a l.end_y ≡ Off) y (c.is-between4.ensures h);
+      start_x = subst (λ (a : Axis). side_on a l.start_x ≡ Off) x (c.before.before.before.before.before.before.is-between.ensures c.before.before.before.before.before.if1.true);
+      start_y = subst (λ (a : Axis). side_on a l.start_y ≡ Off) y (c.before.before.before.before.is-between2.ensures c.before.before.before.if2.true);
+      end_x = subst (λ (a : Axis). side_on a l.end_x ≡ Off) x (c.before.before.is-between3.ensures c.before.if3.true);
+      end_y = subst (λ (a : Axis). side_on a l.end_y ≡ Off) y (c.is-between4.ensures h);
     }
 
 pub is_clear_spec : {M : Type 1} → statement M

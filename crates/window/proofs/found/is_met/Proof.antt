@@ -8,13 +8,13 @@ use Rattle.window.proofs.found.is_met.Tie as tie
 returns : tie.Need-returns
 returns c =
     let a = c.before.before.before.before.before.before.before.before.before.before.args in
-    let ls = lines a.start_x_lem.now a.start_y_lem.now a.end_x_lem.now a.end_y_lem.now in
+    let ls = lines a.start_x.now a.start_y.now a.end_x.now a.end_y.now in
     met_marked ls a.window a.marks.now a.i _ _ _ c.before.before.before.if1.true c.before.before.segment-at.ensures c.before.bounding-box.ensures c.overlaps-with.ensures
 
 returns_2 : tie.Need-returns-2
 returns_2 c =
     let a = c.before.before.before.before.before.before.before.args in
-    let ls = lines a.start_x_lem.now a.start_y_lem.now a.end_x_lem.now a.end_y_lem.now in
+    let ls = lines a.start_x.now a.start_y.now a.end_x.now a.end_y.now in
     met_not ls a.window a.marks.now a.i c.if1.false
 
 pub is_met_spec : {M : Type 1} → statement M

@@ -9,10 +9,10 @@ use Rattle.window.proofs.found.write_lines.Statement.{statement}
 use Rattle.window.proofs.found.write_lines.Tie as tie
 
 abbrev invariant_loop : tie.invariant_loop
-invariant_loop start_x_lem start_y_lem end_x_lem end_y_lem window marks out₀ i₀ n₀ out i n = Writing (met (lines start_x_lem start_y_lem end_x_lem end_y_lem) window marks) (length start_x_lem) out₀ out i n
+invariant_loop start_x start_y end_x end_y window marks out₀ i₀ n₀ out i n = Writing (met (lines start_x start_y end_x end_y) window marks) (length start_x) out₀ out i n
 
 abbrev decreases_loop : tie.decreases_loop
-decreases_loop start_x_lem start_y_lem end_x_lem end_y_lem window marks out₀ i₀ n₀ out i n = length start_x_lem - i
+decreases_loop start_x start_y end_x end_y window marks out₀ i₀ n₀ out i n = length start_x - i
 
 loop_holds : tie.Need-loop-init invariant_loop decreases_loop
 loop_holds c = writing_none _ _ _

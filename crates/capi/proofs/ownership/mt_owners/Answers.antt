@@ -1,0 +1,30 @@
+-- `capi::ownership::mt_owners` meets its contract: an `out` that is short, words that are too few, or what the entry answers and leaves. Assumes nothing.
+use mathlib.Core.Path.{refl, ap}
+use native.Mathlib.Omega.{arith}
+use Rattle.replies.specs.Answers.{of_check}
+use Rattle.replies.proofs.Handing.{short_replies}
+use Rattle.capi.proofs.Handing.{few_replies, asked}
+use Rattle.capi.proofs.ownership.mt_owners.Goals as goal
+
+pub returns-then-out-lt1 : goal.returns-then-out-lt1
+returns-then-out-lt1 c =
+    let s = c.if-out-lt1.true in
+    record { replies = short_replies 1 _ _ s; called = λ h k. absurd (omega (arith, h)); short = λ h. refl; few = λ h. refl }
+
+pub returns-then-grid-lt-WORDS : goal.returns-then-grid-lt-WORDS
+returns-then-grid-lt-WORDS c =
+    let s = c.if-grid-lt-WORDS.true in
+    record { replies = few_replies 1 _ _ _ c.if-out-lt1.false s; called = λ h k. absurd (omega (arith, k)); short = λ h. refl; few = λ h. refl }
+
+pub returns : goal.returns
+returns c =
+    let h = c.if-out-lt1.false in
+    let k = c.if-grid-lt-WORDS.false in
+    let e = c.owners_of.ensures in
+    rw (← c.grid_by.ensures)
+    (record {
+      replies = asked 1 _ k (ap of_check e.answer) c.checked.ensures;
+      called = λ _ _. record { answer = refl; left = e.left };
+      short = λ s. absurd (omega (arith, s));
+      few = λ s. absurd (omega (arith, s));
+    })

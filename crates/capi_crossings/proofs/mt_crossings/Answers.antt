@@ -1,0 +1,31 @@
+-- `capi_crossings::mt_crossings` meets its contract: an `out` that is short, words that are too few, or what the entry answers and leaves. Assumes nothing.
+use mathlib.Core.Path.{refl, ap, ◌∙◌}
+use native.Mathlib.Omega.{arith}
+use Rattle.replies.proofs.Handing.{short_replies}
+use Rattle.capi.proofs.Handing.{few_replies, asked}
+use Rattle.capi_pairs.specs.Answers.{of_once}
+use Rattle.capi_pairs.proofs.Outcomes.{same_five}
+use Rattle.capi_crossings.proofs.mt_crossings.Goals as goal
+
+pub returns-then-out-lt1 : goal.returns-then-out-lt1
+returns-then-out-lt1 c =
+    let s = c.if-out-lt1.true in
+    record { replies = short_replies 1 _ _ s; called = λ h k. absurd (omega (arith, h)); short = λ h. same_five; few = λ h. same_five }
+
+pub returns-then-grid-lt-WORDS : goal.returns-then-grid-lt-WORDS
+returns-then-grid-lt-WORDS c =
+    let s = c.if-grid-lt-WORDS.true in
+    record { replies = few_replies 1 _ _ _ c.if-out-lt1.false s; called = λ h k. absurd (omega (arith, k)); short = λ h. same_five; few = λ h. same_five }
+
+pub returns : goal.returns
+returns c =
+    let h = c.if-out-lt1.false in
+    let k = c.if-grid-lt-WORDS.false in
+    let e = c.list_crossings.ensures in
+    rw (← c.grid_by.ensures)
+    (record {
+      replies = asked 1 _ k (c.counted.ensures ∙ ap of_once e.answers) c.cells.ensures;
+      called = λ _ _. record { answers = refl; first_is = e.first_is; second_is = e.second_is; starts_are = e.starts_are; listing_is = e.listing_is; counts_are = e.counts_are };
+      short = λ s. absurd (omega (arith, s));
+      few = λ s. absurd (omega (arith, s));
+    })

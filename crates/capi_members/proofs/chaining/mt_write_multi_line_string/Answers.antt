@@ -1,0 +1,21 @@
+-- `capi_members::chaining::mt_write_multi_line_string` meets its contract: an `out` that is short, or what the entry answers and leaves. Assumes nothing.
+use mathlib.Core.Path.{refl, ap}
+use native.Mathlib.Omega.{arith}
+use Rattle.replies.proofs.Handing.{short_replies, replied}
+use Rattle.capi_members.specs.Answers.{of_written}
+use Rattle.capi_members.proofs.chaining.mt_write_multi_line_string.Goals as goal
+
+pub returns-then-out-lt1 : goal.returns-then-out-lt1
+returns-then-out-lt1 c =
+    let s = c.if-out-lt1.true in
+    record { replies = short_replies 1 _ _ s; called = λ h. absurd (omega (arith, h)); short = λ h. refl }
+
+pub returns : goal.returns
+returns c =
+    let h = c.if-out-lt1.false in
+    let e = c.write_multi_line_string.ensures in
+    record {
+      replies = replied 1 (ap of_written e.answer) c.written.ensures;
+      called = λ _. record { answer = refl; in_bytes = e.in_bytes; is = e.is };
+      short = λ s. absurd (omega (arith, s));
+    }

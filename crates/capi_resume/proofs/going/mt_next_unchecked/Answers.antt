@@ -1,0 +1,30 @@
+-- `capi_resume::going::mt_next_unchecked` meets its contract: an `out` that is short, words that are too few, or what the entry answers and leaves. Assumes nothing.
+use mathlib.Core.Path.{refl, ap}
+use native.Mathlib.Omega.{arith}
+use Rattle.replies.proofs.Handing.{short_replies, handed_replies}
+use Rattle.capi.proofs.Handing.{few_replies, asked}
+use Rattle.capi_resume.specs.Answers.{of_next}
+use Rattle.capi_resume.proofs.going.mt_next_unchecked.Goals as goal
+
+pub returns-then-out-lt5 : goal.returns-then-out-lt5
+returns-then-out-lt5 c =
+    let s = c.if-out-lt5.true in
+    record { replies = short_replies 5 _ _ s; called = λ h k. absurd (omega (arith, h)); short = λ h. (refl, refl); few = λ h. (refl, refl) }
+
+pub returns-then-grid-lt-WORDS : goal.returns-then-grid-lt-WORDS
+returns-then-grid-lt-WORDS c =
+    let s = c.if-grid-lt-WORDS.true in
+    record { replies = few_replies 5 _ _ _ c.if-out-lt5.false s; called = λ h k. absurd (omega (arith, k)); short = λ h. (refl, refl); few = λ h. (refl, refl) }
+
+pub returns : goal.returns
+returns c =
+    let h = c.if-out-lt5.false in
+    let k = c.if-grid-lt-WORDS.false in
+    let e = c.next.ensures in
+    rw (← c.grid_by.ensures)
+    (record {
+      replies = asked 5 _ k (ap of_next e.answers) (handed_replies 5 h c.went.ensures);
+      called = λ _ _. record { answers = refl; first_is = e.first_is; second_is = e.second_is };
+      short = λ s. absurd (omega (arith, s));
+      few = λ s. absurd (omega (arith, s));
+    })

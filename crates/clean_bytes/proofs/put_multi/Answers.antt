@@ -1,0 +1,18 @@
+-- `clean_bytes::put_multi` meets its contract. Assumes nothing.
+use Prim.Native.Nat.{ℕ}
+use lib.ListN.{length-replicate}
+use Rattle.clean_bytes.proofs.Loading.{asked, members_read}
+use Rattle.clean_bytes.proofs.Keeping.{unread_refused, read_cleaned}
+use Rattle.clean_bytes.proofs.put_multi.Goals as goal
+
+pub put_part-requires : goal.put_part-requires
+put_part-requires c =
+    let s = c in
+    let q = members_read c.read_multi_line_string-read.ensures (length-replicate {A = ℕ} 4096 0) (length-replicate {A = ℕ} 4096 0) (length-replicate {A = ℕ} 4096 0) s.requires.0 c.in-Members.is in
+    (q.load.parts, asked q.load q.few s.requires.1)
+
+pub returns-in-Refused : goal.returns-in-Refused
+returns-in-Refused c = unread_refused c.read_multi_line_string-read.ensures (length-replicate {A = ℕ} 4096 0) (length-replicate {A = ℕ} 4096 0) (length-replicate {A = ℕ} 4096 0) c.requires.0 c.in-Refused.is c.refuse.ensures
+
+pub returns-in-Members : goal.returns-in-Members
+returns-in-Members c = read_cleaned c.read_multi_line_string-read.ensures (length-replicate {A = ℕ} 4096 0) (length-replicate {A = ℕ} 4096 0) (length-replicate {A = ℕ} 4096 0) c.requires.0 c.in-Members.is c.put_part.ensures

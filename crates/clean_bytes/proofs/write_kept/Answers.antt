@@ -1,0 +1,26 @@
+-- `clean_bytes::write_kept` meets its contract. Assumes nothing.
+use mathlib.Core.Path.{sym}
+use lib.Seq.{length-take-le}
+use Rattle.clean_bytes.proofs.Keeping.{wrote, not_refused}
+use Rattle.clean_bytes.proofs.write_kept.Goals as goal
+
+pub slice_bounds-write_multi_line_string-end : goal.slice_bounds-write_multi_line_string-end
+slice_bounds-write_multi_line_string-end c =
+    let s = c in
+    sym (length-take-le _ s.args.x.now s.requires.0.in_x)
+
+pub slice_bounds-write_multi_line_string-end-2 : goal.slice_bounds-write_multi_line_string-end-2
+slice_bounds-write_multi_line_string-end-2 c =
+    let s = c in
+    sym (length-take-le _ s.args.y.now s.requires.0.in_y)
+
+pub slice_bounds-write_multi_line_string-end-3 : goal.slice_bounds-write_multi_line_string-end-3
+slice_bounds-write_multi_line_string-end-3 c =
+    let s = c in
+    sym (length-take-le _ s.args.lengths.now s.requires.0.in_lengths)
+
+pub returns-in-Bytes : goal.returns-in-Bytes
+returns-in-Bytes c = wrote c.write_multi_line_string-written.ensures c.requires.1 c.in-Bytes.is
+
+pub returns-in-Refused : goal.returns-in-Refused
+returns-in-Refused c = not_refused c.write_multi_line_string-written.ensures c.requires.1 c.in-Refused.is

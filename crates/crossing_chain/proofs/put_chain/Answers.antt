@@ -1,0 +1,33 @@
+-- `crossing_chain::put_chain` meets its contract. Assumes nothing.
+use Rattle.std.proofs.Common.{◌∙◌, arith}
+use lib.ListN.{length-replicate}
+use Rattle.wkb.specs.Reading.{nought}
+use Rattle.report.proofs.Putting.{puts_text}
+use Rattle.chain.specs.Printed.{refused_text}
+use Rattle.chain.proofs.Chains.{points_read, refused_read}
+use Rattle.crossing_chain.specs.Printed.{crossings_of_lines}
+use Rattle.crossing_chain.proofs.Answers.{printed_by}
+use Rattle.crossing_chain.proofs.put_chain.Goals as goal
+
+pub put_points-requires : goal.put_points-requires
+put_points-requires c =
+    let r = c.read_line_string-read in
+    let p = points_read _ _ _ _ _ (length-replicate 1024 nought) (length-replicate 1024 nought) _ (rw c.in-Points.is at r.ensures) in
+    let l = p.in_x in
+    let k = r.auto.x in
+    let e = length-replicate 1024 nought in
+    (p.some, omega arith, p.in_x, p.in_y)
+
+pub returns-in-Refused : goal.returns-in-Refused
+returns-in-Refused c =
+    let b = c in
+    puts_text
+    (refused_read _ _ _ _ _ (length-replicate 1024 nought) (length-replicate 1024 nought) _ (rw c.in-Refused.is at b.read_line_string-read.ensures) refused_text _ ∙ printed_by _ _)
+    c.refused_line.ensures
+
+pub returns-in-Points : goal.returns-in-Points
+returns-in-Points c =
+    let b = c in
+    puts_text
+    ((points_read _ _ _ _ _ (length-replicate 1024 nought) (length-replicate 1024 nought) _ (rw c.in-Points.is at b.read_line_string-read.ensures)).said refused_text (crossings_of_lines _) ∙ printed_by _ _)
+    c.put_points.ensures

@@ -1,0 +1,17 @@
+-- `fill::offsets::shift_back` meets its contract. Assumes nothing.
+use native.Mathlib.Omega.{arith}
+use lib.ListN.{length-set}
+use Rattle.fill.proofs.Sums.{shifting_none, shifting_more, shifting_done}
+use Rattle.fill.proofs.offsets.shift_back.Goals as goal
+
+pub loop-c-init : goal.loop-c-init
+loop-c-init c = shifting_none _ _ c.requires
+
+pub loop-c-preserved : goal.loop-c-preserved
+loop-c-preserved c = shifting_more c.loop-c.invariant c.loop-c-test.true
+
+pub shape_of-offsets : goal.shape_of-offsets
+shape_of-offsets c = simp length-set c.loop-c.invariant.len
+
+pub returns : goal.returns
+returns c = shifting_done c.loop-c.invariant (omega arith)

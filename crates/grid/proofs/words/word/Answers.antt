@@ -1,0 +1,7 @@
+-- `grid::words::word` meets its contract. Assumes nothing.
+use mathlib.Core.Path.{sym}
+use lib.ListN.{get_or-eq_default}
+use Rattle.grid.proofs.words.word.Goals as goal
+
+pub returns : goal.returns
+returns c = sym (get_or-eq_default c.args.words.now 0 c.if-at-words.false)

@@ -1,0 +1,98 @@
+-- `members::bytes::put_members` meets its contract. The invariant: the bytes of the first k members, with `from` points, stand from byte 9 on.
+-- Assumes nothing.
+use mathlib.Core.Path.{◌≡◌, sym, ◌∙◌}
+use mathlib.Core.List.{List, flat_map}
+use Prim.Native.Nat.{ℕ, ◌+◌, ◌*◌, ◌-◌, ◌≤◌, ◌<◌}
+use native.Mathlib.Omega.{arith}
+use lib.ListN.{length, take, drop, get_or, length-drop}
+use lib.Seq.{length-take-le}
+use Rattle.wkb.specs.declared.Order.TheVariants.{Little}
+use Rattle.wkb.specs.Bytes.{line_bytes}
+use Rattle.wkb.specs.Inside.{PutIn}
+use Rattle.wkb.proofs.LineStrings.{length_line}
+use Rattle.wkb.proofs.Stores.{Filling, fill_none, fill_length, fill_room, fill_more, fill_all}
+use Rattle.members.specs.Held.{points_of, chains_of}
+use Rattle.members.proofs.Held.{held_says, length_points_of}
+use Rattle.members.proofs.Along.{Along, along_none, along_next, along_more, Fitting}
+use Rattle.members.proofs.Putting.{bytes_next, bytes_over}
+use Rattle.members.proofs.bytes.put_members.Goals as goal
+
+-- the bytes of the members from k on, the first of which has its first point at `from`
+abbrev left : List ℕ → List ℕ → List ℕ → ℕ → ℕ → List ℕ
+left x y ns k from = flat_map (line_bytes Little) (chains_of (drop k ns) (drop from (points_of x y)))
+
+record Turned (x y ns s₀ s : List ℕ) (at from k : ℕ) : Type 0 where
+  alike : length y ≡ length x
+  along : Along ns (length x) k from
+  room : 9 + length (left x y ns 0 0) ≤ length s₀
+  filled : Filling 9 (left x y ns 0 0) (left x y ns k from) at s₀ s
+
+-- the next member has n points
+module _ {x y ns s₀ s : List ℕ} {at from k : ℕ} (t : Turned x y ns s₀ s at from k) (h : k < length ns) (n : ℕ) (e : n ≡ get_or ns k 0) where
+  fitting : Fitting (length x) from n
+  fitting = along_next t.along h n e
+  length_next : 9 + 16 * n ≡ length (line_bytes Little (take n (drop from (points_of x y))))
+  length_next =
+      let ps = points_of x y in
+      let k : n ≤ length (drop from ps) = rw (length-drop from ps) (omega (arith, length_points_of x y t.alike, fitting.within)) in
+      sym (length_line Little (take n (drop from ps)) ∙ rw (length-take-le n (drop from ps) k))
+  room_next : at + 9 + 16 * n ≤ length s
+  room_next = let r = fill_room t.filled (line_bytes Little (take n (drop from (points_of x y)))) _ (bytes_next ns k from (points_of x y) n h e) t.room in omega (arith, length_next)
+  turned_more : {s₁ : List ℕ} → PutIn at (line_bytes Little (take n (drop from (points_of x y)))) s s₁ → Turned x y ns s₀ s₁ (at + 9 + 16 * n) (from + n) (k + 1)
+  turned_more p = record {
+    alike = t.alike;
+    along = along_more t.along h n e;
+    room = t.room;
+    filled =
+        let to : at + (9 + 16 * n) ≡ at + 9 + 16 * n = omega arith in
+        rw to at (fill_more t.filled (bytes_next ns k from (points_of x y) n h e) p length_next);
+  }
+
+-- the member at k
+fitting_at : (c : goal.After-wide-n) → let l = c in Fitting (length l.args.x.now) l.loop-k.from c.wide-n.result
+fitting_at c = fitting c.loop-k.invariant c.loop-k-test.true c.wide-n.result c.wide-n.ensures
+
+room_at : (c : goal.After-wide-n) → let l = c in l.loop-k.at + 9 + 16 * c.wide-n.result ≤ length l.loop-k.s
+room_at c = room_next c.loop-k.invariant c.loop-k-test.true c.wide-n.result c.wide-n.ensures
+
+pub loop-k-init : goal.loop-k-init
+loop-k-init c =
+    let a = c.args in
+    let p = c.requires in
+    let h = held_says (length a.x.now) (length a.y.now) a.lengths.now p.0 in
+    record {
+      alike = h.alike;
+      along = along_none a.lengths.now (length a.x.now) h.each h.sum;
+      room = p.1;
+      filled = fill_none 9 (left a.x.now a.y.now a.lengths.now 0 0) a.s.now (omega arith);
+    }
+
+pub put_member-requires : goal.put_member-requires
+put_member-requires c =
+    let f = fitting_at c in
+    let r = room_at c in
+    (c.loop-k.invariant.alike, f.within, omega arith)
+
+pub overflow_add-at : goal.overflow_add-at
+overflow_add-at c = let r = room_at c in omega (arith, fill_length c.loop-k.invariant.filled)
+
+pub overflow_mul-at : goal.overflow_mul-at
+overflow_mul-at c = let r = room_at c in omega (arith, fill_length c.loop-k.invariant.filled)
+
+pub overflow_add-at-in-loop-k : goal.overflow_add-at-in-loop-k
+overflow_add-at-in-loop-k c = let r = room_at c in omega (arith, fill_length c.loop-k.invariant.filled)
+
+pub overflow_add-from : goal.overflow_add-from
+overflow_add-from c = let f = fitting_at c in omega arith
+
+pub loop-k-preserved : goal.loop-k-preserved
+loop-k-preserved c = turned_more c.loop-k.invariant c.loop-k-test.true c.wide-n.result c.wide-n.ensures c.put_member.ensures
+
+pub shape_of-s : goal.shape_of-s
+shape_of-s c = fill_length c.loop-k.invariant.filled
+
+pub returns : goal.returns
+returns c =
+    let a = c.args in
+    let l = c.loop-k in
+    fill_all l.invariant.filled (bytes_over a.lengths.now l.k (drop l.from (points_of a.x.now a.y.now)) c.loop-k-test.false)

@@ -1,0 +1,94 @@
+-- `members::lines::put_ends` meets its contract. The invariant: the ends of the lines of the first k members, with `at` points, stand at the start.
+-- Assumes nothing.
+use mathlib.Core.Path.{◌≡◌, sym, ◌∙◌}
+use mathlib.Core.List.{List, map}
+use Prim.Native.Nat.{ℕ, ◌+◌, ◌-◌, ◌≤◌, ◌<◌}
+use native.Mathlib.Omega.{arith}
+use lib.Ieee.{Float, binary64, of_bits}
+use lib.ListN.{length, take, drop, get_or, length-map}
+use Rattle.wkb.specs.Inside.{PutIn}
+use Rattle.wkb.specs.Reading.{nought}
+use Rattle.wkb.proofs.Stores.{Filling, fill_none, fill_length, fill_room, fill_more, fill_cleared}
+use Rattle.members.specs.Inside.{ends_at, floats_at}
+use Rattle.members.proofs.Along.{Along, along_none, along_next, along_more, Fitting, floats_next, floats_over, floats_count}
+use Rattle.members.proofs.lines.put_ends.Goals as goal
+
+-- the ends of the lines of the members from k on, the first of which has its first point at `at`
+abbrev left : List ℕ → List ℕ → ℕ → ℕ → ℕ → List Float
+left cs ns skip k at = map (of_bits binary64) (ends_at skip (drop k ns) (drop at cs))
+
+record Turned (cs ns : List ℕ) (skip : ℕ) (s₀ s : List Float) (at to k : ℕ) : Type 0 where
+  along : Along ns (length cs) k at
+  one : skip ≤ 1
+  room : 0 + length (left cs ns skip 0 0) ≤ length s₀
+  filled : Filling 0 (left cs ns skip 0 0) (left cs ns skip k at) to s₀ s
+
+-- the next member has n points
+module _ {cs ns : List ℕ} {skip : ℕ} {s₀ s : List Float} {at to k : ℕ} (t : Turned cs ns skip s₀ s at to k) (h : k < length ns) (n : ℕ) (e : n ≡ get_or ns k 0) where
+  fitting : Fitting (length cs) at n
+  fitting = along_next t.along h n e
+  length_next : length (map (of_bits binary64) (take (n - 1) (drop (at + skip) cs))) ≡ n - 1
+  length_next = floats_count (of_bits binary64) skip ns k at cs n t.one fitting
+  room_next : to + (n - 1) ≤ length s
+  room_next =
+      let r = fill_room t.filled (map (of_bits binary64) (take (n - 1) (drop (at + skip) cs))) _ (floats_next (of_bits binary64) skip ns k at cs n h e) t.room in
+      omega (arith, length_next)
+  turned_more : {s₁ : List Float} → PutIn to (map (of_bits binary64) (take (n - 1) (drop (at + skip) cs))) s s₁ → Turned cs ns skip s₀ s₁ (at + n) (to + (n - 1)) (k + 1)
+  turned_more p = record {
+    along = along_more t.along h n e;
+    one = t.one;
+    room = t.room;
+    filled = fill_more t.filled (floats_next (of_bits binary64) skip ns k at cs n h e) p (sym length_next);
+  }
+
+-- the member at k
+fitting_at : (c : goal.After-wide-n) → let l = c in Fitting (length l.args.from.now) l.loop-k.at c.wide-n.result
+fitting_at c = fitting c.loop-k.invariant c.loop-k-test.true c.wide-n.result c.wide-n.ensures
+
+room_at : (c : goal.After-wide-n) → let l = c in l.loop-k.to + (c.wide-n.result - 1) ≤ length l.loop-k.s
+room_at c = room_next c.loop-k.invariant c.loop-k-test.true c.wide-n.result c.wide-n.ensures
+
+pub loop-k-init : goal.loop-k-init
+loop-k-init c =
+    let a = c.args in
+    let p = c.requires in
+    record {
+      along = along_none a.lengths.now (length a.from.now) p.1 p.2;
+      one = p.0;
+      room = omega (arith, p.3, length-map (ends_at a.skip a.lengths.now a.from.now) (of_bits binary64));
+      filled = fill_none 0 (left a.from.now a.lengths.now a.skip 0 0) a.s.now (omega arith);
+    }
+
+pub overflow_add-at : goal.overflow_add-at
+overflow_add-at c = let f = fitting_at c in omega (arith, c.loop-k.invariant.one)
+
+pub overflow_sub-n : goal.overflow_sub-n
+overflow_sub-n c = let f = fitting_at c in omega arith
+
+pub put_floats-requires : goal.put_floats-requires
+put_floats-requires c =
+    let f = fitting_at c in
+    let r = room_at c in
+    (omega (arith, c.loop-k.invariant.one), omega arith)
+
+pub overflow_add-at-in-loop-k : goal.overflow_add-at-in-loop-k
+overflow_add-at-in-loop-k c = let f = fitting_at c in omega arith
+
+pub overflow_sub-to : goal.overflow_sub-to
+overflow_sub-to c = let f = fitting_at c in omega arith
+
+pub overflow_add-to : goal.overflow_add-to
+overflow_add-to c = let r = room_at c in omega (arith, fill_length c.loop-k.invariant.filled)
+
+pub loop-k-preserved : goal.loop-k-preserved
+loop-k-preserved c = turned_more c.loop-k.invariant c.loop-k-test.true c.wide-n.result c.wide-n.ensures c.put_floats.ensures
+
+pub shape_of-s : goal.shape_of-s
+shape_of-s c = c.zero_from.auto.s ∙ fill_length c.loop-k.invariant.filled
+
+pub returns : goal.returns
+unfolding floats_at
+returns c =
+    let l = c in
+    let a = l.args in
+    fill_cleared nought l.loop-k.invariant.filled (floats_over (of_bits binary64) a.skip a.lengths.now l.loop-k.k l.loop-k.at a.from.now c.loop-k-test.false) c.zero_from.ensures

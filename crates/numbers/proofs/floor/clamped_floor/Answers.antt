@@ -1,0 +1,30 @@
+-- `numbers::floor::clamped_floor` meets its contract. Assumes nothing.
+use Rattle.std.proofs.Common.{◌≡◌, ℕ, sym, ◌∙◌, subst, arith}
+use lib.Ieee.{of_bits}
+use Rattle.numbers.specs.Floor.{clamped_floor}
+use Rattle.numbers.proofs.Tests.{holds}
+use Rattle.numbers.proofs.WholeLaws.{whole_value}
+use Rattle.numbers.proofs.FloorCases.{Within, within, clamped_none, clamped_low, clamped_high, clamped_within}
+use Rattle.numbers.proofs.floor.clamped_floor.Goals as goal
+
+fine : (c : goal.Then-v-last) → Within c.args.v c.args.count
+unfolding of_bits
+fine c = within _ _ (omega arith) c.if-v.true c.if-v-last.true
+
+pub returns-then-count-eq0 : goal.returns-then-count-eq0
+returns-then-count-eq0 c = subst (λ (n : ℕ). 0 ≡ clamped_floor c.args.v n) (sym c.if-count-eq0.true) (clamped_none _)
+
+pub whole_index-requires : goal.whole_index-requires
+unfolding of_bits
+whole_index-requires c = let w = fine c in (holds _ c.if-v.true, (w.small, omega arith))
+
+pub returns-then-v-last : goal.returns-then-v-last
+returns-then-v-last c = let w = fine c in c.whole_index.ensures ∙ clamped_within _ _ w.above_zero (omega arith)
+
+pub returns-then-v : goal.returns-then-v
+unfolding of_bits
+returns-then-v c = clamped_high _ _ _ c.if-v.true (whole_value _ (omega arith)) c.if-v-last.false
+
+pub returns : goal.returns
+unfolding of_bits
+returns c = clamped_low _ _ c.if-v.false

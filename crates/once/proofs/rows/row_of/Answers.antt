@@ -1,0 +1,5 @@
+-- `once::rows::row_of` meets its contract. Assumes nothing.
+use Rattle.once.proofs.rows.row_of.Goals as goal
+
+pub returns : goal.returns
+returns c = rw c.box_at-bounds.ensures

@@ -1,0 +1,7 @@
+-- `own::axis::about` meets its contract: the whole axis, narrowed. Assumes nothing.
+use Rattle.std.proofs.Common.{arith}
+use Rattle.own.proofs.Halving.{whole_axis}
+use Rattle.own.proofs.axis.about.Goals as goal
+
+pub narrowed-there-requires : goal.narrowed-there-requires
+narrowed-there-requires c = (c.requires.fact_1, whole_axis _ _ c.requires.fact_1 (omega arith))

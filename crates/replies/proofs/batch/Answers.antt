@@ -1,0 +1,16 @@
+-- `replies::batch` meets its contract: each case of the answer is handed over. Assumes nothing.
+use mathlib.Core.Path.{sym, ap}
+use Rattle.replies.specs.Answers.{of_batch}
+use Rattle.replies.proofs.Handing.{short_replies, handed}
+use Rattle.replies.proofs.batch.Goals as goal
+
+pub returns-then-out-lt3 : goal.returns-then-out-lt3
+returns-then-out-lt3 c = short_replies 3 _ _ c.if-out-lt3.true
+
+pub returns-in-Done : goal.returns-in-Done
+unfolding of_batch
+returns-in-Done c = handed 3 c.if-out-lt3.false (ap of_batch (sym c.in-Done.is)) c.three.ensures
+
+pub returns-in-Refused : goal.returns-in-Refused
+unfolding of_batch
+returns-in-Refused c = handed 3 c.if-out-lt3.false (ap of_batch (sym c.in-Refused.is)) c.refused.ensures

@@ -1,0 +1,16 @@
+-- `replies::cells` meets its contract: each case of the answer is handed over. Assumes nothing.
+use mathlib.Core.Path.{sym, ap}
+use Rattle.replies.specs.Answers.{of_cells}
+use Rattle.replies.proofs.Handing.{short_replies, handed}
+use Rattle.replies.proofs.cells.Goals as goal
+
+pub returns-then-out-lt1 : goal.returns-then-out-lt1
+returns-then-out-lt1 c = short_replies 1 _ _ c.if-out-lt1.true
+
+pub returns-in-Found : goal.returns-in-Found
+unfolding of_cells
+returns-in-Found c = handed 1 c.if-out-lt1.false (ap of_cells (sym c.in-Found.is)) c.one.ensures
+
+pub returns-in-Refused : goal.returns-in-Refused
+unfolding of_cells
+returns-in-Refused c = handed 1 c.if-out-lt1.false (ap of_cells (sym c.in-Refused.is)) c.refused.ensures

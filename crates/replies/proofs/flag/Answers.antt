@@ -1,0 +1,8 @@
+-- `replies::flag` meets its contract. Assumes nothing.
+use Rattle.replies.proofs.flag.Goals as goal
+
+pub returns-then-b : goal.returns-then-b
+returns-then-b c = rw c.if-b.true
+
+pub returns : goal.returns
+returns c = rw c.if-b.false

@@ -1,0 +1,16 @@
+-- `resume::starts::index_in` meets its contract. The invariant: the value does not stand before u. Assumes nothing.
+use Prim.Native.Nat.{◌-◌}
+use Rattle.resume.proofs.CursorLaws.{seeking_none, seeking_here, seeking_more, seeking_over}
+use Rattle.resume.proofs.starts.index_in.Goals as goal
+
+pub loop-u-init : goal.loop-u-init
+loop-u-init c = seeking_none _ _
+
+pub returns-then-list-u : goal.returns-then-list-u
+returns-then-list-u c = seeking_here _ _ _ c.loop-u.invariant c.loop-u-test.true c.if-list-u.true
+
+pub loop-u-preserved : goal.loop-u-preserved
+loop-u-preserved c = seeking_more _ _ _ c.loop-u.invariant c.loop-u-test.true c.if-list-u.false
+
+pub returns : goal.returns
+returns c = seeking_over _ _ _ c.loop-u.invariant c.loop-u-test.false

@@ -1,0 +1,17 @@
+-- `turns::pushes::walked` meets its contract. Assumes nothing.
+use Rattle.std.proofs.Common.{arith}
+use Rattle.turns.proofs.Loop.{within_done, walked_done, walked_over}
+use Rattle.turns.proofs.Grows.{at_most_one}
+use Rattle.turns.proofs.pushes.walked.Goals as goal
+
+pub run-r-requires : goal.run-r-requires
+run-r-requires c = let a = c.args in let p = c.put-n.ensures in (omega (arith, p.count, p.len, at_most_one a.cols a.rows a.start.x.index a.start.y.index), c.requires.fact_2)
+
+pub put_other-requires : goal.put_other-requires
+put_other-requires c = let a = c.args in let p = c.put-n.ensures in let q = c.run-r in let l = within_done _ _ _ c.in-Done.is q.ensures.all in (omega (arith, p.count, p.len, q.auto.s, at_most_one a.cols a.rows a.start.x.index a.start.y.index), c.requires.fact_2)
+
+pub returns-in-Done : goal.returns-in-Done
+returns-in-Done c = walked_done _ _ _ _ c.put-n.ensures c.run-r.ensures c.in-Done.is c.put_other.ensures
+
+pub returns-in-Over : goal.returns-in-Over
+returns-in-Over c = walked_over _ _ _ _ c.put-n.ensures c.run-r.ensures c.in-Over.is

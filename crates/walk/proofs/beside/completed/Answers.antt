@@ -1,0 +1,65 @@
+-- `walk::beside::completed` meets its contract. Assumes nothing.
+use mathlib.Core.Path.{◌≡◌, ap, ◌∙◌}
+use Prim.Native.Nat.{ℕ, ◌*◌}
+use native.Mathlib.Omega.{arith}
+use Rattle.grid.specs.declared.Axis.{Axis}
+use Rattle.grid.specs.Axes.{x_axis, y_axis}
+use Rattle.walk.specs.Neighbours.{along_on}
+use Rattle.walk.specs.Inside.{share, share_of}
+use Rattle.walk.proofs.Room.{share_is}
+use Rattle.walk.proofs.Off.{clear_complete}
+use Rattle.walk.proofs.Answer.{completes}
+use Rattle.walk.proofs.Added.{end_le, shape_within}
+use Rattle.walk.proofs.beside.completed.Goals as goal
+
+-- the neighbours that the line adds
+in_x : (c : goal.After-along-x) → let a = c.args in c.along-x.result ≡ along_on a.mode (x_axis a.grid) a.line.start_x a.line.end_x
+in_x c = let a = c.args in c.along-x.ensures ∙ ap (λ (z : Axis). along_on a.mode z a.line.start_x a.line.end_x) c.x_axis.ensures
+
+in_y : (c : goal.After-along-y) → let a = c.args in c.along-y.result ≡ along_on a.mode (y_axis a.grid) a.line.start_y a.line.end_y
+in_y c =
+    let a = c.args in
+    c.along-y.ensures ∙ ap (λ (z : Axis). along_on a.mode z a.line.start_y a.line.end_y) c.y_axis.ensures
+
+-- how many they are for all walked cells
+shared : (c : goal.After-along-y) → let a = c.args in a.trod.count * share_of a.mode a.grid a.line ≡ a.trod.count * share c.along-x.result c.along-y.result
+shared c = ap (λ (k : ℕ). c.args.trod.count * k) (share_is _ _ _ _ _ (in_x c) (in_y c))
+
+pub returns-then-is_clear : goal.returns-then-is_clear
+returns-then-is_clear c = clear_complete _ _ _ _ _ (omega (arith, c.requires.fact_3)) (c.is_clear.ensures c.if-is_clear.true)
+
+pub added-a-requires : goal.added-a-requires
+added-a-requires c =
+    let p = c.requires in
+    (omega (arith, p.fact_3, shared c), record { most = shape_within p.fact_1 p.fact_2; inside = p.fact_4 })
+
+pub ended-b-requires : goal.ended-b-requires
+ended-b-requires c =
+    let p = c.requires in
+    let k = c.added-a.ensures in
+    (omega (arith, p.fact_3, shared c, k.count, k.len), (p.fact_1, p.fact_2))
+
+pub ended-requires : goal.ended-requires
+ended-requires c =
+    let a = c in
+    let p = a.requires in
+    let k = c.added-a.ensures in
+    let e = c.ended-b.ensures in (
+      omega (
+        arith,
+        p.fact_3,
+        shared c,
+        k.count,
+        k.len,
+        e.len,
+        e.count,
+        end_le a.args.mode a.args.grid a.args.line.start_x a.args.line.start_y,
+      ),
+      (p.fact_1, p.fact_2),
+    )
+
+pub returns : goal.returns
+returns c =
+    let k = c in
+    completes _ _ _ _ _ (in_x k) (in_y k) k.added-a.ensures
+    c.ended-b.ensures c.ended.ensures

@@ -1,0 +1,28 @@
+-- `walk::cells_by_turns` meets its contract. Assumes nothing.
+use mathlib.Core.Path.{◌∙◌}
+use native.Mathlib.Omega.{arith}
+use Rattle.walk.proofs.Answer.{none_answer, trod_shape, trod_room, trod_inside, found_answer, refused_answer}
+use Rattle.walk.proofs.cells_by_turns.Goals as goal
+
+pub returns-then-grid-eq0 : goal.returns-then-grid-eq0
+returns-then-grid-eq0 c = none_answer _ _ _ _ _ c.if-grid-eq0.true c.none_reached.ensures
+
+pub completed-m-requires : goal.completed-m-requires
+completed-m-requires c =
+    let m = c.args.mode in
+    let h = c.if-grid-eq0.false in
+    let p = c.walk_by_turns-trail.ensures in
+    let e = c.in-Walked.is in
+    (trod_shape m _ _ h p _ e, (omega (arith, h), (trod_room m _ _ h p _ e, trod_inside m _ _ h p _ e)))
+
+pub returns-in-Walked : goal.returns-in-Walked
+returns-in-Walked c =
+    let h = c.if-grid-eq0.false in
+    let w = c.walk_by_turns-trail in
+    let m = c.completed-m in
+    let k = c.order_and_keep-count in
+    found_answer _ _ _ h w.ensures _ c.in-Walked.is
+    m.result _ m.new.s _ m.ensures (k.auto.s ∙ m.auto.s ∙ w.ensures.size) k.ensures
+
+pub returns-in-Refused : goal.returns-in-Refused
+returns-in-Refused c = refused_answer _ _ _ c.if-grid-eq0.false c.walk_by_turns-trail.ensures _ c.in-Refused.is

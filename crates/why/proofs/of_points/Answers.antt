@@ -1,0 +1,17 @@
+use mathlib.Core.Path.{sym, ap, ◌∙◌}
+use native.Mathlib.Omega.{arith}
+use lib.Seq.{length-take-le}
+use Rattle.why.specs.Why.{of_lines}
+use Rattle.chain.proofs.Chains.{chain_parts}
+use Rattle.why.proofs.of_points.Goals as goal
+
+pub slice_bounds-of_lines-end : goal.slice_bounds-of_lines-end
+slice_bounds-of_lines-end c = sym (length-take-le _ c.args.x.now (omega arith))
+
+pub slice_bounds-of_lines-end-2 : goal.slice_bounds-of_lines-end-2
+slice_bounds-of_lines-end-2 c = sym (length-take-le _ c.args.y.now (omega arith))
+
+pub returns : goal.returns
+returns c =
+    let s = c in
+    c.of_lines.ensures ∙ ap (of_lines s.args.plan) (chain_parts s.args.n s.args.x.now s.args.y.now s.requires.0 s.requires.1 s.requires.2)

@@ -1,0 +1,45 @@
+-- `wkb::members::check_members` meets its contract. The invariant: the members before `at` are right. Assumes nothing.
+use mathlib.Core.Path.{refl}
+use native.Mathlib.Omega.{arith}
+use Rattle.wkb.specs.Inside.{LineAt}
+use Rattle.wkb.proofs.Looks.{lined, line_faulted}
+use Rattle.wkb.proofs.Walks.{passed_none, passed_more, passed_fault, passed_over, passed_all}
+use Rattle.wkb.proofs.members.check_members.Goals as goal
+
+-- the member that was looked at
+line : (c : goal.In-Line) → let l = c in
+    LineAt l.args.bytes.now l.loop-left.at c.in-Line.order c.in-Line.count
+line c = lined c.check_line.ensures c.in-Line.is
+
+pub loop-left-init : goal.loop-left-init
+loop-left-init c = let a = c.args in passed_none a.bytes.now a.m (omega arith)
+
+pub check_line-requires : goal.check_line-requires
+check_line-requires c = c.loop-left.invariant.within
+
+pub overflow_add-at : goal.overflow_add-at
+overflow_add-at c = let l = line c in omega arith
+
+pub overflow_mul-at : goal.overflow_mul-at
+overflow_mul-at c = let l = line c in omega arith
+
+pub overflow_add-at-in-Line : goal.overflow_add-at-in-Line
+overflow_add-at-in-Line c = let l = line c in omega arith
+
+pub overflow_add-points : goal.overflow_add-points
+overflow_add-points c = let l = line c in omega arith
+
+pub loop-left-preserved : goal.loop-left-preserved
+loop-left-preserved c = passed_more c.loop-left.invariant c.loop-left-test.true (line c)
+
+pub returns-in-Fault : goal.returns-in-Fault
+returns-in-Fault c =
+    let l = c in
+    passed_fault l.loop-left.invariant _ c.loop-left-test.true
+    (line_faulted l.args.bytes.now l.loop-left.at c.check_line.ensures c.in-Fault.is)
+
+pub returns-then-at-bytes : goal.returns-then-at-bytes
+returns-then-at-bytes c = passed_over c.loop-left.invariant c.loop-left-test.false c.if-at-bytes.true
+
+pub returns : goal.returns
+returns c = (refl, passed_all c.loop-left.invariant c.loop-left-test.false c.if-at-bytes.false)

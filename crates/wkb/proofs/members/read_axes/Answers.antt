@@ -1,0 +1,91 @@
+-- `wkb::members::read_axes` meets its contract. The invariant: the coordinates of the members before `at` stand at the start. Assumes nothing.
+use mathlib.Core.Path.{◌≡◌, sym, ◌∙◌}
+use Prim.Native.Nat.{◌+◌, ◌≤◌}
+use native.Mathlib.Omega.{arith}
+use lib.ListN.{length}
+use Rattle.wkb.specs.Reading.{order_at}
+use Rattle.wkb.specs.Inside.{numbers_at, axes_at}
+use Rattle.wkb.proofs.Axes.{length_numbers}
+use Rattle.wkb.proofs.Fields.{LineFits}
+use Rattle.wkb.proofs.Stores.{fill_none, fill_length, fill_room, fill_more, fill_cleared}
+use Rattle.wkb.proofs.Walks.{left_line, left_rest, axes_next, axes_over}
+use Rattle.wkb.proofs.members.read_axes.Goals as goal
+
+-- the member at `at` is right
+line : (c : goal.In-loop-left) → LineFits c.loop-left.at c.args.bytes.now
+line c = left_line c.loop-left.left _ _ c.loop-left-test.true c.loop-left.invariant.2
+
+order_is : (c : goal.After-order_of-order) → let l = c in c.order_of-order.result ≡ order_at l.loop-left.at l.args.bytes.now
+unfolding order_at
+order_is c = c.order_of-order.ensures
+
+-- its coordinates have room
+room : (c : goal.After-points_at-n) → let l = c in l.loop-left.to + c.points_at-n.result ≤ length l.loop-left.s
+room c =
+    let l = c in
+    let a = l.args in
+    let e = axes_next a.bytes.now a.skip l.loop-left.left l.loop-left.at c.loop-left-test.true (order_is c) c.points_at-n.ensures in
+    let part = numbers_at c.order_of-order.result c.points_at-n.result (l.loop-left.at + 9 + a.skip) a.bytes.now in
+    let r : l.loop-left.to + length part ≤ length l.loop-left.s = fill_room l.loop-left.invariant.3 part _ e (omega (arith, l.loop-left.invariant.1)) in
+    omega (arith, length_numbers c.order_of-order.result a.bytes.now c.points_at-n.result (l.loop-left.at + 9 + a.skip))
+
+pub loop-left-init : goal.loop-left-init
+loop-left-init c =
+    let a = c.args in
+    let p = c.requires in
+    (p.1, p.2, p.0, fill_none 0 (axes_at a.skip a.m 9 a.bytes.now) a.s.now (omega arith))
+
+pub bounds-bytes-at : goal.bounds-bytes-at
+bounds-bytes-at c = let l = line c in omega arith
+
+pub points_at-n-requires : goal.points_at-n-requires
+points_at-n-requires c = (let l = line c in omega arith, order_is c)
+
+pub overflow_add-at : goal.overflow_add-at
+overflow_add-at c = let l = line c in omega arith
+
+pub overflow_add-at-in-loop-left : goal.overflow_add-at-in-loop-left
+overflow_add-at-in-loop-left c = let l = line c in omega arith
+
+pub read_numbers-requires : goal.read_numbers-requires
+read_numbers-requires c =
+    let l = line c in
+    let r = room c in
+    let n = c.points_at-n.ensures in
+    (omega arith, omega arith)
+
+pub overflow_add-at-in-loop-left-2 : goal.overflow_add-at-in-loop-left-2
+overflow_add-at-in-loop-left-2 c = let l = line c in omega arith
+
+pub overflow_mul-at : goal.overflow_mul-at
+overflow_mul-at c = let l = line c in let n = c.points_at-n.ensures in omega arith
+
+pub overflow_add-at-in-loop-left-3 : goal.overflow_add-at-in-loop-left-3
+overflow_add-at-in-loop-left-3 c = let l = line c in let n = c.points_at-n.ensures in omega arith
+
+pub overflow_add-to : goal.overflow_add-to
+overflow_add-to c = let p = c in let r = room p in omega (arith, fill_length p.loop-left.invariant.3)
+
+pub loop-left-preserved : goal.loop-left-preserved
+loop-left-preserved c =
+    let p = c in
+    let l = p in
+    let a = l.args in
+    let v = l.loop-left.invariant in
+    let h = p.loop-left-test.true in
+    let n = p.points_at-n.result in (
+      v.0,
+      v.1,
+      left_rest l.loop-left.left l.loop-left.at a.bytes.now h v.2 n p.points_at-n.ensures,
+      fill_more v.3 (axes_next a.bytes.now a.skip l.loop-left.left l.loop-left.at h (order_is p) p.points_at-n.ensures) c.read_numbers.ensures
+          (sym (length_numbers p.order_of-order.result a.bytes.now n (l.loop-left.at + 9 + a.skip))),
+    )
+
+pub shape_of-s : goal.shape_of-s
+shape_of-s c = c.clear_words.auto.s ∙ fill_length c.loop-left.invariant.3
+
+pub returns : goal.returns
+returns c =
+    let l = c in
+    let a = l.args in
+    fill_cleared 0 l.loop-left.invariant.3 (axes_over a.bytes.now a.skip l.loop-left.left l.loop-left.at c.loop-left-test.false) c.clear_words.ensures

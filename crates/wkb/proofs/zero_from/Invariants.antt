@@ -1,0 +1,12 @@
+-- `wkb::zero_from` meets its contract. The invariant: from `from` up to i there are zeros. Assumes nothing.
+use Prim.Native.Nat.{◌-◌, ◌≤◌}
+use lib.ListN.{length}
+use Rattle.wkb.specs.Reading.{nought}
+use Rattle.wkb.proofs.Stores.{Zeroed}
+use Rattle.wkb.proofs.zero_from.Given as goal
+
+abbrev pub invariant-loop-i : goal.invariant-loop-i
+invariant-loop-i l = (l.from ≤ l.i) × Zeroed nought l.from l.i l.initial.s l.s
+
+abbrev pub decreases-loop-i : goal.decreases-loop-i
+decreases-loop-i l = length l.initial.s - l.i

@@ -27,9 +27,6 @@ put_points-requires c =
     put_length c.put_4-2.ensures ∙ put_length c.put_4.ensures ∙ length-set a.s.now a.at 1 in
     (p.0, p.1, omega arith)
 
-pub shape_of-s : goal.shape_of-s
-shape_of-s c = put_length (returns c)
-
 pub returns : goal.returns
 returns c =
     let a = c.args in
@@ -38,3 +35,6 @@ returns c =
     let k : a.n ≤ length ps = rw (length-drop a.from (points_of a.x.now a.y.now)) (omega (arith, length_points_of a.x.now a.y.now p.0)) in
     put_line (take a.n ps) (put_one a.at 1 a.s.now (omega arith)) c.put_4.ensures c.put_4-2.ensures c.put_points.ensures
     (length-take-le a.n ps k)
+
+pub shape_of-s : goal.shape_of-s
+shape_of-s c = put_length (returns c)

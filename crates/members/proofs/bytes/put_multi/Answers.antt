@@ -45,12 +45,12 @@ put_members-requires c =
     put_length c.put_4-2.ensures ∙ put_length c.put_4.ensures ∙ length-set a.s.now 0 1 in
     (p.0, omega arith)
 
-pub shape_of-s : goal.shape_of-s
-shape_of-s c = put_length (returns c)
-
 pub returns : goal.returns
 returns c =
     let a = c.args in
     let pss = chains_of a.lengths.now (points_of a.x.now a.y.now) in
     let r = room c in
     put_multi pss (put_one 0 1 a.s.now (omega arith)) c.put_4.ensures c.put_4-2.ensures c.put_members.ensures (length_chains_of a.lengths.now (points_of a.x.now a.y.now))
+
+pub shape_of-s : goal.shape_of-s
+shape_of-s c = put_length (returns c)

@@ -154,8 +154,8 @@ floor_mono (fin false m e) (fin false n g) h =
 floor_mono (fin true m e) (fin false n g) h =
     rw (← neg_round binary64 false (above m e) 1)
     (float_le_trans (neg (counted false (above m e))) (fin true 0 (pos 0)) (counted false (n * up g / down g))
-    (unfold neg in le_neg (fin false 0 (pos 0)) (counted false (above m e)) (FloatSum.zero-le binary64 (above m e) 1 (zero-lt-suc 0)))
-    (float_le_trans (fin true 0 (pos 0)) (fin false 0 (pos 0)) (counted false (n * up g / down g)) (unfold le in tt) (FloatSum.zero-le binary64 (n * up g / down g) 1 (zero-lt-suc 0))))
+    (unfold neg in le_neg (fin false 0 (pos 0)) (counted false (above m e)) (FloatSum.zero_le binary64 (above m e) 1 (zero-lt-suc 0)))
+    (float_le_trans (fin true 0 (pos 0)) (fin false 0 (pos 0)) (counted false (n * up g / down g)) (unfold le in tt) (FloatSum.zero_le binary64 (n * up g / down g) 1 (zero-lt-suc 0))))
 floor_mono (fin true m e) (fin true n g) h =
     rw (← neg_round binary64 false (above m e) 1, ← neg_round binary64 false (above n g) 1)
     (le_neg (counted false (above n g)) (counted false (above m e))

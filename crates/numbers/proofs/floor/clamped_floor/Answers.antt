@@ -7,19 +7,16 @@ use Rattle.numbers.proofs.WholeLaws.{whole_value}
 use Rattle.numbers.proofs.FloorCases.{Within, within, clamped_none, clamped_low, clamped_high, clamped_within}
 use Rattle.numbers.proofs.floor.clamped_floor.Goals as goal
 
-fine : (c : goal.Then-v-last) → Within c.args.v c.args.count
-unfolding of_bits
-fine c = within _ _ (omega arith) c.if-v.true c.if-v-last.true
-
 pub returns-then-count-eq0 : goal.returns-then-count-eq0
 returns-then-count-eq0 c = subst (λ (n : ℕ). 0 ≡ clamped_floor c.args.v n) (sym c.if-count-eq0.true) (clamped_none _)
 
 pub whole_index-requires : goal.whole_index-requires
 unfolding of_bits
-whole_index-requires c = let w = fine c in (holds _ c.if-v.true, (w.small, omega arith))
+whole_index-requires c = let w : Within c.args.v c.args.count = within _ _ (omega arith) c.if-v.true c.if-v-last.true in record { fact_1 = holds _ c.if-v.true; fact_2 = w.small; fact_3 = omega arith }
 
 pub returns-then-v-last : goal.returns-then-v-last
-returns-then-v-last c = let w = fine c in c.whole_index.ensures ∙ clamped_within _ _ w.above_zero (omega arith)
+unfolding of_bits
+returns-then-v-last c = let w : Within c.args.v c.args.count = within _ _ (omega arith) c.if-v.true c.if-v-last.true in c.whole_index.ensures ∙ clamped_within _ _ w.above_zero (omega arith)
 
 pub returns-then-v : goal.returns-then-v
 unfolding of_bits

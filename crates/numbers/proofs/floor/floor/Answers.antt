@@ -1,5 +1,5 @@
 -- `numbers::floor::floor` meets its contract. Assumes nothing.
-use Rattle.std.proofs.Common.{◌≡◌, ◌/◌, false, T, pos, sym, ap, ◌∙◌, subst}
+use Rattle.std.proofs.Common.{◌≡◌, ◌/◌, false, true, T, pos, sym, ap, ◌∙◌, subst}
 use lib.Ieee.{Float, fin, binary64, fits, of_bits, lt, sub, mul}
 use lib.Ieee.Positive.{num, den}
 use Rattle.numbers.specs.Order.{magnitude_of}
@@ -8,29 +8,29 @@ use Rattle.numbers.proofs.WholeLaws.{Small, small, counted, stays_large, stays_s
 use Rattle.numbers.proofs.FloorCases.{floor_stays, floor_of_lem}
 use Rattle.numbers.proofs.floor.floor.Goals as goal
 
-held : (c : goal.Start) → T (fits binary64 c.args.v)
-held c = subst T (sym c.well_formed.0.1) tt
+held : (v : Float) → fits binary64 v ≡ true → T (fits binary64 v)
+held v e = subst T (sym e) tt
 
 -- the size lies above zero and below 2 ^ 52
-fine : (c : goal.Then-size-2) → Small (magnitude_of c.args.v)
-unfolding of_bits
-fine c = small _ (subst (λ (x : Float). T (lt (fin false 0 (pos 0)) x)) c.magnitude-size.ensures (holds _ c.if-size.true)) (subst (λ (x : Float). T (lt x (fin false 1 (pos 52)))) c.magnitude-size.ensures (holds _ c.if-size-2.true))
+fine : (v size : Float) → size ≡ magnitude_of v → lt (fin false 0 (pos 0)) size ≡ true → lt size (fin false 1 (pos 52)) ≡ true → Small (magnitude_of v)
+fine v size e above below = small _ (subst (λ (x : Float). T (lt (fin false 0 (pos 0)) x)) e (holds _ above)) (subst (λ (x : Float). T (lt x (fin false 1 (pos 52)))) e (holds _ below))
 
 pub whole_part-requires : goal.whole_part-requires
 unfolding of_bits
-whole_part-requires c = (holds _ c.if-size.true, holds _ c.if-size-2.true)
+whole_part-requires c = record { fact_1 = holds _ c.if-size.true; fact_2 = holds _ c.if-size-2.true }
 
 pub returns-then-size-2 : goal.returns-then-size-2
+unfolding of_bits
 returns-then-size-2 c =
     ap (sub binary64 _) c.one_if_above.ensures
-    ∙ floor_of_lem _ _ (fine c)
+    ∙ floor_of_lem _ _ (fine _ _ c.magnitude-size.ensures c.if-size.true c.if-size-2.true)
     (ap (λ (x : Float). mul binary64 x c.whole_part.result) c.unit.ensures
     ∙ ap (mul binary64 _) (c.whole_part.ensures ∙ ap (λ (x : Float). counted false (num x / den x)) c.magnitude-size.ensures))
 
 pub returns-else-size-2 : goal.returns-else-size-2
 unfolding of_bits
-returns-else-size-2 c = floor_stays (stays_large _ (held c) (subst (λ (x : Float). lt x (fin false 1 (pos 52)) ≡ false) c.magnitude-size.ensures c.if-size-2.false))
+returns-else-size-2 c = floor_stays (stays_large _ (held _ c.well_formed.0.1) (subst (λ (x : Float). lt x (fin false 1 (pos 52)) ≡ false) c.magnitude-size.ensures c.if-size-2.false))
 
 pub returns-else-size : goal.returns-else-size
 unfolding of_bits
-returns-else-size c = floor_stays (stays_small _ (held c) (subst (λ (x : Float). lt (fin false 0 (pos 0)) x ≡ false) c.magnitude-size.ensures c.if-size.false))
+returns-else-size c = floor_stays (stays_small _ (held _ c.well_formed.0.1) (subst (λ (x : Float). lt (fin false 0 (pos 0)) x ≡ false) c.magnitude-size.ensures c.if-size.false))

@@ -2,6 +2,7 @@
 use Rattle.std.proofs.Common.{◌≡◌, ℕ, ◌+◌, ◌-◌, ◌*◌, ◌^◌, ap, ◌∙◌, inl, inr, ⊎_elim, lt_of_le_of_lt, arith}
 use Rattle.numbers.proofs.Squares.{sq1, digit}
 use Rattle.numbers.proofs.root.long_root.Goals as goal
+use Rattle.numbers.proofs.root.long_root.Goals.{then-t-rest, else-t-rest}
 
 pub overflow_mul-rest : goal.overflow_mul-rest
 overflow_mul-rest c = record { fits = lt_of_le_of_lt c.whole_root-r.ensures.0 (omega arith) }
@@ -15,7 +16,7 @@ pub loop-i-preserved : goal.loop-i-preserved
 loop-i-preserved c =
     let at = c.loop-i in
     digit c.args.a at.i at.r at.rest c.if-t-rest.r c.if-t-rest.rest (omega arith) (omega arith) at.invariant
-    (⊎_elim (λ w. inl (omega arith, omega arith, omega arith)) (λ w. inr (omega arith, omega arith, omega arith)) c.if-t-rest.branch)
+    (elim c.if-t-rest.branch [ then-t-rest w ↦ inl (omega arith, omega arith, omega arith) | else-t-rest w ↦ inr (omega arith, omega arith, omega arith) ])
 
 pub returns : goal.returns
 returns c =

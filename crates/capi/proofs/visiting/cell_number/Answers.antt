@@ -1,5 +1,6 @@
 -- `capi::visiting::cell_number` meets its contract. Assumes nothing.
 use Prim.Native.Nat.{ℕ, ◌+◌, ◌*◌, ◌^◌, ◌≤◌, ◌<◌}
+use mathlib.Core.Path.{refl}
 use native.Mathlib.Omega.{arith}
 use native.Mathlib.Nat.{mul-le-mul_right}
 use Rattle.grid.proofs.Shapes.{wide_product}
@@ -16,3 +17,6 @@ overflow_mul-result c = record { fits = wide_product c.args.row c.args.cols c.ra
 
 pub overflow_add-result : goal.overflow_add-result
 overflow_add-result c = record { fits = number_fits c.args.row c.args.cols c.args.col c.ranges.row.fits c.ranges.cols.fits c.ranges.col.fits }
+
+pub returns : goal.returns
+returns c = refl

@@ -12,11 +12,8 @@ use Rattle.wkb.specs.Reading.{nought}
 use Rattle.wkb.specs.declared.Order.{Order}
 use Rattle.wkb.proofs.Axes.{length_numbers, axis_more}
 use Rattle.wkb.proofs.Stores.{put_none, put_more, put_length, put_cleared}
+use Rattle.wkb.proofs.read_axis.Invariants.{Turned}
 use Rattle.wkb.proofs.read_axis.Goals as goal
-
--- after i turns: the coordinates of the first i points, then what the slice held
-record Turned (bs : List ℕ) (at : ℕ) (o : Order) (s₀ s : List Float) (i : ℕ) : Type 0 where
-  is : PutIn 0 (map (of_bits binary64) (numbers_at o i at bs)) s₀ s
 
 turned_none : (bs : List ℕ) (at : ℕ) (o : Order) (s₀ : List Float) → Turned bs at o s₀ s₀ 0
 unfolding numbers_at

@@ -1,7 +1,7 @@
 -- `members::bytes::put_members` meets its contract. The invariant: the bytes of the first k members, with `from` points, stand from byte 9 on.
 -- Assumes nothing.
 use mathlib.Core.Path.{◌≡◌, sym, ◌∙◌}
-use mathlib.Core.List.{List, flat_map}
+use mathlib.Core.List.{List}
 use Prim.Native.Nat.{ℕ, ◌+◌, ◌*◌, ◌-◌, ◌≤◌, ◌<◌}
 use native.Mathlib.Omega.{arith}
 use lib.ListN.{length, take, drop, get_or, length-drop}
@@ -10,22 +10,13 @@ use Rattle.wkb.specs.declared.Order.TheVariants.{Little}
 use Rattle.wkb.specs.Bytes.{line_bytes}
 use Rattle.wkb.specs.Inside.{PutIn}
 use Rattle.wkb.proofs.LineStrings.{length_line}
-use Rattle.wkb.proofs.Stores.{Filling, fill_none, fill_length, fill_room, fill_more, fill_all}
-use Rattle.members.specs.Held.{points_of, chains_of}
+use Rattle.wkb.proofs.Stores.{fill_none, fill_length, fill_room, fill_more, fill_all}
+use Rattle.members.specs.Held.{points_of}
 use Rattle.members.proofs.Held.{held_says, length_points_of}
-use Rattle.members.proofs.Along.{Along, along_none, along_next, along_more, Fitting}
+use Rattle.members.proofs.Along.{along_none, along_next, along_more, Fitting}
 use Rattle.members.proofs.Putting.{bytes_next, bytes_over}
+use Rattle.members.proofs.bytes.put_members.Invariants.{Turned, left}
 use Rattle.members.proofs.bytes.put_members.Goals as goal
-
--- the bytes of the members from k on, the first of which has its first point at `from`
-abbrev left : List ℕ → List ℕ → List ℕ → ℕ → ℕ → List ℕ
-left x y ns k from = flat_map (line_bytes Little) (chains_of (drop k ns) (drop from (points_of x y)))
-
-record Turned (x y ns s₀ s : List ℕ) (at from k : ℕ) : Type 0 where
-  alike : length y ≡ length x
-  along : Along ns (length x) k from
-  room : 9 + length (left x y ns 0 0) ≤ length s₀
-  filled : Filling 9 (left x y ns 0 0) (left x y ns k from) at s₀ s
 
 -- the next member has n points
 module _ {x y ns s₀ s : List ℕ} {at from k : ℕ} (t : Turned x y ns s₀ s at from k) (h : k < length ns) (n : ℕ) (e : n ≡ get_or ns k 0) where

@@ -12,10 +12,8 @@ use Rattle.wkb.proofs.Stores.{put_none, put_length}
 use Rattle.members.specs.Held.{points_of}
 use Rattle.members.proofs.Held.{origin, length_points_of, point_at}
 use Rattle.members.proofs.Putting.{put_point}
+use Rattle.members.proofs.bytes.put_points.Invariants.{Turned}
 use Rattle.members.proofs.bytes.put_points.Goals as goal
-
-record Turned (x y : List ℕ) (from at : ℕ) (s₀ s : List ℕ) (i : ℕ) : Type 0 where
-  is : PutIn at (points_bytes Little (take i (drop from (points_of x y)))) s₀ s
 
 turned_none : (x y : List ℕ) (from at : ℕ) (s₀ : List ℕ) → at ≤ length s₀ → Turned x y from at s₀ s₀ 0
 unfolding points_bytes

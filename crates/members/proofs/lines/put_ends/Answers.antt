@@ -8,20 +8,11 @@ use lib.Ieee.{Float, binary64, of_bits}
 use lib.ListN.{length, take, drop, get_or, length-map}
 use Rattle.wkb.specs.Inside.{PutIn}
 use Rattle.wkb.specs.Reading.{nought}
-use Rattle.wkb.proofs.Stores.{Filling, fill_none, fill_length, fill_room, fill_more, fill_cleared}
+use Rattle.wkb.proofs.Stores.{fill_none, fill_length, fill_room, fill_more, fill_cleared}
 use Rattle.members.specs.Inside.{ends_at, floats_at}
-use Rattle.members.proofs.Along.{Along, along_none, along_next, along_more, Fitting, floats_next, floats_over, floats_count}
+use Rattle.members.proofs.Along.{along_none, along_next, along_more, Fitting, floats_next, floats_over, floats_count}
+use Rattle.members.proofs.lines.put_ends.Invariants.{Turned, left}
 use Rattle.members.proofs.lines.put_ends.Goals as goal
-
--- the ends of the lines of the members from k on, the first of which has its first point at `at`
-abbrev left : List ℕ → List ℕ → ℕ → ℕ → ℕ → List Float
-left cs ns skip k at = map (of_bits binary64) (ends_at skip (drop k ns) (drop at cs))
-
-record Turned (cs ns : List ℕ) (skip : ℕ) (s₀ s : List Float) (at to k : ℕ) : Type 0 where
-  along : Along ns (length cs) k at
-  one : skip ≤ 1
-  room : 0 + length (left cs ns skip 0 0) ≤ length s₀
-  filled : Filling 0 (left cs ns skip 0 0) (left cs ns skip k at) to s₀ s
 
 -- the next member has n points
 module _ {cs ns : List ℕ} {skip : ℕ} {s₀ s : List Float} {at to k : ℕ} (t : Turned cs ns skip s₀ s at to k) (h : k < length ns) (n : ℕ) (e : n ≡ get_or ns k 0) where

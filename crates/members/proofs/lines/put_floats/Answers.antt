@@ -9,10 +9,8 @@ use lib.ListN.{length, take, drop, get_or, set, length-map, length-drop}
 use lib.Seq.{take-suc, length-take-le, get_or-drop}
 use Rattle.wkb.specs.Inside.{PutIn}
 use Rattle.wkb.proofs.Stores.{put_none, put_more, put_length}
+use Rattle.members.proofs.lines.put_floats.Invariants.{Turned}
 use Rattle.members.proofs.lines.put_floats.Goals as goal
-
-record Turned (from : List ℕ) (at to : ℕ) (s₀ s : List Float) (i : ℕ) : Type 0 where
-  is : PutIn to (map (of_bits binary64) (take i (drop at from))) s₀ s
 
 turned_none : (from : List ℕ) (at to : ℕ) (s₀ : List Float) → to ≤ length s₀ → Turned from at to s₀ s₀ 0
 turned_none from at to s₀ h = record { is = put_none to s₀ h }

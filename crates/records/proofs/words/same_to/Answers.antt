@@ -2,18 +2,14 @@
 -- the whole. Assumes nothing.
 use mathlib.Core.Path.{◌≡◌}
 use mathlib.Core.List.{List}
-use Prim.Native.Nat.{ℕ, ◌+◌, ◌-◌, ◌≤◌, ◌<◌}
+use Prim.Native.Nat.{ℕ, ◌+◌, ◌-◌, ◌<◌}
 use native.Mathlib.Omega.{arith}
 use native.Mathlib.Numerals.{add-one}
 use lib.ListN.{length, drop, get_or}
 use Rattle.records.specs.Words.{same_to}
 use Rattle.records.proofs.Sameness.{same_next, same_end, past_first, past_second}
+use Rattle.records.proofs.words.same_to.Invariants.{Same}
 use Rattle.records.proofs.words.same_to.Goals as goal
-
-record Same (a b : List ℕ) (i : ℕ) : Type 0 where
-  in_a : i ≤ length a
-  in_b : i ≤ length b
-  rest : same_to a b ≡ i + same_to (drop i a) (drop i b)
 
 more : {a b : List ℕ} {i : ℕ} → Same a b i → i < length a → i < length b → get_or a i 0 ≡ get_or b i 0 → Same a b (i + 1)
 more {a} {b} {i} s h k e = record {

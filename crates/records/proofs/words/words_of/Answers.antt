@@ -6,13 +6,8 @@ use native.Mathlib.Omega.{arith}
 use lib.ListN.{length, drop, set, length-set}
 use Rattle.records.specs.Words.{little_at, words_of}
 use Rattle.records.proofs.Bytes.{words_more, words_none}
+use Rattle.records.proofs.words.words_of.Invariants.{Filled}
 use Rattle.records.proofs.words.words_of.Goals as goal
-
-record Filled (bs out₀ : List ℕ) (n i : ℕ) (out : List ℕ) : Type 0 where
-  least : n ≡ min (length bs / 8) (length out₀)
-  len : length out ≡ length out₀
-  within : i ≤ n
-  is : out ≡ words_of i bs ++ drop i out₀
 
 more : {bs out₀ : List ℕ} {n i v : ℕ} {out : List ℕ} → Filled bs out₀ n i out → i < n → v ≡ little_at 8 (8 * i) bs → Filled bs out₀ n (i + 1) (set out i v)
 more {bs} {out₀} {n} {i} {v} {out} f h e = record {

@@ -9,10 +9,8 @@ use Rattle.wkb.specs.Inside.{numbers_at, PutIn}
 use Rattle.wkb.specs.declared.Order.{Order}
 use Rattle.wkb.proofs.Axes.{length_numbers, axis_more}
 use Rattle.wkb.proofs.Stores.{put_none, put_more, put_length}
+use Rattle.wkb.proofs.members.read_numbers.Invariants.{Turned}
 use Rattle.wkb.proofs.members.read_numbers.Goals as goal
-
-record Turned (bs : List ℕ) (at : ℕ) (o : Order) (to : ℕ) (s₀ s : List ℕ) (i : ℕ) : Type 0 where
-  is : PutIn to (numbers_at o i at bs) s₀ s
 
 turned_none : (bs : List ℕ) (at : ℕ) (o : Order) (to : ℕ) (s₀ : List ℕ) → to ≤ length s₀ → Turned bs at o to s₀ s₀ 0
 unfolding numbers_at

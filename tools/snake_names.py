@@ -57,7 +57,7 @@ def crates(root):
 
 def spelled(name):
     """The name in snake case. A leading capital is a fact's or a type's, and stays."""
-    if not re.search(r"[A-Za-z]", name) or "◌" in name:
+    if not re.search(r"[A-Za-z]", name) or "◌" in name or re.match(r"\d+e-\d", name):
         return name
     head, rest = "", name
     m = re.match(r"[A-Z][A-Za-z0-9']*", name)

@@ -5,19 +5,19 @@ use lib.Ieee.{Float, fin, binary64, round, neg}
 abbrev pub nought : Float
 nought = fin false 0 (pos 0)
 
-abbrev pub 1e_9 : Float
-1e_9 = fin false 4835703278458517 (negsuc 81)
+abbrev pub 1e-9 : Float
+1e-9 = fin false 4835703278458517 (negsuc 81)
 
-pub 1e_9_is : round binary64 false 1 1000000000 ≡ 1e_9
+pub 1e-9_is : round binary64 false 1 1000000000 ≡ 1e-9
 unfolding round
-1e_9_is = refl
+1e-9_is = refl
 
-abbrev pub 1e_6 : Float
-1e_6 = fin false 4722366482869645 (negsuc 71)
+abbrev pub 1e-6 : Float
+1e-6 = fin false 4722366482869645 (negsuc 71)
 
-pub 1e_6_is : round binary64 false 1 1000000 ≡ 1e_6
+pub 1e-6_is : round binary64 false 1 1000000 ≡ 1e-6
 unfolding round
-1e_6_is = refl
+1e-6_is = refl
 
 -- a quarter of 1e-6
 abbrev pub quarter : Float

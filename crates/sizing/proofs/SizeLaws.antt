@@ -19,7 +19,7 @@ use Rattle.sizing.specs.declared.Sizing.TheVariants.{Square, Axes}
 use Rattle.sizing.specs.declared.Extent.{Extent}
 use Rattle.sizing.specs.declared.Size.{Size}
 use Rattle.sizing.specs.Size.{largest, area_of, square_side, length_on, first_size}
-use Rattle.sizing.proofs.Constants.{nought, 1e_9, 1e_9_is, 1e_6, 1e_6_is, thousand, thousand_is, 2e9, 2e9_is}
+use Rattle.sizing.proofs.Constants.{nought, 1e-9, 1e-9_is, 1e-6, 1e-6_is, thousand, thousand_is, 2e9, 2e9_is}
 use Rattle.numbers.proofs.Extremes.{greatest_one, greatest_over}
 use Rattle.sizing.proofs.Reach.{Spans}
 use Rattle.numbers.proofs.FloatFractions.{nonneg, own_value, nonneg_of_positive, le→cross, div_at, neg_zero_of}
@@ -90,7 +90,7 @@ root_target v t h =
 -- ---- an area that is not below 1e-9: at most 4e18
 
 record Area (a : Float) : Type 0 where
-  least : T (le 1e_9 a)
+  least : T (le 1e-9 a)
   most : T (le a 4e18)
 
 4e18_is : round binary64 false 4000000000000000000 1 ≡ 4e18
@@ -119,17 +119,17 @@ mul_is (fin s m e) nan p q = absurd q
 mul_is (fin s m e) (inf t) p q = absurd q
 mul_is (fin s m e) (fin t n d) p q = (unlike s t, refl)
 
-product_area : (w h : Float) → Spans w → Spans h → lt (mul binary64 w h) 1e_9 ≡ false → Area (mul binary64 w h)
+product_area : (w h : Float) → Spans w → Spans h → lt (mul binary64 w h) 1e-9 ≡ false → Area (mul binary64 w h)
 product_area w h p q l = let f = mul_is w h p.fine q.fine in go f.0 f.1
   where
     C+ : 0 < den w * den h
     C+ = mul-pos (den_pos w) (den_pos h)
 
-    least_is : (s : Bool) → mul binary64 w h ≡ round binary64 s (num w * num h) (den w * den h) → T (le 1e_9 (mul binary64 w h))
-    least_is s e = at_most 1e_9 (mul binary64 w h) tt (rw e (round_number binary64 s (num w * num h) (den w * den h) C+)) l
+    least_is : (s : Bool) → mul binary64 w h ≡ round binary64 s (num w * num h) (den w * den h) → T (le 1e-9 (mul binary64 w h))
+    least_is s e = at_most 1e-9 (mul binary64 w h) tt (rw e (round_number binary64 s (num w * num h) (den w * den h) C+)) l
 
     go : (s : Bool) → mul binary64 w h ≡ round binary64 s (num w * num h) (den w * den h) → Area (mul binary64 w h)
-    go true e = absurd (unfold le in float_le_trans 1e_9 (mul binary64 w h) (fin true 0 (pos 0)) (least_is true e) (rw e (below_zero binary64 (num w * num h) (den w * den h) C+)))
+    go true e = absurd (unfold le in float_le_trans 1e-9 (mul binary64 w h) (fin true 0 (pos 0)) (least_is true e) (rw e (below_zero binary64 (num w * num h) (den w * den h) C+)))
     go false e =
         record {
           least = least_is false e;
@@ -191,11 +191,11 @@ module _ (n : ℕ) (N : 1 ≤ n) (few : n ≤ 2 ^ 64) where
 
   area_shared : (a : Float) → Area a → Rooted (div binary64 a lines)
   area_shared a h =
-      let a+ : T (positive a) = between 1e_9 a 4e18 tt tt h.least h.most in
+      let a+ : T (positive a) = between 1e-9 a 4e18 tt tt h.least h.most in
       let a≥ = nonneg_of_positive a a+ in
       shared a a+
       (share_most (num a) (den a) (num lines) (den lines) (le→cross a 4e18 a≥ tt h.most) (le→cross one lines tt lines≥ lines_least))
-      (share_least (num a) (den a) (num lines) (den lines) (le→cross 1e_9 a tt a≥ h.least) (le→cross lines 2^64f lines≥ tt lines_most))
+      (share_least (num a) (den a) (num lines) (den lines) (le→cross 1e-9 a tt a≥ h.least) (le→cross lines 2^64f lines≥ tt lines_most))
 
   lines_shared : Rooted (div binary64 lines lines)
   lines_shared = shared lines lines+ (below (num lines * den lines)) (over (num lines * den lines))
@@ -208,9 +208,9 @@ module _ (n : ℕ) (N : 1 ≤ n) (few : n ≤ 2 ^ 64) where
 
   share_rooted : (e : Extent) → Spans e.width → Spans e.height → Rooted (div binary64 (area_of e n) lines)
   unfolding area_of
-  share_rooted e p q = rw 1e_9_is (go (lt (mul binary64 e.width e.height) 1e_9) refl)
+  share_rooted e p q = rw 1e-9_is (go (lt (mul binary64 e.width e.height) 1e-9) refl)
     where
-      go : (b : Bool) → lt (mul binary64 e.width e.height) 1e_9 ≡ b → Rooted (div binary64 (cond b lines (mul binary64 e.width e.height)) lines)
+      go : (b : Bool) → lt (mul binary64 e.width e.height) 1e-9 ≡ b → Rooted (div binary64 (cond b lines (mul binary64 e.width e.height)) lines)
       go true l = lines_shared
       go false l = area_shared (mul binary64 e.width e.height) (product_area e.width e.height p q l)
 
@@ -250,7 +250,7 @@ module _ (w s : Float) (p : Spans w) (s+ : T (positive s)) (least : T (le one s)
         most = float_le_trans (div binary64 w s) (div binary64 2e9 s) 2e9 (div_mono binary64 w 2e9 s p.fine tt s+ p.below) under;
       }
 
-least_target : Target 1e_6
+least_target : Target 1e-6
 least_target = record { held = unfold fits in tt; real = tt; most = unfold le in tt }
 
 span_number : (w : Float) → Spans w → T (number w)
@@ -262,7 +262,7 @@ module _ (v m : Float) (t : Target v) (p : Spans m) where
   across = div binary64 m thousand
 
   abbrev made : Float
-  made = greatest_of (greatest_of v across) 1e_6
+  made = greatest_of (greatest_of v across) 1e-6
 
   across_target : Target across
   across_target = quotient_target m thousand p tt (unfold le in tt)
@@ -271,23 +271,23 @@ module _ (v m : Float) (t : Target v) (p : Spans m) where
   inner_target = greatest_one Target v across t across_target
 
   made_target : Target made
-  made_target = greatest_one Target (greatest_of v across) 1e_6 inner_target least_target
+  made_target = greatest_one Target (greatest_of v across) 1e-6 inner_target least_target
 
-  over_inner : T (le (greatest_of v across) made) × T (le 1e_6 made)
-  over_inner = greatest_over (greatest_of v across) 1e_6 inner_target.real tt
+  over_inner : T (le (greatest_of v across) made) × T (le 1e-6 made)
+  over_inner = greatest_over (greatest_of v across) 1e-6 inner_target.real tt
 
   over_across : T (le across made)
   over_across = float_le_trans across (greatest_of v across) made (greatest_over v across t.real across_target.real).1 over_inner.0
 
   made_positive : T (positive made)
-  made_positive = between 1e_6 made 2e9 tt tt over_inner.1 made_target.most
+  made_positive = between 1e-6 made 2e9 tt tt over_inner.1 made_target.most
 
   made_sized : Sized 1 made
   made_sized =
       record {
         above = made_positive;
         held = made_target.held;
-        least = le→cross 1e_6 made tt (nonneg_of_positive made made_positive) over_inner.1;
+        least = le→cross 1e-6 made tt (nonneg_of_positive made made_positive) over_inner.1;
         most = le_trans (le_of_eq (sym (mul-one (num made)))) (le→cross made 2e9 (nonneg_of_positive made made_positive) tt made_target.most);
       }
 
@@ -303,7 +303,7 @@ module _ (v m : Float) (t : Target v) (p : Spans m) where
   -- a width that is at most m
   largest_across : (w : Float) → Spans w → T (le w m) → Across w 1 (largest v m)
   unfolding largest
-  largest_across w s l = rw (thousand_is, 1e_6_is) (made_across w s l)
+  largest_across w s l = rw (thousand_is, 1e-6_is) (made_across w s l)
 
 -- ---- the first size, in either sizing
 

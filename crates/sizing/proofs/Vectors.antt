@@ -11,7 +11,7 @@ use Rattle.sizing.specs.declared.Sizing.TheVariants.{Square, Axes}
 use Rattle.sizing.specs.Bounds.{lowest, highest, reach, extent_of}
 use Rattle.sizing.specs.Size.{largest, area_of, square_side, length_on, first_size}
 use Rattle.sizing.specs.Counts.{count_on, grid_of}
-use Rattle.sizing.proofs.Constants.{1e_6}
+use Rattle.sizing.proofs.Constants.{1e-6}
 
 abbrev 0f : Float
 0f = fin false 0 (pos 0)
@@ -72,7 +72,7 @@ unfolding lowest highest reach extent_of largest length_on first_size count_on g
 one_line_by_axis = refl
 
 -- a side of 0 has one cell of 1e-6
-one_point_by_axis : first Axes spot ≡ sized 1e_6 1e_6 1 1
+one_point_by_axis : first Axes spot ≡ sized 1e-6 1e-6 1 1
 unfolding lowest highest reach extent_of largest length_on first_size count_on grid_of least_of greatest_of ceiling_of root lt is_nan sub round of_int add div
 one_point_by_axis = refl
 
@@ -81,7 +81,7 @@ unfolding lowest highest reach extent_of largest length_on first_size count_on g
 sample_by_axis = refl
 
 -- (0, 0) to (2, 0): the height is sized from the height alone
-level_by_axis : first Axes (lines (0f ∷ []) (0f ∷ []) (2f ∷ []) (0f ∷ [])) ≡ sized 2f 1e_6 2 1
+level_by_axis : first Axes (lines (0f ∷ []) (0f ∷ []) (2f ∷ []) (0f ∷ [])) ≡ sized 2f 1e-6 2 1
 unfolding lowest highest reach extent_of largest length_on first_size count_on grid_of least_of greatest_of ceiling_of root lt is_nan sub round of_int add div
 level_by_axis = refl
 

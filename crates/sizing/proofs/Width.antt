@@ -6,7 +6,7 @@ use lib.Ieee.Exact.{HasValue}
 use lib.Ieee.Scale.{grid, finite}
 use lib.Ieee.Positive.{num, den, den_pos, positive, positive-finite, between}
 use Rattle.numbers.proofs.FloatSum.{add_mono}
-use Rattle.sizing.proofs.Constants.{nought, 1e_9, 1e_9_is, 1e_6, thousand, 2e9}
+use Rattle.sizing.proofs.Constants.{nought, 1e-9, 1e-9_is, 1e-6, thousand, 2e9}
 use Rattle.sizing.proofs.Reach.{Spans}
 use Rattle.numbers.proofs.Rounding.{half, over_by, under_by}
 use Rattle.numbers.proofs.FloatFractions.{nonneg, le→cross, finite_under, nonneg_of_positive, own_value, values_of_le, add_is, div_at, round_value, cross→le, neg_zero_add, neg_zero_of, Times, times_of_values}
@@ -111,39 +111,39 @@ abbrev pub stretched : Float → Float
 stretched w = add binary64 w (round binary64 false 1 1000000000)
 
 -- it lies between 1e-9 and a bit above 2e9
-stretched_least : (w : Float) → T (le nought w) → T (le 1e_9 (add binary64 w 1e_9))
-stretched_least w h = unfold add in add_mono binary64 nought w 1e_9 tt h
+stretched_least : (w : Float) → T (le nought w) → T (le 1e-9 (add binary64 w 1e-9))
+stretched_least w h = unfold add in add_mono binary64 nought w 1e-9 tt h
 
-stretched_most : (w : Float) → T (le w 2e9) → T (le (add binary64 w 1e_9) 2e9)
-stretched_most w h = unfold add in add_mono binary64 w 2e9 1e_9 tt h
+stretched_most : (w : Float) → T (le w 2e9) → T (le (add binary64 w 1e-9) 2e9)
+stretched_most w h = unfold add in add_mono binary64 w 2e9 1e-9 tt h
 
 pub record Stretched (x : Float) : Type 0 where
   pub above : T (positive x)
-  pub least : num 1e_9 * den x ≤ num x * den 1e_9
+  pub least : num 1e-9 * den x ≤ num x * den 1e-9
 
 module _ (w : Float) (p : Spans w) where
-  stretched_positive : T (positive (add binary64 w 1e_9))
-  stretched_positive = between 1e_9 (add binary64 w 1e_9) 2e9 tt tt (stretched_least w p.above) (stretched_most w p.below)
+  stretched_positive : T (positive (add binary64 w 1e-9))
+  stretched_positive = between 1e-9 (add binary64 w 1e-9) 2e9 tt tt (stretched_least w p.above) (stretched_most w p.below)
 
   pub stretched_is : Stretched (stretched w)
   stretched_is =
-      let x = add binary64 w 1e_9 in
-      rw 1e_9_is (record { above = stretched_positive; least = le→cross 1e_9 x tt (nonneg_of_positive x stretched_positive) (stretched_least w p.above) })
+      let x = add binary64 w 1e-9 in
+      rw 1e-9_is (record { above = stretched_positive; least = le→cross 1e-9 x tt (nonneg_of_positive x stretched_positive) (stretched_least w p.above) })
 
 zero_width : (s : Float) → T (positive s) → T (le (div binary64 nought thousand) s)
 unfolding div
 zero_width s p = cross→le nought s tt (nonneg_of_positive s p) (omega arith)
 
-clear_width : (w s : Float) → T (nonneg w) → T (finite (add binary64 w 1e_9)) → T (positive s) → T (le (div binary64 w thousand) s) → T (le 1e_6 s) → Times (add binary64 w 1e_9) s 1001
-clear_width w s w+ fine s+ h k = sum_times binary64 w 1e_9 1e_6 thousand s w+ tt tt s+ tt (refl, refl) (lit≤ tt) (lit≤ tt) fine h k
+clear_width : (w s : Float) → T (nonneg w) → T (finite (add binary64 w 1e-9)) → T (positive s) → T (le (div binary64 w thousand) s) → T (le 1e-6 s) → Times (add binary64 w 1e-9) s 1001
+clear_width w s w+ fine s+ h k = sum_times binary64 w 1e-9 1e-6 thousand s w+ tt tt s+ tt (refl, refl) (lit≤ tt) (lit≤ tt) fine h k
 
 -- a width of -0 is as good as 0
-any_width : (w s : Float) → Spans w → T (positive s) → T (le (div binary64 w thousand) s) → T (le 1e_6 s) → Times (add binary64 w 1e_9) s 1001
+any_width : (w s : Float) → Spans w → T (positive s) → T (le (div binary64 w thousand) s) → T (le 1e-6 s) → Times (add binary64 w 1e-9) s 1001
 any_width nan s p s+ h k = absurd p.fine
 any_width (inf t) s p s+ h k = absurd p.fine
-any_width (fin false m e) s p s+ h k = let x = fin false m e in clear_width x s tt (positive-finite (add binary64 x 1e_9) (stretched_positive x p)) s+ h k
+any_width (fin false m e) s p s+ h k = let x = fin false m e in clear_width x s tt (positive-finite (add binary64 x 1e-9) (stretched_positive x p)) s+ h k
 any_width (fin true m e) s p s+ h k =
-    rw (neg_zero_add binary64 m e 1e_9 (neg_zero_of m e p.above) tt) (clear_width nought s tt (unfold add in tt) s+ (zero_width s s+) k)
+    rw (neg_zero_add binary64 m e 1e-9 (neg_zero_of m e p.above) tt) (clear_width nought s tt (unfold add in tt) s+ (zero_width s s+) k)
 
-pub width_times : (w s : Float) → Spans w → T (positive s) → T (le (div binary64 w thousand) s) → T (le 1e_6 s) → Times (stretched w) s 1001
-width_times w s p s+ h k = rw 1e_9_is (any_width w s p s+ h k)
+pub width_times : (w s : Float) → Spans w → T (positive s) → T (le (div binary64 w thousand) s) → T (le 1e-6 s) → Times (stretched w) s 1001
+width_times w s p s+ h k = rw 1e-9_is (any_width w s p s+ h k)

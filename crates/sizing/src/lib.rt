@@ -93,7 +93,7 @@ fn area_of(extent: Extent, lines: usize) -> f64
     ensures { result ≡ area_of extent lines }
 {
     let area = extent.width * extent.height;
-    if area < 1e_9 {
+    if area < 1e-9 {
         return std::num::nearest_u64_to_f64(lines as u64);
     }
     area
@@ -103,7 +103,7 @@ fn area_of(extent: Extent, lines: usize) -> f64
 fn largest_of(v: f64, reach: f64) -> f64
     ensures { result ≡ largest v reach }
 {
-    greatest(greatest(v, reach / 1000.0), 1e_6)
+    greatest(greatest(v, reach / 1000.0), 1e-6)
 }
 
 // About one line to a square cell.
@@ -157,7 +157,7 @@ pub fn half_of(size: Size) -> Size
 fn count_on(width: f64, size: f64) -> u32
     ensures { result ≡ count_on width size }
 {
-    let n = ceiling((width + 1e_9) / size);
+    let n = ceiling((width + 1e-9) / size);
     if n <= 4294967295 {
         return n as u32;
     }

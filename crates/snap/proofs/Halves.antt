@@ -150,8 +150,8 @@ below_quotient v size h k z = go v (magnitude_finite v 1e9 tt within) within
     1e9 : Float
     1e9 = fin false 1953125 (pos 9)
 
-    1e_6 : Float
-    1e_6 = fin false 4722366482869645 (negsuc 71)
+    1e-6 : Float
+    1e-6 = fin false 4722366482869645 (negsuc 71)
 
     within : T (le (magnitude_of v) 1e9)
     within = subst (λ (x : Float). T (le (magnitude_of v) x)) largest h
@@ -160,7 +160,7 @@ below_quotient v size h k z = go v (magnitude_finite v 1e9 tt within) within
     s+ = size_positive size k z
 
     up : 4722366482869645 * den size ≤ num size * 4722366482869645213696
-    up = le→cross 1e_6 size tt s+ (subst (λ (x : Float). T (le x size)) least (sized size k z).0)
+    up = le→cross 1e-6 size tt s+ (subst (λ (x : Float). T (le x size)) least (sized size k z).0)
 
     go : (w : Float) → T (finite w) → T (le (magnitude_of w) 1e9) → Below (div binary64 w size)
     go nan p l = absurd p

@@ -11,7 +11,7 @@ fn is_snap_size(size: f64) -> bool
     if size == 0.0 {
         return true;
     }
-    if 1e_6 <= size {
+    if 1e-6 <= size {
         return size <= 1e6;
     }
     false

@@ -14,18 +14,18 @@ returns-then-offsets-cells c =
     let a = c.args in
     let e = c.wide.ensures in
     let e₂ = c.wide-2.ensures in
-    tables_short (tables a.grid a.lines a.offsets.now a.items.now a.globals.now a.global-count) _ (rw (e, e₂)) c.if-offsets-cells.true
+    tables_short (tables a.grid a.lines a.offsets.now a.items.now a.globals.now a.global_count) _ (rw (e, e₂)) c.if-offsets-cells.true
 
 pub returns-then-lists_fit : goal.returns-then-lists_fit
 returns-then-lists_fit c =
     let a = c.args in
     let e = c.wide.ensures in
     let e₂ = c.wide-2.ensures in
-    c.globals_fit.ensures ∙ tables_rest (tables a.grid a.lines a.offsets.now a.items.now a.globals.now a.global-count) _ (rw (e, e₂)) c.if-offsets-cells.false (sym c.lists_fit.ensures ∙ c.if-lists_fit.true)
+    c.globals_fit.ensures ∙ tables_rest (tables a.grid a.lines a.offsets.now a.items.now a.globals.now a.global_count) _ (rw (e, e₂)) c.if-offsets-cells.false (sym c.lists_fit.ensures ∙ c.if-lists_fit.true)
 
 pub returns : goal.returns
 returns c =
     let a = c.args in
     let e = c.wide.ensures in
     let e₂ = c.wide-2.ensures in
-    tables_lists (tables a.grid a.lines a.offsets.now a.items.now a.globals.now a.global-count) _ (rw (e, e₂)) c.if-offsets-cells.false (sym c.lists_fit.ensures ∙ c.if-lists_fit.false)
+    tables_lists (tables a.grid a.lines a.offsets.now a.items.now a.globals.now a.global_count) _ (rw (e, e₂)) c.if-offsets-cells.false (sym c.lists_fit.ensures ∙ c.if-lists_fit.false)

@@ -12,7 +12,7 @@ pub start_columns-requires : goal.start_columns-requires
 start_columns-requires c =
     let p = c.requires in
     let h = p.rises in
-    (climbing_row (climbing_start c.args.scratch.now p c.slope-s.ensures) (omega arith), p.first_is)
+    record { fact_1 = climbing_row (climbing_start c.args.scratch.now p c.slope-s.ensures) (omega arith); fact_2 = p.first_is }
 
 pub put_row-n-requires : goal.put_row-n-requires
 put_row-n-requires c =
@@ -31,7 +31,7 @@ loop-r-init c =
     (climbing_on k, omega arith)
 
 pub columns-requires : goal.columns-requires
-columns-requires c = (climbing_row c.loop-r.invariant.0 (omega arith), omega arith)
+columns-requires c = record { fact_1 = climbing_row c.loop-r.invariant.0 (omega arith); fact_2 = omega arith }
 
 pub put_row-n-requires-in-loop-r : goal.put_row-n-requires-in-loop-r
 put_row-n-requires-in-loop-r c = climbing_room c.loop-r.invariant.0 (omega arith) c.columns.ensures

@@ -6,7 +6,7 @@ pub aside-near-requires : goal.aside-near-requires
 aside-near-requires c = across_bottom c.requires.fact_1 _ c.bottom.ensures
 
 pub top-requires : goal.top-requires
-top-requires c = let p = c.requires in (p.fact_2, last_few p.fact_1)
+top-requires c = let p = c.requires in record { fact_1 = p.fact_2; fact_2 = last_few p.fact_1 }
 
 pub aside-far-requires : goal.aside-far-requires
 aside-far-requires c = across_top c.requires.fact_1 _ c.top.ensures

@@ -4,7 +4,7 @@ use Rattle.cover.proofs.Climbing.{last_few, starts, across_top, columns_start_le
 use Rattle.cover.proofs.rows.start_columns.Goals as goal
 
 pub top-requires : goal.top-requires
-top-requires c = let p = c.requires in (starts p.fact_1 p.fact_2, last_few p.fact_1)
+top-requires c = let p = c.requires in record { fact_1 = starts p.fact_1 p.fact_2; fact_2 = last_few p.fact_1 }
 
 pub aside-far-requires : goal.aside-far-requires
 aside-far-requires c = across_top c.requires.fact_1 _ c.top.ensures

@@ -16,10 +16,10 @@ abbrev pub left : List ℕ → List ℕ → List ℕ → ℕ → ℕ → List �
 left x y ns k from = flat_map (line_bytes Little) (chains_of (drop k ns) (drop from (points_of x y)))
 
 pub record Turned (x y ns s₀ s : List ℕ) (at from k : ℕ) : Type 0 where
-  alike : length y ≡ length x
-  along : Along ns (length x) k from
-  room : 9 + length (left x y ns 0 0) ≤ length s₀
-  filled : Filling 9 (left x y ns 0 0) (left x y ns k from) at s₀ s
+  pub alike : length y ≡ length x
+  pub along : Along ns (length x) k from
+  pub room : 9 + length (left x y ns 0 0) ≤ length s₀
+  pub filled : Filling 9 (left x y ns 0 0) (left x y ns k from) at s₀ s
 
 abbrev pub invariant-loop-k : goal.invariant-loop-k
 invariant-loop-k l = Turned l.x l.y l.lengths l.initial.s l.s l.at l.from l.k

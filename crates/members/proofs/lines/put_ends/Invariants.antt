@@ -14,10 +14,10 @@ abbrev pub left : List ℕ → List ℕ → ℕ → ℕ → ℕ → List Float
 left cs ns skip k at = map (of_bits binary64) (ends_at skip (drop k ns) (drop at cs))
 
 pub record Turned (cs ns : List ℕ) (skip : ℕ) (s₀ s : List Float) (at to k : ℕ) : Type 0 where
-  along : Along ns (length cs) k at
-  one : skip ≤ 1
-  room : 0 + length (left cs ns skip 0 0) ≤ length s₀
-  filled : Filling 0 (left cs ns skip 0 0) (left cs ns skip k at) to s₀ s
+  pub along : Along ns (length cs) k at
+  pub one : skip ≤ 1
+  pub room : 0 + length (left cs ns skip 0 0) ≤ length s₀
+  pub filled : Filling 0 (left cs ns skip 0 0) (left cs ns skip k at) to s₀ s
 
 abbrev pub invariant-loop-k : goal.invariant-loop-k
 invariant-loop-k l = Turned l.from l.lengths l.skip l.initial.s l.s l.at l.to l.k

@@ -8,7 +8,7 @@ use Rattle.wkb.specs.Inside.{PutIn}
 use Rattle.members.proofs.lines.put_floats.Given as goal
 
 pub record Turned (from : List ℕ) (at to : ℕ) (s₀ s : List Float) (i : ℕ) : Type 0 where
-  is : PutIn to (map (of_bits binary64) (take i (drop at from))) s₀ s
+  pub is : PutIn to (map (of_bits binary64) (take i (drop at from))) s₀ s
 
 abbrev pub invariant-loop-i : goal.invariant-loop-i
 invariant-loop-i l = (l.at + l.n ≤ length l.from) × (l.to + l.n ≤ length l.initial.s) × (l.i ≤ l.n) × (length l.s ≡ length l.initial.s) × Turned l.from l.at l.to l.initial.s l.s l.i

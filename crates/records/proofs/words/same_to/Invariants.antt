@@ -8,9 +8,9 @@ use Rattle.records.specs.Words.{same_to}
 use Rattle.records.proofs.words.same_to.Given as goal
 
 pub record Same (a b : List ℕ) (i : ℕ) : Type 0 where
-  in_a : i ≤ length a
-  in_b : i ≤ length b
-  rest : same_to a b ≡ i + same_to (drop i a) (drop i b)
+  pub in_a : i ≤ length a
+  pub in_b : i ≤ length b
+  pub rest : same_to a b ≡ i + same_to (drop i a) (drop i b)
 
 abbrev pub invariant-loop-i : goal.invariant-loop-i
 invariant-loop-i l = Same l.a l.b l.i

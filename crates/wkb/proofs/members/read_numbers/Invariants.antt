@@ -8,7 +8,7 @@ use Rattle.wkb.specs.declared.Order.{Order}
 use Rattle.wkb.proofs.members.read_numbers.Given as goal
 
 pub record Turned (bs : List ℕ) (at : ℕ) (o : Order) (to : ℕ) (s₀ s : List ℕ) (i : ℕ) : Type 0 where
-  is : PutIn to (numbers_at o i at bs) s₀ s
+  pub is : PutIn to (numbers_at o i at bs) s₀ s
 
 abbrev pub invariant-loop-i : goal.invariant-loop-i
 invariant-loop-i l = (l.at + 16 * l.n ≤ length l.bytes + 8) × (l.to + l.n ≤ length l.initial.s) × (l.i ≤ l.n) × (length l.s ≡ length l.initial.s) × Turned l.bytes l.at l.order l.to l.initial.s l.s l.i

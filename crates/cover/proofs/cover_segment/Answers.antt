@@ -7,37 +7,45 @@ use Rattle.cover.specs.Covering.{scratch_shape_check}
 use Rattle.cover.proofs.Entry.{frame_of, room_for, room_shape, refused_answer, none_answer, rule_answer, everywhere_answer, all_answer}
 use Rattle.cover.proofs.cover_segment.Goals as goal
 
--- 3 and 8 have found nothing
-checked : (c : goal.In_default) → let a = c.args in scratch_shape_check (length a.scratch.now) a.grid ≡ Fine
-checked c = sym c.check_room-check.ensures ∙ c.in_default.is
-
 pub returns-in-Refused : goal.returns-in-Refused
 returns-in-Refused c = refused_answer _ _ _ _ (sym c.check_room-check.ensures ∙ c.in-Refused.is)
 
 pub returns-then-grid-eq0 : goal.returns-then-grid-eq0
-returns-then-grid-eq0 c = none_answer _ _ _ (checked c) c.if-grid-eq0.true
+returns-then-grid-eq0 c =
+    let checked : let a = c.args in scratch_shape_check (length a.scratch.now) a.grid ≡ Fine = sym c.check_room-check.ensures ∙ c.in_default.is in
+    none_answer _ _ _ checked c.if-grid-eq0.true
 
 pub ends_of-requires : goal.ends_of-requires
 ends_of-requires c = sym c.passes.ensures ∙ c.if-passes.true
 
 pub cells_between-n-requires : goal.cells_between-n-requires
 cells_between-n-requires c =
-    let f = checked c in
+    let checked : let a = c.args in scratch_shape_check (length a.scratch.now) a.grid ≡ Fine = sym c.check_room-check.ensures ∙ c.in_default.is in
+    let f = checked in
     frame_of _ _ (sym c.passes.ensures ∙ c.if-passes.true) _ _ c.ends_of.ensures (room_shape _ _ f) (omega (arith, c.if-grid-eq0.false)) (room_for _ _ f)
 
 pub returns-then-passes : goal.returns-then-passes
 returns-then-passes c =
-    rule_answer _ _ _ (checked c) _ _ _ (omega (arith, c.if-grid-eq0.false)) (sym c.passes.ensures ∙ c.if-passes.true)
+    let checked : let a = c.args in scratch_shape_check (length a.scratch.now) a.grid ≡ Fine = sym c.check_room-check.ensures ∙ c.in_default.is in
+    rule_answer _ _ _ checked _ _ _ (omega (arith, c.if-grid-eq0.false)) (sym c.passes.ensures ∙ c.if-passes.true)
     c.ends_of.ensures c.cells_between-n.auto.scratch c.cells_between-n.ensures
 
 pub overflow_mul-all : goal.overflow_mul-all
-overflow_mul-all c = let h = (room_shape _ _ (checked c)).cells in omega arith
+overflow_mul-all c =
+    let checked : let a = c.args in scratch_shape_check (length a.scratch.now) a.grid ≡ Fine = sym c.check_room-check.ensures ∙ c.in_default.is in
+    let h = (room_shape _ _ checked).cells in omega arith
 
 pub returns-then-all-gt2048 : goal.returns-then-all-gt2048
-returns-then-all-gt2048 c = everywhere_answer _ _ _ (checked c) (sym c.passes.ensures ∙ c.if-passes.false) (omega arith)
+returns-then-all-gt2048 c =
+    let checked : let a = c.args in scratch_shape_check (length a.scratch.now) a.grid ≡ Fine = sym c.check_room-check.ensures ∙ c.in_default.is in
+    everywhere_answer _ _ _ checked (sym c.passes.ensures ∙ c.if-passes.false) (omega arith)
 
 pub put_run-n-requires : goal.put_run-n-requires
-put_run-n-requires c = let r = room_for _ _ (checked c) in (omega arith, (omega arith, omega arith))
+put_run-n-requires c =
+    let checked : let a = c.args in scratch_shape_check (length a.scratch.now) a.grid ≡ Fine = sym c.check_room-check.ensures ∙ c.in_default.is in
+    let r = room_for _ _ checked in (omega arith, (omega arith, omega arith))
 
 pub returns : goal.returns
-returns c = all_answer _ _ _ (checked c) _ _ (omega (arith, c.if-grid-eq0.false)) (sym c.passes.ensures ∙ c.if-passes.false) (omega arith) c.put_run-n.ensures
+returns c =
+    let checked : let a = c.args in scratch_shape_check (length a.scratch.now) a.grid ≡ Fine = sym c.check_room-check.ensures ∙ c.in_default.is in
+    all_answer _ _ _ checked _ _ (omega (arith, c.if-grid-eq0.false)) (sym c.passes.ensures ∙ c.if-passes.false) (omega arith) c.put_run-n.ensures

@@ -9,23 +9,21 @@ use Rattle.members.proofs.Held.{length_is}
 use Rattle.members.proofs.Along.{summed_none, summed_more, summed_wrong, summed_all}
 use Rattle.members.proofs.add_up.Goals as goal
 
--- the length is right
-right : (c : goal.After-wide-sum) → is_length c.wide-sum.result ≡ true
-right c = ap is_length c.wide-sum.ensures ∙ sym c.is_length.ensures ∙ c.if-is_length.true
-
 pub loop-k-init : goal.loop-k-init
 loop-k-init c = (c.requires, summed_none c.args.lengths.now)
 
 pub overflow_add-sum : goal.overflow_add-sum
 overflow_add-sum c =
+    let right : is_length c.wide-sum.result ≡ true = ap is_length c.wide-sum.ensures ∙ sym c.is_length.ensures ∙ c.if-is_length.true in
     let l = c in
-    let n = length_is c.wide-sum.result (right c) in
+    let n = length_is c.wide-sum.result right in
     omega (arith, l.loop-k.invariant.1.few, l.loop-k.invariant.0)
 
 pub loop-k-preserved : goal.loop-k-preserved
 loop-k-preserved c =
+    let right : is_length c.wide-sum.result ≡ true = ap is_length c.wide-sum.ensures ∙ sym c.is_length.ensures ∙ c.if-is_length.true in
     let l = c in
-    (l.loop-k.invariant.0, summed_more l.loop-k.invariant.1 c.wide-sum.result c.loop-k-test.true c.wide-sum.ensures (right c))
+    (l.loop-k.invariant.0, summed_more l.loop-k.invariant.1 c.wide-sum.result c.loop-k-test.true c.wide-sum.ensures right)
 
 pub returns-else-is_length : goal.returns-else-is_length
 returns-else-is_length c =

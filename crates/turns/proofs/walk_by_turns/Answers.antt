@@ -6,15 +6,13 @@ use Rattle.cover.proofs.Entry.{room_for, room_shape}
 use Rattle.turns.proofs.Entry.{check_trail, done_trail, over_trail}
 use Rattle.turns.proofs.walk_by_turns.Goals as goal
 
--- 3 and 8 have found nothing
-checked : (c : goal.In_default) → let a = c.args in scratch_shape_check (length a.scratch.now) a.grid ≡ Fine
-checked c = sym c.check_room-check.ensures ∙ c.in_default.is
-
 pub returns-in-Refused : goal.returns-in-Refused
 returns-in-Refused c = check_trail _ _ _ _ (sym c.check_room-check.ensures ∙ c.in-Refused.is)
 
 pub walked-ran-requires : goal.walked-ran-requires
-walked-ran-requires c = let f = checked c in (room_for _ _ f, (room_shape _ _ f).cells)
+walked-ran-requires c =
+    let checked : let a = c.args in scratch_shape_check (length a.scratch.now) a.grid ≡ Fine = sym c.check_room-check.ensures ∙ c.in_default.is in
+    let f = checked in (room_for _ _ f, (room_shape _ _ f).cells)
 
 pub returns-in-Done : goal.returns-in-Done
 returns-in-Done c =

@@ -6,10 +6,6 @@ use Rattle.wkb.proofs.Stores.{put_length, fill_length}
 use Rattle.clean.proofs.Walking.{in_first, in_lies, in_room, in_piece, in_few, in_last, in_inside, in_next}
 use Rattle.clean.proofs.marks.mark_member.Goals as goal
 
--- the piece ends before the member
-goes : (c : goal.Else-to-end) → c.piece_end-to.result < c.args.end
-goes c = let e = c.piece_end-to.ensures in omega (arith, e.within)
-
 pub loop-from-init : goal.loop-from-init
 loop-from-init c = let p = c.requires in in_first p.0 p.1 p.2
 
@@ -32,13 +28,21 @@ pub returns-then-to-end : goal.returns-then-to-end
 returns-then-to-end c = in_last c.loop-from.invariant c.piece_end-to.ensures c.mark_piece-at.ensures c.if-to-end.true
 
 pub bounds-reasons-to : goal.bounds-reasons-to
-bounds-reasons-to c = in_inside c.loop-from.invariant c.piece_end-to.ensures c.mark_piece-at.ensures (goes c)
+bounds-reasons-to c =
+    let goes : c.piece_end-to.result < c.args.end = let e = c.piece_end-to.ensures in omega (arith, e.within) in
+    in_inside c.loop-from.invariant c.piece_end-to.ensures c.mark_piece-at.ensures goes
 
 pub overflow_add-start : goal.overflow_add-start
-overflow_add-start c = let g = goes c in omega arith
+overflow_add-start c =
+    let goes : c.piece_end-to.result < c.args.end = let e = c.piece_end-to.ensures in omega (arith, e.within) in
+    let g = goes in omega arith
 
 pub loop-from-smaller : goal.loop-from-smaller
-loop-from-smaller c = let g = goes c in let e = c.piece_end-to.ensures in omega (arith, e.up)
+loop-from-smaller c =
+    let goes : c.piece_end-to.result < c.args.end = let e = c.piece_end-to.ensures in omega (arith, e.within) in
+    let g = goes in let e = c.piece_end-to.ensures in omega (arith, e.up)
 
 pub loop-from-preserved : goal.loop-from-preserved
-loop-from-preserved c = in_next c.loop-from.invariant c.piece_end-to.ensures c.mark_piece-at.ensures (goes c)
+loop-from-preserved c =
+    let goes : c.piece_end-to.result < c.args.end = let e = c.piece_end-to.ensures in omega (arith, e.within) in
+    in_next c.loop-from.invariant c.piece_end-to.ensures c.mark_piece-at.ensures goes

@@ -4,31 +4,41 @@ use lib.Ieee.{Float, binary64, of_bits, neg, eq, of_int, to_signed}
 use Rattle.crossing_chain.proofs.Wholes.{Within, within, none_low, none_high, cut_whole, cut_none, cut_asks, cut_fits}
 use Rattle.crossing_chain.proofs.whole.whole_of.Goals as goal
 
-near : (c : goal.Then-v-2) → Within c.args.v
-unfolding of_bits neg
-near c = within c.args.v c.if-v.true c.if-v-2.true
-
-cut_back : (c : goal.After-truncating_f64_to_i64-cut) → to_z w64 (of_z w64 c.truncating_f64_to_i64-cut.result) ≡ to_signed 63 c.args.v
-cut_back c =
-    let e = c.truncating_f64_to_i64-cut.ensures in
-    ap (λ (z : ℤ). to_z w64 (of_z w64 z)) e ∙ to_z-of_z (cut_fits _ (near c)).1
-
-same : (c : goal.After-nearest_i64_to_f64) → c.nearest_i64_to_f64.result ≡ of_int binary64 (to_signed 63 c.args.v)
-same c = c.nearest_i64_to_f64.ensures ∙ ap (of_int binary64) (cut_back c)
-
 pub truncating_f64_to_i64-cut-requires : goal.truncating_f64_to_i64-cut-requires
-truncating_f64_to_i64-cut-requires c = cut_asks _ (near c)
+unfolding of_bits neg
+truncating_f64_to_i64-cut-requires c =
+    let near : Within c.args.v = within c.args.v c.if-v.true c.if-v-2.true in
+    cut_asks _ near
 
 pub overflow_cast-result : goal.overflow_cast-result
-overflow_cast-result c = rw (cut_back c) (cut_fits _ (near c)).0
+unfolding of_bits neg
+overflow_cast-result c =
+    let near : Within c.args.v = within c.args.v c.if-v.true c.if-v-2.true in
+    let cut_back : to_z w64 (of_z w64 c.truncating_f64_to_i64-cut.result) ≡ to_signed 63 c.args.v = 
+        let e = c.truncating_f64_to_i64-cut.ensures in
+        ap (λ (z : ℤ). to_z w64 (of_z w64 z)) e ∙ to_z-of_z (cut_fits _ near).1 in
+    rw cut_back (cut_fits _ near).0
 
 pub returns-then-nearest_i64_to_f64-v : goal.returns-then-nearest_i64_to_f64-v
+unfolding of_bits neg
 returns-then-nearest_i64_to_f64-v c =
-    ap (λ (z : ℤ). to_z w32 (of_z w32 z)) (cut_back c) ∙ to_z-of_z (cut_fits _ (near c)).0
-    ∙ cut_whole _ (near c) (ap (λ (y : Float). eq y c.args.v) (sym (same c)) ∙ c.if-nearest_i64_to_f64-v.true)
+    let near : Within c.args.v = within c.args.v c.if-v.true c.if-v-2.true in
+    let cut_back : to_z w64 (of_z w64 c.truncating_f64_to_i64-cut.result) ≡ to_signed 63 c.args.v = 
+        let e = c.truncating_f64_to_i64-cut.ensures in
+        ap (λ (z : ℤ). to_z w64 (of_z w64 z)) e ∙ to_z-of_z (cut_fits _ near).1 in
+    let same : c.nearest_i64_to_f64.result ≡ of_int binary64 (to_signed 63 c.args.v) = c.nearest_i64_to_f64.ensures ∙ ap (of_int binary64) cut_back in
+    ap (λ (z : ℤ). to_z w32 (of_z w32 z)) cut_back ∙ to_z-of_z (cut_fits _ near).0
+    ∙ cut_whole _ near (ap (λ (y : Float). eq y c.args.v) (sym same) ∙ c.if-nearest_i64_to_f64-v.true)
 
 pub returns-else-nearest_i64_to_f64-v : goal.returns-else-nearest_i64_to_f64-v
-returns-else-nearest_i64_to_f64-v c = cut_none _ (near c) (ap (λ (y : Float). eq y c.args.v) (sym (same c)) ∙ c.if-nearest_i64_to_f64-v.false)
+unfolding of_bits neg
+returns-else-nearest_i64_to_f64-v c =
+    let near : Within c.args.v = within c.args.v c.if-v.true c.if-v-2.true in
+    let cut_back : to_z w64 (of_z w64 c.truncating_f64_to_i64-cut.result) ≡ to_signed 63 c.args.v = 
+        let e = c.truncating_f64_to_i64-cut.ensures in
+        ap (λ (z : ℤ). to_z w64 (of_z w64 z)) e ∙ to_z-of_z (cut_fits _ near).1 in
+    let same : c.nearest_i64_to_f64.result ≡ of_int binary64 (to_signed 63 c.args.v) = c.nearest_i64_to_f64.ensures ∙ ap (of_int binary64) cut_back in
+    cut_none _ near (ap (λ (y : Float). eq y c.args.v) (sym same) ∙ c.if-nearest_i64_to_f64-v.false)
 
 pub returns-else-v-2 : goal.returns-else-v-2
 unfolding of_bits neg

@@ -39,13 +39,6 @@ module _ {x y ns s₀ s : List ℕ} {at from k : ℕ} (t : Turned x y ns s₀ s 
         rw to at (fill_more t.filled (bytes_next ns k from (points_of x y) n h e) p length_next);
   }
 
--- the member at k
-fitting_at : (c : goal.After-wide-n) → let l = c in Fitting (length l.args.x.now) l.loop-k.from c.wide-n.result
-fitting_at c = fitting c.loop-k.invariant c.loop-k-test.true c.wide-n.result c.wide-n.ensures
-
-room_at : (c : goal.After-wide-n) → let l = c in l.loop-k.at + 9 + 16 * c.wide-n.result ≤ length l.loop-k.s
-room_at c = room_next c.loop-k.invariant c.loop-k-test.true c.wide-n.result c.wide-n.ensures
-
 pub loop-k-init : goal.loop-k-init
 loop-k-init c =
     let a = c.args in
@@ -60,21 +53,31 @@ loop-k-init c =
 
 pub put_member-requires : goal.put_member-requires
 put_member-requires c =
-    let f = fitting_at c in
-    let r = room_at c in
+    let fitting_at : let l = c in Fitting (length l.args.x.now) l.loop-k.from c.wide-n.result = fitting c.loop-k.invariant c.loop-k-test.true c.wide-n.result c.wide-n.ensures in
+    let room_at : let l = c in l.loop-k.at + 9 + 16 * c.wide-n.result ≤ length l.loop-k.s = room_next c.loop-k.invariant c.loop-k-test.true c.wide-n.result c.wide-n.ensures in
+    let f = fitting_at in
+    let r = room_at in
     (c.loop-k.invariant.alike, f.within, omega arith)
 
 pub overflow_add-at : goal.overflow_add-at
-overflow_add-at c = let r = room_at c in omega (arith, fill_length c.loop-k.invariant.filled)
+overflow_add-at c =
+    let room_at : let l = c in l.loop-k.at + 9 + 16 * c.wide-n.result ≤ length l.loop-k.s = room_next c.loop-k.invariant c.loop-k-test.true c.wide-n.result c.wide-n.ensures in
+    let r = room_at in omega (arith, fill_length c.loop-k.invariant.filled)
 
 pub overflow_mul-at : goal.overflow_mul-at
-overflow_mul-at c = let r = room_at c in omega (arith, fill_length c.loop-k.invariant.filled)
+overflow_mul-at c =
+    let room_at : let l = c in l.loop-k.at + 9 + 16 * c.wide-n.result ≤ length l.loop-k.s = room_next c.loop-k.invariant c.loop-k-test.true c.wide-n.result c.wide-n.ensures in
+    let r = room_at in omega (arith, fill_length c.loop-k.invariant.filled)
 
 pub overflow_add-at-in-loop-k : goal.overflow_add-at-in-loop-k
-overflow_add-at-in-loop-k c = let r = room_at c in omega (arith, fill_length c.loop-k.invariant.filled)
+overflow_add-at-in-loop-k c =
+    let room_at : let l = c in l.loop-k.at + 9 + 16 * c.wide-n.result ≤ length l.loop-k.s = room_next c.loop-k.invariant c.loop-k-test.true c.wide-n.result c.wide-n.ensures in
+    let r = room_at in omega (arith, fill_length c.loop-k.invariant.filled)
 
 pub overflow_add-from : goal.overflow_add-from
-overflow_add-from c = let f = fitting_at c in omega arith
+overflow_add-from c =
+    let fitting_at : let l = c in Fitting (length l.args.x.now) l.loop-k.from c.wide-n.result = fitting c.loop-k.invariant c.loop-k-test.true c.wide-n.result c.wide-n.ensures in
+    let f = fitting_at in omega arith
 
 pub loop-k-preserved : goal.loop-k-preserved
 loop-k-preserved c = turned_more c.loop-k.invariant c.loop-k-test.true c.wide-n.result c.wide-n.ensures c.put_member.ensures

@@ -32,13 +32,6 @@ module _ {cs ns : List ℕ} {skip : ℕ} {s₀ s : List Float} {at to k : ℕ} (
     filled = fill_more t.filled (floats_next (of_bits binary64) skip ns k at cs n h e) p (sym length_next);
   }
 
--- the member at k
-fitting_at : (c : goal.After-wide-n) → let l = c in Fitting (length l.args.from.now) l.loop-k.at c.wide-n.result
-fitting_at c = fitting c.loop-k.invariant c.loop-k-test.true c.wide-n.result c.wide-n.ensures
-
-room_at : (c : goal.After-wide-n) → let l = c in l.loop-k.to + (c.wide-n.result - 1) ≤ length l.loop-k.s
-room_at c = room_next c.loop-k.invariant c.loop-k-test.true c.wide-n.result c.wide-n.ensures
-
 pub loop-k-init : goal.loop-k-init
 loop-k-init c =
     let a = c.args in
@@ -51,25 +44,37 @@ loop-k-init c =
     }
 
 pub overflow_add-at : goal.overflow_add-at
-overflow_add-at c = let f = fitting_at c in omega (arith, c.loop-k.invariant.one)
+overflow_add-at c =
+    let fitting_at : let l = c in Fitting (length l.args.from.now) l.loop-k.at c.wide-n.result = fitting c.loop-k.invariant c.loop-k-test.true c.wide-n.result c.wide-n.ensures in
+    let f = fitting_at in omega (arith, c.loop-k.invariant.one)
 
 pub overflow_sub-n : goal.overflow_sub-n
-overflow_sub-n c = let f = fitting_at c in omega arith
+overflow_sub-n c =
+    let fitting_at : let l = c in Fitting (length l.args.from.now) l.loop-k.at c.wide-n.result = fitting c.loop-k.invariant c.loop-k-test.true c.wide-n.result c.wide-n.ensures in
+    let f = fitting_at in omega arith
 
 pub put_floats-requires : goal.put_floats-requires
 put_floats-requires c =
-    let f = fitting_at c in
-    let r = room_at c in
+    let fitting_at : let l = c in Fitting (length l.args.from.now) l.loop-k.at c.wide-n.result = fitting c.loop-k.invariant c.loop-k-test.true c.wide-n.result c.wide-n.ensures in
+    let room_at : let l = c in l.loop-k.to + (c.wide-n.result - 1) ≤ length l.loop-k.s = room_next c.loop-k.invariant c.loop-k-test.true c.wide-n.result c.wide-n.ensures in
+    let f = fitting_at in
+    let r = room_at in
     (omega (arith, c.loop-k.invariant.one), omega arith)
 
 pub overflow_add-at-in-loop-k : goal.overflow_add-at-in-loop-k
-overflow_add-at-in-loop-k c = let f = fitting_at c in omega arith
+overflow_add-at-in-loop-k c =
+    let fitting_at : let l = c in Fitting (length l.args.from.now) l.loop-k.at c.wide-n.result = fitting c.loop-k.invariant c.loop-k-test.true c.wide-n.result c.wide-n.ensures in
+    let f = fitting_at in omega arith
 
 pub overflow_sub-to : goal.overflow_sub-to
-overflow_sub-to c = let f = fitting_at c in omega arith
+overflow_sub-to c =
+    let fitting_at : let l = c in Fitting (length l.args.from.now) l.loop-k.at c.wide-n.result = fitting c.loop-k.invariant c.loop-k-test.true c.wide-n.result c.wide-n.ensures in
+    let f = fitting_at in omega arith
 
 pub overflow_add-to : goal.overflow_add-to
-overflow_add-to c = let r = room_at c in omega (arith, fill_length c.loop-k.invariant.filled)
+overflow_add-to c =
+    let room_at : let l = c in l.loop-k.to + (c.wide-n.result - 1) ≤ length l.loop-k.s = room_next c.loop-k.invariant c.loop-k-test.true c.wide-n.result c.wide-n.ensures in
+    let r = room_at in omega (arith, fill_length c.loop-k.invariant.filled)
 
 pub loop-k-preserved : goal.loop-k-preserved
 loop-k-preserved c = turned_more c.loop-k.invariant c.loop-k-test.true c.wide-n.result c.wide-n.ensures c.put_floats.ensures

@@ -6,17 +6,6 @@ use Rattle.seek.specs.Inside.{SoughtAt}
 use Rattle.seek.proofs.FindLaws.{seek_at, seek_beyond, find_refused, find_beyond, pair_none, pair_read}
 use Rattle.seek.proofs.bookmarks.pair_at.Goals as goal
 
--- the cursor that was sought
-sought : (c : goal.In-At-2)
-    → let a = c.args in
-    let ls = lines a.start_x.now a.start_y.now a.end_x.now a.end_y.now in
-    SoughtAt ls a.grid (beside ls a.grid a.offsets.now a.items.now a.globals.now a.global-count) a.bookmark c.in-At.cursor
-sought c =
-    let a = c.args in
-    let ls = lines a.start_x.now a.start_y.now a.end_x.now a.end_y.now in
-    let t = beside ls a.grid a.offsets.now a.items.now a.globals.now a.global-count in
-    seek_at ls a.grid t a.bookmark _ c.seek-sought.ensures c.in-At.cursor c.in-At.is
-
 pub returns-in-Refused : goal.returns-in-Refused
 returns-in-Refused c =
     let a = c.args in
@@ -39,11 +28,22 @@ returns-in_default-sought c =
     pair_none ls a.grid t a.bookmark _ (find_beyond ls a.grid t a.bookmark (sym c.check_visit-check.ensures ∙ c.in_default.is) (seek_beyond ls a.grid t a.bookmark _ c.seek-sought.ensures c.in_default-sought.is))
 
 pub pair_of-requires : goal.pair_of-requires
-pair_of-requires c = (sought c).asks
+pair_of-requires c =
+    let sought : let a = c.args in let ls = lines a.start_x.now a.start_y.now a.end_x.now a.end_y.now in SoughtAt ls a.grid (beside ls a.grid a.offsets.now a.items.now a.globals.now a.global-count) a.bookmark c.in-At.cursor = 
+        let a = c.args in
+        let ls = lines a.start_x.now a.start_y.now a.end_x.now a.end_y.now in
+        let t = beside ls a.grid a.offsets.now a.items.now a.globals.now a.global-count in
+        seek_at ls a.grid t a.bookmark _ c.seek-sought.ensures c.in-At.cursor c.in-At.is in
+    sought.asks
 
 pub returns : goal.returns
 returns c =
+    let sought : let a = c.args in let ls = lines a.start_x.now a.start_y.now a.end_x.now a.end_y.now in SoughtAt ls a.grid (beside ls a.grid a.offsets.now a.items.now a.globals.now a.global-count) a.bookmark c.in-At.cursor = 
+        let a = c.args in
+        let ls = lines a.start_x.now a.start_y.now a.end_x.now a.end_y.now in
+        let t = beside ls a.grid a.offsets.now a.items.now a.globals.now a.global-count in
+        seek_at ls a.grid t a.bookmark _ c.seek-sought.ensures c.in-At.cursor c.in-At.is in
     let a = c.args in
     let ls = lines a.start_x.now a.start_y.now a.end_x.now a.end_y.now in
     let t = beside ls a.grid a.offsets.now a.items.now a.globals.now a.global-count in
-    pair_read ls a.grid t a.bookmark c.in-At.cursor (sought c) c.pair_of.result c.pair_of.ensures
+    pair_read ls a.grid t a.bookmark c.in-At.cursor sought c.pair_of.result c.pair_of.ensures

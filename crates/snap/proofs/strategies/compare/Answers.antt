@@ -6,16 +6,17 @@ use Rattle.snap.specs.Strategies.{agreed}
 use Rattle.snap.proofs.Halves.{above_zero, below_zero, neither, differ_there, agree_elsewhere}
 use Rattle.snap.proofs.strategies.compare.Goals as goal
 
-held : (c : goal.Start) → T (fits binary64 c.args.size)
-held c = subst T (sym c.well_formed.1.0.1) tt
-
 pub returns-then-scaled : goal.returns-then-scaled
 unfolding of_bits
-returns-then-scaled c = ap agreed (sym (differ_there _ _ (held c) c.requires.fact_2 (above_zero _ c.if-scaled.true)))
+returns-then-scaled c =
+    let held : T (fits binary64 c.args.size) = subst T (sym c.well_formed.1.0.1) tt in
+    ap agreed (sym (differ_there _ _ held c.requires.fact_2 (above_zero _ c.if-scaled.true)))
 
 pub returns-then-scaled-2 : goal.returns-then-scaled-2
 unfolding of_bits neg
-returns-then-scaled-2 c = ap agreed (sym (differ_there _ _ (held c) c.requires.fact_2 (below_zero _ c.if-scaled-2.true)))
+returns-then-scaled-2 c =
+    let held : T (fits binary64 c.args.size) = subst T (sym c.well_formed.1.0.1) tt in
+    ap agreed (sym (differ_there _ _ held c.requires.fact_2 (below_zero _ c.if-scaled-2.true)))
 
 pub returns : goal.returns
 unfolding of_bits neg

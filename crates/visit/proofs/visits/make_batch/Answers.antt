@@ -12,31 +12,6 @@ use Rattle.visit.proofs.RunWhole.{cells_asks, globals_asks, run_small, run_is}
 use Rattle.visit.proofs.EntryLaws.{outputs_alike, outputs_unlike, batch_unlike, batch_refused, batch_done, run_asks, bookmark_fits}
 use Rattle.visit.proofs.visits.make_batch.Goals as goal
 
--- the outputs have one length
-same : (c : goal.Else-first-second) → let a = c.args in outputs_check a.first.now a.second.now ≡ Fine
-same c = let a = c.args in outputs_alike a.first.now a.second.now c.if-first-second.false
-
--- the cursor that was found
-found : (c : goal.In-At-2)
-    → let a = c.args in
-    let ls = lines a.start_x.now a.start_y.now a.end_x.now a.end_y.now in
-    CursorIs ls a.grid (beside ls a.grid a.offsets.now a.items.now a.globals.now a.global-count) a.bookmark c.in-At.cursor
-found c =
-    let a = c.args in
-    let ls = lines a.start_x.now a.start_y.now a.end_x.now a.end_y.now in
-    let t = beside ls a.grid a.offsets.now a.items.now a.globals.now a.global-count in
-    found_at ls a.grid t a.bookmark _ c.find-found.ensures c.in-At.cursor c.in-At.is
-
--- a run from there
-asks : (c : goal.In-At-2)
-    → let a = c.args in
-    let ls = lines a.start_x.now a.start_y.now a.end_x.now a.end_y.now in
-    RunAsks ls a.grid (beside ls a.grid a.offsets.now a.items.now a.globals.now a.global-count) c.in-At.cursor a.first.now a.second.now
-asks c =
-    let a = c.args in
-    let ls = lines a.start_x.now a.start_y.now a.end_x.now a.end_y.now in
-    run_asks ls a.grid a.offsets.now a.items.now a.globals.now a.global-count a.bookmark c.in-At.cursor (found c) a.first.now a.second.now a.places.now (same c)
-
 pub returns-then-first-second : goal.returns-then-first-second
 returns-then-first-second c =
     let a = c.args in
@@ -46,40 +21,91 @@ returns-then-first-second c =
 
 pub overflow_mul-cells : goal.overflow_mul-cells
 overflow_mul-cells c =
+    let same : let a = c.args in outputs_check a.first.now a.second.now ≡ Fine = let a = c.args in outputs_alike a.first.now a.second.now c.if-first-second.false in
+    let found : let a = c.args in let ls = lines a.start_x.now a.start_y.now a.end_x.now a.end_y.now in CursorIs ls a.grid (beside ls a.grid a.offsets.now a.items.now a.globals.now a.global-count) a.bookmark c.in-At.cursor = 
+        let a = c.args in
+        let ls = lines a.start_x.now a.start_y.now a.end_x.now a.end_y.now in
+        let t = beside ls a.grid a.offsets.now a.items.now a.globals.now a.global-count in
+        found_at ls a.grid t a.bookmark _ c.find-found.ensures c.in-At.cursor c.in-At.is in
+    let asks : let a = c.args in let ls = lines a.start_x.now a.start_y.now a.end_x.now a.end_y.now in RunAsks ls a.grid (beside ls a.grid a.offsets.now a.items.now a.globals.now a.global-count) c.in-At.cursor a.first.now a.second.now = 
+        let a = c.args in
+        let ls = lines a.start_x.now a.start_y.now a.end_x.now a.end_y.now in
+        run_asks ls a.grid a.offsets.now a.items.now a.globals.now a.global-count a.bookmark c.in-At.cursor found a.first.now a.second.now a.places.now same in
     let a = c.args in
     let ls = lines a.start_x.now a.start_y.now a.end_x.now a.end_y.now in
-    record { fits = rows_cols ls a.grid a.offsets.now a.items.now a.globals.now a.global-count (asks c).ready.fine _ _ refl refl }
+    record { fits = rows_cols ls a.grid a.offsets.now a.items.now a.globals.now a.global-count asks.ready.fine _ _ refl refl }
 
 pub run_cells-listed-requires : goal.run_cells-listed-requires
 run_cells-listed-requires c =
+    let same : let a = c.args in outputs_check a.first.now a.second.now ≡ Fine = let a = c.args in outputs_alike a.first.now a.second.now c.if-first-second.false in
+    let found : let a = c.args in let ls = lines a.start_x.now a.start_y.now a.end_x.now a.end_y.now in CursorIs ls a.grid (beside ls a.grid a.offsets.now a.items.now a.globals.now a.global-count) a.bookmark c.in-At.cursor = 
+        let a = c.args in
+        let ls = lines a.start_x.now a.start_y.now a.end_x.now a.end_y.now in
+        let t = beside ls a.grid a.offsets.now a.items.now a.globals.now a.global-count in
+        found_at ls a.grid t a.bookmark _ c.find-found.ensures c.in-At.cursor c.in-At.is in
+    let asks : let a = c.args in let ls = lines a.start_x.now a.start_y.now a.end_x.now a.end_y.now in RunAsks ls a.grid (beside ls a.grid a.offsets.now a.items.now a.globals.now a.global-count) c.in-At.cursor a.first.now a.second.now = 
+        let a = c.args in
+        let ls = lines a.start_x.now a.start_y.now a.end_x.now a.end_y.now in
+        run_asks ls a.grid a.offsets.now a.items.now a.globals.now a.global-count a.bookmark c.in-At.cursor found a.first.now a.second.now a.places.now same in
     let a = c.args in
     let ls = lines a.start_x.now a.start_y.now a.end_x.now a.end_y.now in
-    cells_asks ls a.grid a.offsets.now a.items.now a.globals.now a.global-count c.in-At.cursor a.first.now a.second.now a.places.now (asks c) _ refl
+    cells_asks ls a.grid a.offsets.now a.items.now a.globals.now a.global-count c.in-At.cursor a.first.now a.second.now a.places.now asks _ refl
 
 pub run_globals-global-requires : goal.run_globals-global-requires
 run_globals-global-requires c =
+    let same : let a = c.args in outputs_check a.first.now a.second.now ≡ Fine = let a = c.args in outputs_alike a.first.now a.second.now c.if-first-second.false in
+    let found : let a = c.args in let ls = lines a.start_x.now a.start_y.now a.end_x.now a.end_y.now in CursorIs ls a.grid (beside ls a.grid a.offsets.now a.items.now a.globals.now a.global-count) a.bookmark c.in-At.cursor = 
+        let a = c.args in
+        let ls = lines a.start_x.now a.start_y.now a.end_x.now a.end_y.now in
+        let t = beside ls a.grid a.offsets.now a.items.now a.globals.now a.global-count in
+        found_at ls a.grid t a.bookmark _ c.find-found.ensures c.in-At.cursor c.in-At.is in
+    let asks : let a = c.args in let ls = lines a.start_x.now a.start_y.now a.end_x.now a.end_y.now in RunAsks ls a.grid (beside ls a.grid a.offsets.now a.items.now a.globals.now a.global-count) c.in-At.cursor a.first.now a.second.now = 
+        let a = c.args in
+        let ls = lines a.start_x.now a.start_y.now a.end_x.now a.end_y.now in
+        run_asks ls a.grid a.offsets.now a.items.now a.globals.now a.global-count a.bookmark c.in-At.cursor found a.first.now a.second.now a.places.now same in
     let a = c.args in
     let ls = lines a.start_x.now a.start_y.now a.end_x.now a.end_y.now in
-    globals_asks ls a.grid a.offsets.now a.items.now a.globals.now a.global-count c.in-At.cursor a.first.now a.second.now a.places.now (asks c) _ refl _ _ _ c.run_cells-listed.result c.run_cells-listed.ensures
+    globals_asks ls a.grid a.offsets.now a.items.now a.globals.now a.global-count c.in-At.cursor a.first.now a.second.now a.places.now asks _ refl _ _ _ c.run_cells-listed.result c.run_cells-listed.ensures
 
 pub overflow_add-made : goal.overflow_add-made
 overflow_add-made c =
+    let same : let a = c.args in outputs_check a.first.now a.second.now ≡ Fine = let a = c.args in outputs_alike a.first.now a.second.now c.if-first-second.false in
+    let found : let a = c.args in let ls = lines a.start_x.now a.start_y.now a.end_x.now a.end_y.now in CursorIs ls a.grid (beside ls a.grid a.offsets.now a.items.now a.globals.now a.global-count) a.bookmark c.in-At.cursor = 
+        let a = c.args in
+        let ls = lines a.start_x.now a.start_y.now a.end_x.now a.end_y.now in
+        let t = beside ls a.grid a.offsets.now a.items.now a.globals.now a.global-count in
+        found_at ls a.grid t a.bookmark _ c.find-found.ensures c.in-At.cursor c.in-At.is in
+    let asks : let a = c.args in let ls = lines a.start_x.now a.start_y.now a.end_x.now a.end_y.now in RunAsks ls a.grid (beside ls a.grid a.offsets.now a.items.now a.globals.now a.global-count) c.in-At.cursor a.first.now a.second.now = 
+        let a = c.args in
+        let ls = lines a.start_x.now a.start_y.now a.end_x.now a.end_y.now in
+        run_asks ls a.grid a.offsets.now a.items.now a.globals.now a.global-count a.bookmark c.in-At.cursor found a.first.now a.second.now a.places.now same in
     let a = c.args in
     let ls = lines a.start_x.now a.start_y.now a.end_x.now a.end_y.now in
-    record { fits = run_small ls a.grid a.offsets.now a.items.now a.globals.now a.global-count c.in-At.cursor a.first.now a.second.now a.places.now (asks c) _ refl _ _ _ c.run_cells-listed.result c.run_cells-listed.ensures _ _ _ c.run_globals-global.result c.run_globals-global.ensures }
+    record { fits = run_small ls a.grid a.offsets.now a.items.now a.globals.now a.global-count c.in-At.cursor a.first.now a.second.now a.places.now asks _ refl _ _ _ c.run_cells-listed.result c.run_cells-listed.ensures _ _ _ c.run_globals-global.result c.run_globals-global.ensures }
 
 pub overflow_add-result : goal.overflow_add-result
 overflow_add-result c =
+    let found : let a = c.args in let ls = lines a.start_x.now a.start_y.now a.end_x.now a.end_y.now in CursorIs ls a.grid (beside ls a.grid a.offsets.now a.items.now a.globals.now a.global-count) a.bookmark c.in-At.cursor = 
+        let a = c.args in
+        let ls = lines a.start_x.now a.start_y.now a.end_x.now a.end_y.now in
+        let t = beside ls a.grid a.offsets.now a.items.now a.globals.now a.global-count in
+        found_at ls a.grid t a.bookmark _ c.find-found.ensures c.in-At.cursor c.in-At.is in
+    let same : let a = c.args in outputs_check a.first.now a.second.now ≡ Fine = let a = c.args in outputs_alike a.first.now a.second.now c.if-first-second.false in
+    let asks : let a = c.args in let ls = lines a.start_x.now a.start_y.now a.end_x.now a.end_y.now in RunAsks ls a.grid (beside ls a.grid a.offsets.now a.items.now a.globals.now a.global-count) c.in-At.cursor a.first.now a.second.now = 
+        let a = c.args in
+        let ls = lines a.start_x.now a.start_y.now a.end_x.now a.end_y.now in
+        run_asks ls a.grid a.offsets.now a.items.now a.globals.now a.global-count a.bookmark c.in-At.cursor found a.first.now a.second.now a.places.now same in
     let a = c.args in
     let ls = lines a.start_x.now a.start_y.now a.end_x.now a.end_y.now in
-    record { fits = bookmark_fits ls a.grid a.offsets.now a.items.now a.globals.now a.global-count a.bookmark c.in-At.cursor (found c) a.first.now a.second.now a.places.now _ _ _ _ (run_is ls a.grid a.offsets.now a.items.now a.globals.now a.global-count c.in-At.cursor a.first.now a.second.now a.places.now (asks c) _ refl _ _ _ c.run_cells-listed.result c.run_cells-listed.ensures _ _ _ c.run_globals-global.result c.run_globals-global.ensures) }
+    record { fits = bookmark_fits ls a.grid a.offsets.now a.items.now a.globals.now a.global-count a.bookmark c.in-At.cursor found a.first.now a.second.now a.places.now _ _ _ _ (run_is ls a.grid a.offsets.now a.items.now a.globals.now a.global-count c.in-At.cursor a.first.now a.second.now a.places.now asks _ refl _ _ _ c.run_cells-listed.result c.run_cells-listed.ensures _ _ _ c.run_globals-global.result c.run_globals-global.ensures) }
 
 pub returns-in-Refused : goal.returns-in-Refused
 returns-in-Refused c =
+    let same : let a = c.args in outputs_check a.first.now a.second.now ≡ Fine = let a = c.args in outputs_alike a.first.now a.second.now c.if-first-second.false in
     let a = c.args in
     let ls = lines a.start_x.now a.start_y.now a.end_x.now a.end_y.now in
     let t = beside ls a.grid a.offsets.now a.items.now a.globals.now a.global-count in
-    batch_refused ls a.grid t a.bookmark a.first.now a.second.now a.places.now (same c) _ (found_none ls a.grid t a.bookmark _ c.find-found.ensures _ c.in-Refused.is)
+    batch_refused ls a.grid t a.bookmark a.first.now a.second.now a.places.now same _ (found_none ls a.grid t a.bookmark _ c.find-found.ensures _ c.in-Refused.is)
 
 pub shape_of-first : goal.shape_of-first
 shape_of-first c = c.clear_from.auto.s ∙ c.run_globals-global.auto.first ∙ c.run_cells-listed.auto.first
@@ -92,7 +118,17 @@ shape_of-places c = c.clear_from-in-At-2.auto.s ∙ c.run_globals-global.auto.pl
 
 pub returns-in-At : goal.returns-in-At
 returns-in-At c =
+    let same : let a = c.args in outputs_check a.first.now a.second.now ≡ Fine = let a = c.args in outputs_alike a.first.now a.second.now c.if-first-second.false in
+    let found : let a = c.args in let ls = lines a.start_x.now a.start_y.now a.end_x.now a.end_y.now in CursorIs ls a.grid (beside ls a.grid a.offsets.now a.items.now a.globals.now a.global-count) a.bookmark c.in-At.cursor = 
+        let a = c.args in
+        let ls = lines a.start_x.now a.start_y.now a.end_x.now a.end_y.now in
+        let t = beside ls a.grid a.offsets.now a.items.now a.globals.now a.global-count in
+        found_at ls a.grid t a.bookmark _ c.find-found.ensures c.in-At.cursor c.in-At.is in
+    let asks : let a = c.args in let ls = lines a.start_x.now a.start_y.now a.end_x.now a.end_y.now in RunAsks ls a.grid (beside ls a.grid a.offsets.now a.items.now a.globals.now a.global-count) c.in-At.cursor a.first.now a.second.now = 
+        let a = c.args in
+        let ls = lines a.start_x.now a.start_y.now a.end_x.now a.end_y.now in
+        run_asks ls a.grid a.offsets.now a.items.now a.globals.now a.global-count a.bookmark c.in-At.cursor found a.first.now a.second.now a.places.now same in
     let a = c.args in
     let ls = lines a.start_x.now a.start_y.now a.end_x.now a.end_y.now in
     let t = beside ls a.grid a.offsets.now a.items.now a.globals.now a.global-count in
-    batch_done ls a.grid t a.bookmark a.first.now a.second.now a.places.now (same c) c.in-At.cursor (found c) _ _ _ _ (run_is ls a.grid a.offsets.now a.items.now a.globals.now a.global-count c.in-At.cursor a.first.now a.second.now a.places.now (asks c) _ refl _ _ _ c.run_cells-listed.result c.run_cells-listed.ensures _ _ _ c.run_globals-global.result c.run_globals-global.ensures) _ _ _ c.clear_from.ensures c.clear_from-in-At.ensures c.clear_from-in-At-2.ensures
+    batch_done ls a.grid t a.bookmark a.first.now a.second.now a.places.now same c.in-At.cursor found _ _ _ _ (run_is ls a.grid a.offsets.now a.items.now a.globals.now a.global-count c.in-At.cursor a.first.now a.second.now a.places.now asks _ refl _ _ _ c.run_cells-listed.result c.run_cells-listed.ensures _ _ _ c.run_globals-global.result c.run_globals-global.ensures) _ _ _ c.clear_from.ensures c.clear_from-in-At.ensures c.clear_from-in-At-2.ensures

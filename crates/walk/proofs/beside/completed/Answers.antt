@@ -12,35 +12,37 @@ use Rattle.walk.proofs.Answer.{completes}
 use Rattle.walk.proofs.Added.{end_le, shape_within}
 use Rattle.walk.proofs.beside.completed.Goals as goal
 
--- the neighbours that the line adds
-in_x : (c : goal.After-along-x) → let a = c.args in c.along-x.result ≡ along_on a.mode (x_axis a.grid) a.line.start_x a.line.end_x
-in_x c = let a = c.args in c.along-x.ensures ∙ ap (λ (z : Axis). along_on a.mode z a.line.start_x a.line.end_x) c.x_axis.ensures
-
-in_y : (c : goal.After-along-y) → let a = c.args in c.along-y.result ≡ along_on a.mode (y_axis a.grid) a.line.start_y a.line.end_y
-in_y c =
-    let a = c.args in
-    c.along-y.ensures ∙ ap (λ (z : Axis). along_on a.mode z a.line.start_y a.line.end_y) c.y_axis.ensures
-
--- how many they are for all walked cells
-shared : (c : goal.After-along-y) → let a = c.args in a.trod.count * share_of a.mode a.grid a.line ≡ a.trod.count * share c.along-x.result c.along-y.result
-shared c = ap (λ (k : ℕ). c.args.trod.count * k) (share_is _ _ _ _ _ (in_x c) (in_y c))
-
 pub returns-then-is_clear : goal.returns-then-is_clear
 returns-then-is_clear c = clear_complete _ _ _ _ _ (omega (arith, c.requires.fact_3)) (c.is_clear.ensures c.if-is_clear.true)
 
 pub added-a-requires : goal.added-a-requires
 added-a-requires c =
+    let in_x : let a = c.args in c.along-x.result ≡ along_on a.mode (x_axis a.grid) a.line.start_x a.line.end_x = let a = c.args in c.along-x.ensures ∙ ap (λ (z : Axis). along_on a.mode z a.line.start_x a.line.end_x) c.x_axis.ensures in
+    let in_y : let a = c.args in c.along-y.result ≡ along_on a.mode (y_axis a.grid) a.line.start_y a.line.end_y = 
+        let a = c.args in
+        c.along-y.ensures ∙ ap (λ (z : Axis). along_on a.mode z a.line.start_y a.line.end_y) c.y_axis.ensures in
+    let shared : let a = c.args in a.trod.count * share_of a.mode a.grid a.line ≡ a.trod.count * share c.along-x.result c.along-y.result = ap (λ (k : ℕ). c.args.trod.count * k) (share_is _ _ _ _ _ in_x in_y) in
     let p = c.requires in
-    (omega (arith, p.fact_3, shared c), record { most = shape_within p.fact_1 p.fact_2; inside = p.fact_4 })
+    (omega (arith, p.fact_3, shared), record { most = shape_within p.fact_1 p.fact_2; inside = p.fact_4 })
 
 pub ended-b-requires : goal.ended-b-requires
 ended-b-requires c =
+    let in_x : let a = c.args in c.along-x.result ≡ along_on a.mode (x_axis a.grid) a.line.start_x a.line.end_x = let a = c.args in c.along-x.ensures ∙ ap (λ (z : Axis). along_on a.mode z a.line.start_x a.line.end_x) c.x_axis.ensures in
+    let in_y : let a = c.args in c.along-y.result ≡ along_on a.mode (y_axis a.grid) a.line.start_y a.line.end_y = 
+        let a = c.args in
+        c.along-y.ensures ∙ ap (λ (z : Axis). along_on a.mode z a.line.start_y a.line.end_y) c.y_axis.ensures in
+    let shared : let a = c.args in a.trod.count * share_of a.mode a.grid a.line ≡ a.trod.count * share c.along-x.result c.along-y.result = ap (λ (k : ℕ). c.args.trod.count * k) (share_is _ _ _ _ _ in_x in_y) in
     let p = c.requires in
     let k = c.added-a.ensures in
-    (omega (arith, p.fact_3, shared c, k.count, k.len), (p.fact_1, p.fact_2))
+    (omega (arith, p.fact_3, shared, k.count, k.len), (p.fact_1, p.fact_2))
 
 pub ended-requires : goal.ended-requires
 ended-requires c =
+    let in_x : let a = c.args in c.along-x.result ≡ along_on a.mode (x_axis a.grid) a.line.start_x a.line.end_x = let a = c.args in c.along-x.ensures ∙ ap (λ (z : Axis). along_on a.mode z a.line.start_x a.line.end_x) c.x_axis.ensures in
+    let in_y : let a = c.args in c.along-y.result ≡ along_on a.mode (y_axis a.grid) a.line.start_y a.line.end_y = 
+        let a = c.args in
+        c.along-y.ensures ∙ ap (λ (z : Axis). along_on a.mode z a.line.start_y a.line.end_y) c.y_axis.ensures in
+    let shared : let a = c.args in a.trod.count * share_of a.mode a.grid a.line ≡ a.trod.count * share c.along-x.result c.along-y.result = ap (λ (k : ℕ). c.args.trod.count * k) (share_is _ _ _ _ _ in_x in_y) in
     let a = c in
     let p = a.requires in
     let k = c.added-a.ensures in
@@ -48,7 +50,7 @@ ended-requires c =
       omega (
         arith,
         p.fact_3,
-        shared c,
+        shared,
         k.count,
         k.len,
         e.len,

@@ -8,13 +8,6 @@ use Rattle.walk.proofs.Added.{share_le, nothing_beside, cell_within}
 use Rattle.cover.proofs.Growing.{none, same}
 use Rattle.walk.proofs.beside.ended.Goals as goal
 
--- what the endpoint adds, by its neighbours
-added : (c : goal.After-neighbour-in_y) → let a = c.args in
-    beside_of c.neighbour-in_x.result c.neighbour-in_y.result a.grid.cols (a.grid.rows * a.grid.cols) (cell_of a.grid a.x a.y)
-    ≡ endpoint_of a.mode a.grid a.x a.y
-unfolding endpoint_of
-added c = rw (c.neighbour-in_x.ensures, c.neighbour-in_y.ensures, c.x_axis.ensures, c.y_axis.ensures)
-
 pub returns-then-nothing : goal.returns-then-nothing
 returns-then-nothing c =
     let n = c in

@@ -6,11 +6,6 @@ use Rattle.wkb.proofs.Looks.{lined, line_faulted}
 use Rattle.wkb.proofs.Walks.{passed_none, passed_more, passed_fault, passed_over, passed_all}
 use Rattle.wkb.proofs.members.check_members.Goals as goal
 
--- the member that was looked at
-line : (c : goal.In-Line) → let l = c in
-    LineAt l.args.bytes.now l.loop-left.at c.in-Line.order c.in-Line.count
-line c = lined c.check_line.ensures c.in-Line.is
-
 pub loop-left-init : goal.loop-left-init
 loop-left-init c = let a = c.args in passed_none a.bytes.now a.m (omega arith)
 
@@ -18,19 +13,29 @@ pub check_line-requires : goal.check_line-requires
 check_line-requires c = c.loop-left.invariant.within
 
 pub overflow_add-at : goal.overflow_add-at
-overflow_add-at c = let l = line c in omega arith
+overflow_add-at c =
+    let line : let l = c in LineAt l.args.bytes.now l.loop-left.at c.in-Line.order c.in-Line.count = lined c.check_line.ensures c.in-Line.is in
+    let l = line in omega arith
 
 pub overflow_mul-at : goal.overflow_mul-at
-overflow_mul-at c = let l = line c in omega arith
+overflow_mul-at c =
+    let line : let l = c in LineAt l.args.bytes.now l.loop-left.at c.in-Line.order c.in-Line.count = lined c.check_line.ensures c.in-Line.is in
+    let l = line in omega arith
 
 pub overflow_add-at-in-Line : goal.overflow_add-at-in-Line
-overflow_add-at-in-Line c = let l = line c in omega arith
+overflow_add-at-in-Line c =
+    let line : let l = c in LineAt l.args.bytes.now l.loop-left.at c.in-Line.order c.in-Line.count = lined c.check_line.ensures c.in-Line.is in
+    let l = line in omega arith
 
 pub overflow_add-points : goal.overflow_add-points
-overflow_add-points c = let l = line c in omega arith
+overflow_add-points c =
+    let line : let l = c in LineAt l.args.bytes.now l.loop-left.at c.in-Line.order c.in-Line.count = lined c.check_line.ensures c.in-Line.is in
+    let l = line in omega arith
 
 pub loop-left-preserved : goal.loop-left-preserved
-loop-left-preserved c = passed_more c.loop-left.invariant c.loop-left-test.true (line c)
+loop-left-preserved c =
+    let line : let l = c in LineAt l.args.bytes.now l.loop-left.at c.in-Line.order c.in-Line.count = lined c.check_line.ensures c.in-Line.is in
+    passed_more c.loop-left.invariant c.loop-left-test.true line
 
 pub returns-in-Fault : goal.returns-in-Fault
 returns-in-Fault c =

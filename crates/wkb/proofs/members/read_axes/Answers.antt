@@ -11,24 +11,6 @@ use Rattle.wkb.proofs.Stores.{fill_none, fill_length, fill_room, fill_more, fill
 use Rattle.wkb.proofs.Walks.{left_line, left_rest, axes_next, axes_over}
 use Rattle.wkb.proofs.members.read_axes.Goals as goal
 
--- the member at `at` is right
-line : (c : goal.In-loop-left) → LineFits c.loop-left.at c.args.bytes.now
-line c = left_line c.loop-left.left _ _ c.loop-left-test.true c.loop-left.invariant.2
-
-order_is : (c : goal.After-order_of-order) → let l = c in c.order_of-order.result ≡ order_at l.loop-left.at l.args.bytes.now
-unfolding order_at
-order_is c = c.order_of-order.ensures
-
--- its coordinates have room
-room : (c : goal.After-points_at-n) → let l = c in l.loop-left.to + c.points_at-n.result ≤ length l.loop-left.s
-room c =
-    let l = c in
-    let a = l.args in
-    let e = axes_next a.bytes.now a.skip l.loop-left.left l.loop-left.at c.loop-left-test.true (order_is c) c.points_at-n.ensures in
-    let part = numbers_at c.order_of-order.result c.points_at-n.result (l.loop-left.at + 9 + a.skip) a.bytes.now in
-    let r : l.loop-left.to + length part ≤ length l.loop-left.s = fill_room l.loop-left.invariant.3 part _ e (omega (arith, l.loop-left.invariant.1)) in
-    omega (arith, length_numbers c.order_of-order.result a.bytes.now c.points_at-n.result (l.loop-left.at + 9 + a.skip))
-
 pub loop-left-init : goal.loop-left-init
 loop-left-init c =
     let a = c.args in
@@ -36,32 +18,58 @@ loop-left-init c =
     (p.1, p.2, p.0, fill_none 0 (axes_at a.skip a.m 9 a.bytes.now) a.s.now (omega arith))
 
 pub bounds-bytes-at : goal.bounds-bytes-at
-bounds-bytes-at c = let l = line c in omega arith
+bounds-bytes-at c =
+    let line : LineFits c.loop-left.at c.args.bytes.now = left_line c.loop-left.left _ _ c.loop-left-test.true c.loop-left.invariant.2 in
+    let l = line in omega arith
 
 pub points_at-n-requires : goal.points_at-n-requires
-points_at-n-requires c = (let l = line c in omega arith, order_is c)
+unfolding order_at
+points_at-n-requires c =
+    let line : LineFits c.loop-left.at c.args.bytes.now = left_line c.loop-left.left _ _ c.loop-left-test.true c.loop-left.invariant.2 in
+    let order_is : let l = c in c.order_of-order.result ≡ order_at l.loop-left.at l.args.bytes.now = c.order_of-order.ensures in
+    (let l = line in omega arith, order_is)
 
 pub overflow_add-at : goal.overflow_add-at
-overflow_add-at c = let l = line c in omega arith
+overflow_add-at c =
+    let line : LineFits c.loop-left.at c.args.bytes.now = left_line c.loop-left.left _ _ c.loop-left-test.true c.loop-left.invariant.2 in
+    let l = line in omega arith
 
 pub overflow_add-at-in-loop-left : goal.overflow_add-at-in-loop-left
-overflow_add-at-in-loop-left c = let l = line c in omega arith
+overflow_add-at-in-loop-left c =
+    let line : LineFits c.loop-left.at c.args.bytes.now = left_line c.loop-left.left _ _ c.loop-left-test.true c.loop-left.invariant.2 in
+    let l = line in omega arith
 
 pub read_numbers-requires : goal.read_numbers-requires
+unfolding order_at
 read_numbers-requires c =
-    let l = line c in
-    let r = room c in
+    let line : LineFits c.loop-left.at c.args.bytes.now = left_line c.loop-left.left _ _ c.loop-left-test.true c.loop-left.invariant.2 in
+    let order_is : let l = c in c.order_of-order.result ≡ order_at l.loop-left.at l.args.bytes.now = c.order_of-order.ensures in
+    let room : let l = c in l.loop-left.to + c.points_at-n.result ≤ length l.loop-left.s = 
+        let l = c in
+        let a = l.args in
+        let e = axes_next a.bytes.now a.skip l.loop-left.left l.loop-left.at c.loop-left-test.true order_is c.points_at-n.ensures in
+        let part = numbers_at c.order_of-order.result c.points_at-n.result (l.loop-left.at + 9 + a.skip) a.bytes.now in
+        let r : l.loop-left.to + length part ≤ length l.loop-left.s = fill_room l.loop-left.invariant.3 part _ e (omega (arith, l.loop-left.invariant.1)) in
+        omega (arith, length_numbers c.order_of-order.result a.bytes.now c.points_at-n.result (l.loop-left.at + 9 + a.skip)) in
+    let l = line in
+    let r = room in
     let n = c.points_at-n.ensures in
     (omega arith, omega arith)
 
 pub overflow_add-at-in-loop-left-2 : goal.overflow_add-at-in-loop-left-2
-overflow_add-at-in-loop-left-2 c = let l = line c in omega arith
+overflow_add-at-in-loop-left-2 c =
+    let line : LineFits c.loop-left.at c.args.bytes.now = left_line c.loop-left.left _ _ c.loop-left-test.true c.loop-left.invariant.2 in
+    let l = line in omega arith
 
 pub overflow_mul-at : goal.overflow_mul-at
-overflow_mul-at c = let l = line c in let n = c.points_at-n.ensures in omega arith
+overflow_mul-at c =
+    let line : LineFits c.loop-left.at c.args.bytes.now = left_line c.loop-left.left _ _ c.loop-left-test.true c.loop-left.invariant.2 in
+    let l = line in let n = c.points_at-n.ensures in omega arith
 
 pub overflow_add-at-in-loop-left-3 : goal.overflow_add-at-in-loop-left-3
-overflow_add-at-in-loop-left-3 c = let l = line c in let n = c.points_at-n.ensures in omega arith
+overflow_add-at-in-loop-left-3 c =
+    let line : LineFits c.loop-left.at c.args.bytes.now = left_line c.loop-left.left _ _ c.loop-left-test.true c.loop-left.invariant.2 in
+    let l = line in let n = c.points_at-n.ensures in omega arith
 
 pub overflow_add-to : goal.overflow_add-to
 overflow_add-to c = let p = c in let r = room p in omega (arith, fill_length p.loop-left.invariant.3)

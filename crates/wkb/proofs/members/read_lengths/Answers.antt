@@ -13,19 +13,6 @@ use Rattle.wkb.proofs.Stores.{put_one, fill_none, fill_length, fill_room, fill_m
 use Rattle.wkb.proofs.Walks.{left_line, left_rest, counts_next, counts_over, length_counts}
 use Rattle.wkb.proofs.members.read_lengths.Goals as goal
 
--- the member at `at` is right
-line : (c : goal.In-loop-left) → LineFits c.loop-left.at c.args.bytes.now
-line c = left_line c.loop-left.left _ _ c.loop-left-test.true c.loop-left.invariant.1
-
--- there is room for its number of points
-room : (c : goal.After-points_at-n) → let l = c in l.loop-left.to < length l.loop-left.s
-room c =
-    let l = c in
-    let a = l.args in
-    let e = counts_next a.bytes.now l.loop-left.left l.loop-left.at c.loop-left-test.true c.points_at-n.ensures in
-    let r = fill_room l.loop-left.invariant.2 (c.points_at-n.result ∷ []) _ e (omega (arith, l.loop-left.invariant.0)) in
-    omega arith
-
 pub loop-left-init : goal.loop-left-init
 loop-left-init c =
     let a = c.args in
@@ -33,35 +20,74 @@ loop-left-init c =
     (omega (arith, length_counts a.bytes.now a.m 9), p.0, fill_none 0 (counts_at a.m 9 a.bytes.now) a.s.now (omega arith))
 
 pub bounds-bytes-at : goal.bounds-bytes-at
-bounds-bytes-at c = let l = line c in omega arith
+bounds-bytes-at c =
+    let line : LineFits c.loop-left.at c.args.bytes.now = left_line c.loop-left.left _ _ c.loop-left-test.true c.loop-left.invariant.1 in
+    let l = line in omega arith
 
 pub points_at-n-requires : goal.points_at-n-requires
 unfolding order_at
-points_at-n-requires c = (let l = line c in omega arith, c.order_of.ensures)
+points_at-n-requires c =
+    let line : LineFits c.loop-left.at c.args.bytes.now = left_line c.loop-left.left _ _ c.loop-left-test.true c.loop-left.invariant.1 in
+    (let l = line in omega arith, c.order_of.ensures)
 
 pub overflow_cast-s : goal.overflow_cast-s
-overflow_cast-s c = let l = line c in omega (arith, c.points_at-n.ensures)
+overflow_cast-s c =
+    let line : LineFits c.loop-left.at c.args.bytes.now = left_line c.loop-left.left _ _ c.loop-left-test.true c.loop-left.invariant.1 in
+    let l = line in omega (arith, c.points_at-n.ensures)
 
 pub offset_bounds-s-to : goal.offset_bounds-s-to
-offset_bounds-s-to c = let r = room c in omega (arith, fill_length c.loop-left.invariant.2)
+offset_bounds-s-to c =
+    let room : let l = c in l.loop-left.to < length l.loop-left.s = 
+        let l = c in
+        let a = l.args in
+        let e = counts_next a.bytes.now l.loop-left.left l.loop-left.at c.loop-left-test.true c.points_at-n.ensures in
+        let r = fill_room l.loop-left.invariant.2 (c.points_at-n.result ∷ []) _ e (omega (arith, l.loop-left.invariant.0)) in
+        omega arith in
+    let r = room in omega (arith, fill_length c.loop-left.invariant.2)
 
 pub bounds-s-to : goal.bounds-s-to
-bounds-s-to c = let r = room c in omega (arith, fill_length c.loop-left.invariant.2)
+bounds-s-to c =
+    let room : let l = c in l.loop-left.to < length l.loop-left.s = 
+        let l = c in
+        let a = l.args in
+        let e = counts_next a.bytes.now l.loop-left.left l.loop-left.at c.loop-left-test.true c.points_at-n.ensures in
+        let r = fill_room l.loop-left.invariant.2 (c.points_at-n.result ∷ []) _ e (omega (arith, l.loop-left.invariant.0)) in
+        omega arith in
+    let r = room in omega (arith, fill_length c.loop-left.invariant.2)
 
 pub overflow_add-at : goal.overflow_add-at
-overflow_add-at c = let l = line c in omega arith
+overflow_add-at c =
+    let line : LineFits c.loop-left.at c.args.bytes.now = left_line c.loop-left.left _ _ c.loop-left-test.true c.loop-left.invariant.1 in
+    let l = line in omega arith
 
 pub overflow_mul-at : goal.overflow_mul-at
-overflow_mul-at c = let l = line c in omega (arith, c.points_at-n.ensures)
+overflow_mul-at c =
+    let line : LineFits c.loop-left.at c.args.bytes.now = left_line c.loop-left.left _ _ c.loop-left-test.true c.loop-left.invariant.1 in
+    let l = line in omega (arith, c.points_at-n.ensures)
 
 pub overflow_add-at-in-loop-left : goal.overflow_add-at-in-loop-left
-overflow_add-at-in-loop-left c = let l = line c in omega (arith, c.points_at-n.ensures)
+overflow_add-at-in-loop-left c =
+    let line : LineFits c.loop-left.at c.args.bytes.now = left_line c.loop-left.left _ _ c.loop-left-test.true c.loop-left.invariant.1 in
+    let l = line in omega (arith, c.points_at-n.ensures)
 
 pub overflow_add-to : goal.overflow_add-to
-overflow_add-to c = let r = room c in omega (arith, fill_length c.loop-left.invariant.2)
+overflow_add-to c =
+    let room : let l = c in l.loop-left.to < length l.loop-left.s = 
+        let l = c in
+        let a = l.args in
+        let e = counts_next a.bytes.now l.loop-left.left l.loop-left.at c.loop-left-test.true c.points_at-n.ensures in
+        let r = fill_room l.loop-left.invariant.2 (c.points_at-n.result ∷ []) _ e (omega (arith, l.loop-left.invariant.0)) in
+        omega arith in
+    let r = room in omega (arith, fill_length c.loop-left.invariant.2)
 
 pub loop-left-preserved : goal.loop-left-preserved
 loop-left-preserved c =
+    let room : let l = c in l.loop-left.to < length l.loop-left.s = 
+        let l = c in
+        let a = l.args in
+        let e = counts_next a.bytes.now l.loop-left.left l.loop-left.at c.loop-left-test.true c.points_at-n.ensures in
+        let r = fill_room l.loop-left.invariant.2 (c.points_at-n.result ∷ []) _ e (omega (arith, l.loop-left.invariant.0)) in
+        omega arith in
     let l = c in
     let a = l.args in
     let v = l.loop-left.invariant in
@@ -69,7 +95,7 @@ loop-left-preserved c =
     let n = c.points_at-n.result in (
       v.0,
       left_rest l.loop-left.left l.loop-left.at a.bytes.now h v.1 n c.points_at-n.ensures,
-      fill_more v.2 (counts_next a.bytes.now l.loop-left.left l.loop-left.at h c.points_at-n.ensures) (put_one l.loop-left.to n l.loop-left.s (room c)) refl,
+      fill_more v.2 (counts_next a.bytes.now l.loop-left.left l.loop-left.at h c.points_at-n.ensures) (put_one l.loop-left.to n l.loop-left.s room) refl,
     )
 
 pub shape_of-s : goal.shape_of-s

@@ -13,7 +13,6 @@ pub returns-in-Tables : goal.returns-in-Tables
 unfolding of_added
 returns-in-Tables c =
     let h = c.requires in
-    let v = c.answer-1.given.0 in
     replied 3 (ap of_added (sym c.in-Tables.is))
     (handed_replies 3 h (record { number = refl; words = stored_three c.args.out.now c.in-Tables.items c.in-Tables.globals c.in-Tables.cells h }))
 

@@ -14,14 +14,12 @@ put_points-requires c =
 
 pub returns-in-Refused : goal.returns-in-Refused
 returns-in-Refused c =
-    let b = c in
     puts_text
-    (refused_read _ _ _ _ _ (length-replicate 1024 nought) (length-replicate 1024 nought) _ (rw c.in-Refused.is at b.read_line_string-read.ensures) refused_text _ ∙ printed_by _ _)
+    (refused_read _ _ _ _ _ (length-replicate 1024 nought) (length-replicate 1024 nought) _ (rw c.in-Refused.is at c.read_line_string-read.ensures) refused_text _ ∙ printed_by _ _)
     c.refused_line.ensures
 
 pub returns-in-Points : goal.returns-in-Points
 returns-in-Points c =
-    let b = c in
     puts_text
-    ((points_read _ _ _ _ _ (length-replicate 1024 nought) (length-replicate 1024 nought) _ (rw c.in-Points.is at b.read_line_string-read.ensures)).said refused_text (printed_lines _) ∙ printed_by _ _)
+    ((points_read _ _ _ _ _ (length-replicate 1024 nought) (length-replicate 1024 nought) _ (rw c.in-Points.is at c.read_line_string-read.ensures)).said refused_text (printed_lines _) ∙ printed_by _ _)
     c.put_points.ensures

@@ -6,12 +6,10 @@ use Rattle.clean_bytes.proofs.put_first.Goals as goal
 
 pub slice_bounds-put_multi-end : goal.slice_bounds-put_multi-end
 slice_bounds-put_multi-end c =
-    let s = c in
-    sym (length-take-le _ s.args.s.now s.requires.0)
+    sym (length-take-le _ c.args.s.now c.requires.0)
 
 pub put_multi-requires : goal.put_multi-requires
 put_multi-requires c =
-    let s = c in
-    let e = length-take-le s.args.n s.args.s.now s.requires.0 in
-    let m = s.requires.1 in
-    (omega arith, s.requires.2)
+    let e = length-take-le c.args.n c.args.s.now c.requires.0 in
+    let m = c.requires.1 in
+    (omega arith, c.requires.2)

@@ -7,9 +7,8 @@ use Rattle.clean_bytes.proofs.put_multi.Goals as goal
 
 pub put_part-requires : goal.put_part-requires
 put_part-requires c =
-    let s = c in
-    let q = members_read c.read_multi_line_string-read.ensures (length-replicate {A = ℕ} 4096 0) (length-replicate {A = ℕ} 4096 0) (length-replicate {A = ℕ} 4096 0) s.requires.0 c.in-Members.is in
-    (q.load.parts, asked q.load q.few s.requires.1)
+    let q = members_read c.read_multi_line_string-read.ensures (length-replicate {A = ℕ} 4096 0) (length-replicate {A = ℕ} 4096 0) (length-replicate {A = ℕ} 4096 0) c.requires.0 c.in-Members.is in
+    (q.load.parts, asked q.load q.few c.requires.1)
 
 pub returns-in-Refused : goal.returns-in-Refused
 returns-in-Refused c = unread_refused c.read_multi_line_string-read.ensures (length-replicate {A = ℕ} 4096 0) (length-replicate {A = ℕ} 4096 0) (length-replicate {A = ℕ} 4096 0) c.requires.0 c.in-Refused.is c.refuse.ensures

@@ -5,15 +5,12 @@ use Rattle.clean_bytes.proofs.put_part.Goals as goal
 
 pub slice_bounds-put_found-end : goal.slice_bounds-put_found-end
 slice_bounds-put_found-end c =
-    let s = c in
-    sym (length-take-le _ s.args.x.now s.requires.0.in_x)
+    sym (length-take-le _ c.args.x.now c.requires.0.in_x)
 
 pub slice_bounds-put_found-end-2 : goal.slice_bounds-put_found-end-2
 slice_bounds-put_found-end-2 c =
-    let s = c in
-    sym (length-take-le _ s.args.y.now s.requires.0.in_y)
+    sym (length-take-le _ c.args.y.now c.requires.0.in_y)
 
 pub slice_bounds-put_found-end-3 : goal.slice_bounds-put_found-end-3
 slice_bounds-put_found-end-3 c =
-    let s = c in
-    sym (length-take-le _ s.args.lengths.now s.requires.0.in_lengths)
+    sym (length-take-le _ c.args.lengths.now c.requires.0.in_lengths)

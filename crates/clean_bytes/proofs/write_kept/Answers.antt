@@ -6,18 +6,15 @@ use Rattle.clean_bytes.proofs.write_kept.Goals as goal
 
 pub slice_bounds-write_multi_line_string-end : goal.slice_bounds-write_multi_line_string-end
 slice_bounds-write_multi_line_string-end c =
-    let s = c in
-    sym (length-take-le _ s.args.x.now s.requires.0.in_x)
+    sym (length-take-le _ c.args.x.now c.requires.0.in_x)
 
 pub slice_bounds-write_multi_line_string-end-2 : goal.slice_bounds-write_multi_line_string-end-2
 slice_bounds-write_multi_line_string-end-2 c =
-    let s = c in
-    sym (length-take-le _ s.args.y.now s.requires.0.in_y)
+    sym (length-take-le _ c.args.y.now c.requires.0.in_y)
 
 pub slice_bounds-write_multi_line_string-end-3 : goal.slice_bounds-write_multi_line_string-end-3
 slice_bounds-write_multi_line_string-end-3 c =
-    let s = c in
-    sym (length-take-le _ s.args.lengths.now s.requires.0.in_lengths)
+    sym (length-take-le _ c.args.lengths.now c.requires.0.in_lengths)
 
 pub returns-in-Bytes : goal.returns-in-Bytes
 returns-in-Bytes c = wrote c.write_multi_line_string-written.ensures c.requires.1 c.in-Bytes.is

@@ -15,20 +15,17 @@ loop-k-init c = (c.requires, summed_none c.args.lengths.now)
 pub overflow_add-sum : goal.overflow_add-sum
 overflow_add-sum c =
     let right : is_length c.wide-sum.result ≡ true = ap is_length c.wide-sum.ensures ∙ sym c.is_length.ensures ∙ c.if-is_length.true in
-    let l = c in
     let n = length_is c.wide-sum.result right in
-    omega (arith, l.loop-k.invariant.1.few, l.loop-k.invariant.0)
+    omega (arith, c.loop-k.invariant.1.few, c.loop-k.invariant.0)
 
 pub loop-k-preserved : goal.loop-k-preserved
 loop-k-preserved c =
     let right : is_length c.wide-sum.result ≡ true = ap is_length c.wide-sum.ensures ∙ sym c.is_length.ensures ∙ c.if-is_length.true in
-    let l = c in
-    (l.loop-k.invariant.0, summed_more l.loop-k.invariant.1 c.wide-sum.result c.loop-k-test.true c.wide-sum.ensures right)
+    (c.loop-k.invariant.0, summed_more c.loop-k.invariant.1 c.wide-sum.result c.loop-k-test.true c.wide-sum.ensures right)
 
 pub returns-else-is_length : goal.returns-else-is_length
 returns-else-is_length c =
-    let l = c in
-    rw (summed_wrong l.loop-k.invariant.1 _ c.loop-k-test.true refl (sym c.is_length.ensures ∙ c.if-is_length.false))
+    rw (summed_wrong c.loop-k.invariant.1 _ c.loop-k-test.true refl (sym c.is_length.ensures ∙ c.if-is_length.false))
 
 pub returns : goal.returns
 returns c = let a = summed_all c.loop-k.invariant.1 c.loop-k-test.false in rw (a.0, a.1)

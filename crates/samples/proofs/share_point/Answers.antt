@@ -44,21 +44,17 @@ both_aside-requires c = record { fact_1 = sym c.is_sampled.ensures ∙ not-false
 
 pub returns-then-both_aside : goal.returns-then-both_aside
 returns-then-both_aside c =
-    let d = c in
-    parted _ _ (sym d.boxes_overlap.ensures ∙ not-false _ d.if-not-boxes_overlap.false-raw)
-    (sym d.is_sampled.ensures ∙ not-false _ d.if-not-is_sampled.false-raw) (sym d.is_sampled-2.ensures ∙ not-false _ d.if-not-is_sampled-2.false-raw)
+    parted _ _ (sym c.boxes_overlap.ensures ∙ not-false _ c.if-not-boxes_overlap.false-raw)
+    (sym c.is_sampled.ensures ∙ not-false _ c.if-not-is_sampled.false-raw) (sym c.is_sampled-2.ensures ∙ not-false _ c.if-not-is_sampled-2.false-raw)
     (sym c.both_aside.ensures ∙ c.if-both_aside.true)
 
 pub both_aside-requires-2 : goal.both_aside-requires-2
 both_aside-requires-2 c =
-    let d = c in
-    record { fact_1 = sym d.is_sampled-2.ensures ∙ not-false _ d.if-not-is_sampled-2.false-raw; fact_2 = sym d.is_sampled.ensures ∙ not-false _ d.if-not-is_sampled.false-raw }
+    record { fact_1 = sym c.is_sampled-2.ensures ∙ not-false _ c.if-not-is_sampled-2.false-raw; fact_2 = sym c.is_sampled.ensures ∙ not-false _ c.if-not-is_sampled.false-raw }
 
 pub returns : goal.returns
 returns c =
-    let e = c in
-    let d = e in
     rw c.both_aside-2.ensures
-    (last _ _ (sym d.boxes_overlap.ensures ∙ not-false _ d.if-not-boxes_overlap.false-raw)
-    (sym d.is_sampled.ensures ∙ not-false _ d.if-not-is_sampled.false-raw) (sym d.is_sampled-2.ensures ∙ not-false _ d.if-not-is_sampled-2.false-raw)
-    (sym e.both_aside.ensures ∙ e.if-both_aside.false))
+    (last _ _ (sym c.boxes_overlap.ensures ∙ not-false _ c.if-not-boxes_overlap.false-raw)
+    (sym c.is_sampled.ensures ∙ not-false _ c.if-not-is_sampled.false-raw) (sym c.is_sampled-2.ensures ∙ not-false _ c.if-not-is_sampled-2.false-raw)
+    (sym c.both_aside.ensures ∙ c.if-both_aside.false))

@@ -16,12 +16,12 @@ walked-ran-requires c =
 
 pub returns-in-Done : goal.returns-in-Done
 returns-in-Done c =
-    let w = c in
-    done_trail _ _ _ (checked w) _ _ _ _ w.Way-of.ensures w.started-start.ensures w.walked-ran.ensures
-    w.walked-ran.auto.s _ c.in-Done.is
+    let checked : let a = c.args in scratch_shape_check (length a.scratch.now) a.grid ≡ Fine = sym c.check_room-check.ensures ∙ c.in_default.is in
+    done_trail _ _ _ checked _ _ _ _ c.Way-of.ensures c.started-start.ensures c.walked-ran.ensures
+    c.walked-ran.auto.s _ c.in-Done.is
 
 pub returns-in-Over : goal.returns-in-Over
 returns-in-Over c =
-    let w = c in
-    over_trail _ _ _ (checked w) _ _ _ _ w.Way-of.ensures w.started-start.ensures w.walked-ran.ensures
-    w.walked-ran.auto.s _ c.in-Over.is c.clear_from.auto.s c.clear_from.ensures
+    let checked : let a = c.args in scratch_shape_check (length a.scratch.now) a.grid ≡ Fine = sym c.check_room-check.ensures ∙ c.in_default.is in
+    over_trail _ _ _ checked _ _ _ _ c.Way-of.ensures c.started-start.ensures c.walked-ran.ensures
+    c.walked-ran.auto.s _ c.in-Over.is c.clear_from.auto.s c.clear_from.ensures

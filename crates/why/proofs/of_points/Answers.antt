@@ -13,5 +13,4 @@ slice_bounds-of_lines-end-2 c = sym (length-take-le _ c.args.y.now (omega arith)
 
 pub returns : goal.returns
 returns c =
-    let s = c in
-    c.of_lines.ensures ∙ ap (of_lines s.args.plan) (chain_parts s.args.n s.args.x.now s.args.y.now s.requires.0 s.requires.1 s.requires.2)
+    c.of_lines.ensures ∙ ap (of_lines c.args.plan) (chain_parts c.args.n c.args.x.now c.args.y.now c.requires.0 c.requires.1 c.requires.2)

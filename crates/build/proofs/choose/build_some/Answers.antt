@@ -24,9 +24,8 @@ shape_of-scratch-in-Ended c = c.attempt_size-tried.auto.scratch ∙ c.loop-built
 
 pub returns-in-Ended : goal.returns-in-Ended
 returns-in-Ended c =
-    let s = c in
-    choosing_done s.loop-built.invariant (rw c.in-Ended.is at c.attempt_size-tried.ensures)
-    (end_first _ _ _ _ _ _ s.requires s.serial_bounds-extent.ensures s.first_size-size.ensures)
+    choosing_done c.loop-built.invariant (rw c.in-Ended.is at c.attempt_size-tried.ensures)
+    (end_first _ _ _ _ _ _ c.requires c.serial_bounds-extent.ensures c.first_size-size.ensures)
 
 pub overflow_sub-left : goal.overflow_sub-left
 overflow_sub-left c = let h = rw c.in_default.is at c.attempt_size-tried.ensures in omega (arith, h.some)

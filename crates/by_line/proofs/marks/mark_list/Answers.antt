@@ -21,5 +21,4 @@ shape_of-marks c = c.loop-j.invariant.long
 
 pub returns : goal.returns
 returns c =
-    let b = c in
-    listing_over c.loop-j.invariant c.loop-j-test.false b.back-before.ensures (omega (arith, b.back-low.ensures, b.back.ensures))
+    listing_over c.loop-j.invariant c.loop-j-test.false c.back-before.ensures (omega (arith, c.back-low.ensures, c.back.ensures))

@@ -43,10 +43,9 @@ returns-then-mode-gt-LAST_MODE c =
 
 pub returns : goal.returns
 returns c =
-    let s = c in
-    let h = s.if-out-lt8.false in
-    let k = s.if-sizing-gt-LAST_SIZING.false in
-    let m = s.if-mode-gt-LAST_MODE.false in
+    let h = c.if-out-lt8.false in
+    let k = c.if-sizing-gt-LAST_SIZING.false in
+    let m = c.if-mode-gt-LAST_MODE.false in
     let e = rw c.plan_by.ensures at c.build-answer.ensures in
     record {
       replies = replied 8 (ap of_built e.answer ∙ named_answer last_mode 103 _ _ m ∙ named_answer last_sizing 102 _ _ k) c.built.ensures;

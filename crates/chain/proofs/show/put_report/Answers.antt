@@ -14,7 +14,6 @@ slice_bounds-global_line-end c = sym (length-take-le _ _ c.requires.globals.long
 pub returns : goal.returns
 unfolding report_of
 returns c =
-    let s = c in
-    rw (← s.to_bits.ensures, ← s.to_bits-2.ensures)
-    (puts_then s.grid_line-at.ensures
+    rw (← c.to_bits.ensures, ← c.to_bits-2.ensures)
+    (puts_then c.grid_line-at.ensures
     (puts_then c.put_cells-at.ensures (puts_then c.global_line-at.ensures c.visit_line.ensures)))

@@ -53,30 +53,30 @@ loop-k-init c =
 
 pub put_member-requires : goal.put_member-requires
 put_member-requires c =
-    let fitting_at : let l = c in Fitting (length l.args.x.now) l.loop-k.from c.wide-n.result = fitting c.loop-k.invariant c.loop-k-test.true c.wide-n.result c.wide-n.ensures in
-    let room_at : let l = c in l.loop-k.at + 9 + 16 * c.wide-n.result ≤ length l.loop-k.s = room_next c.loop-k.invariant c.loop-k-test.true c.wide-n.result c.wide-n.ensures in
+    let fitting_at : Fitting (length c.args.x.now) c.loop-k.from c.wide-n.result = fitting c.loop-k.invariant c.loop-k-test.true c.wide-n.result c.wide-n.ensures in
+    let room_at : c.loop-k.at + 9 + 16 * c.wide-n.result ≤ length c.loop-k.s = room_next c.loop-k.invariant c.loop-k-test.true c.wide-n.result c.wide-n.ensures in
     let f = fitting_at in
     let r = room_at in
     (c.loop-k.invariant.alike, f.within, omega arith)
 
 pub overflow_add-at : goal.overflow_add-at
 overflow_add-at c =
-    let room_at : let l = c in l.loop-k.at + 9 + 16 * c.wide-n.result ≤ length l.loop-k.s = room_next c.loop-k.invariant c.loop-k-test.true c.wide-n.result c.wide-n.ensures in
+    let room_at : c.loop-k.at + 9 + 16 * c.wide-n.result ≤ length c.loop-k.s = room_next c.loop-k.invariant c.loop-k-test.true c.wide-n.result c.wide-n.ensures in
     let r = room_at in omega (arith, fill_length c.loop-k.invariant.filled)
 
 pub overflow_mul-at : goal.overflow_mul-at
 overflow_mul-at c =
-    let room_at : let l = c in l.loop-k.at + 9 + 16 * c.wide-n.result ≤ length l.loop-k.s = room_next c.loop-k.invariant c.loop-k-test.true c.wide-n.result c.wide-n.ensures in
+    let room_at : c.loop-k.at + 9 + 16 * c.wide-n.result ≤ length c.loop-k.s = room_next c.loop-k.invariant c.loop-k-test.true c.wide-n.result c.wide-n.ensures in
     let r = room_at in omega (arith, fill_length c.loop-k.invariant.filled)
 
 pub overflow_add-at-in-loop-k : goal.overflow_add-at-in-loop-k
 overflow_add-at-in-loop-k c =
-    let room_at : let l = c in l.loop-k.at + 9 + 16 * c.wide-n.result ≤ length l.loop-k.s = room_next c.loop-k.invariant c.loop-k-test.true c.wide-n.result c.wide-n.ensures in
+    let room_at : c.loop-k.at + 9 + 16 * c.wide-n.result ≤ length c.loop-k.s = room_next c.loop-k.invariant c.loop-k-test.true c.wide-n.result c.wide-n.ensures in
     let r = room_at in omega (arith, fill_length c.loop-k.invariant.filled)
 
 pub overflow_add-from : goal.overflow_add-from
 overflow_add-from c =
-    let fitting_at : let l = c in Fitting (length l.args.x.now) l.loop-k.from c.wide-n.result = fitting c.loop-k.invariant c.loop-k-test.true c.wide-n.result c.wide-n.ensures in
+    let fitting_at : Fitting (length c.args.x.now) c.loop-k.from c.wide-n.result = fitting c.loop-k.invariant c.loop-k-test.true c.wide-n.result c.wide-n.ensures in
     let f = fitting_at in omega arith
 
 pub loop-k-preserved : goal.loop-k-preserved

@@ -45,35 +45,35 @@ loop-k-init c =
 
 pub overflow_add-at : goal.overflow_add-at
 overflow_add-at c =
-    let fitting_at : let l = c in Fitting (length l.args.from.now) l.loop-k.at c.wide-n.result = fitting c.loop-k.invariant c.loop-k-test.true c.wide-n.result c.wide-n.ensures in
+    let fitting_at : Fitting (length c.args.from.now) c.loop-k.at c.wide-n.result = fitting c.loop-k.invariant c.loop-k-test.true c.wide-n.result c.wide-n.ensures in
     let f = fitting_at in omega (arith, c.loop-k.invariant.one)
 
 pub overflow_sub-n : goal.overflow_sub-n
 overflow_sub-n c =
-    let fitting_at : let l = c in Fitting (length l.args.from.now) l.loop-k.at c.wide-n.result = fitting c.loop-k.invariant c.loop-k-test.true c.wide-n.result c.wide-n.ensures in
+    let fitting_at : Fitting (length c.args.from.now) c.loop-k.at c.wide-n.result = fitting c.loop-k.invariant c.loop-k-test.true c.wide-n.result c.wide-n.ensures in
     let f = fitting_at in omega arith
 
 pub put_floats-requires : goal.put_floats-requires
 put_floats-requires c =
-    let fitting_at : let l = c in Fitting (length l.args.from.now) l.loop-k.at c.wide-n.result = fitting c.loop-k.invariant c.loop-k-test.true c.wide-n.result c.wide-n.ensures in
-    let room_at : let l = c in l.loop-k.to + (c.wide-n.result - 1) ≤ length l.loop-k.s = room_next c.loop-k.invariant c.loop-k-test.true c.wide-n.result c.wide-n.ensures in
+    let fitting_at : Fitting (length c.args.from.now) c.loop-k.at c.wide-n.result = fitting c.loop-k.invariant c.loop-k-test.true c.wide-n.result c.wide-n.ensures in
+    let room_at : c.loop-k.to + (c.wide-n.result - 1) ≤ length c.loop-k.s = room_next c.loop-k.invariant c.loop-k-test.true c.wide-n.result c.wide-n.ensures in
     let f = fitting_at in
     let r = room_at in
     (omega (arith, c.loop-k.invariant.one), omega arith)
 
 pub overflow_add-at-in-loop-k : goal.overflow_add-at-in-loop-k
 overflow_add-at-in-loop-k c =
-    let fitting_at : let l = c in Fitting (length l.args.from.now) l.loop-k.at c.wide-n.result = fitting c.loop-k.invariant c.loop-k-test.true c.wide-n.result c.wide-n.ensures in
+    let fitting_at : Fitting (length c.args.from.now) c.loop-k.at c.wide-n.result = fitting c.loop-k.invariant c.loop-k-test.true c.wide-n.result c.wide-n.ensures in
     let f = fitting_at in omega arith
 
 pub overflow_sub-to : goal.overflow_sub-to
 overflow_sub-to c =
-    let fitting_at : let l = c in Fitting (length l.args.from.now) l.loop-k.at c.wide-n.result = fitting c.loop-k.invariant c.loop-k-test.true c.wide-n.result c.wide-n.ensures in
+    let fitting_at : Fitting (length c.args.from.now) c.loop-k.at c.wide-n.result = fitting c.loop-k.invariant c.loop-k-test.true c.wide-n.result c.wide-n.ensures in
     let f = fitting_at in omega arith
 
 pub overflow_add-to : goal.overflow_add-to
 overflow_add-to c =
-    let room_at : let l = c in l.loop-k.to + (c.wide-n.result - 1) ≤ length l.loop-k.s = room_next c.loop-k.invariant c.loop-k-test.true c.wide-n.result c.wide-n.ensures in
+    let room_at : c.loop-k.to + (c.wide-n.result - 1) ≤ length c.loop-k.s = room_next c.loop-k.invariant c.loop-k-test.true c.wide-n.result c.wide-n.ensures in
     let r = room_at in omega (arith, fill_length c.loop-k.invariant.filled)
 
 pub loop-k-preserved : goal.loop-k-preserved
@@ -85,6 +85,5 @@ shape_of-s c = c.zero_from.auto.s ∙ fill_length c.loop-k.invariant.filled
 pub returns : goal.returns
 unfolding floats_at
 returns c =
-    let l = c in
-    let a = l.args in
-    fill_cleared nought l.loop-k.invariant.filled (floats_over (of_bits binary64) a.skip a.lengths.now l.loop-k.k l.loop-k.at a.from.now c.loop-k-test.false) c.zero_from.ensures
+    let a = c.args in
+    fill_cleared nought c.loop-k.invariant.filled (floats_over (of_bits binary64) a.skip a.lengths.now c.loop-k.k c.loop-k.at a.from.now c.loop-k-test.false) c.zero_from.ensures

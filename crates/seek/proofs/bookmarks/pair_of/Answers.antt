@@ -16,13 +16,13 @@ pub offset_bounds-offsets-cell : goal.offset_bounds-offsets-cell
 offset_bounds-offsets-cell c =
     let area : c.wide.result * c.wide-2.result ≡ c.args.grid.rows * c.args.grid.cols = rw (c.wide.ensures, c.wide-2.ensures) in
     let inside : let a = c.args in a.cursor.cell < a.grid.rows * a.grid.cols = rw area at c.if-cell-cells.true in
-    let s = c in omega (arith, inside, s.requires.table.long, s.well_formed.1.1.0)
+    omega (arith, inside, c.requires.table.long, c.well_formed.1.1.0)
 
 pub bounds-offsets-cell : goal.bounds-offsets-cell
 bounds-offsets-cell c =
     let area : c.wide.result * c.wide-2.result ≡ c.args.grid.rows * c.args.grid.cols = rw (c.wide.ensures, c.wide-2.ensures) in
     let inside : let a = c.args in a.cursor.cell < a.grid.rows * a.grid.cols = rw area at c.if-cell-cells.true in
-    let s = c in omega (arith, inside, s.requires.table.long)
+    omega (arith, inside, c.requires.table.long)
 
 pub overflow_add-i : goal.overflow_add-i
 overflow_add-i c =
@@ -31,7 +31,7 @@ overflow_add-i c =
     let entries : let a = c.args in get_or a.offsets.now a.cursor.cell 0 + a.cursor.j < length a.items.now = 
         let a = c.args in
         pair_in (a.grid.rows * a.grid.cols) a.offsets.now a.items.now a.globals.now a.global-count a.cursor c.requires inside in
-    let s = c in omega (arith, c.wide-from.ensures, entries, s.requires.later, s.well_formed.1.1.1.0)
+    omega (arith, c.wide-from.ensures, entries, c.requires.later, c.well_formed.1.1.1.0)
 
 pub overflow_add-j : goal.overflow_add-j
 overflow_add-j c =
@@ -40,7 +40,7 @@ overflow_add-j c =
     let entries : let a = c.args in get_or a.offsets.now a.cursor.cell 0 + a.cursor.j < length a.items.now = 
         let a = c.args in
         pair_in (a.grid.rows * a.grid.cols) a.offsets.now a.items.now a.globals.now a.global-count a.cursor c.requires inside in
-    let s = c in omega (arith, c.wide-from.ensures, entries, s.well_formed.1.1.1.0)
+    omega (arith, c.wide-from.ensures, entries, c.well_formed.1.1.1.0)
 
 pub overflow_cast-n : goal.overflow_cast-n
 overflow_cast-n c =
@@ -69,7 +69,7 @@ offset_bounds-items-i c =
     let entries : let a = c.args in get_or a.offsets.now a.cursor.cell 0 + a.cursor.j < length a.items.now = 
         let a = c.args in
         pair_in (a.grid.rows * a.grid.cols) a.offsets.now a.items.now a.globals.now a.global-count a.cursor c.requires inside in
-    let s = c in omega (arith, c.wide-from.ensures, entries, s.requires.later, s.well_formed.1.1.1.0)
+    omega (arith, c.wide-from.ensures, entries, c.requires.later, c.well_formed.1.1.1.0)
 
 pub bounds-items-i : goal.bounds-items-i
 bounds-items-i c =
@@ -78,7 +78,7 @@ bounds-items-i c =
     let entries : let a = c.args in get_or a.offsets.now a.cursor.cell 0 + a.cursor.j < length a.items.now = 
         let a = c.args in
         pair_in (a.grid.rows * a.grid.cols) a.offsets.now a.items.now a.globals.now a.global-count a.cursor c.requires inside in
-    let s = c in omega (arith, c.wide-from.ensures, entries, s.requires.later)
+    omega (arith, c.wide-from.ensures, entries, c.requires.later)
 
 pub offset_bounds-items-j : goal.offset_bounds-items-j
 offset_bounds-items-j c =
@@ -87,7 +87,7 @@ offset_bounds-items-j c =
     let entries : let a = c.args in get_or a.offsets.now a.cursor.cell 0 + a.cursor.j < length a.items.now = 
         let a = c.args in
         pair_in (a.grid.rows * a.grid.cols) a.offsets.now a.items.now a.globals.now a.global-count a.cursor c.requires inside in
-    let s = c in omega (arith, c.wide-from.ensures, entries, s.well_formed.1.1.1.0)
+    omega (arith, c.wide-from.ensures, entries, c.well_formed.1.1.1.0)
 
 pub bounds-items-j : goal.bounds-items-j
 bounds-items-j c =

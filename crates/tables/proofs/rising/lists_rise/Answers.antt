@@ -6,42 +6,35 @@ use Rattle.tables.proofs.rising.lists_rise.Goals as goal
 
 pub returns-then-items-eq0 : goal.returns-then-items-eq0
 returns-then-items-eq0 c =
-    let s = c in
-    none_rise s.args.cells s.args.offsets.now s.args.items.now s.requires s.args.lines c.if-items-eq0.true
+    none_rise c.args.cells c.args.offsets.now c.args.items.now c.requires c.args.lines c.if-items-eq0.true
 
 pub returns-then-lines-eq0 : goal.returns-then-lines-eq0
 returns-then-lines-eq0 c =
-    let s = c in
-    no_lines s.args.cells s.args.offsets.now s.args.items.now s.requires s.args.lines c.if-lines-eq0.true (omega arith)
+    no_lines c.args.cells c.args.offsets.now c.args.items.now c.requires c.args.lines c.if-lines-eq0.true (omega arith)
 
 pub loop-cell-init : goal.loop-cell-init
 loop-cell-init c =
-    let s = c in
-    blocks_none c.least_32-most.result s.args.cells s.args.offsets.now s.args.items.now (record { laid = s.requires; some = omega arith })
+    blocks_none c.least_32-most.result c.args.cells c.args.offsets.now c.args.items.now (record { laid = c.requires; some = omega arith })
 
 pub count_breaks-breaks-requires : goal.count_breaks-breaks-requires
 count_breaks-breaks-requires c =
-    let s = c in
     let l = c.loop-cell in
-    block_entries c.least_32-most.result s.args.cells s.args.offsets.now s.args.items.now l.invariant (omega arith) (omega arith) c.one_at_least-to.ensures
+    block_entries c.least_32-most.result c.args.cells c.args.offsets.now c.args.items.now l.invariant (omega arith) (omega arith) c.one_at_least-to.ensures
 
 pub count_begins-begins-requires : goal.count_begins-begins-requires
 count_begins-begins-requires c =
-    let s = c in
     let l = c.loop-cell in
-    block_lists c.least_32-most.result s.args.cells s.args.offsets.now s.args.items.now l.invariant (omega arith) (omega arith) c.one_at_least-to.ensures
+    block_lists c.least_32-most.result c.args.cells c.args.offsets.now c.args.items.now l.invariant (omega arith) (omega arith) c.one_at_least-to.ensures
 
 pub loop-cell-preserved : goal.loop-cell-preserved
 loop-cell-preserved c =
-    let s = c in
     let l = c.loop-cell in
-    block_seen c.least_32-most.result s.args.cells s.args.offsets.now s.args.items.now l.invariant (omega arith) (omega arith) c.one_at_least-to.ensures c.count_breaks-breaks.ensures c.count_begins-begins.ensures
+    block_seen c.least_32-most.result c.args.cells c.args.offsets.now c.args.items.now l.invariant (omega arith) (omega arith) c.one_at_least-to.ensures c.count_breaks-breaks.ensures c.count_begins-begins.ensures
 
 pub returns : goal.returns
 returns c =
-    let s = c in
     let most = c.least_32-most in
     let known = c.shared_slice_known-2-1.given in
-    let both = blocks_all most.result s.args.cells s.args.offsets.now s.args.items.now c.loop-cell-test.false c.loop-cell.invariant in
+    let both = blocks_all most.result c.args.cells c.args.offsets.now c.args.items.now c.loop-cell-test.false c.loop-cell.invariant in
     rw (both.0, both.1)
-    (all_rise s.args.cells s.args.offsets.now s.args.items.now s.requires most.result s.args.lines (λ j l. cut_at s.args.lines most.result _ (omega arith) (known j).fits most.ensures))
+    (all_rise c.args.cells c.args.offsets.now c.args.items.now c.requires most.result c.args.lines (λ j l. cut_at c.args.lines most.result _ (omega arith) (known j).fits most.ensures))

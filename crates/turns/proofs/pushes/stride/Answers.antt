@@ -5,9 +5,8 @@ use Rattle.turns.proofs.pushes.stride.Goals as goal
 
 pub arrive-requires : goal.arrive-requires
 arrive-requires c =
-    let a = c in
     let p = c.sides-a.ensures in
-    (omega (arith, p.count, p.len, a.requires.fact_1, sides_le true a.args.cols a.args.rows a.args.way a.args.w), a.requires.fact_2)
+    (omega (arith, p.count, p.len, c.requires.fact_1, sides_le true c.args.cols c.args.rows c.args.way c.args.w), c.requires.fact_2)
 
 -- both ways
 pub returns-then-k-2 : goal.returns-then-k-2
@@ -19,17 +18,15 @@ returns-then-k-2 c =
 -- in x
 pub returns-then-k : goal.returns-then-k
 returns-then-k c =
-    let a = c in
-    let k = a.args.k in
+    let k = c.args.k in
     strode _ _ _ _ _ _ _ c.moved-then-k.ensures
-    (no_sides k a.args.cols a.args.rows a.args.way a.args.w (not_both_y k c.if-k.true c.if-k-2.false) (omega (arith, a.requires.fact_1)))
+    (no_sides k c.args.cols c.args.rows c.args.way c.args.w (not_both_y k c.if-k.true c.if-k-2.false) (omega (arith, c.requires.fact_1)))
     c.arrive-then-k.ensures
 
 -- in y
 pub returns : goal.returns
 returns c =
-    let a = c in
-    let k = a.args.k in
+    let k = c.args.k in
     strode _ _ _ _ _ _ _ c.moved-2.ensures
-    (no_sides k a.args.cols a.args.rows a.args.way a.args.w (not_both_x k c.if-k.false) (omega (arith, a.requires.fact_1)))
+    (no_sides k c.args.cols c.args.rows c.args.way c.args.w (not_both_x k c.if-k.false) (omega (arith, c.requires.fact_1)))
     c.arrive-2.ensures

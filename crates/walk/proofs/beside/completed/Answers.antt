@@ -43,8 +43,7 @@ ended-requires c =
         let a = c.args in
         c.along-y.ensures ∙ ap (λ (z : Axis). along_on a.mode z a.line.start_y a.line.end_y) c.y_axis.ensures in
     let shared : let a = c.args in a.trod.count * share_of a.mode a.grid a.line ≡ a.trod.count * share c.along-x.result c.along-y.result = ap (λ (k : ℕ). c.args.trod.count * k) (share_is _ _ _ _ _ in_x in_y) in
-    let a = c in
-    let p = a.requires in
+    let p = c.requires in
     let k = c.added-a.ensures in
     let e = c.ended-b.ensures in (
       omega (
@@ -55,13 +54,16 @@ ended-requires c =
         k.len,
         e.len,
         e.count,
-        end_le a.args.mode a.args.grid a.args.line.start_x a.args.line.start_y,
+        end_le c.args.mode c.args.grid c.args.line.start_x c.args.line.start_y,
       ),
       (p.fact_1, p.fact_2),
     )
 
 pub returns : goal.returns
 returns c =
-    let k = c in
-    completes _ _ _ _ _ (in_x k) (in_y k) k.added-a.ensures
+    let in_x : let a = c.args in c.along-x.result ≡ along_on a.mode (x_axis a.grid) a.line.start_x a.line.end_x = let a = c.args in c.along-x.ensures ∙ ap (λ (z : Axis). along_on a.mode z a.line.start_x a.line.end_x) c.x_axis.ensures in
+    let in_y : let a = c.args in c.along-y.result ≡ along_on a.mode (y_axis a.grid) a.line.start_y a.line.end_y = 
+        let a = c.args in
+        c.along-y.ensures ∙ ap (λ (z : Axis). along_on a.mode z a.line.start_y a.line.end_y) c.y_axis.ensures in
+    completes _ _ _ _ _ in_x in_y c.added-a.ensures
     c.ended-b.ensures c.ended.ensures

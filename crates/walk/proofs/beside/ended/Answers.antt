@@ -9,19 +9,20 @@ use Rattle.cover.proofs.Growing.{none, same}
 use Rattle.walk.proofs.beside.ended.Goals as goal
 
 pub returns-then-nothing : goal.returns-then-nothing
+unfolding endpoint_of
 returns-then-nothing c =
-    let n = c in
+    let added : let a = c.args in beside_of c.neighbour-in_x.result c.neighbour-in_y.result a.grid.cols (a.grid.rows * a.grid.cols) (cell_of a.grid a.x a.y) ≡ endpoint_of a.mode a.grid a.x a.y = rw (c.neighbour-in_x.ensures, c.neighbour-in_y.ensures, c.x_axis.ensures, c.y_axis.ensures) in
     let e = eqb-true _ 0 (sym c.nothing.ensures ∙ c.if-nothing.true) in
-    same (sym (nothing_beside _ _ _ _ e _) ∙ added n) (none (omega arith))
+    same (sym (nothing_beside _ _ _ _ e _) ∙ added) (none (omega arith))
 
 pub beside-requires : goal.beside-requires
 beside-requires c =
-    let n = c in
-    let p = n.requires in
-    (omega (arith, p.fact_1, share_le n.neighbour-in_x.result n.neighbour-in_y.result), cell_within _ _ _ _ c.cell.ensures p.fact_2 p.fact_3)
+    let p = c.requires in
+    (omega (arith, p.fact_1, share_le c.neighbour-in_x.result c.neighbour-in_y.result), cell_within _ _ _ _ c.cell.ensures p.fact_2 p.fact_3)
 
 pub returns : goal.returns
+unfolding endpoint_of
 returns c =
-    let n = c in
+    let added : let a = c.args in beside_of c.neighbour-in_x.result c.neighbour-in_y.result a.grid.cols (a.grid.rows * a.grid.cols) (cell_of a.grid a.x a.y) ≡ endpoint_of a.mode a.grid a.x a.y = rw (c.neighbour-in_x.ensures, c.neighbour-in_y.ensures, c.x_axis.ensures, c.y_axis.ensures) in
     let k = c.cell.ensures in
-    same (rw k (added n)) c.beside.ensures
+    same (rw k added) c.beside.ensures

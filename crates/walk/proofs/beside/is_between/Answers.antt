@@ -10,8 +10,7 @@ pub returns-then-magnitude : goal.returns-then-magnitude
 unfolding of_bits round
 returns-then-magnitude c =
     λ h.
-    let s = c in
-    off_side _ _ _ _ (omega arith) s.scaled-at.ensures c.if-low-at.true c.if-at-high.true
+    off_side _ _ _ _ (omega arith) c.scaled-at.ensures c.if-low-at.true c.if-at-high.true
     (subst (λ (z : Float). lt (round binary64 false 1 1000000000000) z ≡ true) c.magnitude.ensures c.if-magnitude.true)
     (subst (λ (z : Float). lt (round binary64 false 1 1000000000000) z ≡ true) c.magnitude-then-magnitude.ensures h)
 

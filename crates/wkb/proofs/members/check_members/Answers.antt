@@ -14,34 +14,33 @@ check_line-requires c = c.loop-left.invariant.within
 
 pub overflow_add-at : goal.overflow_add-at
 overflow_add-at c =
-    let line : let l = c in LineAt l.args.bytes.now l.loop-left.at c.in-Line.order c.in-Line.count = lined c.check_line.ensures c.in-Line.is in
+    let line : LineAt c.args.bytes.now c.loop-left.at c.in-Line.order c.in-Line.count = lined c.check_line.ensures c.in-Line.is in
     let l = line in omega arith
 
 pub overflow_mul-at : goal.overflow_mul-at
 overflow_mul-at c =
-    let line : let l = c in LineAt l.args.bytes.now l.loop-left.at c.in-Line.order c.in-Line.count = lined c.check_line.ensures c.in-Line.is in
+    let line : LineAt c.args.bytes.now c.loop-left.at c.in-Line.order c.in-Line.count = lined c.check_line.ensures c.in-Line.is in
     let l = line in omega arith
 
 pub overflow_add-at-in-Line : goal.overflow_add-at-in-Line
 overflow_add-at-in-Line c =
-    let line : let l = c in LineAt l.args.bytes.now l.loop-left.at c.in-Line.order c.in-Line.count = lined c.check_line.ensures c.in-Line.is in
+    let line : LineAt c.args.bytes.now c.loop-left.at c.in-Line.order c.in-Line.count = lined c.check_line.ensures c.in-Line.is in
     let l = line in omega arith
 
 pub overflow_add-points : goal.overflow_add-points
 overflow_add-points c =
-    let line : let l = c in LineAt l.args.bytes.now l.loop-left.at c.in-Line.order c.in-Line.count = lined c.check_line.ensures c.in-Line.is in
+    let line : LineAt c.args.bytes.now c.loop-left.at c.in-Line.order c.in-Line.count = lined c.check_line.ensures c.in-Line.is in
     let l = line in omega arith
 
 pub loop-left-preserved : goal.loop-left-preserved
 loop-left-preserved c =
-    let line : let l = c in LineAt l.args.bytes.now l.loop-left.at c.in-Line.order c.in-Line.count = lined c.check_line.ensures c.in-Line.is in
+    let line : LineAt c.args.bytes.now c.loop-left.at c.in-Line.order c.in-Line.count = lined c.check_line.ensures c.in-Line.is in
     passed_more c.loop-left.invariant c.loop-left-test.true line
 
 pub returns-in-Fault : goal.returns-in-Fault
 returns-in-Fault c =
-    let l = c in
-    passed_fault l.loop-left.invariant _ c.loop-left-test.true
-    (line_faulted l.args.bytes.now l.loop-left.at c.check_line.ensures c.in-Fault.is)
+    passed_fault c.loop-left.invariant _ c.loop-left-test.true
+    (line_faulted c.args.bytes.now c.loop-left.at c.check_line.ensures c.in-Fault.is)
 
 pub returns-then-at-bytes : goal.returns-then-at-bytes
 returns-then-at-bytes c = passed_over c.loop-left.invariant c.loop-left-test.false c.if-at-bytes.true

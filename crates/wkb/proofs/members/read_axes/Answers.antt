@@ -26,7 +26,7 @@ pub points_at-n-requires : goal.points_at-n-requires
 unfolding order_at
 points_at-n-requires c =
     let line : LineFits c.loop-left.at c.args.bytes.now = left_line c.loop-left.left _ _ c.loop-left-test.true c.loop-left.invariant.2 in
-    let order_is : let l = c in c.order_of-order.result ≡ order_at l.loop-left.at l.args.bytes.now = c.order_of-order.ensures in
+    let order_is : c.order_of-order.result ≡ order_at c.loop-left.at c.args.bytes.now = c.order_of-order.ensures in
     (let l = line in omega arith, order_is)
 
 pub overflow_add-at : goal.overflow_add-at
@@ -43,14 +43,14 @@ pub read_numbers-requires : goal.read_numbers-requires
 unfolding order_at
 read_numbers-requires c =
     let line : LineFits c.loop-left.at c.args.bytes.now = left_line c.loop-left.left _ _ c.loop-left-test.true c.loop-left.invariant.2 in
-    let order_is : let l = c in c.order_of-order.result ≡ order_at l.loop-left.at l.args.bytes.now = c.order_of-order.ensures in
-    let room : let l = c in l.loop-left.to + c.points_at-n.result ≤ length l.loop-left.s = 
-        let l = c in
-        let a = l.args in
-        let e = axes_next a.bytes.now a.skip l.loop-left.left l.loop-left.at c.loop-left-test.true order_is c.points_at-n.ensures in
-        let part = numbers_at c.order_of-order.result c.points_at-n.result (l.loop-left.at + 9 + a.skip) a.bytes.now in
-        let r : l.loop-left.to + length part ≤ length l.loop-left.s = fill_room l.loop-left.invariant.3 part _ e (omega (arith, l.loop-left.invariant.1)) in
-        omega (arith, length_numbers c.order_of-order.result a.bytes.now c.points_at-n.result (l.loop-left.at + 9 + a.skip)) in
+    let order_is : c.order_of-order.result ≡ order_at c.loop-left.at c.args.bytes.now = c.order_of-order.ensures in
+    let room : c.loop-left.to + c.points_at-n.result ≤ length c.loop-left.s = 
+        let c = c in
+        let a = c.args in
+        let e = axes_next a.bytes.now a.skip c.loop-left.left c.loop-left.at c.loop-left-test.true order_is c.points_at-n.ensures in
+        let part = numbers_at c.order_of-order.result c.points_at-n.result (c.loop-left.at + 9 + a.skip) a.bytes.now in
+        let r : c.loop-left.to + length part ≤ length c.loop-left.s = fill_room c.loop-left.invariant.3 part _ e (omega (arith, c.loop-left.invariant.1)) in
+        omega (arith, length_numbers c.order_of-order.result a.bytes.now c.points_at-n.result (c.loop-left.at + 9 + a.skip)) in
     let l = line in
     let r = room in
     let n = c.points_at-n.ensures in
@@ -72,21 +72,31 @@ overflow_add-at-in-loop-left-3 c =
     let l = line in let n = c.points_at-n.ensures in omega arith
 
 pub overflow_add-to : goal.overflow_add-to
-overflow_add-to c = let p = c in let r = room p in omega (arith, fill_length p.loop-left.invariant.3)
+unfolding order_at
+overflow_add-to c =
+    let order_is : c.order_of-order.result ≡ order_at c.loop-left.at c.args.bytes.now = c.order_of-order.ensures in
+    let room : c.loop-left.to + c.points_at-n.result ≤ length c.loop-left.s = 
+        let c = c in
+        let a = c.args in
+        let e = axes_next a.bytes.now a.skip c.loop-left.left c.loop-left.at c.loop-left-test.true order_is c.points_at-n.ensures in
+        let part = numbers_at c.order_of-order.result c.points_at-n.result (c.loop-left.at + 9 + a.skip) a.bytes.now in
+        let r : c.loop-left.to + length part ≤ length c.loop-left.s = fill_room c.loop-left.invariant.3 part _ e (omega (arith, c.loop-left.invariant.1)) in
+        omega (arith, length_numbers c.order_of-order.result a.bytes.now c.points_at-n.result (c.loop-left.at + 9 + a.skip)) in
+    let r = room in omega (arith, fill_length c.loop-left.invariant.3)
 
 pub loop-left-preserved : goal.loop-left-preserved
+unfolding order_at
 loop-left-preserved c =
-    let p = c in
-    let l = p in
-    let a = l.args in
-    let v = l.loop-left.invariant in
-    let h = p.loop-left-test.true in
-    let n = p.points_at-n.result in (
+    let order_is : c.order_of-order.result ≡ order_at c.loop-left.at c.args.bytes.now = c.order_of-order.ensures in
+    let a = c.args in
+    let v = c.loop-left.invariant in
+    let h = c.loop-left-test.true in
+    let n = c.points_at-n.result in (
       v.0,
       v.1,
-      left_rest l.loop-left.left l.loop-left.at a.bytes.now h v.2 n p.points_at-n.ensures,
-      fill_more v.3 (axes_next a.bytes.now a.skip l.loop-left.left l.loop-left.at h (order_is p) p.points_at-n.ensures) c.read_numbers.ensures
-          (sym (length_numbers p.order_of-order.result a.bytes.now n (l.loop-left.at + 9 + a.skip))),
+      left_rest c.loop-left.left c.loop-left.at a.bytes.now h v.2 n c.points_at-n.ensures,
+      fill_more v.3 (axes_next a.bytes.now a.skip c.loop-left.left c.loop-left.at h order_is c.points_at-n.ensures) c.read_numbers.ensures
+          (sym (length_numbers c.order_of-order.result a.bytes.now n (c.loop-left.at + 9 + a.skip))),
     )
 
 pub shape_of-s : goal.shape_of-s
@@ -94,6 +104,5 @@ shape_of-s c = c.clear_words.auto.s ∙ fill_length c.loop-left.invariant.3
 
 pub returns : goal.returns
 returns c =
-    let l = c in
-    let a = l.args in
-    fill_cleared 0 l.loop-left.invariant.3 (axes_over a.bytes.now a.skip l.loop-left.left l.loop-left.at c.loop-left-test.false) c.clear_words.ensures
+    let a = c.args in
+    fill_cleared 0 c.loop-left.invariant.3 (axes_over a.bytes.now a.skip c.loop-left.left c.loop-left.at c.loop-left-test.false) c.clear_words.ensures

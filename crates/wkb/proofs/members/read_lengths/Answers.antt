@@ -37,21 +37,21 @@ overflow_cast-s c =
 
 pub offset_bounds-s-to : goal.offset_bounds-s-to
 offset_bounds-s-to c =
-    let room : let l = c in l.loop-left.to < length l.loop-left.s = 
-        let l = c in
-        let a = l.args in
-        let e = counts_next a.bytes.now l.loop-left.left l.loop-left.at c.loop-left-test.true c.points_at-n.ensures in
-        let r = fill_room l.loop-left.invariant.2 (c.points_at-n.result ∷ []) _ e (omega (arith, l.loop-left.invariant.0)) in
+    let room : c.loop-left.to < length c.loop-left.s = 
+        let c = c in
+        let a = c.args in
+        let e = counts_next a.bytes.now c.loop-left.left c.loop-left.at c.loop-left-test.true c.points_at-n.ensures in
+        let r = fill_room c.loop-left.invariant.2 (c.points_at-n.result ∷ []) _ e (omega (arith, c.loop-left.invariant.0)) in
         omega arith in
     let r = room in omega (arith, fill_length c.loop-left.invariant.2)
 
 pub bounds-s-to : goal.bounds-s-to
 bounds-s-to c =
-    let room : let l = c in l.loop-left.to < length l.loop-left.s = 
-        let l = c in
-        let a = l.args in
-        let e = counts_next a.bytes.now l.loop-left.left l.loop-left.at c.loop-left-test.true c.points_at-n.ensures in
-        let r = fill_room l.loop-left.invariant.2 (c.points_at-n.result ∷ []) _ e (omega (arith, l.loop-left.invariant.0)) in
+    let room : c.loop-left.to < length c.loop-left.s = 
+        let c = c in
+        let a = c.args in
+        let e = counts_next a.bytes.now c.loop-left.left c.loop-left.at c.loop-left-test.true c.points_at-n.ensures in
+        let r = fill_room c.loop-left.invariant.2 (c.points_at-n.result ∷ []) _ e (omega (arith, c.loop-left.invariant.0)) in
         omega arith in
     let r = room in omega (arith, fill_length c.loop-left.invariant.2)
 
@@ -72,30 +72,29 @@ overflow_add-at-in-loop-left c =
 
 pub overflow_add-to : goal.overflow_add-to
 overflow_add-to c =
-    let room : let l = c in l.loop-left.to < length l.loop-left.s = 
-        let l = c in
-        let a = l.args in
-        let e = counts_next a.bytes.now l.loop-left.left l.loop-left.at c.loop-left-test.true c.points_at-n.ensures in
-        let r = fill_room l.loop-left.invariant.2 (c.points_at-n.result ∷ []) _ e (omega (arith, l.loop-left.invariant.0)) in
+    let room : c.loop-left.to < length c.loop-left.s = 
+        let c = c in
+        let a = c.args in
+        let e = counts_next a.bytes.now c.loop-left.left c.loop-left.at c.loop-left-test.true c.points_at-n.ensures in
+        let r = fill_room c.loop-left.invariant.2 (c.points_at-n.result ∷ []) _ e (omega (arith, c.loop-left.invariant.0)) in
         omega arith in
     let r = room in omega (arith, fill_length c.loop-left.invariant.2)
 
 pub loop-left-preserved : goal.loop-left-preserved
 loop-left-preserved c =
-    let room : let l = c in l.loop-left.to < length l.loop-left.s = 
-        let l = c in
-        let a = l.args in
-        let e = counts_next a.bytes.now l.loop-left.left l.loop-left.at c.loop-left-test.true c.points_at-n.ensures in
-        let r = fill_room l.loop-left.invariant.2 (c.points_at-n.result ∷ []) _ e (omega (arith, l.loop-left.invariant.0)) in
+    let room : c.loop-left.to < length c.loop-left.s = 
+        let c = c in
+        let a = c.args in
+        let e = counts_next a.bytes.now c.loop-left.left c.loop-left.at c.loop-left-test.true c.points_at-n.ensures in
+        let r = fill_room c.loop-left.invariant.2 (c.points_at-n.result ∷ []) _ e (omega (arith, c.loop-left.invariant.0)) in
         omega arith in
-    let l = c in
-    let a = l.args in
-    let v = l.loop-left.invariant in
+    let a = c.args in
+    let v = c.loop-left.invariant in
     let h = c.loop-left-test.true in
     let n = c.points_at-n.result in (
       v.0,
-      left_rest l.loop-left.left l.loop-left.at a.bytes.now h v.1 n c.points_at-n.ensures,
-      fill_more v.2 (counts_next a.bytes.now l.loop-left.left l.loop-left.at h c.points_at-n.ensures) (put_one l.loop-left.to n l.loop-left.s room) refl,
+      left_rest c.loop-left.left c.loop-left.at a.bytes.now h v.1 n c.points_at-n.ensures,
+      fill_more v.2 (counts_next a.bytes.now c.loop-left.left c.loop-left.at h c.points_at-n.ensures) (put_one c.loop-left.to n c.loop-left.s room) refl,
     )
 
 pub shape_of-s : goal.shape_of-s
@@ -104,6 +103,5 @@ shape_of-s c = c.clear_from.auto.s ∙ fill_length c.loop-left.invariant.2
 pub returns : goal.returns
 unfolding cleared_from
 returns c =
-    let l = c in
-    let a = l.args in
-    fill_cleared 0 l.loop-left.invariant.2 (counts_over a.bytes.now l.loop-left.left l.loop-left.at c.loop-left-test.false) c.clear_from.ensures
+    let a = c.args in
+    fill_cleared 0 c.loop-left.invariant.2 (counts_over a.bytes.now c.loop-left.left c.loop-left.at c.loop-left-test.false) c.clear_from.ensures

@@ -44,7 +44,7 @@ returns-in-Refused-room c =
     let small : Small c.args.bytes.now = small_of c.args.bytes.now (λ i. omega (arith, c.shared_slice_known-1.given i)) in
     let lent : let a = c.args in pair_check (length a.x.now) (length a.y.now) ≡ Fine = sym c.check_pair-lent.ensures ∙ c.in_default.is in
     let found : MultiAt c.args.bytes.now c.in-Whole.members c.in-Whole.points = whole c.check_multi.ensures c.in-Whole.is in
-    let few : let v = c.members-1.given.0 in count_check (c.in-Whole.points - c.in-Whole.members) ≡ Fine = sym c.check_count-few.ensures ∙ c.in_default-few.is in
+    let few : count_check (c.in-Whole.points - c.in-Whole.members) ≡ Fine = sym c.check_count-few.ensures ∙ c.in_default-few.is in
     let a = c.args in
     multi_short a.bytes.now a.x.now a.y.now a.lengths.now small lent (lines_found found) few _
     (sym c.check_room-room.ensures ∙ c.in-Refused-room.is)
@@ -53,7 +53,7 @@ returns-in-Refused-room c =
 pub read_axes-requires : goal.read_axes-requires
 read_axes-requires c =
     let found : MultiAt c.args.bytes.now c.in-Whole.members c.in-Whole.points = whole c.check_multi.ensures c.in-Whole.is in
-    let room : let a = c.args in let v = c.members-1.given.0 in members_room_check (length a.x.now) (length a.lengths.now) c.in-Whole.points c.in-Whole.members ≡ Fine = sym c.check_room-room.ensures ∙ c.in_default-room.is in
+    let room : let a = c.args in members_room_check (length a.x.now) (length a.lengths.now) c.in-Whole.points c.in-Whole.members ≡ Fine = sym c.check_room-room.ensures ∙ c.in_default-room.is in
     let m = found in
     let r = room_fine _ _ _ _ room in
     (m.members.fine, omega arith, omega (arith, (axes_room (lines_found m)).0))
@@ -62,7 +62,7 @@ pub read_axes-requires-in-Whole : goal.read_axes-requires-in-Whole
 read_axes-requires-in-Whole c =
     let lent : let a = c.args in pair_check (length a.x.now) (length a.y.now) ≡ Fine = sym c.check_pair-lent.ensures ∙ c.in_default.is in
     let found : MultiAt c.args.bytes.now c.in-Whole.members c.in-Whole.points = whole c.check_multi.ensures c.in-Whole.is in
-    let room : let a = c.args in let v = c.members-1.given.0 in members_room_check (length a.x.now) (length a.lengths.now) c.in-Whole.points c.in-Whole.members ≡ Fine = sym c.check_room-room.ensures ∙ c.in_default-room.is in
+    let room : let a = c.args in members_room_check (length a.x.now) (length a.lengths.now) c.in-Whole.points c.in-Whole.members ≡ Fine = sym c.check_room-room.ensures ∙ c.in_default-room.is in
     let m = found in
     let r = room_fine _ _ _ _ room in
     let s = pair_fine _ _ lent in
@@ -71,7 +71,7 @@ read_axes-requires-in-Whole c =
 pub read_lengths-requires : goal.read_lengths-requires
 read_lengths-requires c =
     let found : MultiAt c.args.bytes.now c.in-Whole.members c.in-Whole.points = whole c.check_multi.ensures c.in-Whole.is in
-    let room : let a = c.args in let v = c.members-1.given.0 in members_room_check (length a.x.now) (length a.lengths.now) c.in-Whole.points c.in-Whole.members ≡ Fine = sym c.check_room-room.ensures ∙ c.in_default-room.is in
+    let room : let a = c.args in members_room_check (length a.x.now) (length a.lengths.now) c.in-Whole.points c.in-Whole.members ≡ Fine = sym c.check_room-room.ensures ∙ c.in_default-room.is in
     let m = found in
     let r = room_fine _ _ _ _ room in
     (m.members.fine, omega arith)
@@ -89,8 +89,8 @@ returns-in_default-room c =
     let small : Small c.args.bytes.now = small_of c.args.bytes.now (λ i. omega (arith, c.shared_slice_known-1.given i)) in
     let lent : let a = c.args in pair_check (length a.x.now) (length a.y.now) ≡ Fine = sym c.check_pair-lent.ensures ∙ c.in_default.is in
     let found : MultiAt c.args.bytes.now c.in-Whole.members c.in-Whole.points = whole c.check_multi.ensures c.in-Whole.is in
-    let few : let v = c.members-1.given.0 in count_check (c.in-Whole.points - c.in-Whole.members) ≡ Fine = sym c.check_count-few.ensures ∙ c.in_default-few.is in
-    let room : let a = c.args in let v = c.members-1.given.0 in members_room_check (length a.x.now) (length a.lengths.now) c.in-Whole.points c.in-Whole.members ≡ Fine = sym c.check_room-room.ensures ∙ c.in_default-room.is in
+    let few : count_check (c.in-Whole.points - c.in-Whole.members) ≡ Fine = sym c.check_count-few.ensures ∙ c.in_default-few.is in
+    let room : let a = c.args in members_room_check (length a.x.now) (length a.lengths.now) c.in-Whole.points c.in-Whole.members ≡ Fine = sym c.check_room-room.ensures ∙ c.in_default-room.is in
     let a = c.args in
     multi_all a.bytes.now a.x.now a.y.now a.lengths.now small lent (lines_found found) few room
     c.read_axes.ensures c.read_axes-in-Whole.ensures c.read_lengths.ensures

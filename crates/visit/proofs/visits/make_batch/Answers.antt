@@ -30,10 +30,10 @@ overflow_mul-cells c =
     let asks : let a = c.args in let ls = lines a.start_x.now a.start_y.now a.end_x.now a.end_y.now in RunAsks ls a.grid (beside ls a.grid a.offsets.now a.items.now a.globals.now a.global_count) c.in-At.cursor a.first.now a.second.now = 
         let a = c.args in
         let ls = lines a.start_x.now a.start_y.now a.end_x.now a.end_y.now in
-        run_asks ls a.grid a.offsets.now a.items.now a.globals.now a.global-count a.bookmark c.in-At.cursor found a.first.now a.second.now a.places.now same in
+        run_asks ls a.grid a.offsets.now a.items.now a.globals.now a.global_count a.bookmark c.in-At.cursor found a.first.now a.second.now a.places.now same in
     let a = c.args in
     let ls = lines a.start_x.now a.start_y.now a.end_x.now a.end_y.now in
-    record { fits = rows_cols ls a.grid a.offsets.now a.items.now a.globals.now a.global-count asks.ready.fine _ _ refl refl }
+    record { fits = rows_cols ls a.grid a.offsets.now a.items.now a.globals.now a.global_count asks.ready.fine _ _ refl refl }
 
 pub run_cells-listed-requires : goal.run_cells-listed-requires
 run_cells-listed-requires c =
@@ -46,10 +46,10 @@ run_cells-listed-requires c =
     let asks : let a = c.args in let ls = lines a.start_x.now a.start_y.now a.end_x.now a.end_y.now in RunAsks ls a.grid (beside ls a.grid a.offsets.now a.items.now a.globals.now a.global_count) c.in-At.cursor a.first.now a.second.now = 
         let a = c.args in
         let ls = lines a.start_x.now a.start_y.now a.end_x.now a.end_y.now in
-        run_asks ls a.grid a.offsets.now a.items.now a.globals.now a.global-count a.bookmark c.in-At.cursor found a.first.now a.second.now a.places.now same in
+        run_asks ls a.grid a.offsets.now a.items.now a.globals.now a.global_count a.bookmark c.in-At.cursor found a.first.now a.second.now a.places.now same in
     let a = c.args in
     let ls = lines a.start_x.now a.start_y.now a.end_x.now a.end_y.now in
-    cells_asks ls a.grid a.offsets.now a.items.now a.globals.now a.global-count c.in-At.cursor a.first.now a.second.now a.places.now asks _ refl
+    cells_asks ls a.grid a.offsets.now a.items.now a.globals.now a.global_count c.in-At.cursor a.first.now a.second.now a.places.now asks _ refl
 
 pub run_globals-global-requires : goal.run_globals-global-requires
 run_globals-global-requires c =
@@ -62,10 +62,10 @@ run_globals-global-requires c =
     let asks : let a = c.args in let ls = lines a.start_x.now a.start_y.now a.end_x.now a.end_y.now in RunAsks ls a.grid (beside ls a.grid a.offsets.now a.items.now a.globals.now a.global_count) c.in-At.cursor a.first.now a.second.now = 
         let a = c.args in
         let ls = lines a.start_x.now a.start_y.now a.end_x.now a.end_y.now in
-        run_asks ls a.grid a.offsets.now a.items.now a.globals.now a.global-count a.bookmark c.in-At.cursor found a.first.now a.second.now a.places.now same in
+        run_asks ls a.grid a.offsets.now a.items.now a.globals.now a.global_count a.bookmark c.in-At.cursor found a.first.now a.second.now a.places.now same in
     let a = c.args in
     let ls = lines a.start_x.now a.start_y.now a.end_x.now a.end_y.now in
-    globals_asks ls a.grid a.offsets.now a.items.now a.globals.now a.global-count c.in-At.cursor a.first.now a.second.now a.places.now asks _ refl _ _ _ c.run_cells-listed.result c.run_cells-listed.ensures
+    globals_asks ls a.grid a.offsets.now a.items.now a.globals.now a.global_count c.in-At.cursor a.first.now a.second.now a.places.now asks _ refl _ _ _ c.run_cells-listed.result c.run_cells-listed.ensures
 
 pub overflow_add-made : goal.overflow_add-made
 overflow_add-made c =
@@ -78,10 +78,10 @@ overflow_add-made c =
     let asks : let a = c.args in let ls = lines a.start_x.now a.start_y.now a.end_x.now a.end_y.now in RunAsks ls a.grid (beside ls a.grid a.offsets.now a.items.now a.globals.now a.global_count) c.in-At.cursor a.first.now a.second.now = 
         let a = c.args in
         let ls = lines a.start_x.now a.start_y.now a.end_x.now a.end_y.now in
-        run_asks ls a.grid a.offsets.now a.items.now a.globals.now a.global-count a.bookmark c.in-At.cursor found a.first.now a.second.now a.places.now same in
+        run_asks ls a.grid a.offsets.now a.items.now a.globals.now a.global_count a.bookmark c.in-At.cursor found a.first.now a.second.now a.places.now same in
     let a = c.args in
     let ls = lines a.start_x.now a.start_y.now a.end_x.now a.end_y.now in
-    record { fits = run_small ls a.grid a.offsets.now a.items.now a.globals.now a.global-count c.in-At.cursor a.first.now a.second.now a.places.now asks _ refl _ _ _ c.run_cells-listed.result c.run_cells-listed.ensures _ _ _ c.run_globals-global.result c.run_globals-global.ensures }
+    record { fits = run_small ls a.grid a.offsets.now a.items.now a.globals.now a.global_count c.in-At.cursor a.first.now a.second.now a.places.now asks _ refl _ _ _ c.run_cells-listed.result c.run_cells-listed.ensures _ _ _ c.run_globals-global.result c.run_globals-global.ensures }
 
 pub overflow_add-result : goal.overflow_add-result
 overflow_add-result c =
@@ -94,10 +94,10 @@ overflow_add-result c =
     let asks : let a = c.args in let ls = lines a.start_x.now a.start_y.now a.end_x.now a.end_y.now in RunAsks ls a.grid (beside ls a.grid a.offsets.now a.items.now a.globals.now a.global_count) c.in-At.cursor a.first.now a.second.now = 
         let a = c.args in
         let ls = lines a.start_x.now a.start_y.now a.end_x.now a.end_y.now in
-        run_asks ls a.grid a.offsets.now a.items.now a.globals.now a.global-count a.bookmark c.in-At.cursor found a.first.now a.second.now a.places.now same in
+        run_asks ls a.grid a.offsets.now a.items.now a.globals.now a.global_count a.bookmark c.in-At.cursor found a.first.now a.second.now a.places.now same in
     let a = c.args in
     let ls = lines a.start_x.now a.start_y.now a.end_x.now a.end_y.now in
-    record { fits = bookmark_fits ls a.grid a.offsets.now a.items.now a.globals.now a.global-count a.bookmark c.in-At.cursor found a.first.now a.second.now a.places.now _ _ _ _ (run_is ls a.grid a.offsets.now a.items.now a.globals.now a.global-count c.in-At.cursor a.first.now a.second.now a.places.now asks _ refl _ _ _ c.run_cells-listed.result c.run_cells-listed.ensures _ _ _ c.run_globals-global.result c.run_globals-global.ensures) }
+    record { fits = bookmark_fits ls a.grid a.offsets.now a.items.now a.globals.now a.global_count a.bookmark c.in-At.cursor found a.first.now a.second.now a.places.now _ _ _ _ (run_is ls a.grid a.offsets.now a.items.now a.globals.now a.global_count c.in-At.cursor a.first.now a.second.now a.places.now asks _ refl _ _ _ c.run_cells-listed.result c.run_cells-listed.ensures _ _ _ c.run_globals-global.result c.run_globals-global.ensures) }
 
 pub returns-in-Refused : goal.returns-in-Refused
 returns-in-Refused c =
@@ -127,8 +127,8 @@ returns-in-At c =
     let asks : let a = c.args in let ls = lines a.start_x.now a.start_y.now a.end_x.now a.end_y.now in RunAsks ls a.grid (beside ls a.grid a.offsets.now a.items.now a.globals.now a.global_count) c.in-At.cursor a.first.now a.second.now = 
         let a = c.args in
         let ls = lines a.start_x.now a.start_y.now a.end_x.now a.end_y.now in
-        run_asks ls a.grid a.offsets.now a.items.now a.globals.now a.global-count a.bookmark c.in-At.cursor found a.first.now a.second.now a.places.now same in
+        run_asks ls a.grid a.offsets.now a.items.now a.globals.now a.global_count a.bookmark c.in-At.cursor found a.first.now a.second.now a.places.now same in
     let a = c.args in
     let ls = lines a.start_x.now a.start_y.now a.end_x.now a.end_y.now in
-    let t = beside ls a.grid a.offsets.now a.items.now a.globals.now a.global-count in
-    batch_done ls a.grid t a.bookmark a.first.now a.second.now a.places.now same c.in-At.cursor found _ _ _ _ (run_is ls a.grid a.offsets.now a.items.now a.globals.now a.global-count c.in-At.cursor a.first.now a.second.now a.places.now asks _ refl _ _ _ c.run_cells-listed.result c.run_cells-listed.ensures _ _ _ c.run_globals-global.result c.run_globals-global.ensures) _ _ _ c.clear_from.ensures c.clear_from-in-At.ensures c.clear_from-in-At-2.ensures
+    let t = beside ls a.grid a.offsets.now a.items.now a.globals.now a.global_count in
+    batch_done ls a.grid t a.bookmark a.first.now a.second.now a.places.now same c.in-At.cursor found _ _ _ _ (run_is ls a.grid a.offsets.now a.items.now a.globals.now a.global_count c.in-At.cursor a.first.now a.second.now a.places.now asks _ refl _ _ _ c.run_cells-listed.result c.run_cells-listed.ensures _ _ _ c.run_globals-global.result c.run_globals-global.ensures) _ _ _ c.clear_from.ensures c.clear_from-in-At.ensures c.clear_from-in-At-2.ensures

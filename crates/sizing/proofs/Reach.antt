@@ -128,34 +128,34 @@ greatest_first v h = rw (above_bottom v h)
 module _ (starts ends : List Float) (n : ℕ) (h : Lie starts ends (suc n)) where
   pub lowest_obeys : coordinate (lowest starts ends (suc n)) ≡ true
   unfolding lowest
-  lowest_obeys = rw top_is (picked_obeys least_of top (λ x y. T (le x y)) float_le_trans least_one least_under tt least_first starts ends n h)
+  lowest_obeys = subst (λ (x : Float). coordinate (picked least_of x starts ends (suc n)) ≡ true) (sym top_is) (picked_obeys least_of top (λ x y. T (le x y)) float_le_trans least_one least_under tt least_first starts ends n h)
 
   pub highest_obeys : coordinate (highest starts ends (suc n)) ≡ true
   unfolding highest
   highest_obeys =
-      rw bottom_is
+      subst (λ (x : Float). coordinate (picked greatest_of x starts ends (suc n)) ≡ true) (sym bottom_is)
       (picked_obeys greatest_of (neg top) (λ x y. T (le y x)) (λ x y z a b. float_le_trans z y x b a) greatest_one greatest_over (unfold neg in tt) greatest_first starts ends n h)
 
   -- the law of the bounds: each of them is a coordinate of some line, and every coordinate lies between them
   pub lowest_among : Among starts ends (suc n) (lowest starts ends (suc n))
   unfolding lowest
-  lowest_among = rw top_is (picked_among least_of top (λ x y. T (le x y)) float_le_trans least_one least_under tt least_first starts ends n h)
+  lowest_among = subst (λ (x : Float). Among starts ends (suc n) (picked least_of x starts ends (suc n))) (sym top_is) (picked_among least_of top (λ x y. T (le x y)) float_le_trans least_one least_under tt least_first starts ends n h)
 
   pub highest_among : Among starts ends (suc n) (highest starts ends (suc n))
   unfolding highest
   highest_among =
-      rw bottom_is
+      subst (λ (x : Float). Among starts ends (suc n) (picked greatest_of x starts ends (suc n))) (sym bottom_is)
       (picked_among greatest_of (neg top) (λ x y. T (le y x)) (λ x y z a b. float_le_trans z y x b a) greatest_one greatest_over (unfold neg in tt) greatest_first starts ends n h)
 
   module _ (i : ℕ) (l : i < suc n) where
     pub lowest_below : T (le (lowest starts ends (suc n)) (get_or starts i nan)) × T (le (lowest starts ends (suc n)) (get_or ends i nan))
     unfolding lowest
-    lowest_below = rw top_is (picked_before least_of top (λ x y. T (le x y)) float_le_trans least_one least_under tt least_first starts ends (suc n) h i l)
+    lowest_below = subst (λ (x : Float). T (le (picked least_of x starts ends (suc n)) (get_or starts i nan)) × T (le (picked least_of x starts ends (suc n)) (get_or ends i nan))) (sym top_is) (picked_before least_of top (λ x y. T (le x y)) float_le_trans least_one least_under tt least_first starts ends (suc n) h i l)
 
     pub highest_above : T (le (get_or starts i nan) (highest starts ends (suc n))) × T (le (get_or ends i nan) (highest starts ends (suc n)))
     unfolding highest
     highest_above =
-        rw bottom_is
+        subst (λ (x : Float). T (le (get_or starts i nan) (picked greatest_of x starts ends (suc n))) × T (le (get_or ends i nan) (picked greatest_of x starts ends (suc n)))) (sym bottom_is)
         (picked_before greatest_of (neg top) (λ x y. T (le y x)) (λ x y z a b. float_le_trans z y x b a) greatest_one greatest_over (unfold neg in tt) greatest_first starts ends (suc n) h i l)
 
 -- ---- how far they are apart

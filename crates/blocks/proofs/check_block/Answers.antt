@@ -4,4 +4,4 @@ use Rattle.blocks.proofs.check_block.Goals as goal
 
 pub returns : goal.returns
 unfolding block_check
-returns c = rw (← c.is_Block.ensures) c.refuse_unless.ensures
+returns c = rw (← c.is_block.ensures) c.refuse_unless.ensures

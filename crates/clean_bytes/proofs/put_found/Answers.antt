@@ -20,4 +20,4 @@ pub returns-in-Refused : goal.returns-in-Refused
 returns-in-Refused c = always_cleans c.requires c.clean-answer.ensures c.in-Refused.is (length-replicate {A = ℕ} 4096 0) (length-replicate {A = ℕ} 4096 0) (length-replicate {A = ℕ} 2048 0) (length-replicate {A = ℕ} 4096 0)
 
 pub returns-in-Kept : goal.returns-in-Kept
-returns-in-Kept c = cleans c.requires c.clean-answer.ensures c.in-Kept.is c.write-Kept.ensures c.put_members-end.ensures
+returns-in-Kept c = cleans c.requires c.clean-answer.ensures c.in-Kept.is c.write_kept-bytes.ensures c.put_members-end.ensures

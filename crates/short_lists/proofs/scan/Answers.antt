@@ -5,7 +5,7 @@ use Rattle.short_lists.proofs.Tries.{fits_room, rows_fit, rows_none, tried_begin
 use Rattle.short_lists.proofs.scan.Goals as goal
 
 pub loop-i-init : goal.loop-i-init
-loop-i-init c = tried_begin (fits_room c.fits2.ensures c.if-fits.true)
+loop-i-init c = tried_begin (fits_room c.fits.ensures c.if-fits.true)
 
 pub scan_row-hits-requires : goal.scan_row-hits-requires
 scan_row-hits-requires c = tried_row c.loop-i.invariant c.loop-i-test.true
@@ -22,7 +22,7 @@ pub shape_of-second-then-fits : goal.shape_of-second-then-fits
 shape_of-second-then-fits c = c.loop-i.invariant.second_long
 
 pub returns-then-fits : goal.returns-then-fits
-returns-then-fits c = tried_done c.loop-i.invariant c.loop-i-test.false ∙ rows_fit _ _ (sym c.fits2.ensures ∙ c.if-fits.true)
+returns-then-fits c = tried_done c.loop-i.invariant c.loop-i-test.false ∙ rows_fit _ _ (sym c.fits.ensures ∙ c.if-fits.true)
 
 pub returns : goal.returns
-returns c = rows_none _ _ (sym c.fits2.ensures ∙ c.if-fits.false)
+returns c = rows_none _ _ (sym c.fits.ensures ∙ c.if-fits.false)

@@ -12,16 +12,16 @@ returns-in-Refused c = check_trail _ _ _ _ (sym c.check_room-check.ensures ∙ c
 pub walked-ran-requires : goal.walked-ran-requires
 walked-ran-requires c =
     let checked : let a = c.args in scratch_shape_check (length a.scratch.now) a.grid ≡ Fine = sym c.check_room-check.ensures ∙ c.in_default.is in
-    let f = checked in (room_for _ _ f, (room_shape _ _ f).cells)
+    let f = checked in record { fact_1 = room_for _ _ f; fact_2 = (room_shape _ _ f).cells }
 
 pub returns-in-Done : goal.returns-in-Done
 returns-in-Done c =
     let checked : let a = c.args in scratch_shape_check (length a.scratch.now) a.grid ≡ Fine = sym c.check_room-check.ensures ∙ c.in_default.is in
-    done_trail _ _ _ checked _ _ _ _ c.Way-of.ensures c.started-start.ensures c.walked-ran.ensures
+    done_trail _ _ _ checked _ _ _ _ c.way_of-way.ensures c.started-start.ensures c.walked-ran.ensures
     c.walked-ran.auto.s _ c.in-Done.is
 
 pub returns-in-Over : goal.returns-in-Over
 returns-in-Over c =
     let checked : let a = c.args in scratch_shape_check (length a.scratch.now) a.grid ≡ Fine = sym c.check_room-check.ensures ∙ c.in_default.is in
-    over_trail _ _ _ checked _ _ _ _ c.Way-of.ensures c.started-start.ensures c.walked-ran.ensures
+    over_trail _ _ _ checked _ _ _ _ c.way_of-way.ensures c.started-start.ensures c.walked-ran.ensures
     c.walked-ran.auto.s _ c.in-Over.is c.clear_from.auto.s c.clear_from.ensures

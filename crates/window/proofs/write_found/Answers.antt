@@ -13,7 +13,7 @@ pub mark_list-requires : goal.mark_list-requires
 mark_list-requires c =
     let a = c.args in
     let ls = lines a.start_x.now a.start_y.now a.end_x.now a.end_y.now in
-    let t = beside ls a.grid a.offsets.now a.items.now a.globals.now a.global-count in
+    let t = beside ls a.grid a.offsets.now a.items.now a.globals.now a.global_count in
     let h = c.requires.fact_1 in
     globals_below t h.tables_fit_lem _ (fresh_few _ _ fresh h.few)
 
@@ -21,15 +21,15 @@ pub mark_block-requires : goal.mark_block-requires
 mark_block-requires c =
     let a = c.args in
     let ls = lines a.start_x.now a.start_y.now a.end_x.now a.end_y.now in
-    let t = beside ls a.grid a.offsets.now a.items.now a.globals.now a.global-count in
+    let t = beside ls a.grid a.offsets.now a.items.now a.globals.now a.global_count in
     let h = c.requires.fact_1 in
-    (h.grid_fit, (h.tables_fit_lem, mid_enough ls a.grid t a.window h.few _ _ fresh c.mark_list.ensures))
+    record { fact_1 = h.grid_fit; fact_2 = h.tables_fit_lem; fact_3 = mid_enough ls a.grid t a.window h.few _ _ fresh c.mark_list.ensures }
 
 pub write_lines-requires : goal.write_lines-requires
 write_lines-requires c =
     let a = c.args in
     let ls = lines a.start_x.now a.start_y.now a.end_x.now a.end_y.now in
-    let t = beside ls a.grid a.offsets.now a.items.now a.globals.now a.global-count in
+    let t = beside ls a.grid a.offsets.now a.items.now a.globals.now a.global_count in
     let h = c.requires.fact_1 in
     record { alike = h.alike; few = h.few; room = marks_enough ls a.grid t a.window h.few _ _ fresh c.mark_list.ensures _ c.mark_block.ensures }
 
@@ -37,6 +37,6 @@ pub returns : goal.returns
 returns c =
     let a = c.args in
     let ls = lines a.start_x.now a.start_y.now a.end_x.now a.end_y.now in
-    let t = beside ls a.grid a.offsets.now a.items.now a.globals.now a.global-count in
+    let t = beside ls a.grid a.offsets.now a.items.now a.globals.now a.global_count in
     let h = c.requires.fact_1 in
     met_all ls a.grid t a.window h.few _ _ fresh c.mark_list.ensures _ c.mark_block.ensures c.requires.fact_2 _ _ _ c.write_lines.ensures

@@ -11,22 +11,22 @@ pub block_of-block-requires : goal.block_of-block-requires
 block_of-block-requires c = c.loop-k.invariant.asks.some
 
 pub offset_bounds-summary-block : goal.offset_bounds-summary-block
-offset_bounds-summary-block c = omega (arith, block_in c.loop-k.invariant (omega arith) c.Block-of.ensures)
+offset_bounds-summary-block c = omega (arith, block_in c.loop-k.invariant (omega arith) c.block_of-block.ensures)
 
 pub bounds-summary-block : goal.bounds-summary-block
-bounds-summary-block c = block_in c.loop-k.invariant (omega arith) c.Block-of.ensures
+bounds-summary-block c = block_in c.loop-k.invariant (omega arith) c.block_of-block.ensures
 
 pub overflow_add-summary : goal.overflow_add-summary
-overflow_add-summary c = omega (arith, block_fits c.loop-k.invariant (omega arith) c.Block-of.ensures)
+overflow_add-summary c = omega (arith, block_fits c.loop-k.invariant (omega arith) c.block_of-block.ensures)
 
 pub offset_bounds-summary-block-in-loop-k : goal.offset_bounds-summary-block-in-loop-k
-offset_bounds-summary-block-in-loop-k c = omega (arith, block_in c.loop-k.invariant (omega arith) c.Block-of.ensures)
+offset_bounds-summary-block-in-loop-k c = omega (arith, block_in c.loop-k.invariant (omega arith) c.block_of-block.ensures)
 
 pub bounds-summary-block-in-loop-k : goal.bounds-summary-block-in-loop-k
-bounds-summary-block-in-loop-k c = block_in c.loop-k.invariant (omega arith) c.Block-of.ensures
+bounds-summary-block-in-loop-k c = block_in c.loop-k.invariant (omega arith) c.block_of-block.ensures
 
 pub loop-k-preserved : goal.loop-k-preserved
-loop-k-preserved c = raising_more c.loop-k.invariant (omega arith) c.Block-of.ensures
+loop-k-preserved c = raising_more c.loop-k.invariant (omega arith) c.block_of-block.ensures
 
 pub shape_of-summary : goal.shape_of-summary
 shape_of-summary c = c.loop-k.invariant.len

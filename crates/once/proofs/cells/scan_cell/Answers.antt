@@ -12,13 +12,13 @@ returns-then-list-lt2 c = rows_none _ c.if-list-lt2.true
 pub gather-requires : goal.gather-requires
 gather-requires c =
     let h = c.requires in
-    record { fine = h.fine; asks = record { below = h.asks.below; room = (fits_room c.fits2.ensures c.if-fits.true).boxed } }
+    record { fine = h.fine; asks = record { below = h.asks.below; room = (fits_room c.fits.ensures c.if-fits.true).boxed } }
 
 pub returns-then-fits : goal.returns-then-fits
 returns-then-fits c =
     let h = c.requires in
     let m = c.mark_list-sure.ensures in
-    let f = c.fits2.ensures in
+    let f = c.fits.ensures in
     let y = c.if-fits.true in
     let g = c.gather in
     boxed_done (cell_marked h.asks m (let r = fits_room f y in omega (arith, r.marked, m.long))) g.ensures g.auto.room f y c.scan.ensures

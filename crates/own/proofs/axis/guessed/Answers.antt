@@ -5,4 +5,4 @@ use Rattle.own.proofs.axis.guessed.Goals as goal
 
 pub truncating_f64_to_u64-cut-requires : goal.truncating_f64_to_u64-cut-requires
 unfolding of_bits
-truncating_f64_to_u64-cut-requires c = (past_minus_one _ c.if-cells.true, holds _ c.if-cells-2.true)
+truncating_f64_to_u64-cut-requires c = record { lower_bound = past_minus_one _ c.if-cells.true; upper_bound = holds _ c.if-cells-2.true }

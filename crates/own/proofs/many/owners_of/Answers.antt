@@ -13,7 +13,7 @@ pub returns-in-Refused-points : goal.returns-in-Refused-points
 returns-in-Refused-points c = bad_point _ _ _ _ (sym c.check_alike-alike.ensures ∙ c.in_default.is) _ (sym c.check_points-points.ensures ∙ c.in-Refused-points.is)
 
 pub returns-in-Refused-fits : goal.returns-in-Refused-fits
-returns-in-Refused-fits c = unfit _ _ _ _ (sym c.check_alike-alike.ensures ∙ c.in_default.is) (sym c.check_points-points.ensures ∙ c.in_default-points.is) _ (sym c.check_grid-fits.ensures ∙ c.fits2.given.1)
+returns-in-Refused-fits c = unfit _ _ _ _ (sym c.check_alike-alike.ensures ∙ c.in_default.is) (sym c.check_points-points.ensures ∙ c.in_default-points.is) _ (sym c.check_grid-fits.ensures ∙ c.in-Refused-fits.is)
 
 pub write_owners-requires : goal.write_owners-requires
 write_owners-requires c = checked _ _ _ _ (sym c.check_alike-alike.ensures ∙ c.in_default.is) (sym c.check_points-points.ensures ∙ c.in_default-points.is) (sym c.check_grid-fits.ensures ∙ c.in_default-fits.is)

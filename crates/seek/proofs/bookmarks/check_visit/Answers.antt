@@ -9,12 +9,12 @@ pub returns-in-Refused : goal.returns-in-Refused
 returns-in-Refused c =
     let a = c.args in
     let ls = lines a.start_x.now a.start_y.now a.end_x.now a.end_y.now in
-    let t = beside ls a.grid a.offsets.now a.items.now a.globals.now a.global-count in
+    let t = beside ls a.grid a.offsets.now a.items.now a.globals.now a.global_count in
     visit_lines ls a.grid t _ (sym c.check_lines-lines.ensures ∙ c.in-Refused.is)
 
 pub returns : goal.returns
 returns c =
     let a = c.args in
     let ls = lines a.start_x.now a.start_y.now a.end_x.now a.end_y.now in
-    let t = beside ls a.grid a.offsets.now a.items.now a.globals.now a.global-count in
+    let t = beside ls a.grid a.offsets.now a.items.now a.globals.now a.global_count in
     c.check_tables.ensures ∙ visit_tables ls a.grid t (sym c.check_lines-lines.ensures ∙ c.in_default.is) refl

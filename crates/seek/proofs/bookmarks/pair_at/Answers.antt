@@ -10,40 +10,40 @@ pub returns-in-Refused : goal.returns-in-Refused
 returns-in-Refused c =
     let a = c.args in
     let ls = lines a.start_x.now a.start_y.now a.end_x.now a.end_y.now in
-    let t = beside ls a.grid a.offsets.now a.items.now a.globals.now a.global-count in
+    let t = beside ls a.grid a.offsets.now a.items.now a.globals.now a.global_count in
     pair_none ls a.grid t a.bookmark _ (find_refused ls a.grid t a.bookmark _ (sym c.check_visit-check.ensures ∙ c.in-Refused.is))
 
 pub seek-sought-requires : goal.seek-sought-requires
 seek-sought-requires c =
     let a = c.args in
     let ls = lines a.start_x.now a.start_y.now a.end_x.now a.end_y.now in
-    let t = beside ls a.grid a.offsets.now a.items.now a.globals.now a.global-count in
+    let t = beside ls a.grid a.offsets.now a.items.now a.globals.now a.global_count in
     sym c.check_visit-check.ensures ∙ c.in_default.is
 
 pub returns-in_default-sought : goal.returns-in_default-sought
 returns-in_default-sought c =
     let a = c.args in
     let ls = lines a.start_x.now a.start_y.now a.end_x.now a.end_y.now in
-    let t = beside ls a.grid a.offsets.now a.items.now a.globals.now a.global-count in
+    let t = beside ls a.grid a.offsets.now a.items.now a.globals.now a.global_count in
     pair_none ls a.grid t a.bookmark _ (find_beyond ls a.grid t a.bookmark (sym c.check_visit-check.ensures ∙ c.in_default.is) (seek_beyond ls a.grid t a.bookmark _ c.seek-sought.ensures c.in_default-sought.is))
 
 pub pair_of-requires : goal.pair_of-requires
 pair_of-requires c =
-    let sought : let a = c.args in let ls = lines a.start_x.now a.start_y.now a.end_x.now a.end_y.now in SoughtAt ls a.grid (beside ls a.grid a.offsets.now a.items.now a.globals.now a.global-count) a.bookmark c.in-At.cursor = 
+    let sought : let a = c.args in let ls = lines a.start_x.now a.start_y.now a.end_x.now a.end_y.now in SoughtAt ls a.grid (beside ls a.grid a.offsets.now a.items.now a.globals.now a.global_count) a.bookmark c.in-At.cursor = 
         let a = c.args in
         let ls = lines a.start_x.now a.start_y.now a.end_x.now a.end_y.now in
-        let t = beside ls a.grid a.offsets.now a.items.now a.globals.now a.global-count in
+        let t = beside ls a.grid a.offsets.now a.items.now a.globals.now a.global_count in
         seek_at ls a.grid t a.bookmark _ c.seek-sought.ensures c.in-At.cursor c.in-At.is in
     sought.asks
 
 pub returns : goal.returns
 returns c =
-    let sought : let a = c.args in let ls = lines a.start_x.now a.start_y.now a.end_x.now a.end_y.now in SoughtAt ls a.grid (beside ls a.grid a.offsets.now a.items.now a.globals.now a.global-count) a.bookmark c.in-At.cursor = 
+    let sought : let a = c.args in let ls = lines a.start_x.now a.start_y.now a.end_x.now a.end_y.now in SoughtAt ls a.grid (beside ls a.grid a.offsets.now a.items.now a.globals.now a.global_count) a.bookmark c.in-At.cursor = 
         let a = c.args in
         let ls = lines a.start_x.now a.start_y.now a.end_x.now a.end_y.now in
-        let t = beside ls a.grid a.offsets.now a.items.now a.globals.now a.global-count in
+        let t = beside ls a.grid a.offsets.now a.items.now a.globals.now a.global_count in
         seek_at ls a.grid t a.bookmark _ c.seek-sought.ensures c.in-At.cursor c.in-At.is in
     let a = c.args in
     let ls = lines a.start_x.now a.start_y.now a.end_x.now a.end_y.now in
-    let t = beside ls a.grid a.offsets.now a.items.now a.globals.now a.global-count in
+    let t = beside ls a.grid a.offsets.now a.items.now a.globals.now a.global_count in
     pair_read ls a.grid t a.bookmark c.in-At.cursor sought c.pair_of.result c.pair_of.ensures

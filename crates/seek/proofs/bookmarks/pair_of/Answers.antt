@@ -30,7 +30,7 @@ overflow_add-i c =
     let inside : let a = c.args in a.cursor.cell < a.grid.rows * a.grid.cols = rw area at c.if-cell-cells.true in
     let entries : let a = c.args in get_or a.offsets.now a.cursor.cell 0 + a.cursor.j < length a.items.now = 
         let a = c.args in
-        pair_in (a.grid.rows * a.grid.cols) a.offsets.now a.items.now a.globals.now a.global-count a.cursor c.requires inside in
+        pair_in (a.grid.rows * a.grid.cols) a.offsets.now a.items.now a.globals.now a.global_count a.cursor c.requires inside in
     omega (arith, c.wide-from.ensures, entries, c.requires.later, c.well_formed.1.1.1.0)
 
 pub overflow_add-j : goal.overflow_add-j
@@ -39,7 +39,7 @@ overflow_add-j c =
     let inside : let a = c.args in a.cursor.cell < a.grid.rows * a.grid.cols = rw area at c.if-cell-cells.true in
     let entries : let a = c.args in get_or a.offsets.now a.cursor.cell 0 + a.cursor.j < length a.items.now = 
         let a = c.args in
-        pair_in (a.grid.rows * a.grid.cols) a.offsets.now a.items.now a.globals.now a.global-count a.cursor c.requires inside in
+        pair_in (a.grid.rows * a.grid.cols) a.offsets.now a.items.now a.globals.now a.global_count a.cursor c.requires inside in
     omega (arith, c.wide-from.ensures, entries, c.well_formed.1.1.1.0)
 
 pub overflow_cast-n : goal.overflow_cast-n
@@ -68,7 +68,7 @@ offset_bounds-items-i c =
     let inside : let a = c.args in a.cursor.cell < a.grid.rows * a.grid.cols = rw area at c.if-cell-cells.true in
     let entries : let a = c.args in get_or a.offsets.now a.cursor.cell 0 + a.cursor.j < length a.items.now = 
         let a = c.args in
-        pair_in (a.grid.rows * a.grid.cols) a.offsets.now a.items.now a.globals.now a.global-count a.cursor c.requires inside in
+        pair_in (a.grid.rows * a.grid.cols) a.offsets.now a.items.now a.globals.now a.global_count a.cursor c.requires inside in
     omega (arith, c.wide-from.ensures, entries, c.requires.later, c.well_formed.1.1.1.0)
 
 pub bounds-items-i : goal.bounds-items-i
@@ -77,7 +77,7 @@ bounds-items-i c =
     let inside : let a = c.args in a.cursor.cell < a.grid.rows * a.grid.cols = rw area at c.if-cell-cells.true in
     let entries : let a = c.args in get_or a.offsets.now a.cursor.cell 0 + a.cursor.j < length a.items.now = 
         let a = c.args in
-        pair_in (a.grid.rows * a.grid.cols) a.offsets.now a.items.now a.globals.now a.global-count a.cursor c.requires inside in
+        pair_in (a.grid.rows * a.grid.cols) a.offsets.now a.items.now a.globals.now a.global_count a.cursor c.requires inside in
     omega (arith, c.wide-from.ensures, entries, c.requires.later)
 
 pub offset_bounds-items-j : goal.offset_bounds-items-j
@@ -86,7 +86,7 @@ offset_bounds-items-j c =
     let inside : let a = c.args in a.cursor.cell < a.grid.rows * a.grid.cols = rw area at c.if-cell-cells.true in
     let entries : let a = c.args in get_or a.offsets.now a.cursor.cell 0 + a.cursor.j < length a.items.now = 
         let a = c.args in
-        pair_in (a.grid.rows * a.grid.cols) a.offsets.now a.items.now a.globals.now a.global-count a.cursor c.requires inside in
+        pair_in (a.grid.rows * a.grid.cols) a.offsets.now a.items.now a.globals.now a.global_count a.cursor c.requires inside in
     omega (arith, c.wide-from.ensures, entries, c.well_formed.1.1.1.0)
 
 pub bounds-items-j : goal.bounds-items-j
@@ -95,7 +95,7 @@ bounds-items-j c =
     let inside : let a = c.args in a.cursor.cell < a.grid.rows * a.grid.cols = rw area at c.if-cell-cells.true in
     let entries : let a = c.args in get_or a.offsets.now a.cursor.cell 0 + a.cursor.j < length a.items.now = 
         let a = c.args in
-        pair_in (a.grid.rows * a.grid.cols) a.offsets.now a.items.now a.globals.now a.global-count a.cursor c.requires inside in
+        pair_in (a.grid.rows * a.grid.cols) a.offsets.now a.items.now a.globals.now a.global_count a.cursor c.requires inside in
     omega (arith, c.wide-from.ensures, entries)
 
 pub returns-then-cell-cells : goal.returns-then-cell-cells
@@ -103,7 +103,7 @@ returns-then-cell-cells c =
     let area : c.wide.result * c.wide-2.result ≡ c.args.grid.rows * c.args.grid.cols = rw (c.wide.ensures, c.wide-2.ensures) in
     let inside : let a = c.args in a.cursor.cell < a.grid.rows * a.grid.cols = rw area at c.if-cell-cells.true in
     let a = c.args in
-    pair_cell (a.grid.rows * a.grid.cols) a.offsets.now a.items.now a.globals.now a.global-count a.cursor a.grid.cols c.wide-from.result
+    pair_cell (a.grid.rows * a.grid.cols) a.offsets.now a.items.now a.globals.now a.global_count a.cursor a.grid.cols c.wide-from.result
     inside c.wide-from.ensures
 
 pub returns-then-p-global_count : goal.returns-then-p-global_count
@@ -111,11 +111,11 @@ returns-then-p-global_count c =
     let area : c.wide.result * c.wide-2.result ≡ c.args.grid.rows * c.args.grid.cols = rw (c.wide.ensures, c.wide-2.ensures) in
     let past : let a = c.args in a.grid.rows * a.grid.cols ≤ a.cursor.cell = rw area at c.if-cell-cells.false in
     let a = c.args in
-    pair_line (a.grid.rows * a.grid.cols) a.offsets.now a.items.now a.globals.now a.global-count a.cursor a.grid.cols past c.if-p-global_count.true
+    pair_line (a.grid.rows * a.grid.cols) a.offsets.now a.items.now a.globals.now a.global_count a.cursor a.grid.cols past c.if-p-global_count.true
 
 pub returns : goal.returns
 returns c =
     let area : c.wide.result * c.wide-2.result ≡ c.args.grid.rows * c.args.grid.cols = rw (c.wide.ensures, c.wide-2.ensures) in
     let past : let a = c.args in a.grid.rows * a.grid.cols ≤ a.cursor.cell = rw area at c.if-cell-cells.false in
     let a = c.args in
-    pair_over (a.grid.rows * a.grid.cols) a.offsets.now a.items.now a.globals.now a.global-count a.cursor a.grid.cols past c.if-p-global_count.false
+    pair_over (a.grid.rows * a.grid.cols) a.offsets.now a.items.now a.globals.now a.global_count a.cursor a.grid.cols past c.if-p-global_count.false

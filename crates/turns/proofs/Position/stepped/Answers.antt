@@ -4,4 +4,4 @@ use Rattle.turns.proofs.Position.stepped.Goals as goal
 
 pub returns : goal.returns
 unfolding stepped_by
-returns c = c.wrapping_add_u32.ensures
+returns c = c.wrapping_add_u32.ensures.value

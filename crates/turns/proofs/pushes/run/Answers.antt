@@ -22,7 +22,7 @@ returns-then-left-eq0 c = over c.loop-way.invariant.0 (going_is _ _ _ _ c.turn-k
 pub stride-next-requires : goal.stride-next-requires
 stride-next-requires c =
     let g = c.loop-way.invariant.0 in
-    (omega (arith, g.room, g.size), c.requires.fact_2)
+    record { fact_1 = omega (arith, g.room, g.size); fact_2 = c.requires.fact_2 }
 
 pub loop-way-preserved : goal.loop-way-preserved
 loop-way-preserved c =

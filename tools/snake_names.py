@@ -136,6 +136,27 @@ def mine_of(p, t, names, brought):
     return {o: n for o, n in names.items() if o not in keep}
 
 
+def shortened(root):
+    """Takes `_lem` from each name that no longer meets another in any file, and from the fields that lie behind a dot alone."""
+    sources = {p: open(p, encoding="utf-8").read() for p in files(root, (".antt", ".rt"))}
+    names = {}
+    for n in sorted({n for t in sources.values() for n in declared(t) if n.endswith("_lem")}):
+        short = n[:-4]
+        alone = rf"(?<![\w.'₀-₉-]){re.escape(short)}(?![\w'₀-₉-])"
+        for t in sources.values():
+            body = re.sub(r"(?m)(--|//).*$", "", t)
+            if n in WORD.findall(body) and re.search(alone, re.sub(r"(?m)^ *(pub )?(ghost )?use [^{\n]*", "", body)):
+                break
+        else:
+            names[n] = short
+    names.update({f"{end}_{axis}_lem": f"{end}_{axis}" for end in ("start", "end") for axis in "xy"})
+    for p in files(root, (".antt", ".rt", ".edit")):
+        t = open(p, encoding="utf-8").read()
+        new = lines_turned(t, names, "--" if p.endswith(".antt") else "//")
+        if new != t:
+            open(p, "w", encoding="utf-8").write(new)
+
+
 def main():
     args = [a for a in sys.argv[1:] if a != "--check"]
     write = "--check" not in sys.argv
@@ -186,6 +207,7 @@ def main():
         new = lines_turned(t, names, "//")
         if new != t:
             open(p, "w", encoding="utf-8").write(new)
+    shortened(root)
     # Pages and comments name some that have their new spelling in the sources already.
     now = {n for p in files(root, (".antt",)) for n in declared(open(p, encoding="utf-8").read())}
     for p in files(root, (".antt", ".rt", ".md")):

@@ -5,8 +5,6 @@ use mathlib.Core.List.{List, [], ◌∷◌, ◌++◌}
 use Prim.Native.Nat.{ℕ, ◌+◌, ◌-◌, ◌≤◌, ◌<◌}
 use native.Mathlib.Omega.{arith}
 use borrow.Author.Tests.{leb-true}
-use types.Run.{OneOf, miss}
-use denote.Enum.Declared.{tag_of}
 use lib.ListN.{length, get_or, take, drop, replicate, take-append-drop}
 use Rattle.refusals.specs.declared.Refusal.{Refusal}
 use Rattle.refusals.specs.declared.Check.{Check}
@@ -28,7 +26,6 @@ use Rattle.fill.specs.OnGrid.{grid_cells, list_on, globals_on, total, counts_on}
 use Rattle.fill.specs.Checks.{on_grid_check, turns_check, room_check, tried_check, counting_check, space_check}
 use Rattle.fill.specs.Fill.{count_of, CountIs, more_than, Filling, crowded, made, filling_of, filled_of, written_in, FillIs}
 use Rattle.fill.specs.Inside.{CountAs, Walkable, local_on, CountedTo, PassAsks, AllCounted, CountLent, Summed, FillAsks, LayAsks, DueRefusal, PlanAs, PlanIs, rule_of}
-use Rattle.fill.specs.contracts.Filled.{the_type}
 use Rattle.fill.proofs.Walks.{all_walks}
 use Rattle.fill.proofs.Counts.{walkable_again, counted_clear}
 use Rattle.fill.proofs.Leaves.{turns_clear}
@@ -218,15 +215,11 @@ module _ {mode : Mode} {g : Grid} {ls : Lines} {o s : List ℕ} {r : Count} {o�
 
 -- ---- which answer it is
 
--- one of the other two
-pub no_tables : (w : Filled) → OneOf (1 ∷ 2 ∷ []) (tag_of the_type w) → (all found : ℕ) → w ≡ filled.Tables all found → ⊥
-no_tables w k all found e = miss (1 ∷ 2 ∷ []) 0 tt (subst (λ (w : Filled). OneOf (1 ∷ 2 ∷ []) (tag_of the_type w)) e k)
-
 -- no refusal
-pub rule_other : (w : Filled) → OneOf (0 ∷ 1 ∷ []) (tag_of the_type w) → refusal 4 0 ≡ rule_of w
+pub rule_other : (w : Filled) → ((q : Refusal) → w ≡ filled.Refused q → ⊥) → refusal 4 0 ≡ rule_of w
 rule_other (filled.Tables all found) k = refl
 rule_other filled.Crowded k = refl
-rule_other (filled.Refused q) k = absurd (miss (0 ∷ 1 ∷ []) 2 tt k)
+rule_other (filled.Refused q) k = absurd (k q refl)
 
 -- ---- the tables
 

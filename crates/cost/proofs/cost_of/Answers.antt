@@ -8,27 +8,27 @@ use Rattle.cost.proofs.cost_of.Goals as goal
 pub returns-in-Refused : goal.returns-in-Refused
 returns-in-Refused c =
     let a = c.args in
-    cost_refused a.grid (tables a.grid a.lines a.offsets.now a.items.now a.globals.now a.global-count) _ (sym c.check_tables-fit.ensures ∙ c.in-Refused.is)
+    cost_refused a.grid (tables a.grid a.lines a.offsets.now a.items.now a.globals.now a.global_count) _ (sym c.check_tables-fit.ensures ∙ c.in-Refused.is)
 
 pub overflow_mul-cells : goal.overflow_mul-cells
-overflow_mul-cells c = let a = c.args in let h = cells_ask a.grid a.lines a.offsets.now a.items.now a.globals.now a.global-count (sym c.check_tables-fit.ensures ∙ c.in_default.is) in record { fits = omega (arith, h.few) }
+overflow_mul-cells c = let a = c.args in let h = cells_ask a.grid a.lines a.offsets.now a.items.now a.globals.now a.global_count (sym c.check_tables-fit.ensures ∙ c.in_default.is) in record { fits = omega (arith, h.few) }
 
 pub of_cells-listed-requires : goal.of_cells-listed-requires
-of_cells-listed-requires c = let a = c.args in cells_ask a.grid a.lines a.offsets.now a.items.now a.globals.now a.global-count (sym c.check_tables-fit.ensures ∙ c.in_default.is)
+of_cells-listed-requires c = let a = c.args in cells_ask a.grid a.lines a.offsets.now a.items.now a.globals.now a.global_count (sym c.check_tables-fit.ensures ∙ c.in_default.is)
 
 pub overflow_cast-lines : goal.overflow_cast-lines
-overflow_cast-lines c = let a = c.args in let h = globals_ask a.grid a.lines a.offsets.now a.items.now a.globals.now a.global-count (sym c.check_tables-fit.ensures ∙ c.in_default.is) in record { fits = omega (arith, h.few) }
+overflow_cast-lines c = let a = c.args in let h = globals_ask a.grid a.lines a.offsets.now a.items.now a.globals.now a.global_count (sym c.check_tables-fit.ensures ∙ c.in_default.is) in record { fits = omega (arith, h.few) }
 
 pub overflow_cast-global_count : goal.overflow_cast-global_count
-overflow_cast-global_count c = let a = c.args in let h = globals_ask a.grid a.lines a.offsets.now a.items.now a.globals.now a.global-count (sym c.check_tables-fit.ensures ∙ c.in_default.is) in record { fits = omega (arith, h.few, h.within) }
+overflow_cast-global_count c = let a = c.args in let h = globals_ask a.grid a.lines a.offsets.now a.items.now a.globals.now a.global_count (sym c.check_tables-fit.ensures ∙ c.in_default.is) in record { fits = omega (arith, h.few, h.within) }
 
 pub of_globals-global-requires : goal.of_globals-global-requires
-of_globals-global-requires c = let a = c.args in globals_ask a.grid a.lines a.offsets.now a.items.now a.globals.now a.global-count (sym c.check_tables-fit.ensures ∙ c.in_default.is)
+of_globals-global-requires c = let a = c.args in globals_ask a.grid a.lines a.offsets.now a.items.now a.globals.now a.global_count (sym c.check_tables-fit.ensures ∙ c.in_default.is)
 
 pub overflow_add-result : goal.overflow_add-result
-overflow_add-result c = let a = c.args in record { fits = cost_fits a.grid a.lines a.offsets.now a.items.now a.globals.now a.global-count (sym c.check_tables-fit.ensures ∙ c.in_default.is) c.of_cells-listed.ensures c.of_globals-global.ensures }
+overflow_add-result c = let a = c.args in record { fits = cost_fits a.grid a.lines a.offsets.now a.items.now a.globals.now a.global_count (sym c.check_tables-fit.ensures ∙ c.in_default.is) c.of_cells-listed.ensures c.of_globals-global.ensures }
 
 pub returns : goal.returns
 returns c =
     let a = c.args in
-    cost_is a.grid a.lines a.offsets.now a.items.now a.globals.now a.global-count (sym c.check_tables-fit.ensures ∙ c.in_default.is) c.of_cells-listed.ensures c.of_globals-global.ensures
+    cost_is a.grid a.lines a.offsets.now a.items.now a.globals.now a.global_count (sym c.check_tables-fit.ensures ∙ c.in_default.is) c.of_cells-listed.ensures c.of_globals-global.ensures

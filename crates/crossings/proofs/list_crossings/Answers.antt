@@ -9,7 +9,7 @@ pub returns-in-Refused : goal.returns-in-Refused
 returns-in-Refused c =
     let a = c.args in
     let ss = samples a.start_x.now a.start_y.now a.end_x.now a.end_y.now in
-    crossings_stopped ss a.grid a.offsets.now a.items.now a.globals.now a.global-count a.first.now a.second.now a.starts.now a.listing.now a.counts.now c.check_sample_lines-lines.ensures c.begin-begun.ensures _ c.in-Refused.is
+    crossings_stopped ss a.grid a.offsets.now a.items.now a.globals.now a.global_count a.first.now a.second.now a.starts.now a.listing.now a.counts.now c.check_sample_lines-lines.ensures c.begin-begun.ensures _ c.in-Refused.is
 
 pub run-hits-requires : goal.run-hits-requires
 run-hits-requires c =
@@ -37,4 +37,4 @@ returns c =
     let ss = samples a.start_x.now a.start_y.now a.end_x.now a.end_y.now in
     let w = c.begin-begun in
     let v = c.run-hits in
-    crossings_done ss a.grid a.offsets.now a.items.now a.globals.now a.global-count a.first.now a.second.now a.starts.now a.listing.now a.counts.now c.check_sample_lines-lines.ensures w.ensures c.in_default.is v.ensures w.auto.starts w.auto.listing (v.auto.counts ∙ w.auto.counts) c.finish.ensures
+    crossings_done ss a.grid a.offsets.now a.items.now a.globals.now a.global_count a.first.now a.second.now a.starts.now a.listing.now a.counts.now c.check_sample_lines-lines.ensures w.ensures c.in_default.is v.ensures w.auto.starts w.auto.listing (v.auto.counts ∙ w.auto.counts) c.finish.ensures

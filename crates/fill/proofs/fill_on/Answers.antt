@@ -1,7 +1,7 @@
 -- `fill::fill_on` meets its contract. Assumes nothing.
 use mathlib.Core.Path.{◌∙◌}
 use Rattle.fill.proofs.Fills.{lay_place, lay_made}
-use Rattle.fill.proofs.Entries.{fill_asks, fill_made, no_tables, fill_left}
+use Rattle.fill.proofs.Entries.{fill_asks, fill_made, fill_left}
 use Rattle.fill.proofs.fill_on.Goals as goal
 
 pub place_lines-requires : goal.place_lines-requires
@@ -43,4 +43,4 @@ shape_of-scratch c = c.leave-4.auto.s ∙ c.plan-planned.auto.scratch
 pub returns : goal.returns
 returns c =
     let k = c.plan-planned in
-    fill_left k.ensures k.auto.offsets k.auto.scratch (no_tables _ c.in_default.keys2) c.rule_of-rule.ensures c.leave.ensures c.leave-2.ensures c.leave-3.ensures c.leave-4.ensures
+    fill_left k.ensures k.auto.offsets k.auto.scratch c.in_default.not-Tables c.rule_of-rule.ensures c.leave.ensures c.leave-2.ensures c.leave-3.ensures c.leave-4.ensures

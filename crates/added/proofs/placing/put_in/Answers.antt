@@ -9,7 +9,7 @@ pub overflow_add-found : goal.overflow_add-found
 overflow_add-found c = let h = put_more c.requires in let l = put_count c.requires in omega arith
 
 pub returns-in-Refused : goal.returns-in-Refused
-returns-in-Refused c = put_refused h c.check_room-room.ensures c.in-Refused.is c.clear.ensures
+returns-in-Refused c h = put_refused h c.check_room-room.ensures c.in-Refused.is c.clear.ensures
 
 pub slice_bounds-insert-end-2 : goal.slice_bounds-insert-end-2
 slice_bounds-insert-end-2 c = sym (length-take-le _ c.args.scratch.now c.requires.within)
@@ -21,4 +21,4 @@ pub list_global-requires : goal.list_global-requires
 list_global-requires c = put_globals c.requires c.check_room-room.ensures c.in_default.is
 
 pub returns : goal.returns
-returns c = put_made h c.check_room-room.ensures c.in_default.is c.insert.ensures c.list_global.ensures c.clear_from.ensures
+returns c h = put_made h c.check_room-room.ensures c.in_default.is c.insert.ensures c.list_global.ensures c.clear_from.ensures

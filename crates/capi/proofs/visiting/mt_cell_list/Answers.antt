@@ -29,7 +29,7 @@ pub returns : goal.returns
 returns c =
     let a = c.args in
     let g = c.grid_by-by_words.result in
-    let t = tables g a.lines a.offsets.now a.items.now a.globals.now a.global-count in
+    let t = tables g a.lines a.offsets.now a.items.now a.globals.now a.global_count in
     rw (← c.grid_by-by_words.ensures)
     (asked 2 _ c.if-grid-lt-WORDS.false
     (of_cell g t refl refl a.row a.col c.cell_number.ensures c.entry-from.ensures) c.listed.ensures)

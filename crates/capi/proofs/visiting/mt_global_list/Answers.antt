@@ -17,7 +17,7 @@ pub returns : goal.returns
 returns c =
     let a = c.args in
     let g = c.grid_by.result in
-    let t = tables g a.lines a.offsets.now a.items.now a.globals.now a.global-count in
+    let t = tables g a.lines a.offsets.now a.items.now a.globals.now a.global_count in
     rw (← c.grid_by.ensures)
     (asked 2 _ c.if-grid-lt-WORDS.false
     (part_ends (list_check g t (Global a.position)) a.position _ _ (global_ends g t a.position)) c.listed.ensures)

@@ -16,7 +16,7 @@ run-ran-requires c =
     let a = c.args in
     let ls = lines a.start_x.now a.start_y.now a.end_x.now a.end_y.now in
     let m = reach_here a.grid.rows a.grid.cols (length a.offsets.now) _ _ _ c.wide.ensures c.wide-2.ensures c.reach-reach.ensures in
-    go_runs ls a.grid a.offsets.now a.items.now a.globals.now a.global-count a.cursor a.first.now a.second.now _ m _ c.globals_of-listed.ensures c.requires
+    go_runs ls a.grid a.offsets.now a.items.now a.globals.now a.global_count a.cursor a.first.now a.second.now _ m _ c.globals_of-listed.ensures c.requires
 
 pub finish-requires : goal.finish-requires
 finish-requires c = λ h. c.run-ran.ensures.first_zero (ltb-true _ _ h)
@@ -29,7 +29,7 @@ cursor_at-after-requires c =
     let a = c.args in
     let ls = lines a.start_x.now a.start_y.now a.end_x.now a.end_y.now in
     let m = reach_here a.grid.rows a.grid.cols (length a.offsets.now) _ _ _ c.wide.ensures c.wide-2.ensures c.reach-reach.ensures in
-    go_settles ls a.grid a.offsets.now a.items.now a.globals.now a.global-count a.cursor a.first.now a.second.now _ m _ c.globals_of-listed.ensures _ _ _ c.run-ran.ensures c.requires
+    go_settles ls a.grid a.offsets.now a.items.now a.globals.now a.global_count a.cursor a.first.now a.second.now _ m _ c.globals_of-listed.ensures _ _ _ c.run-ran.ensures c.requires
 
 pub returns : goal.returns
 returns c =
@@ -37,4 +37,4 @@ returns c =
     let ls = lines a.start_x.now a.start_y.now a.end_x.now a.end_y.now in
     let m = reach_here a.grid.rows a.grid.cols (length a.offsets.now) _ _ _ c.wide.ensures c.wide-2.ensures c.reach-reach.ensures in
     let w = c.run-ran.ensures in
-    go_is ls a.grid a.offsets.now a.items.now a.globals.now a.global-count a.cursor a.first.now a.second.now _ m _ c.globals_of-listed.ensures _ _ _ w _ _ _ c.finish.ensures c.finish-2.ensures (c.cursor_at-after.ensures w.rest w.at)
+    go_is ls a.grid a.offsets.now a.items.now a.globals.now a.global_count a.cursor a.first.now a.second.now _ m _ c.globals_of-listed.ensures _ _ _ w _ _ _ c.finish.ensures c.finish-2.ensures (c.cursor_at-after.ensures w.rest w.at)

@@ -10,7 +10,7 @@ pub returns-in-Refused : goal.returns-in-Refused
 returns-in-Refused c =
     let a = c.args in
     let ls = lines a.start_x.now a.start_y.now a.end_x.now a.end_y.now in
-    let t = beside ls a.grid a.offsets.now a.items.now a.globals.now a.global-count in
+    let t = beside ls a.grid a.offsets.now a.items.now a.globals.now a.global_count in
     let e = sym c.check_lent-check.ensures ∙ c.in-Refused.is in
     next_refused ls t a.cursor a.first.now a.second.now _ e (next_clears ls a.first.now a.second.now _ e)
 
@@ -18,12 +18,12 @@ pub go-requires : goal.go-requires
 go-requires c =
     let a = c.args in
     let ls = lines a.start_x.now a.start_y.now a.end_x.now a.end_y.now in
-    let t = beside ls a.grid a.offsets.now a.items.now a.globals.now a.global-count in
+    let t = beside ls a.grid a.offsets.now a.items.now a.globals.now a.global_count in
     next_fine ls a.first.now a.second.now (sym c.check_lent-check.ensures ∙ c.in_default.is)
 
 pub returns : goal.returns
 returns c =
     let a = c.args in
     let ls = lines a.start_x.now a.start_y.now a.end_x.now a.end_y.now in
-    let t = beside ls a.grid a.offsets.now a.items.now a.globals.now a.global-count in
+    let t = beside ls a.grid a.offsets.now a.items.now a.globals.now a.global_count in
     next_went ls t a.cursor a.first.now a.second.now (sym c.check_lent-check.ensures ∙ c.in_default.is) _ _ _ c.go.ensures

@@ -11,34 +11,34 @@ use Rattle.resume.proofs.settle.cursor_at.Goals as goal
 pub returns-in-At : goal.returns-in-At
 returns-in-At c =
     let a = c.args in
-    let t = tables a.grid a.lines a.offsets.now a.items.now a.whole.now a.global-count in
+    let t = tables a.grid a.lines a.offsets.now a.items.now a.whole.now a.global_count in
     let s = c.requires in
     λ rest f. settled_cell t a.reach s.reach_is rest _ _ _ (cell_is t a.reach s.reach_is rest _ f _ _ _ c.in-At.is) _
 
 pub overflow_add-result : goal.overflow_add-result
 overflow_add-result c =
     let a = c.args in
-    let t = tables a.grid a.lines a.offsets.now a.items.now a.whole.now a.global-count in
+    let t = tables a.grid a.lines a.offsets.now a.items.now a.whole.now a.global_count in
     let s = c.requires in
     omega (arith, s.reach_is, reach_most (t.rows * t.cols) (length t.offsets), (global_is _ _ _ _ _ _ c.global_at-line.ensures _ _ _ _ c.in-At-line.is).inside, c)
 
 pub returns-in-At-line : goal.returns-in-At-line
 returns-in-At-line c =
     let a = c.args in
-    let t = tables a.grid a.lines a.offsets.now a.items.now a.whole.now a.global-count in
+    let t = tables a.grid a.lines a.offsets.now a.items.now a.whole.now a.global_count in
     let s = c.requires in
     λ rest f. settled_global t a.reach s.reach_is rest (cell_none t a.reach s.reach_is rest _ f c.in_default.is) a.lines refl a.globals.now s.globals_are a.p a.q a.k s.place _ _ _ _ (global_is _ _ _ _ _ _ c.global_at-line.ensures _ _ _ _ c.in-At-line.is) _ c.wide.ensures
 
 pub overflow_add-result-2 : goal.overflow_add-result-2
 overflow_add-result-2 c =
     let a = c.args in
-    let t = tables a.grid a.lines a.offsets.now a.items.now a.whole.now a.global-count in
+    let t = tables a.grid a.lines a.offsets.now a.items.now a.whole.now a.global_count in
     let s = c.requires in
     omega (arith, s.reach_is, reach_most (t.rows * t.cols) (length t.offsets), c)
 
 pub returns : goal.returns
 returns c =
     let a = c.args in
-    let t = tables a.grid a.lines a.offsets.now a.items.now a.whole.now a.global-count in
+    let t = tables a.grid a.lines a.offsets.now a.items.now a.whole.now a.global_count in
     let s = c.requires in
     λ rest f. settled_end t a.reach s.reach_is rest (cell_none t a.reach s.reach_is rest _ f c.in_default.is) a.lines refl a.globals.now s.globals_are a.p a.q a.k (global_past _ _ _ _ _ _ c.global_at-line.ensures c.in_default-line.is)

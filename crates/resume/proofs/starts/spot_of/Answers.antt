@@ -23,11 +23,11 @@ overflow_add-result c = omega (arith, c.reach-reach.ensures, reach_most (c.wide-
 pub returns-in-Cell : goal.returns-in-Cell
 returns-in-Cell c =
     let a = c.args in
-    let t = tables a.grid a.lines a.offsets.now a.items.now a.globals.now a.global-count in
+    let t = tables a.grid a.lines a.offsets.now a.items.now a.globals.now a.global_count in
     spotted_cell t a.place _ _ a.first a.second c.in-Cell.is _ _ _ c.wide.ensures c.wide-in-Cell.ensures c.wide-in-Cell-2.ensures _ c.list_of-list.ensures _ _ c.index_in-i.ensures c.index_in-j.ensures
 
 pub returns-in-Global : goal.returns-in-Global
 returns-in-Global c =
     let a = c.args in
-    let t = tables a.grid a.lines a.offsets.now a.items.now a.globals.now a.global-count in
+    let t = tables a.grid a.lines a.offsets.now a.items.now a.globals.now a.global_count in
     spotted_global t a.place _ a.first a.second c.in-Global.is _ _ (reach_here a.grid.rows a.grid.cols (length a.offsets.now) _ _ _ c.wide-in-Global.ensures c.wide-in-Global-2.ensures c.reach-reach.ensures) c.wide-in-Global-3.ensures

@@ -10,10 +10,7 @@ pub run_brief-requires : goal.run_brief-requires
 run_brief-requires c = brief_asks _ _ _ _ _ _ _ _ _ (brief_says _ _ _ _ _ c.is_brief.ensures c.if-is_brief.true) c.requires
 
 pub returns-then-is_brief : goal.returns-then-is_brief
-returns-then-is_brief c = (
-  brief_ran _ _ _ _ _ _ _ _ _ _ _ (brief_says _ _ _ _ _ c.is_brief.ensures c.if-is_brief.true) c.run_brief.ensures.fact_1,
-  brief_scratch _ _ _ c.run_brief.ensures.fact_2,
-)
+returns-then-is_brief c = record { fact_1 = brief_ran _ _ _ _ _ _ _ _ _ _ _ (brief_says _ _ _ _ _ c.is_brief.ensures c.if-is_brief.true) c.run_brief.ensures.fact_1; fact_2 = brief_scratch _ _ _ c.run_brief.ensures.fact_2 }
 
 pub loop-hits-init : goal.loop-hits-init
 loop-hits-init c = list_run _ _ _ _ _ _ _ _ _ c.requires
@@ -46,7 +43,7 @@ pub shape_of-second-after-loop-hits : goal.shape_of-second-after-loop-hits
 shape_of-second-after-loop-hits c = list_second_long _ _ _ _ _ _ _ _ _ _ _ _ _ _ _ _ _ _ _ c.loop-hits.invariant
 
 pub returns-after-loop-hits : goal.returns-after-loop-hits
-returns-after-loop-hits c = (list_full _ _ _ _ _ _ _ _ _ _ _ _ _ _ _ _ _ _ _ c.loop-hits.invariant (omega (arith, list_first_long _ _ _ _ _ _ _ _ _ _ _ _ _ _ _ _ _ _ _ c.loop-hits.invariant, c.loop-hits-test.false)), c.loop-hits.invariant.same)
+returns-after-loop-hits c = record { fact_1 = list_full _ _ _ _ _ _ _ _ _ _ _ _ _ _ _ _ _ _ _ c.loop-hits.invariant (omega (arith, list_first_long _ _ _ _ _ _ _ _ _ _ _ _ _ _ _ _ _ _ _ c.loop-hits.invariant, c.loop-hits-test.false)); fact_2 = c.loop-hits.invariant.same }
 
 pub shape_of-room-in_default : goal.shape_of-room-in_default
 shape_of-room-in_default c = c.loop-hits.invariant.same.boxes
@@ -61,4 +58,4 @@ pub shape_of-second-in_default : goal.shape_of-second-in_default
 shape_of-second-in_default c = list_second_long _ _ _ _ _ _ _ _ _ _ _ _ _ _ _ _ _ _ _ c.loop-hits.invariant
 
 pub returns-in_default : goal.returns-in_default
-returns-in_default c = (list_over _ _ _ _ _ _ _ _ _ _ _ _ _ _ _ _ _ _ _ c.loop-hits.invariant (row_at_past _ _ _ _ c.row_at.ensures c.in_default.is), c.loop-hits.invariant.same)
+returns-in_default c = record { fact_1 = list_over _ _ _ _ _ _ _ _ _ _ _ _ _ _ _ _ _ _ _ c.loop-hits.invariant (row_at_past _ _ _ _ c.row_at.ensures c.in_default.is); fact_2 = c.loop-hits.invariant.same }

@@ -16,95 +16,95 @@ pub returns-then-first-second : goal.returns-then-first-second
 returns-then-first-second c =
     let a = c.args in
     let ls = lines a.start_x.now a.start_y.now a.end_x.now a.end_y.now in
-    let t = beside ls a.grid a.offsets.now a.items.now a.globals.now a.global-count in
+    let t = beside ls a.grid a.offsets.now a.items.now a.globals.now a.global_count in
     batch_unlike ls a.grid t a.bookmark a.first.now a.second.now a.places.now _ (outputs_unlike a.first.now a.second.now c.if-first-second.true)
 
 pub overflow_mul-cells : goal.overflow_mul-cells
 overflow_mul-cells c =
     let same : let a = c.args in outputs_check a.first.now a.second.now ≡ Fine = let a = c.args in outputs_alike a.first.now a.second.now c.if-first-second.false in
-    let found : let a = c.args in let ls = lines a.start_x.now a.start_y.now a.end_x.now a.end_y.now in CursorIs ls a.grid (beside ls a.grid a.offsets.now a.items.now a.globals.now a.global-count) a.bookmark c.in-At.cursor = 
+    let found : let a = c.args in let ls = lines a.start_x.now a.start_y.now a.end_x.now a.end_y.now in CursorIs ls a.grid (beside ls a.grid a.offsets.now a.items.now a.globals.now a.global_count) a.bookmark c.in-At.cursor = 
         let a = c.args in
         let ls = lines a.start_x.now a.start_y.now a.end_x.now a.end_y.now in
-        let t = beside ls a.grid a.offsets.now a.items.now a.globals.now a.global-count in
+        let t = beside ls a.grid a.offsets.now a.items.now a.globals.now a.global_count in
         found_at ls a.grid t a.bookmark _ c.find-found.ensures c.in-At.cursor c.in-At.is in
-    let asks : let a = c.args in let ls = lines a.start_x.now a.start_y.now a.end_x.now a.end_y.now in RunAsks ls a.grid (beside ls a.grid a.offsets.now a.items.now a.globals.now a.global-count) c.in-At.cursor a.first.now a.second.now = 
+    let asks : let a = c.args in let ls = lines a.start_x.now a.start_y.now a.end_x.now a.end_y.now in RunAsks ls a.grid (beside ls a.grid a.offsets.now a.items.now a.globals.now a.global_count) c.in-At.cursor a.first.now a.second.now = 
         let a = c.args in
         let ls = lines a.start_x.now a.start_y.now a.end_x.now a.end_y.now in
-        run_asks ls a.grid a.offsets.now a.items.now a.globals.now a.global-count a.bookmark c.in-At.cursor found a.first.now a.second.now a.places.now same in
+        run_asks ls a.grid a.offsets.now a.items.now a.globals.now a.global_count a.bookmark c.in-At.cursor found a.first.now a.second.now a.places.now same in
     let a = c.args in
     let ls = lines a.start_x.now a.start_y.now a.end_x.now a.end_y.now in
-    record { fits = rows_cols ls a.grid a.offsets.now a.items.now a.globals.now a.global-count asks.ready.fine _ _ refl refl }
+    record { fits = rows_cols ls a.grid a.offsets.now a.items.now a.globals.now a.global_count asks.ready.fine _ _ refl refl }
 
 pub run_cells-listed-requires : goal.run_cells-listed-requires
 run_cells-listed-requires c =
     let same : let a = c.args in outputs_check a.first.now a.second.now ≡ Fine = let a = c.args in outputs_alike a.first.now a.second.now c.if-first-second.false in
-    let found : let a = c.args in let ls = lines a.start_x.now a.start_y.now a.end_x.now a.end_y.now in CursorIs ls a.grid (beside ls a.grid a.offsets.now a.items.now a.globals.now a.global-count) a.bookmark c.in-At.cursor = 
+    let found : let a = c.args in let ls = lines a.start_x.now a.start_y.now a.end_x.now a.end_y.now in CursorIs ls a.grid (beside ls a.grid a.offsets.now a.items.now a.globals.now a.global_count) a.bookmark c.in-At.cursor = 
         let a = c.args in
         let ls = lines a.start_x.now a.start_y.now a.end_x.now a.end_y.now in
-        let t = beside ls a.grid a.offsets.now a.items.now a.globals.now a.global-count in
+        let t = beside ls a.grid a.offsets.now a.items.now a.globals.now a.global_count in
         found_at ls a.grid t a.bookmark _ c.find-found.ensures c.in-At.cursor c.in-At.is in
-    let asks : let a = c.args in let ls = lines a.start_x.now a.start_y.now a.end_x.now a.end_y.now in RunAsks ls a.grid (beside ls a.grid a.offsets.now a.items.now a.globals.now a.global-count) c.in-At.cursor a.first.now a.second.now = 
+    let asks : let a = c.args in let ls = lines a.start_x.now a.start_y.now a.end_x.now a.end_y.now in RunAsks ls a.grid (beside ls a.grid a.offsets.now a.items.now a.globals.now a.global_count) c.in-At.cursor a.first.now a.second.now = 
         let a = c.args in
         let ls = lines a.start_x.now a.start_y.now a.end_x.now a.end_y.now in
-        run_asks ls a.grid a.offsets.now a.items.now a.globals.now a.global-count a.bookmark c.in-At.cursor found a.first.now a.second.now a.places.now same in
+        run_asks ls a.grid a.offsets.now a.items.now a.globals.now a.global_count a.bookmark c.in-At.cursor found a.first.now a.second.now a.places.now same in
     let a = c.args in
     let ls = lines a.start_x.now a.start_y.now a.end_x.now a.end_y.now in
-    cells_asks ls a.grid a.offsets.now a.items.now a.globals.now a.global-count c.in-At.cursor a.first.now a.second.now a.places.now asks _ refl
+    cells_asks ls a.grid a.offsets.now a.items.now a.globals.now a.global_count c.in-At.cursor a.first.now a.second.now a.places.now asks _ refl
 
 pub run_globals-global-requires : goal.run_globals-global-requires
 run_globals-global-requires c =
     let same : let a = c.args in outputs_check a.first.now a.second.now ≡ Fine = let a = c.args in outputs_alike a.first.now a.second.now c.if-first-second.false in
-    let found : let a = c.args in let ls = lines a.start_x.now a.start_y.now a.end_x.now a.end_y.now in CursorIs ls a.grid (beside ls a.grid a.offsets.now a.items.now a.globals.now a.global-count) a.bookmark c.in-At.cursor = 
+    let found : let a = c.args in let ls = lines a.start_x.now a.start_y.now a.end_x.now a.end_y.now in CursorIs ls a.grid (beside ls a.grid a.offsets.now a.items.now a.globals.now a.global_count) a.bookmark c.in-At.cursor = 
         let a = c.args in
         let ls = lines a.start_x.now a.start_y.now a.end_x.now a.end_y.now in
-        let t = beside ls a.grid a.offsets.now a.items.now a.globals.now a.global-count in
+        let t = beside ls a.grid a.offsets.now a.items.now a.globals.now a.global_count in
         found_at ls a.grid t a.bookmark _ c.find-found.ensures c.in-At.cursor c.in-At.is in
-    let asks : let a = c.args in let ls = lines a.start_x.now a.start_y.now a.end_x.now a.end_y.now in RunAsks ls a.grid (beside ls a.grid a.offsets.now a.items.now a.globals.now a.global-count) c.in-At.cursor a.first.now a.second.now = 
+    let asks : let a = c.args in let ls = lines a.start_x.now a.start_y.now a.end_x.now a.end_y.now in RunAsks ls a.grid (beside ls a.grid a.offsets.now a.items.now a.globals.now a.global_count) c.in-At.cursor a.first.now a.second.now = 
         let a = c.args in
         let ls = lines a.start_x.now a.start_y.now a.end_x.now a.end_y.now in
-        run_asks ls a.grid a.offsets.now a.items.now a.globals.now a.global-count a.bookmark c.in-At.cursor found a.first.now a.second.now a.places.now same in
+        run_asks ls a.grid a.offsets.now a.items.now a.globals.now a.global_count a.bookmark c.in-At.cursor found a.first.now a.second.now a.places.now same in
     let a = c.args in
     let ls = lines a.start_x.now a.start_y.now a.end_x.now a.end_y.now in
-    globals_asks ls a.grid a.offsets.now a.items.now a.globals.now a.global-count c.in-At.cursor a.first.now a.second.now a.places.now asks _ refl _ _ _ c.run_cells-listed.result c.run_cells-listed.ensures
+    globals_asks ls a.grid a.offsets.now a.items.now a.globals.now a.global_count c.in-At.cursor a.first.now a.second.now a.places.now asks _ refl _ _ _ c.run_cells-listed.result c.run_cells-listed.ensures
 
 pub overflow_add-made : goal.overflow_add-made
 overflow_add-made c =
     let same : let a = c.args in outputs_check a.first.now a.second.now ≡ Fine = let a = c.args in outputs_alike a.first.now a.second.now c.if-first-second.false in
-    let found : let a = c.args in let ls = lines a.start_x.now a.start_y.now a.end_x.now a.end_y.now in CursorIs ls a.grid (beside ls a.grid a.offsets.now a.items.now a.globals.now a.global-count) a.bookmark c.in-At.cursor = 
+    let found : let a = c.args in let ls = lines a.start_x.now a.start_y.now a.end_x.now a.end_y.now in CursorIs ls a.grid (beside ls a.grid a.offsets.now a.items.now a.globals.now a.global_count) a.bookmark c.in-At.cursor = 
         let a = c.args in
         let ls = lines a.start_x.now a.start_y.now a.end_x.now a.end_y.now in
-        let t = beside ls a.grid a.offsets.now a.items.now a.globals.now a.global-count in
+        let t = beside ls a.grid a.offsets.now a.items.now a.globals.now a.global_count in
         found_at ls a.grid t a.bookmark _ c.find-found.ensures c.in-At.cursor c.in-At.is in
-    let asks : let a = c.args in let ls = lines a.start_x.now a.start_y.now a.end_x.now a.end_y.now in RunAsks ls a.grid (beside ls a.grid a.offsets.now a.items.now a.globals.now a.global-count) c.in-At.cursor a.first.now a.second.now = 
+    let asks : let a = c.args in let ls = lines a.start_x.now a.start_y.now a.end_x.now a.end_y.now in RunAsks ls a.grid (beside ls a.grid a.offsets.now a.items.now a.globals.now a.global_count) c.in-At.cursor a.first.now a.second.now = 
         let a = c.args in
         let ls = lines a.start_x.now a.start_y.now a.end_x.now a.end_y.now in
-        run_asks ls a.grid a.offsets.now a.items.now a.globals.now a.global-count a.bookmark c.in-At.cursor found a.first.now a.second.now a.places.now same in
+        run_asks ls a.grid a.offsets.now a.items.now a.globals.now a.global_count a.bookmark c.in-At.cursor found a.first.now a.second.now a.places.now same in
     let a = c.args in
     let ls = lines a.start_x.now a.start_y.now a.end_x.now a.end_y.now in
-    record { fits = run_small ls a.grid a.offsets.now a.items.now a.globals.now a.global-count c.in-At.cursor a.first.now a.second.now a.places.now asks _ refl _ _ _ c.run_cells-listed.result c.run_cells-listed.ensures _ _ _ c.run_globals-global.result c.run_globals-global.ensures }
+    record { fits = run_small ls a.grid a.offsets.now a.items.now a.globals.now a.global_count c.in-At.cursor a.first.now a.second.now a.places.now asks _ refl _ _ _ c.run_cells-listed.result c.run_cells-listed.ensures _ _ _ c.run_globals-global.result c.run_globals-global.ensures }
 
 pub overflow_add-result : goal.overflow_add-result
 overflow_add-result c =
-    let found : let a = c.args in let ls = lines a.start_x.now a.start_y.now a.end_x.now a.end_y.now in CursorIs ls a.grid (beside ls a.grid a.offsets.now a.items.now a.globals.now a.global-count) a.bookmark c.in-At.cursor = 
+    let found : let a = c.args in let ls = lines a.start_x.now a.start_y.now a.end_x.now a.end_y.now in CursorIs ls a.grid (beside ls a.grid a.offsets.now a.items.now a.globals.now a.global_count) a.bookmark c.in-At.cursor = 
         let a = c.args in
         let ls = lines a.start_x.now a.start_y.now a.end_x.now a.end_y.now in
-        let t = beside ls a.grid a.offsets.now a.items.now a.globals.now a.global-count in
+        let t = beside ls a.grid a.offsets.now a.items.now a.globals.now a.global_count in
         found_at ls a.grid t a.bookmark _ c.find-found.ensures c.in-At.cursor c.in-At.is in
     let same : let a = c.args in outputs_check a.first.now a.second.now ≡ Fine = let a = c.args in outputs_alike a.first.now a.second.now c.if-first-second.false in
-    let asks : let a = c.args in let ls = lines a.start_x.now a.start_y.now a.end_x.now a.end_y.now in RunAsks ls a.grid (beside ls a.grid a.offsets.now a.items.now a.globals.now a.global-count) c.in-At.cursor a.first.now a.second.now = 
+    let asks : let a = c.args in let ls = lines a.start_x.now a.start_y.now a.end_x.now a.end_y.now in RunAsks ls a.grid (beside ls a.grid a.offsets.now a.items.now a.globals.now a.global_count) c.in-At.cursor a.first.now a.second.now = 
         let a = c.args in
         let ls = lines a.start_x.now a.start_y.now a.end_x.now a.end_y.now in
-        run_asks ls a.grid a.offsets.now a.items.now a.globals.now a.global-count a.bookmark c.in-At.cursor found a.first.now a.second.now a.places.now same in
+        run_asks ls a.grid a.offsets.now a.items.now a.globals.now a.global_count a.bookmark c.in-At.cursor found a.first.now a.second.now a.places.now same in
     let a = c.args in
     let ls = lines a.start_x.now a.start_y.now a.end_x.now a.end_y.now in
-    record { fits = bookmark_fits ls a.grid a.offsets.now a.items.now a.globals.now a.global-count a.bookmark c.in-At.cursor found a.first.now a.second.now a.places.now _ _ _ _ (run_is ls a.grid a.offsets.now a.items.now a.globals.now a.global-count c.in-At.cursor a.first.now a.second.now a.places.now asks _ refl _ _ _ c.run_cells-listed.result c.run_cells-listed.ensures _ _ _ c.run_globals-global.result c.run_globals-global.ensures) }
+    record { fits = bookmark_fits ls a.grid a.offsets.now a.items.now a.globals.now a.global_count a.bookmark c.in-At.cursor found a.first.now a.second.now a.places.now _ _ _ _ (run_is ls a.grid a.offsets.now a.items.now a.globals.now a.global_count c.in-At.cursor a.first.now a.second.now a.places.now asks _ refl _ _ _ c.run_cells-listed.result c.run_cells-listed.ensures _ _ _ c.run_globals-global.result c.run_globals-global.ensures) }
 
 pub returns-in-Refused : goal.returns-in-Refused
 returns-in-Refused c =
     let same : let a = c.args in outputs_check a.first.now a.second.now ≡ Fine = let a = c.args in outputs_alike a.first.now a.second.now c.if-first-second.false in
     let a = c.args in
     let ls = lines a.start_x.now a.start_y.now a.end_x.now a.end_y.now in
-    let t = beside ls a.grid a.offsets.now a.items.now a.globals.now a.global-count in
+    let t = beside ls a.grid a.offsets.now a.items.now a.globals.now a.global_count in
     batch_refused ls a.grid t a.bookmark a.first.now a.second.now a.places.now same _ (found_none ls a.grid t a.bookmark _ c.find-found.ensures _ c.in-Refused.is)
 
 pub shape_of-first : goal.shape_of-first
@@ -119,16 +119,16 @@ shape_of-places c = c.clear_from-in-At-2.auto.s ∙ c.run_globals-global.auto.pl
 pub returns-in-At : goal.returns-in-At
 returns-in-At c =
     let same : let a = c.args in outputs_check a.first.now a.second.now ≡ Fine = let a = c.args in outputs_alike a.first.now a.second.now c.if-first-second.false in
-    let found : let a = c.args in let ls = lines a.start_x.now a.start_y.now a.end_x.now a.end_y.now in CursorIs ls a.grid (beside ls a.grid a.offsets.now a.items.now a.globals.now a.global-count) a.bookmark c.in-At.cursor = 
+    let found : let a = c.args in let ls = lines a.start_x.now a.start_y.now a.end_x.now a.end_y.now in CursorIs ls a.grid (beside ls a.grid a.offsets.now a.items.now a.globals.now a.global_count) a.bookmark c.in-At.cursor = 
         let a = c.args in
         let ls = lines a.start_x.now a.start_y.now a.end_x.now a.end_y.now in
-        let t = beside ls a.grid a.offsets.now a.items.now a.globals.now a.global-count in
+        let t = beside ls a.grid a.offsets.now a.items.now a.globals.now a.global_count in
         found_at ls a.grid t a.bookmark _ c.find-found.ensures c.in-At.cursor c.in-At.is in
-    let asks : let a = c.args in let ls = lines a.start_x.now a.start_y.now a.end_x.now a.end_y.now in RunAsks ls a.grid (beside ls a.grid a.offsets.now a.items.now a.globals.now a.global-count) c.in-At.cursor a.first.now a.second.now = 
+    let asks : let a = c.args in let ls = lines a.start_x.now a.start_y.now a.end_x.now a.end_y.now in RunAsks ls a.grid (beside ls a.grid a.offsets.now a.items.now a.globals.now a.global_count) c.in-At.cursor a.first.now a.second.now = 
         let a = c.args in
         let ls = lines a.start_x.now a.start_y.now a.end_x.now a.end_y.now in
-        run_asks ls a.grid a.offsets.now a.items.now a.globals.now a.global-count a.bookmark c.in-At.cursor found a.first.now a.second.now a.places.now same in
+        run_asks ls a.grid a.offsets.now a.items.now a.globals.now a.global_count a.bookmark c.in-At.cursor found a.first.now a.second.now a.places.now same in
     let a = c.args in
     let ls = lines a.start_x.now a.start_y.now a.end_x.now a.end_y.now in
-    let t = beside ls a.grid a.offsets.now a.items.now a.globals.now a.global-count in
-    batch_done ls a.grid t a.bookmark a.first.now a.second.now a.places.now same c.in-At.cursor found _ _ _ _ (run_is ls a.grid a.offsets.now a.items.now a.globals.now a.global-count c.in-At.cursor a.first.now a.second.now a.places.now asks _ refl _ _ _ c.run_cells-listed.result c.run_cells-listed.ensures _ _ _ c.run_globals-global.result c.run_globals-global.ensures) _ _ _ c.clear_from.ensures c.clear_from-in-At.ensures c.clear_from-in-At-2.ensures
+    let t = beside ls a.grid a.offsets.now a.items.now a.globals.now a.global_count in
+    batch_done ls a.grid t a.bookmark a.first.now a.second.now a.places.now same c.in-At.cursor found _ _ _ _ (run_is ls a.grid a.offsets.now a.items.now a.globals.now a.global_count c.in-At.cursor a.first.now a.second.now a.places.now asks _ refl _ _ _ c.run_cells-listed.result c.run_cells-listed.ensures _ _ _ c.run_globals-global.result c.run_globals-global.ensures) _ _ _ c.clear_from.ensures c.clear_from-in-At.ensures c.clear_from-in-At-2.ensures

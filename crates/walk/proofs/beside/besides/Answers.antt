@@ -8,7 +8,7 @@ pub loop-i-init : goal.loop-i-init
 loop-i-init c = added_start _ _ _ _ c.requires.fact_1
 
 pub beside-m-requires : goal.beside-m-requires
-beside-m-requires c = (added_room c.loop-i.invariant (omega arith), added_within c.loop-i.invariant _ _ (omega arith) c.requires.fact_2 (omega arith))
+beside-m-requires c = record { fact_1 = added_room c.loop-i.invariant (omega arith); fact_2 = added_within c.loop-i.invariant _ _ (omega arith) c.requires.fact_2 (omega arith) }
 
 pub loop-i-preserved : goal.loop-i-preserved
 loop-i-preserved c = added_more c.loop-i.invariant (beside_le _ _ _ _) (omega arith) (omega arith) c.beside-m.ensures

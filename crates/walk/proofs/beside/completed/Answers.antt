@@ -23,7 +23,7 @@ added-a-requires c =
         c.along-y.ensures ∙ ap (λ (z : Axis). along_on a.mode z a.line.start_y a.line.end_y) c.y_axis.ensures in
     let shared : let a = c.args in a.trod.count * share_of a.mode a.grid a.line ≡ a.trod.count * share c.along-x.result c.along-y.result = ap (λ (k : ℕ). c.args.trod.count * k) (share_is _ _ _ _ _ in_x in_y) in
     let p = c.requires in
-    (omega (arith, p.fact_3, shared), record { most = shape_within p.fact_1 p.fact_2; inside = p.fact_4 })
+    record { fact_1 = omega (arith, p.fact_3, shared); fact_2 = record { most = shape_within p.fact_1 p.fact_2; inside = p.fact_4 } }
 
 pub ended-b-requires : goal.ended-b-requires
 ended-b-requires c =
@@ -34,7 +34,7 @@ ended-b-requires c =
     let shared : let a = c.args in a.trod.count * share_of a.mode a.grid a.line ≡ a.trod.count * share c.along-x.result c.along-y.result = ap (λ (k : ℕ). c.args.trod.count * k) (share_is _ _ _ _ _ in_x in_y) in
     let p = c.requires in
     let k = c.added-a.ensures in
-    (omega (arith, p.fact_3, shared, k.count, k.len), (p.fact_1, p.fact_2))
+    record { fact_1 = omega (arith, p.fact_3, shared, k.count, k.len); fact_2 = p.fact_1; fact_3 = p.fact_2 }
 
 pub ended-requires : goal.ended-requires
 ended-requires c =
@@ -45,8 +45,7 @@ ended-requires c =
     let shared : let a = c.args in a.trod.count * share_of a.mode a.grid a.line ≡ a.trod.count * share c.along-x.result c.along-y.result = ap (λ (k : ℕ). c.args.trod.count * k) (share_is _ _ _ _ _ in_x in_y) in
     let p = c.requires in
     let k = c.added-a.ensures in
-    let e = c.ended-b.ensures in (
-      omega (
+    let e = c.ended-b.ensures in record { fact_1 = omega (
         arith,
         p.fact_3,
         shared,
@@ -55,9 +54,7 @@ ended-requires c =
         e.len,
         e.count,
         end_le c.args.mode c.args.grid c.args.line.start_x c.args.line.start_y,
-      ),
-      (p.fact_1, p.fact_2),
-    )
+      ); fact_2 = p.fact_1; fact_3 = p.fact_2 }
 
 pub returns : goal.returns
 returns c =

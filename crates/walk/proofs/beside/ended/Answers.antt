@@ -18,7 +18,7 @@ returns-then-nothing c =
 pub beside-requires : goal.beside-requires
 beside-requires c =
     let p = c.requires in
-    (omega (arith, p.fact_1, share_le c.neighbour-in_x.result c.neighbour-in_y.result), cell_within _ _ _ _ c.cell.ensures p.fact_2 p.fact_3)
+    record { fact_1 = omega (arith, p.fact_1, share_le c.neighbour-in_x.result c.neighbour-in_y.result); fact_2 = cell_within _ _ _ _ c.cell.ensures p.fact_2 p.fact_3 }
 
 pub returns : goal.returns
 unfolding endpoint_of

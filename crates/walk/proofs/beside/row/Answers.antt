@@ -13,7 +13,7 @@ low_row-requires c =
 pub up_row-requires : goal.up_row-requires
 up_row-requires c =
     let p = c.requires in
-    (omega (arith, p.fact_1, one_upper c.in-Upper.is), p.fact_2)
+    record { fact_1 = omega (arith, p.fact_1, one_upper c.in-Upper.is); fact_2 = p.fact_2 }
 
 pub returns-in-None : goal.returns-in-None
 unfolding row_of

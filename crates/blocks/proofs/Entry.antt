@@ -1,17 +1,17 @@
 -- The entries case by case: their checks in their order, and what each answers and leaves. Assumes nothing.
 use mathlib.Core.Path.{◌≡◌, refl, sym, ap, ◌∙◌}
-use mathlib.Core.Bool.{true, false, ◌&&◌}
-use mathlib.Core.List.{List, ◌++◌, []}
-use Prim.Native.Nat.{ℕ, ◌+◌, ◌-◌, ◌*◌, ◌≤◌, ◌<◌}
+use mathlib.Core.Bool.{false, ◌&&◌}
+use mathlib.Core.List.{List}
+use Prim.Native.Nat.{ℕ, ◌*◌, ◌≤◌, ◌<◌}
 use native.Mathlib.Omega.{arith}
 use borrow.Author.Tests.{leb-true, ltb-true}
 use lib.Dec.{leb, ltb}
-use lib.ListN.{length, get_or, take, drop, replicate, length-replicate, take-append-drop}
+use lib.ListN.{length, replicate, length-replicate, take-append-drop}
 use Rattle.refusals.specs.declared.Refusal.{Refusal}
 use Rattle.refusals.specs.declared.Check.{Check}
 use Rattle.refusals.specs.declared.Check.TheVariants.{Fine}
 use Rattle.refusals.specs.declared.Check.TheVariants as check
-use Rattle.refusals.specs.Refusals.{unless, and_then, Answer, refused, gives, ◌then◌, answer_by, clears, left_in, zero_beyond}
+use Rattle.refusals.specs.Refusals.{and_then, Answer, gives, ◌then◌, answer_by, clears, left_in, zero_beyond}
 use Rattle.refusals.proofs.Checks.{unless_fine, and_then_left, and_then_right}
 use Rattle.refusals.proofs.Answers.{then_refused, then_fine, then_and_then}
 use Rattle.refusals.proofs.Leaving.{left_same, Clearing, clearing_unless, clearing_then}
@@ -19,14 +19,12 @@ use Rattle.grid.specs.declared.Grid.{Grid}
 use Rattle.grid.specs.Domain.{fit, count_check, grid_check}
 use Rattle.grid.proofs.Fine.{grid_spares}
 use Rattle.grid.proofs.Bools.{and_left, and_right}
-use Rattle.tables.specs.Tables.{Tables, tables}
+use Rattle.tables.specs.Tables.{Tables}
 use Rattle.tables.specs.Fit.{tables_check, standing_check}
 use Rattle.tables.proofs.Laws.{take_tabulate, drop_zeros, length_tabulate}
-use Rattle.tables.proofs.Checking.{Standing, standing_says}
+use Rattle.tables.proofs.Checking.{standing_says}
 use Rattle.blocks.specs.declared.Block.{Block}
-use Rattle.blocks.specs.declared.Made.{Made}
 use Rattle.blocks.specs.declared.Made.TheVariants as made
-use Rattle.blocks.specs.declared.Count.{Count}
 use Rattle.blocks.specs.declared.Count.TheVariants as count
 use Rattle.blocks.specs.Blocks.{along, blocks, said, block_totals, summary_check, make_end, make_answer, MakeIs}
 use Rattle.blocks.specs.Query.{items_in, block_check, count_end, count_answer}

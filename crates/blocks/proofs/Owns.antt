@@ -1,6 +1,6 @@
 -- Whether a summary is that of some offsets: tests one after another, and what they come to. Assumes nothing.
 use mathlib.Core.Path.{◌≡◌, refl, sym, ap, ◌∙◌}
-use mathlib.Core.Bool.{Bool, true, false, ◌&&◌, true≢false}
+use mathlib.Core.Bool.{Bool, true, false, true≢false}
 use mathlib.Core.List.{List}
 use Prim.Native.Nat.{ℕ, suc, ◌+◌, ◌*◌, ◌≤◌, ◌<◌}
 use native.Mathlib.Numerals.{add-one}
@@ -16,7 +16,7 @@ use Rattle.tables.specs.Fit.{every, TablesFit}
 use Rattle.tables.specs.Tables.{tables}
 use Rattle.tables.proofs.Facts.{not_true, every_says, says_every}
 use Rattle.tables.proofs.Offsets.{every_same}
-use Rattle.blocks.specs.Blocks.{along, blocks, said, Own, own, rising, summary_of}
+use Rattle.blocks.specs.Blocks.{blocks, said, Own, own, rising, summary_of}
 use Rattle.blocks.specs.Inside.{Fills, Told, BlocksFilled}
 use Rattle.blocks.proofs.Places.{few_blocks}
 use Rattle.blocks.proofs.Telling.{told_none}

@@ -1,14 +1,13 @@
 -- Where cells and blocks stand: the block of a cell, that it is one of the blocks, and how many blocks a fit grid has at most. Assumes nothing.
-use mathlib.Core.Path.{◌≡◌, refl, sym, ap, ap₂, ◌∙◌}
-use mathlib.Core.Logic.{◌⊎◌, inl, inr, ⊎_elim}
+use mathlib.Core.Path.{◌≡◌, ap, ◌∙◌}
 use mathlib.Core.Bool.{true}
 use Prim.Native.Nat.{ℕ, zero, suc, ◌+◌, ◌-◌, ◌*◌, ◌/◌, ◌%◌, ◌≤◌, ◌<◌, ◌^◌}
-use native.Mathlib.Nat.{mod-lt, mod-eq_of_lt, div-eq_of_lt, div-add-mod', div-lt_iff_lt-mul, mul-add-div_right, mul-add-mod_self_right, mul-le-mul_right, mul-le-mul_left, mul-add, add-mul, mul_assoc, mul_comm, suc-mul, mul-suc}
+use native.Mathlib.Nat.{mod-lt, mod-eq_of_lt, div-eq_of_lt, div-lt_iff_lt-mul, mul-add-div_right, mul-add-mod_self_right, mul-le-mul_right, mul-le-mul_left, mul-add, add-mul, mul_assoc, mul_comm, suc-mul, mul-suc}
 use native.Mathlib.Decide.{dec_lt}
 use native.Mathlib.Omega.{arith}
 use Rattle.grid.specs.declared.Grid.{Grid}
 use Rattle.grid.specs.Domain.{fit}
-use Rattle.grid.proofs.Shapes.{Shape, fit_says, cell_inside}
+use Rattle.grid.proofs.Shapes.{fit_says, cell_inside}
 use Rattle.blocks.specs.Blocks.{along, blocks, block_of}
 
 -- ---- row and column of a place in row order

@@ -12,7 +12,7 @@ use native.Mathlib.Decide.{dec_lt}
 use native.Mathlib.Omega.{arith}
 use borrow.Author.Tests.{le-leb, lt-leb}
 use lib.Dec.{leb}
-use lib.ListN.{length, get_or}
+use lib.ListN.{get_or}
 use Rattle.grid.proofs.Shapes.{cell_inside}
 use Rattle.grid.proofs.Bools.{and_off, and_both}
 use Rattle.tables.specs.Lists.{sum}

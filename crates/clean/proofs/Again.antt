@@ -1,10 +1,10 @@
 -- Cleaning what was kept (document 02, 10: "Cleaning cleaned data changes nothing"), from the promises of two calls alone. Assumes nothing.
 use mathlib.Core.Path.{◌≡◌, refl, sym, ap, ◌∙◌, subst}
-use mathlib.Core.List.{List, [], ◌++◌, map, flatten}
-use Prim.Native.Nat.{ℕ, ◌-◌}
+use mathlib.Core.List.{List, map, flatten}
+use Prim.Native.Nat.{ℕ}
 use native.Mathlib.Omega.{arith}
 use lib.ListN.{length, take, replicate, length-map}
-use Rattle.refusals.specs.Refusals.{Answer, refused, gives, ◌then◌, answer_by, left_in, zero_beyond}
+use Rattle.refusals.specs.Refusals.{Answer, refused, gives, answer_by, left_in, zero_beyond}
 use Rattle.refusals.proofs.Answers.{then_passed}
 use Rattle.wkb.specs.Bytes.{Point}
 use Rattle.wkb.proofs.LineStrings.{gives_same}
@@ -12,8 +12,8 @@ use Rattle.members.specs.Held.{points_of, chains_of, held_check}
 use Rattle.members.proofs.Held.{points_back, chains_back}
 use Rattle.members.proofs.RoundTrips.{start}
 use Rattle.clean.specs.Cleaning.{cleaned, reasons, kept}
-use Rattle.clean.specs.Calls.{Outputs, outputs, kept_room_check, cleaning, cleaned_of, holds, kept_axis, kept_lengths, outputs_left, CleanedAs}
-use Rattle.clean.specs.declared.Cleaned.TheVariants.{Kept, Refused}
+use Rattle.clean.specs.Calls.{Outputs, kept_room_check, cleaning, cleaned_of, holds, kept_axis, kept_lengths, outputs_left, CleanedAs}
+use Rattle.clean.specs.declared.Cleaned.TheVariants.{Kept}
 use Rattle.clean.proofs.Rules.{cleaned_again}
 
 -- what a success says: its members, and what is left of them

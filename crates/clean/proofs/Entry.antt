@@ -1,15 +1,15 @@
 -- The promise of the call from its parts: after a refusal, and after members were cleaned. Assumes nothing.
 use mathlib.Core.Path.{◌≡◌, refl, sym, ap, ◌∙◌}
-use mathlib.Core.Bool.{Bool, true, false, ◌&&◌}
-use mathlib.Core.List.{List, [], ◌++◌, map, flatten}
-use Prim.Native.Nat.{ℕ, ◌+◌, ◌-◌, ◌/◌, ◌≤◌}
+use mathlib.Core.Bool.{false, ◌&&◌}
+use mathlib.Core.List.{List, map, flatten}
+use Prim.Native.Nat.{ℕ, ◌-◌, ◌/◌, ◌≤◌}
 use native.Mathlib.Omega.{arith}
 use lib.Dec.{leb, eqb}
 use lib.ListN.{length, length-map, replicate}
 use borrow.Author.Tests.{leb-true, eqb-true}
 use Rattle.refusals.specs.declared.Refusal.{Refusal}
 use Rattle.refusals.specs.declared.Check.TheVariants as check
-use Rattle.refusals.specs.Refusals.{unless, Answer, refused, gives, ◌then◌, answer_by, clears, left_in, zero_beyond}
+use Rattle.refusals.specs.Refusals.{refused, gives, answer_by, clears, left_in, zero_beyond}
 use Rattle.refusals.proofs.Checks.{unless_fine}
 use Rattle.refusals.proofs.Answers.{then_refused, then_fine}
 use Rattle.refusals.proofs.Leaving.{left_same, clearing_unless}

@@ -1,11 +1,11 @@
 -- Cleaning a file that was cleaned (document 02, 10), from the promises of the calls alone: cleaned, written, read, cleaned and written again, the bytes
 -- are the same, and no point has a reason. Assumes nothing.
-use mathlib.Core.Path.{◌≡◌, refl, sym, ap, ◌∙◌, subst}
-use mathlib.Core.List.{List, map, flatten}
+use mathlib.Core.Path.{◌≡◌, refl, sym, ap, ◌∙◌}
+use mathlib.Core.List.{List, flatten}
 use Prim.Native.Nat.{ℕ, ◌≤◌}
 use native.Mathlib.Omega.{arith}
 use lib.ListN.{length, take, replicate, length-map}
-use Rattle.refusals.specs.Refusals.{Answer, refused, gives, ◌then◌, answer_by, left_in, zero_beyond}
+use Rattle.refusals.specs.Refusals.{Answer, refused, gives, answer_by, left_in, zero_beyond}
 use Rattle.refusals.proofs.Answers.{then_passed}
 use Rattle.grid.specs.Domain.{count_check}
 use Rattle.wkb.specs.Bytes.{Point, multi_bytes}
@@ -14,12 +14,12 @@ use Rattle.wkb.specs.declared.MultiRead.TheVariants as read
 use Rattle.wkb.proofs.LineStrings.{gives_same}
 use Rattle.members.specs.Held.{points_of, chains_of, held_check}
 use Rattle.members.specs.Writing.{fit_check, bytes_in, written, written_of, bytes_left, WrittenAs}
-use Rattle.members.specs.declared.Written.TheVariants.{Bytes, Refused}
+use Rattle.members.specs.declared.Written.TheVariants.{Bytes}
 use Rattle.members.proofs.RoundTrips.{read_back, start, members_points, members_count}
 use Rattle.clean.specs.Cleaning.{cleaned, kept}
 use Rattle.clean.specs.Calls.{Outputs, CleanedAs}
 use Rattle.clean.specs.declared.Cleaned.TheVariants.{Kept}
-use Rattle.clean.proofs.Again.{Gave, gave, again}
+use Rattle.clean.proofs.Again.{gave, again}
 
 bytes_count : {m n : ℕ} → Bytes m ≡ Bytes n → m ≡ n
 bytes_count e = cc

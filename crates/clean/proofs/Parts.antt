@@ -1,23 +1,22 @@
 -- Laws of parts of points, and of a slice that is filled along them. Assumes nothing.
 use mathlib.Core.Path.{◌≡◌, refl, sym, ap, ◌∙◌, subst}
 use mathlib.Core.Bool.{Bool, true, false, ◌&&◌, cond}
-use mathlib.Core.List.{List, [], ◌∷◌, ◌++◌, append_assoc, append-nil, map, map-append, flat_map}
-use Prim.Native.Nat.{ℕ, zero, suc, ◌+◌, ◌-◌, ◌*◌, ◌/◌, ◌≤◌, ◌<◌}
+use mathlib.Core.List.{List, [], ◌∷◌, ◌++◌, append_assoc}
+use Prim.Native.Nat.{ℕ, zero, suc, ◌+◌, ◌-◌, ◌≤◌, ◌<◌}
 use native.Mathlib.Numerals.{add-one}
 use native.Mathlib.Omega.{arith}
 use lib.Dec.{leb}
 use lib.Ieee.{Float, binary64, of_bits, eq}
-use lib.ListN.{length, take, drop, get_or, set, replicate, length-append, length-map, length-drop, take-append-drop, drop_of_length-le}
+use lib.ListN.{length, take, drop, get_or, set, replicate, length-append, take-append-drop, drop_of_length-le}
 use lib.Seq.{slice, slice_empty, slice-cons, length-slice, take-suc, take-take, take-nil, drop-drop, drop-cons, set_at, length-take-le}
 use Rattle.wkb.specs.Bytes.{Point}
 use Rattle.wkb.specs.Inside.{PutIn}
-use Rattle.wkb.proofs.Stores.{put_none, put_one, put_more, put_length, Filling, fill_none, fill_length, fill_more, fill_all, fill_cleared}
-use Rattle.members.specs.Held.{points_of, chains_of}
+use Rattle.wkb.proofs.Stores.{put_none, put_one, Filling, fill_none, fill_length, fill_more, fill_all, fill_cleared}
+use Rattle.members.specs.Held.{points_of}
 use Rattle.members.proofs.Held.{length_points_of, point_at, origin}
-use Rattle.members.proofs.Along.{Along, Fitting, along_next, along_more, chains_next}
-use Rattle.clean.specs.Cleaning.{good, same_point, thin_after, thin, is_piece, kept_of, cleaned_member, cleaned, kept, range, repeat, short, reasons_after, reasons_by, piece_reasons, member_reasons, reasons, kept_values}
+use Rattle.clean.specs.Cleaning.{good, same_point, thin_after, thin, is_piece, kept_of, kept, repeat, short, reasons_after, reasons_by, piece_reasons, kept_values}
 use Rattle.clean.specs.Inside.{point_in, part, AllGood, none, more, Part, PieceEnds, ReasonsMarked, CleanRoom, Did, value_if, PutKept}
-use Rattle.clean.proofs.Rules.{pieces_whole, reasons_whole, reasons_broken, cleaned_whole, cleaned_broken, length_piece, kept_twice, thin_most, kept_long, kept_short, reasons_long, reasons_short, all_repeats}
+use Rattle.clean.proofs.Rules.{thin_most, kept_long, kept_short, reasons_long, reasons_short, all_repeats}
 
 -- ---- parts of a list
 

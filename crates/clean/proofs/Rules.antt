@@ -5,12 +5,12 @@
 -- Assumes nothing.
 use mathlib.Core.Path.{◌≡◌, refl, sym, ap, ◌∙◌, subst}
 use mathlib.Core.Bool.{Bool, true, false, cond}
-use mathlib.Core.List.{List, [], ◌∷◌, ◌++◌, append_assoc, append-nil, map, map-append, flatten, flat_map}
-use Prim.Native.Nat.{ℕ, suc, ◌+◌, ◌*◌, ◌≤◌, ◌<◌}
+use mathlib.Core.List.{List, [], ◌∷◌, ◌++◌, append_assoc, append-nil, map, flatten, flat_map}
+use Prim.Native.Nat.{ℕ, suc, ◌*◌, ◌≤◌, ◌<◌}
 use native.Mathlib.Omega.{arith}
 use borrow.Author.Tests.{le-leb, lt-leb, leb-true}
 use lib.Dec.{leb}
-use lib.ListN.{length, replicate, length-append, length-map, replicate-append-replicate}
+use lib.ListN.{length, replicate, length-append, replicate-append-replicate}
 use Rattle.wkb.specs.Bytes.{Point}
 use Rattle.clean.specs.Cleaning.{good, same_point, onto, pieces, thin_after, thin, is_piece, kept_of, cleaned_member, cleaned, kept, range, repeat, short, reasons_after, reasons_by, piece_reasons, between_pieces, member_reasons, reasons, kept_values}
 use Rattle.clean.specs.Inside.{AllGood, none, more}

@@ -1,16 +1,16 @@
 -- Laws of the way along the pieces of a member, and along members: what lies behind is marked, what is left is to be. Assumes nothing.
 use mathlib.Core.Path.{◌≡◌, refl, sym, ap, ◌∙◌, subst}
 use mathlib.Core.List.{List, [], ◌∷◌, ◌++◌, append-nil, map, map-append, flat_map}
-use Prim.Native.Nat.{ℕ, suc, ◌+◌, ◌-◌, ◌*◌, ◌≤◌, ◌<◌}
+use Prim.Native.Nat.{ℕ, ◌+◌, ◌-◌, ◌*◌, ◌≤◌, ◌<◌}
 use native.Mathlib.Omega.{arith}
-use lib.ListN.{length, take, drop, get_or, set, replicate, length-append, length-map}
+use lib.ListN.{length, drop, get_or, set, length-append, length-map}
 use Rattle.slices.specs.Slices.{cleared_from}
 use Rattle.wkb.specs.Bytes.{Point}
-use Rattle.wkb.proofs.Stores.{put_one, put_length, Filling, fill_none, fill_length, fill_more, fill_all, fill_cleared}
+use Rattle.wkb.proofs.Stores.{put_one, Filling, fill_none, fill_length, fill_more, fill_all, fill_cleared}
 use Rattle.members.specs.Held.{points_of, chains_of}
 use Rattle.members.proofs.Held.{Held}
 use Rattle.members.proofs.Along.{Along, along_none, along_next, along_more, Fitting, chains_next, chains_over}
-use Rattle.clean.specs.Cleaning.{good, kept_of, cleaned_member, cleaned, range, piece_reasons, member_reasons, reasons}
+use Rattle.clean.specs.Cleaning.{kept_of, cleaned_member, cleaned, range, piece_reasons, member_reasons, reasons}
 use Rattle.clean.specs.Inside.{point_in, part, Part, PieceEnds, CleanRoom, Did, MarkedAll}
 use Rattle.clean.proofs.Rules.{reasons_whole, reasons_broken, cleaned_whole, cleaned_broken, length_piece, length_member, kept_twice, cleaned_twice}
 use Rattle.clean.proofs.Parts.{part_length, part_broken, part_member}

@@ -1,5 +1,5 @@
 -- What private functions ask and promise. Definitions only.
-use Rattle.std.specs.Prelude.{ℕ, ◌+◌, ◌*◌, ◌/◌, ◌≤◌, ◌<◌, ◌≡◌, Bool, true, false, cond, List, [], ◌∷◌, map, leb, length, get_or}
+use Rattle.std.specs.Prelude.{ℕ, ◌+◌, ◌*◌, ◌/◌, ◌≤◌, ◌<◌, ◌≡◌, true, false, cond, List, [], ◌∷◌, map, leb, length, get_or}
 use Rattle.std.proofs.Math.Seq.{slice}
 use Rattle.refusals.specs.Refusals.{zero_beyond}
 use Rattle.wkb.specs.Bytes.{Point}

@@ -2,11 +2,10 @@
 use mathlib.Core.Path.{◌≡◌, refl, sym, ap, ◌∙◌}
 use mathlib.Core.Bool.{Bool, true, false, cond, ◌&&◌}
 use mathlib.Core.List.{List}
-use Prim.Native.Nat.{ℕ, zero, suc, ◌+◌, ◌≤◌, ◌<◌}
+use Prim.Native.Nat.{ℕ, ◌+◌, ◌≤◌, ◌<◌}
 use native.Mathlib.Numerals.{add-one}
 use native.Mathlib.Omega.{arith}
 use lib.ListN.{length, get_or}
-use lib.Dec.{leb}
 use lib.Ieee.{Float, nan, inf, fin, is_nan, eq, lt, le}
 use borrow.Author.Tests.{le-leb, lt-leb}
 use Rattle.numbers.specs.Order.{least_of, greatest_of}
@@ -14,7 +13,7 @@ use Rattle.grid.proofs.Bools.{and_left, and_right}
 use Rattle.grid.specs.declared.Box.{Box}
 use Rattle.grid.specs.Domain.{segment_by}
 use Rattle.grid.specs.Boxes.{box_of}
-use Rattle.listed.specs.Rooms.{BoxRoom, box_in, nowhere, is_within, within_all, inner_of}
+use Rattle.listed.specs.Rooms.{BoxRoom, nowhere, is_within, within_all, inner_of}
 
 pub box_is : (x0 y0 x1 y1 a b d e : Float) → a ≡ least_of x0 x1 → b ≡ least_of y0 y1 → d ≡ greatest_of x0 x1 → e ≡ greatest_of y0 y1
     → ◌≡◌ {A = Box} (record { min_x = a; min_y = b; max_x = d; max_y = e }) (box_of (segment_by x0 y0 x1 y1))

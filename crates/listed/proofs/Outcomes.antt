@@ -15,7 +15,7 @@ use Rattle.seek.specs.Cursors.{rest_in}
 use Rattle.seek.proofs.CellRests.{pair_taken}
 use Rattle.listed.specs.declared.CellAt.{CellAt}
 use Rattle.listed.specs.declared.CellAt.TheVariants as cellat
-use Rattle.listed.specs.Lists.{list_by, tests_of_cells, cells_from}
+use Rattle.listed.specs.Lists.{list_by, tests_of_cells}
 use Rattle.listed.specs.Places.{NextCell, FirstAt, LeftAt}
 use Rattle.listed.proofs.AsIs.{list_increases}
 use Rattle.listed.proofs.ListLaws.{from_later}

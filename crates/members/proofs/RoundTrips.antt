@@ -1,19 +1,18 @@
 -- The two round trips (document 02, 1): "reading what it wrote gives the same points and lengths bit for bit, and writing what was read from a
 -- MultiLineString that is little-endian throughout gives the same bytes". Assumes nothing.
 use mathlib.Core.Path.{◌≡◌, refl, sym, ap, ◌∙◌, subst}
-use mathlib.Core.Bool.{Bool, true}
-use mathlib.Core.List.{List, [], ◌∷◌, ◌++◌, map, flatten}
-use Prim.Native.Nat.{ℕ, suc, ◌≤◌, ◌<◌}
+use mathlib.Core.Bool.{true}
+use mathlib.Core.List.{List, map, flatten}
+use Prim.Native.Nat.{ℕ, ◌≤◌}
 use native.Mathlib.Omega.{arith}
-use lib.Dec.{leb, eqb}
-use lib.ListN.{length, take, replicate, length-map}
+use lib.ListN.{length, take, length-map}
 use lib.Seq.{take_at}
 use borrow.Author.Tests.{le-leb, eq-eqb}
 use Rattle.refusals.specs.declared.Check.TheVariants as check
 use Rattle.refusals.specs.Refusals.{unless, and_then, Answer, refused, gives, ◌then◌, ◌into◌, answer_by, left_in, zero_beyond}
-use Rattle.refusals.proofs.Answers.{then_fine, then_passed, into_passed}
+use Rattle.refusals.proofs.Answers.{then_passed, into_passed}
 use Rattle.grid.specs.Domain.{count_check}
-use Rattle.wkb.specs.Bytes.{Point, LineString, Members, none, more, MultiLineString, multi_bytes}
+use Rattle.wkb.specs.Bytes.{Point, Members, none, more, MultiLineString, multi_bytes}
 use Rattle.wkb.specs.Multi.{starts_of, found_multi, pair_check, members_room_check, multi_outcome, multi_read_of, axis_left, lengths_left, MultiReadAs}
 use Rattle.wkb.specs.declared.MultiRead.{MultiRead}
 use Rattle.wkb.specs.declared.MultiRead.TheVariants as read
@@ -21,7 +20,7 @@ use Rattle.wkb.proofs.LineStrings.{gives_same}
 use Rattle.members.specs.Held.{points_of, chains_of, all_lengths, held_check}
 use Rattle.members.specs.Writing.{fit_check, bytes_in, written, written_of, bytes_left, WrittenAs}
 use Rattle.members.specs.declared.Written.{Written}
-use Rattle.members.specs.declared.Written.TheVariants.{Bytes, Refused}
+use Rattle.members.specs.declared.Written.TheVariants.{Bytes}
 use Rattle.members.proofs.Held.{Held, held_says, held_fine, is_length_lem, length_points_of, map_x, map_y, points_back, flatten_chains, lengths_chains, length_chains_of, chains_back, sum_back}
 
 -- ---- pieces

@@ -1,17 +1,16 @@
 -- The promises of the writer and of the lines of members from their parts. Assumes nothing.
 use mathlib.Core.Path.{◌≡◌, refl, sym, ap, ◌∙◌, subst}
-use mathlib.Core.Bool.{Bool, true, false}
+use mathlib.Core.Bool.{true, false}
 use mathlib.Core.List.{List, flatten, map}
-use Prim.Native.Nat.{ℕ, ◌+◌, ◌-◌, ◌*◌, ◌^◌, ◌≤◌, ◌<◌}
+use Prim.Native.Nat.{ℕ, ◌+◌, ◌-◌, ◌*◌, ◌≤◌}
 use native.Mathlib.Omega.{arith}
-use lib.Dec.{leb, eqb}
+use lib.Dec.{leb}
 use lib.Ieee.{Float, binary64, of_bits}
 use lib.ListN.{length, replicate}
 use borrow.Author.Tests.{leb-true}
 use Rattle.refusals.specs.declared.Refusal.{Refusal}
-use Rattle.refusals.specs.declared.Check.{Check}
 use Rattle.refusals.specs.declared.Check.TheVariants as check
-use Rattle.refusals.specs.Refusals.{unless, Answer, refused, gives, ◌then◌, answer_by, clears, left_in, zero_beyond}
+use Rattle.refusals.specs.Refusals.{Answer, refused, gives, ◌then◌, answer_by, clears, left_in, zero_beyond}
 use Rattle.refusals.proofs.Checks.{unless_fine}
 use Rattle.refusals.proofs.Answers.{then_refused, then_fine, then_passed}
 use Rattle.refusals.proofs.Leaving.{left_same, left_zero, clearing_unless}
@@ -22,13 +21,13 @@ use Rattle.wkb.specs.Multi.{starts_of, ends_of}
 use Rattle.wkb.proofs.LineStrings.{gives_same}
 use Rattle.wkb.proofs.Chains.{length_starts}
 use Rattle.wkb.proofs.MultiReadings.{count_same}
-use Rattle.members.specs.Held.{points_of, chains_of, all_lengths, sum_of, held_check}
+use Rattle.members.specs.Held.{points_of, chains_of, sum_of, held_check}
 use Rattle.members.specs.Writing.{fit_check, bytes_in, written, written_of, bytes_left, WrittenAs}
 use Rattle.members.specs.Lining.{lined_within, lining, lined_of, ends_left, lines_left, LinedAs}
-use Rattle.members.specs.Inside.{ends_at, zero_lines, floats_at, lines_put}
+use Rattle.members.specs.Inside.{zero_lines, floats_at, lines_put}
 use Rattle.members.specs.declared.Written.TheVariants.{Bytes, Refused}
 use Rattle.members.specs.declared.Lined.TheVariants as lined
-use Rattle.members.proofs.Held.{Held, held_says, length_points_of, map_x, map_y, patterns_of, length_chains_of, flatten_chains, chains_fit, fits_some}
+use Rattle.members.proofs.Held.{Held, held_says, length_points_of, map_x, map_y, length_chains_of, flatten_chains, chains_fit, fits_some}
 use Rattle.members.proofs.Along.{starts_by, ends_by}
 use Rattle.members.proofs.Putting.{length_multi, multi_is}
 

@@ -1,5 +1,5 @@
 -- What the writer of a MultiLineString answers and leaves (document 02, 1, with refusals 3, 2 and 5). Definitions only.
-use Rattle.std.specs.Prelude.{ℕ, ◌<◌, ◌≡◌, List, leb, length}
+use Rattle.std.specs.Prelude.{ℕ, ◌≡◌, List, leb, length}
 use Rattle.refusals.specs.declared.Check.{Check}
 use Rattle.refusals.specs.Refusals.{unless, Answer, gives, ◌then◌, answer_by, left_in, zero_beyond}
 use Rattle.grid.specs.Domain.{count_check}

@@ -1,6 +1,6 @@
 -- Whether a coordinate lies between the ends of an axis, as the code asks it: lo is the low edge of the first index and hi the high edge of the
 -- last. Assumes nothing.
-use Rattle.std.proofs.Common.{◌≡◌, ℕ, zero, suc, ◌-◌, Bool, true, false, ◌&&◌, sym, ap, ◌∙◌, arith}
+use Rattle.std.proofs.Common.{◌≡◌, ℕ, zero, suc, ◌-◌, true, false, ◌&&◌, ap, arith}
 use lib.Ieee.{Float, le}
 use Rattle.grid.specs.declared.Axis.{Axis}
 use Rattle.grid.specs.Axes.{low_on, high_on}

@@ -1,13 +1,11 @@
 -- The owners of many points: which number stands for which answer, that they tell all answers apart, and the answers entry by entry.
 -- Assumes nothing.
-use Rattle.std.proofs.Common.{◌≡◌, ℕ, zero, suc, ◌+◌, ◌-◌, ◌*◌, ◌<◌, ◌≤◌, Bool, true, false, cond, ◌&&◌, eqb, List, [], ◌∷◌, ◌++◌, length, get_or, take, drop, set, sym, refl, ap, ◌∙◌, subst, ap₂, append-nil, add-one, arith, length-set, drop_of_length-le, take_all, ne_eqb}
+use Rattle.std.proofs.Common.{◌≡◌, ℕ, zero, suc, ◌+◌, ◌-◌, ◌*◌, ◌<◌, ◌≤◌, true, false, List, [], ◌∷◌, ◌++◌, length, get_or, take, drop, set, sym, refl, ap, ◌∙◌, subst, ap₂, append-nil, add-one, arith, length-set, drop_of_length-le, take_all, ne_eqb}
 use lib.Ieee.{Float, nan}
-use Rattle.refusals.specs.declared.Check.{Check}
 use Rattle.refusals.specs.declared.Check.TheVariants.{Fine, Refused}
 use Rattle.refusals.specs.Refusals.{refusal, each_from}
 use Rattle.refusals.proofs.Checks.{each_good, each_bad, each_over, each_says}
 use Rattle.grid.specs.declared.Grid.{Grid}
-use Rattle.grid.specs.Axes.{x_axis, y_axis}
 use Rattle.grid.specs.Domain.{coordinate, point, fit}
 use Rattle.grid.proofs.Bools.{and_left, and_right}
 use Rattle.grid.proofs.Shapes.{fit_says, cell_inside, col_of, row_of_lem}
@@ -15,7 +13,7 @@ use Rattle.own.specs.declared.Owner.{Owner}
 use Rattle.own.specs.declared.Owner.TheVariants.{Cell, Seam, Outside}
 use Rattle.own.specs.Owner.{owner_of}
 use Rattle.own.specs.Cases.{Case}
-use Rattle.own.specs.Many.{owner_number, owner_by, owners_of, point_fits, points_check, OwnersAre}
+use Rattle.own.specs.Many.{owner_number, owner_by, owners_of, point_fits, points_check}
 use Rattle.own.specs.Inside.{PointAskable}
 use Rattle.own.proofs.ThreeCases.{its_case}
 

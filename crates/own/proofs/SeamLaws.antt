@@ -1,6 +1,6 @@
 -- A point between the ends of the grid has no owner exactly where, on some axis, it lies between the high edge of an index and the low edge of
 -- the next, which rounding parted. Assumes nothing.
-use Rattle.std.proofs.Common.{◌≡◌, ℕ, zero, suc, ◌+◌, ◌-◌, ◌<◌, ◌≤◌, Bool, true, false, ◌&&◌, ◌||◌, T, eqb, ltb, ◌⊎◌, sym, refl, ap, ◌∙◌, subst, inl, inr, ⊎_elim, true≢false, arith, ltb-false, ltb-true, eq-eqb}
+use Rattle.std.proofs.Common.{◌≡◌, ℕ, zero, suc, ◌+◌, ◌-◌, ◌<◌, Bool, true, false, ◌&&◌, ◌||◌, T, eqb, ltb, ◌⊎◌, sym, refl, ap, ◌∙◌, subst, inl, inr, ⊎_elim, true≢false, arith, ltb-false, ltb-true, eq-eqb}
 use lib.Ieee.{Float, lt, le, eq}
 use lib.Ieee.Bits.{is_true}
 use Rattle.refusals.specs.declared.Check.TheVariants.{Fine}
@@ -13,7 +13,7 @@ use Rattle.numbers.proofs.FloatOrder.{at_most, not_under}
 use Rattle.own.specs.declared.Found.{Found}
 use Rattle.own.specs.declared.Found.TheVariants.{At, Nowhere}
 use Rattle.own.specs.Own.{owns_on, owns_point, point_on_grid_check}
-use Rattle.own.specs.Owner.{first_from, first_owning, Searchable}
+use Rattle.own.specs.Owner.{first_owning, Searchable}
 use Rattle.own.specs.Cases.{Nobody, WithinGrid, Parted, InGap}
 use Rattle.own.proofs.Edges.{high_number, over_before, under_after}
 use Rattle.own.proofs.Firsts.{None, none_first, at_first}

@@ -1,14 +1,13 @@
 -- What is left of the cells' lists: a pair is taken, a row ends, a list ends, and the next begins. Assumes nothing.
-use mathlib.Core.Path.{◌≡◌, refl, sym, ap, ◌∙◌}
-use mathlib.Core.List.{List, [], ◌∷◌, ◌++◌, append_assoc, append-nil}
-use Prim.Native.Nat.{ℕ, zero, suc, ◌+◌, ◌-◌, ◌≤◌, ◌<◌}
-use native.Mathlib.Numerals.{add-one}
+use mathlib.Core.Path.{◌≡◌}
+use mathlib.Core.List.{List, [], ◌∷◌, ◌++◌}
+use Prim.Native.Nat.{ℕ, zero, suc, ◌-◌, ◌≤◌, ◌<◌}
 use native.Mathlib.Omega.{arith}
-use lib.ListN.{length, get_or, take, drop, length-drop, drop_of_length-le}
-use lib.Seq.{slice, drop-cons, length-slice, get_or-drop}
+use lib.ListN.{length, get_or, drop, length-drop, drop_of_length-le}
+use lib.Seq.{drop-cons, length-slice}
 use Rattle.tables.specs.Tables.{list_in}
 use Rattle.seek.specs.declared.Place.{Place}
-use Rattle.seek.specs.Tests.{Pair, pair, with_each, pairs, place_of, cell_tests}
+use Rattle.seek.specs.Tests.{pair, pairs, place_of, cell_tests}
 use Rattle.seek.specs.Cursors.{rest_in, cells_rest}
 use Rattle.tables.specs.InsideFit.{CellsFit}
 use Rattle.seek.proofs.Clauses.{left_suc, with_nil, with_cons, pairs_nil, pairs_cons, cells_suc, cells_zero, rest_suc, rest_zero}

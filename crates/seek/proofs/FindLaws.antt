@@ -3,12 +3,10 @@ use mathlib.Core.Path.{◌≡◌, refl, sym, subst, ◌∙◌}
 use mathlib.Core.Bool.{false}
 use Prim.Native.Nat.{ℕ, ◌≤◌, ◌<◌}
 use lib.ListN.{length, drop}
-use lib.Dec.{leb}
 use borrow.Author.Tests.{le-leb, lt-leb}
 use Rattle.refusals.specs.declared.Refusal.{Refusal}
-use Rattle.refusals.specs.declared.Check.{Check}
 use Rattle.refusals.specs.declared.Check.TheVariants.{Fine, Refused}
-use Rattle.refusals.specs.Refusals.{refusal, unless, and_then, Answer, refused, gives, answer_by, clears}
+use Rattle.refusals.specs.Refusals.{refusal, unless, and_then, refused, gives, answer_by, clears}
 use Rattle.refusals.proofs.Checks.{and_then_refused, and_then_fine}
 use Rattle.refusals.proofs.Answers.{then_refused, then_fine, then_and_then}
 use Rattle.refusals.proofs.Leaving.{Clearing, clearing_unless, clearing_then}
@@ -24,8 +22,8 @@ use Rattle.seek.specs.declared.PairAnswer.{PairAnswer}
 use Rattle.seek.specs.declared.PairAnswer.TheVariants as one
 use Rattle.seek.specs.declared.bookmarks.Sought.{Sought}
 use Rattle.seek.specs.declared.bookmarks.Sought.TheVariants as sought
-use Rattle.seek.specs.Tests.{Pair, tests_of}
-use Rattle.seek.specs.Bookmarks.{visit_check, bookmark_check, from_check, tests_from, first_of, pair_at}
+use Rattle.seek.specs.Tests.{tests_of}
+use Rattle.seek.specs.Bookmarks.{visit_check, bookmark_check, from_check, tests_from, pair_at}
 use Rattle.seek.specs.Cursors.{CursorIs, FindIs}
 use Rattle.seek.specs.Inside.{pair_of, SoughtAt, SeekIs}
 

@@ -1,7 +1,7 @@
 -- What a seek found is the cursor of the bookmark: in a cell, at a global, at the end; or the bookmark lies beyond. Assumes nothing.
-use mathlib.Core.Path.{◌≡◌, refl, sym, ap, ◌∙◌}
-use mathlib.Core.List.{List, [], ◌∷◌, ◌++◌, append_assoc, append-nil}
-use Prim.Native.Nat.{ℕ, zero, suc, ◌+◌, ◌-◌, ◌*◌, ◌≤◌, ◌<◌, ◌^◌}
+use mathlib.Core.Path.{◌≡◌, sym, ap, ◌∙◌}
+use mathlib.Core.List.{List, [], ◌∷◌, ◌++◌, append_assoc}
+use Prim.Native.Nat.{ℕ, suc, ◌+◌, ◌-◌, ◌*◌, ◌≤◌, ◌<◌}
 use native.Mathlib.Nat.{sub-zero}
 use native.Mathlib.Numerals.{add-one}
 use native.Mathlib.Omega.{arith}
@@ -19,16 +19,15 @@ use Rattle.seek.specs.Tests.{Pair, with_each, pairs, place_of, cell_tests, other
 use Rattle.seek.specs.Bookmarks.{visit_check}
 use Rattle.tables.specs.InsideFit.{CellsFit, GlobalsFit}
 use Rattle.seek.specs.Inside.{tri, CellSought, RowSought, GlobalSought, LineSought, SoughtAsks, PairAtAsks, SoughtAt}
-use Rattle.seek.specs.Cursors.{cells_rest, globals_rest, rest_in, rest_of, PlaceFits, LineFits, at_first_test, CursorIs}
-use Rattle.seek.proofs.Clauses.{left_suc, length_with, drop_with, with_cons, pairs_cons, cells_zero, cells_suc, globals_zero, globals_suc}
+use Rattle.seek.specs.Cursors.{globals_rest, rest_in, rest_of, PlaceFits, at_first_test, CursorIs}
+use Rattle.seek.proofs.Clauses.{left_suc, length_with, drop_with, pairs_cons, cells_zero, cells_suc, globals_zero, globals_suc}
 use Rattle.seek.proofs.CellRests.{length_list, rest_at, cells_done}
 use Rattle.seek.proofs.GlobalRests.{grest_at, globals_begin, globals_done}
 use Rattle.seek.proofs.FirstTests.{first_in_cell, first_at_global, first_at_end, reads_cell, reads_global, reads_end}
-use Rattle.seek.proofs.Lengths.{lines_count, length_pairs}
+use Rattle.seek.proofs.Lengths.{lines_count}
 use Rattle.tables.proofs.Parts.{fit_globals}
-use Rattle.seek.proofs.Standing.{Stands, stands}
 use Rattle.seek.proofs.Clauses.{regroup}
-use Rattle.seek.proofs.Passed.{here, m_fits, m_few, lines_few}
+use Rattle.seek.proofs.Passed.{here, m_fits, m_few}
 
 -- the row i of a list, with some of it passed
 row_rest : (xs : List ℕ) (pl : Place) (tail : List Pair) (i left : ℕ) → i + 1 + left < length xs

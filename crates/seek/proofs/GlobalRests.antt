@@ -1,20 +1,19 @@
 -- What is left of the globals' tests: a run of lines, a global that is passed over, the next global. Assumes nothing.
-use mathlib.Core.Path.{◌≡◌, refl, sym, ap, subst, ◌∙◌}
-use mathlib.Core.Bool.{Bool, true, false}
-use mathlib.Core.List.{List, [], ◌∷◌, ◌++◌, append_assoc}
+use mathlib.Core.Path.{◌≡◌, sym, ap, subst, ◌∙◌}
+use mathlib.Core.Bool.{true, false}
+use mathlib.Core.List.{List, [], ◌++◌, append_assoc}
 use Prim.Native.Nat.{ℕ, zero, suc, ◌+◌, ◌-◌, ◌≤◌, ◌<◌}
 use native.Mathlib.Nat.{sub-zero}
 use native.Mathlib.Numerals.{add-one}
 use native.Mathlib.Decide.{ℕ_discrete, dec_lt}
 use native.Mathlib.Omega.{arith}
-use lib.ListN.{length, get_or, take, drop}
+use lib.ListN.{length, get_or, take}
 use lib.Seq.{get_or-take, length-take-le}
-use lib.Dec.{leb}
 use borrow.Author.Tests.{le-leb, lt-leb}
 use Rattle.slices.specs.Lists.{elem}
 use Rattle.slices.proofs.Members.{elem_at}
 use Rattle.seek.specs.declared.Place.TheVariants.{Global}
-use Rattle.seek.specs.Tests.{Pair, pair, with_each, others, global_tests}
+use Rattle.seek.specs.Tests.{Pair, with_each, others, global_tests}
 use Rattle.tables.specs.InsideFit.{GlobalsFit}
 use Rattle.seek.specs.Inside.{numbers, stop_if, stop_of}
 use Rattle.seek.specs.Cursors.{globals_rest, LineFits}

@@ -1,20 +1,19 @@
 -- How many tests there are. Assumes nothing.
-use mathlib.Core.Path.{◌≡◌, refl, sym, ap, ◌∙◌}
-use mathlib.Core.List.{List, [], ◌∷◌, ◌++◌}
+use mathlib.Core.Path.{◌≡◌, refl, sym}
+use mathlib.Core.List.{List, [], ◌∷◌}
 use Prim.Native.Nat.{ℕ, zero, suc, ◌+◌, ◌-◌, ◌*◌, ◌/◌, ◌≤◌, ◌<◌, ◌^◌}
-use native.Mathlib.Nat.{add-zero, zero-add, suc-mul, mul-suc, zero-mul, mul-zero, mul-le-mul_left, mul-le-mul_right, le_trans}
-use native.Mathlib.Numerals.{add-one}
+use native.Mathlib.Nat.{add-zero, zero-add, suc-mul, mul-suc, zero-mul, mul-zero, mul-le-mul_right}
 use native.Mathlib.Omega.{arith}
-use lib.ListN.{length, get_or, take, drop, length-append}
+use lib.ListN.{length, take, length-append}
 use lib.Seq.{length-take-le}
 use Rattle.slices.specs.Lists.{Below, Rising}
 use Rattle.slices.proofs.Distinct.{length_rising}
 use Rattle.grid.specs.declared.Grid.{Grid}
 use Rattle.grid.specs.Domain.{Lines, count}
-use Rattle.tables.specs.Tables.{Tables, cells, list_in, globals_of, beside}
-use Rattle.tables.specs.Fit.{TablesFit, Increasing}
+use Rattle.tables.specs.Tables.{Tables, cells, list_in, beside}
+use Rattle.tables.specs.Fit.{Increasing}
 use Rattle.seek.specs.declared.Place.{Place}
-use Rattle.seek.specs.Tests.{Pair, with_each, pairs, place_of, cell_tests, others, global_tests, tests_of}
+use Rattle.seek.specs.Tests.{pairs, cell_tests, others, global_tests, tests_of}
 use Rattle.tables.specs.InsideFit.{GlobalsFit}
 use Rattle.seek.specs.Inside.{tri}
 use Rattle.seek.proofs.Clauses.{length_with, pairs_nil, pairs_cons, cells_zero, cells_suc, globals_zero, globals_suc}

@@ -1,8 +1,8 @@
 -- Both lines of a test are lines that there are. Assumes nothing.
-use mathlib.Core.Path.{◌≡◌, refl, sym, ap, ◌∙◌}
+use mathlib.Core.Path.{◌≡◌, refl}
 use mathlib.Core.Bool.{Bool, true, false}
 use mathlib.Core.List.{List, [], ◌∷◌, ◌++◌}
-use Prim.Native.Nat.{ℕ, zero, suc, ◌+◌, ◌≤◌, ◌<◌}
+use Prim.Native.Nat.{ℕ, zero, suc, ◌+◌, ◌<◌}
 use native.Mathlib.Omega.{arith}
 use lib.ListN.{get_or, take, drop}
 use Rattle.slices.specs.Lists.{elem, Below}
@@ -10,7 +10,7 @@ use Rattle.refusals.specs.declared.Check.TheVariants.{Fine}
 use Rattle.refusals.specs.Refusals.{Answer, refused, gives, answer_by}
 use Rattle.refusals.proofs.Answers.{then_passed}
 use Rattle.grid.specs.declared.Grid.{Grid}
-use Rattle.grid.specs.Domain.{Lines, count, lines_check}
+use Rattle.grid.specs.Domain.{Lines, lines_check}
 use Rattle.tables.specs.Tables.{Tables, cells, list_in}
 use Rattle.tables.specs.Fit.{TablesFit}
 use Rattle.seek.specs.declared.Place.{Place}

@@ -1,23 +1,22 @@
 -- One turn of each part of a seek: a whole cell, row, global or run of lines is passed. Assumes nothing.
 use mathlib.Core.Path.{◌≡◌, refl, sym, ap, ◌∙◌}
-use mathlib.Core.List.{List, [], ◌∷◌, ◌++◌, append_assoc}
-use Prim.Native.Nat.{ℕ, zero, suc, ◌+◌, ◌-◌, ◌*◌, ◌≤◌, ◌<◌}
+use mathlib.Core.List.{List, ◌∷◌, ◌++◌, append_assoc}
+use Prim.Native.Nat.{ℕ, suc, ◌+◌, ◌-◌, ◌≤◌, ◌<◌}
 use native.Mathlib.Nat.{sub-zero}
 use native.Mathlib.Numerals.{add-one}
-use native.Mathlib.Decide.{dec_lt}
 use native.Mathlib.Omega.{arith}
 use lib.ListN.{length, get_or, take, drop, length-append, length-drop}
-use lib.Seq.{drop-cons, drop-append-le, drop-drop}
+use lib.Seq.{drop-cons, drop-drop}
 use Rattle.tables.specs.Tables.{list_in}
 use Rattle.seek.specs.declared.Place.{Place}
 use Rattle.seek.specs.declared.Place.TheVariants.{Global}
 use Rattle.seek.specs.Tests.{Pair, with_each, pairs, place_of, cell_tests, others, global_tests}
 use Rattle.tables.specs.InsideFit.{CellsFit, GlobalsFit}
-use Rattle.seek.specs.Inside.{tri, numbers, stop_of, CellSought, RowSought, GlobalSought, LineSought, SoughtAsks}
+use Rattle.seek.specs.Inside.{tri, stop_of, CellSought, RowSought, GlobalSought, LineSought, SoughtAsks}
 use Rattle.seek.specs.Cursors.{LineFits}
-use Rattle.seek.proofs.Clauses.{left_suc, drop_past, length_with, drop_with, pairs_cons, cells_suc, globals_suc}
+use Rattle.seek.proofs.Clauses.{left_suc, drop_past, length_with, pairs_cons, cells_suc, globals_suc}
 use Rattle.seek.proofs.CellRests.{length_list}
-use Rattle.seek.proofs.OtherLines.{others_run, others_jump}
+use Rattle.seek.proofs.OtherLines.{others_jump}
 use Rattle.seek.proofs.GlobalRests.{stop_in, stop_out, stop_most, free, line_further, pass_others, pass_fits}
 use Rattle.seek.proofs.Lengths.{tri_suc, tri_zero, length_pairs, lines_count}
 

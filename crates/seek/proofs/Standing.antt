@@ -5,10 +5,9 @@ use native.Mathlib.Nat.{mul-zero}
 use native.Mathlib.Omega.{arith}
 use Rattle.slices.specs.Lists.{Below}
 use Rattle.refusals.specs.declared.Check.TheVariants.{Fine}
-use Rattle.refusals.specs.Refusals.{unless}
 use Rattle.refusals.proofs.Checks.{unless_fine, and_then_left, and_then_right}
 use Rattle.grid.specs.declared.Grid.{Grid}
-use Rattle.grid.specs.Domain.{Lines, count, lines_check, grid_check, fit}
+use Rattle.grid.specs.Domain.{Lines, lines_check, grid_check, fit}
 use Rattle.grid.proofs.Fine.{LinesFit, lines_fine}
 use Rattle.grid.proofs.Shapes.{Fit, fit_says}
 use Rattle.tables.specs.Tables.{Tables, cells, list_in}

@@ -3,8 +3,8 @@ use Rattle.std.specs.Prelude.{ℕ, List, [], ◌∷◌, length, drop, leb}
 use Rattle.refusals.specs.declared.Check.{Check}
 use Rattle.refusals.specs.Refusals.{unless, and_then, Answer, gives, ◌then◌, answer_by}
 use Rattle.grid.specs.declared.Grid.{Grid}
-use Rattle.grid.specs.Domain.{Lines, count, lines_check, grid_check}
-use Rattle.tables.specs.Tables.{Tables, tables}
+use Rattle.grid.specs.Domain.{Lines, lines_check, grid_check}
+use Rattle.tables.specs.Tables.{Tables}
 use Rattle.tables.specs.Fit.{tables_check}
 use Rattle.seek.specs.declared.PairAnswer.{PairAnswer}
 use Rattle.seek.specs.declared.PairAnswer.TheVariants as answer

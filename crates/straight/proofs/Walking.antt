@@ -1,7 +1,7 @@
 -- The turns of a line that keeps to one coordinate: each moves it by one on the other axis, toward its end, until it is there. `v` says which axis it
 -- keeps to: x where it is true. Assumes nothing.
 use mathlib.Core.Path.{◌≡◌, refl, ap, ◌∙◌}
-use Prim.Native.Nat.{ℕ, zero, suc, ◌+◌, ◌-◌, ◌*◌, ◌≤◌, ◌<◌}
+use Prim.Native.Nat.{ℕ, zero, suc, ◌+◌, ◌-◌, ◌*◌, ◌^◌, ◌≤◌, ◌<◌}
 use native.Mathlib.Omega.{arith}
 use mathlib.Core.Bool.{Bool, true, false, not, cond, and-true}
 use mathlib.Core.Logic.{inl, inr}
@@ -10,6 +10,7 @@ use lib.IntN.{ℤ, pos, negsuc, pred_ℤ, ◌+ℤ◌, +ℤ_one, -ℤ_one}
 use lib.Dec.{eqb}
 use lib.Ieee.{Float, nan, inf, fin, binary64, add, mul, lt}
 use borrow.Author.Tests.{lt-ltb, eq-eqb, ne_eqb}
+use Rattle.numbers.specs.Arithmetic.{decimal}
 use Rattle.numbers.specs.Order.{least_of, greatest_of, magnitude_of}
 use Rattle.refusals.specs.Refusals.{gives, ◌into◌}
 use Rattle.turns.specs.Turns.{one, infinite, Stride, Progress, Ray, State, tolerance_of, stop, single, further_of, same_int, arrived_of, turn_of, advanced, moved_of, goes_of}
@@ -25,9 +26,17 @@ none_above nan = refl
 none_above (inf s) = refl
 none_above (fin s m e) = refl
 
+-- above infinity there is nothing
+unending : add binary64 one (mul binary64 (fin false 1 (negsuc 48)) infinite) ≡ infinite
+unfolding mul add
+unending = refl
+
 endless : (tx ty : Float) → greatest_of (greatest_of (magnitude_of tx) (magnitude_of ty)) one ≡ infinite → add binary64 one (tolerance_of tx ty) ≡ infinite
-unfolding tolerance_of mul add
-endless tx ty h = rw (constant, h)
+unfolding tolerance_of
+endless tx ty h =
+    ap (λ (g : Float). add binary64 one (mul binary64 (mul binary64 (decimal 8 1) (decimal 1 (2 ^ 52))) g)) h
+    ∙ ap (λ (k : Float). add binary64 one (mul binary64 k infinite)) constant
+    ∙ unending
 
 module _ (t : Float) where
   further_y : further_of infinite t ≡ single false

@@ -1,5 +1,5 @@
 -- The walk as a call, from its parts; and what it says to the crates above. Assumes nothing.
-use Rattle.std.proofs.Common.{◌≡◌, ℕ, ◌+◌, ◌-◌, ◌≤◌, Bool, false, List, ◌++◌, length, take, sym, refl, ap, ◌∙◌, subst, arith, length-append, length-take-le}
+use Rattle.std.proofs.Common.{◌≡◌, ℕ, ◌-◌, ◌≤◌, Bool, false, List, ◌++◌, length, take, sym, refl, ap, ◌∙◌, subst, arith, length-append, length-take-le}
 use Rattle.slices.specs.Lists.{any}
 use Rattle.slices.specs.Slices.{cleared_from}
 use Rattle.refusals.specs.declared.Refusal.{Refusal}

@@ -1,5 +1,5 @@
 -- How many cells a walk pushes, by the line: along an axis few, at a point hardly any. Assumes nothing.
-use Rattle.std.proofs.Common.{◌≡◌, ℕ, ◌+◌, ◌-◌, ◌*◌, ◌%◌, ◌≤◌, true, false, List, length, sym, ◌∙◌, inl, inr, arith}
+use Rattle.std.proofs.Common.{◌≡◌, ℕ, ◌+◌, ◌*◌, ◌%◌, ◌≤◌, true, false, List, length, sym, ◌∙◌, inl, inr, arith}
 use lib.Ieee.{Float, inf, binary64, sub, eq}
 use Rattle.slices.specs.Lists.{Below}
 use Rattle.refusals.specs.Refusals.{gives}

@@ -1,10 +1,9 @@
 -- A plain turn is the turn of the definition: the tolerance goes by the greater t_max, the walk does not stop, and the two are not near. Assumes nothing.
-use Rattle.std.proofs.Common.{◌≡◌, Bool, true, false, cond, ◌&&◌, T, ◌⊎◌, pos, negsuc, sym, refl, ap, ◌∙◌, subst, inl, inr, true≢false}
+use Rattle.std.proofs.Common.{◌≡◌, Bool, true, false, cond, ◌&&◌, T, ◌⊎◌, negsuc, sym, refl, ap, ◌∙◌, subst, inl, inr, true≢false}
 use lib.Ieee.{Float, nan, inf, fin, binary64, add, sub, mul, lt, le, eq, is_nan}
 use Rattle.numbers.specs.Order.{least_of, greatest_of, magnitude_of}
 use Rattle.numbers.proofs.FloatOrder.{number, float_le_trans, at_most, not_under, lt_le, le_number}
 use Rattle.numbers.proofs.Extremes.{no_nan}
-use Rattle.turns.specs.declared.Turn.{Turn}
 use Rattle.turns.specs.Turns.{nought, one, infinite, finite_of, tolerance_of, near_of, stop, both, single, further_of}
 use Rattle.turns.specs.Inside.{wide, plainly}
 use Rattle.turns.proofs.Floats.{last_false}

@@ -1,6 +1,6 @@
 -- The walk with whole indices and the code's, whose indices are kept modulo 2^32, find the same: in 5,000 turns from an index of 0 to 4,003 an index
 -- stays between -5,000 and 9,004. Assumes nothing.
-use Rattle.std.proofs.Common.{◌≡◌, ℕ, zero, suc, ◌+◌, ◌-◌, ◌*◌, ◌%◌, ◌≤◌, Bool, true, false, cond, ◌&&◌, eqb, ltb, List, [], ◌++◌, ℤ, pos, negsuc, ◌+ℤ◌, sym, refl, ap, ◌∙◌, subst, ap₂, arith, le-ltb, ne_eqb}
+use Rattle.std.proofs.Common.{◌≡◌, ℕ, zero, suc, ◌+◌, ◌*◌, ◌%◌, ◌≤◌, Bool, true, false, cond, ◌&&◌, eqb, ltb, List, [], ◌++◌, ℤ, pos, negsuc, ◌+ℤ◌, sym, refl, ap, ◌∙◌, subst, ap₂, arith, le-ltb, ne_eqb}
 use lib.IntN.{suc_ℤ, pred_ℤ, +ℤ_one, -ℤ_one, +ℤ_idr}
 use lib.Ieee.{Float, binary64, sub, lt}
 use Rattle.grid.specs.declared.Axis.{Axis}

@@ -1,12 +1,12 @@
 -- No coordinate of checked lines is a NaN, so the lesser of two is the one that a single comparison picks. Assumes nothing.
-use mathlib.Core.Path.{◌≡◌, refl, sym, ap, ◌∙◌}
-use mathlib.Core.Bool.{Bool, true, false, cond, ◌&&◌, true≢false}
+use mathlib.Core.Path.{◌≡◌, refl, sym, ◌∙◌}
+use mathlib.Core.Bool.{true, false, cond, true≢false}
 use Prim.Native.Nat.{ℕ, ◌<◌}
 use lib.ListN.{length, get_or}
 use lib.Ieee.{Float, nan, inf, fin, lt, eq, le, is_nan}
 use Rattle.numbers.specs.Order.{least_of, greatest_of, magnitude_of}
 use Rattle.grid.specs.declared.Box.{Box}
-use Rattle.grid.specs.Domain.{Lines, count, segment_at, coordinate, point, segment, line_fits}
+use Rattle.grid.specs.Domain.{Lines, segment_at, coordinate, point, segment, line_fits}
 use Rattle.grid.specs.Boxes.{box_of}
 use Rattle.grid.proofs.Bools.{and_left, and_right}
 use Rattle.grid.proofs.Fine.{LinesFit, lines_fine}

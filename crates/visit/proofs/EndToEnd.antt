@@ -3,8 +3,8 @@
 use mathlib.Core.Path.{◌≡◌, refl, sym, ap, ◌∙◌}
 use mathlib.Core.Bool.{Bool, true, false}
 use mathlib.Core.List.{List, [], ◌∷◌, ◌++◌, append_assoc, append-nil}
-use Prim.Native.Nat.{ℕ, zero, suc, ◌+◌, ◌-◌, ◌≤◌, ◌<◌}
-use native.Mathlib.Nat.{add_assoc, add-zero, zero-add}
+use Prim.Native.Nat.{ℕ, zero, suc, ◌+◌, ◌≤◌, ◌<◌}
+use native.Mathlib.Nat.{add-zero}
 use native.Mathlib.Omega.{arith}
 use lib.ListN.{length, take, drop, get_or, take-append-drop, length-take, length-append, drop_of_length-le}
 use lib.Seq.{drop-drop, drop-cons, get_or-take}
@@ -14,7 +14,7 @@ use Rattle.visit.specs.declared.TestAnswer.TheVariants as answer
 use Rattle.seek.specs.Tests.{Pair, tests_of}
 use Rattle.visit.specs.Overlap.{overlap}
 use Rattle.visit.specs.Batches.{made, overlapping, handed}
-use Rattle.visit.specs.Entries.{test_of, next_test, tally_of}
+use Rattle.visit.specs.Entries.{test_of, next_test}
 use Rattle.visit.proofs.Clauses.{made_none, made_full, made_hit, made_miss, over_nil, over_hit, over_miss}
 use Rattle.visit.specs.Words.{laid, bookmark_after, tests_sum, overlaps_sum}
 

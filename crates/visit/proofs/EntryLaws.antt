@@ -1,10 +1,10 @@
 -- The entries case by case: each refusal in its order, and the result. Assumes nothing.
-use mathlib.Core.Path.{◌≡◌, refl, sym, ap, subst, ◌∙◌}
-use mathlib.Core.Bool.{Bool, true, false}
-use mathlib.Core.List.{List, [], ◌∷◌, ◌++◌}
-use Prim.Native.Nat.{ℕ, ◌+◌, ◌-◌, ◌≤◌, ◌<◌, ◌^◌}
+use mathlib.Core.Path.{◌≡◌, refl, sym, ap, ◌∙◌}
+use mathlib.Core.Bool.{false}
+use mathlib.Core.List.{List, [], ◌∷◌}
+use Prim.Native.Nat.{ℕ, ◌+◌, ◌-◌, ◌<◌, ◌^◌}
 use native.Mathlib.Omega.{arith}
-use lib.ListN.{length, take, drop, replicate, length-drop, length-map}
+use lib.ListN.{length, take, drop, length-drop, length-map}
 use borrow.Author.Tests.{eqb-true, eq-eqb, ne_eqb}
 use Rattle.slices.specs.Slices.{cleared_from}
 use Rattle.refusals.specs.declared.Refusal.{Refusal}

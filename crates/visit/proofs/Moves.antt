@@ -1,20 +1,19 @@
 -- From place to place in a run: no test, one that overlaps, one that does not, and two moves after one another. Assumes nothing.
-use mathlib.Core.Path.{◌≡◌, refl, sym, ap, ◌∙◌}
-use mathlib.Core.Bool.{Bool, true, false}
-use mathlib.Core.List.{List, [], ◌∷◌, ◌++◌, append_assoc, append-nil, map}
-use Prim.Native.Nat.{ℕ, zero, suc, ◌+◌, ◌-◌, ◌≤◌, ◌<◌}
-use native.Mathlib.Nat.{zero-add, add_assoc}
+use mathlib.Core.Path.{◌≡◌, refl, sym, ◌∙◌}
+use mathlib.Core.Bool.{true, false}
+use mathlib.Core.List.{List, [], ◌∷◌, ◌++◌, append_assoc}
+use Prim.Native.Nat.{ℕ, suc, ◌+◌, ◌-◌, ◌≤◌, ◌<◌}
+use native.Mathlib.Nat.{zero-add}
 use native.Mathlib.Numerals.{add-one}
 use native.Mathlib.Decide.{dec_lt}
 use native.Mathlib.Omega.{arith}
-use lib.ListN.{length, take, drop, get_or, set, length-set, length-map}
-use lib.Seq.{take-suc-set, take-set-le, length-take-le}
+use lib.ListN.{length, take, set, length-set}
+use lib.Seq.{take-suc-set, take-set-le}
 use Rattle.grid.specs.Domain.{Lines}
 use Rattle.seek.specs.Tests.{Pair}
 use Rattle.visit.specs.Overlap.{overlap}
 use Rattle.visit.specs.Batches.{made, handed, firsts, seconds}
 use Rattle.visit.specs.Inside.{TestsMoved}
-use Rattle.seek.proofs.Clauses.{left_suc}
 use Rattle.visit.proofs.Clauses.{made_none, made_full, made_hit, made_miss, handed_none, handed_full, handed_hit, handed_miss}
 
 -- one more is written

@@ -3,16 +3,16 @@
 use mathlib.Core.Path.{◌≡◌, refl, sym, ap, subst, ◌∙◌}
 use mathlib.Core.Bool.{Bool, true, false, not, ◌&&◌, ◌||◌, and-true, or_comm, true≢false, and-false, or-false, or-true}
 use mathlib.Core.List.{List, [], ◌∷◌, ◌++◌}
-use Prim.Native.Nat.{ℕ, zero, suc, ◌+◌, ◌-◌, ◌≤◌, ◌<◌}
-use native.Mathlib.Nat.{add-zero, zero-add, add_assoc}
+use Prim.Native.Nat.{ℕ, zero, suc, ◌+◌, ◌≤◌, ◌<◌}
+use native.Mathlib.Nat.{add-zero, zero-add}
 use native.Mathlib.Decide.{ℕ_discrete}
 use native.Mathlib.Omega.{arith}
-use lib.ListN.{length, take, drop, get_or}
+use lib.ListN.{length, take, get_or}
 use lib.Seq.{slice, slice-cons, slice_empty, take-suc, get_or-take, length-take-le}
 use lib.Dec.{eqb}
 use lib.Ieee.{le}
-use borrow.Author.Tests.{eq-eqb, ne_eqb, eqb-true, eqb-false}
-use Rattle.slices.specs.Lists.{elem, Rising, Below}
+use borrow.Author.Tests.{eq-eqb, ne_eqb, eqb-true}
+use Rattle.slices.specs.Lists.{elem, Rising}
 use Rattle.slices.proofs.Members.{any_append}
 use Rattle.slices.proofs.Distinct.{rising_low, head_alone}
 use Rattle.grid.specs.Domain.{Lines, segment_at}
@@ -22,7 +22,6 @@ use Rattle.tables.specs.Fit.{TablesFit}
 use Rattle.seek.specs.declared.Place.{Place}
 use Rattle.seek.specs.declared.Place.TheVariants.{Global}
 use Rattle.seek.specs.Tests.{Pair, pair, with_each, pairs, place_of, cell_tests, others, global_tests, tests_of}
-use Rattle.grid.specs.declared.Box.{Box}
 use Rattle.grid.specs.Boxes.{box_of, overlaps}
 use Rattle.visit.specs.Overlap.{overlap}
 use Rattle.visit.specs.Batches.{overlapping}

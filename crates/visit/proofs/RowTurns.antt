@@ -2,20 +2,17 @@
 use mathlib.Core.Path.{◌≡◌, refl, sym, ap, ◌∙◌}
 use mathlib.Core.Bool.{Bool, true, false}
 use mathlib.Core.List.{List, [], ◌∷◌, ◌++◌}
-use Prim.Native.Nat.{ℕ, zero, suc, ◌+◌, ◌-◌, ◌≤◌, ◌<◌}
+use Prim.Native.Nat.{ℕ, suc, ◌+◌, ◌-◌, ◌≤◌, ◌<◌}
 use native.Mathlib.Numerals.{add-one}
 use native.Mathlib.Decide.{ℕ_discrete, dec_lt}
 use native.Mathlib.Omega.{arith}
-use lib.ListN.{length, get_or, take, drop, set, length-set, length-drop, drop_of_length-le}
+use lib.ListN.{length, get_or, drop, set, length-set, length-drop, drop_of_length-le}
 use lib.Seq.{drop-cons}
-use Rattle.slices.specs.Lists.{Below}
-use Rattle.slices.proofs.Members.{below_at}
 use Rattle.grid.specs.declared.Box.{Box}
-use Rattle.grid.specs.Domain.{Lines, count, segment_at}
+use Rattle.grid.specs.Domain.{Lines, segment_at}
 use Rattle.grid.specs.Boxes.{box_of, overlaps}
 use Rattle.seek.specs.declared.Place.{Place}
 use Rattle.visit.specs.declared.Test.{Test}
-use Rattle.visit.specs.declared.scan.Step.{Step}
 use Rattle.visit.specs.declared.scan.Step.TheVariants as step
 use Rattle.visit.specs.declared.scan.Row.{Row}
 use Rattle.seek.specs.Tests.{Pair, pair, with_each}
@@ -23,7 +20,7 @@ use Rattle.visit.specs.Overlap.{overlap}
 use Rattle.visit.specs.Entries.{test_of}
 use Rattle.seek.specs.Inside.{numbers}
 use Rattle.visit.specs.Inside.{next_step, RowAsks, TestsMoved, HandedAt, ListAsks, InList, LinesAsk, InLines}
-use Rattle.seek.proofs.Clauses.{left_suc, with_nil, with_cons, numbers_zero, numbers_suc}
+use Rattle.seek.proofs.Clauses.{left_suc, with_cons, numbers_zero, numbers_suc}
 use Rattle.seek.proofs.OtherLines.{length_numbers}
 use Rattle.visit.proofs.Moves.{moved_none, moved_then, moved_hit, moved_miss}
 use Rattle.visit.proofs.Placing.{at_none, at_then, at_hit, at_miss}

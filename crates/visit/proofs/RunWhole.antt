@@ -1,22 +1,20 @@
 -- A run from a cursor is what the run through the cells and the run through the globals are together. Assumes nothing.
-use mathlib.Core.Path.{◌≡◌, refl, sym, ap, ◌∙◌}
-use mathlib.Core.List.{List, [], ◌∷◌, ◌++◌, append-nil, map}
-use Prim.Native.Nat.{ℕ, zero, suc, ◌+◌, ◌-◌, ◌*◌, ◌≤◌, ◌<◌, ◌^◌}
-use native.Mathlib.Nat.{sub-zero, mul-zero}
+use mathlib.Core.Path.{◌≡◌, sym, ap, ◌∙◌}
+use mathlib.Core.List.{List, [], ◌++◌, append-nil}
+use Prim.Native.Nat.{ℕ, ◌+◌, ◌-◌, ◌*◌, ◌≤◌, ◌<◌, ◌^◌}
+use native.Mathlib.Nat.{sub-zero}
 use native.Mathlib.Decide.{dec_lt}
 use native.Mathlib.Omega.{arith}
-use lib.ListN.{length, get_or, take, drop, length-append, length-map, length-drop}
+use lib.ListN.{length, take, length-append, length-map}
 use lib.Seq.{length-take-le}
-use Rattle.refusals.specs.declared.Check.TheVariants.{Fine}
 use Rattle.grid.specs.declared.Grid.{Grid}
 use Rattle.grid.specs.Domain.{Lines, count}
-use Rattle.tables.specs.Tables.{Tables, cells, list_in, beside}
+use Rattle.tables.specs.Tables.{beside}
 use Rattle.seek.specs.declared.Cursor.{Cursor}
 use Rattle.visit.specs.declared.scan.Ran.{Ran}
 use Rattle.seek.specs.Tests.{Pair}
 use Rattle.visit.specs.Batches.{made, handed, firsts, seconds, place_numbers}
 use Rattle.visit.specs.Places.{number_in}
-use Rattle.seek.specs.Bookmarks.{visit_check}
 use Rattle.seek.specs.Cursors.{cells_rest, globals_rest, rest_of}
 use Rattle.visit.specs.Inside.{TestsMoved, PlacesWritten, RunAsks, CellsAsk, CellsRan, GlobalsAsk, GlobalsRan, RanAll}
 use Rattle.visit.proofs.Clauses.{made_full, handed_full}

@@ -1,6 +1,6 @@
 -- The words of the laws of a full visit: how often two lines are tested, in how many cells they meet, and batches laid end to end.
 -- Definitions only.
-use Rattle.std.specs.Prelude.{ℕ, zero, suc, ◌+◌, ◌-◌, ◌*◌, ◌/◌, ◌≤◌, ◌<◌, ◌≡◌, Bool, true, false, ◌&&◌, ◌||◌, List, [], ◌∷◌, ◌++◌, length, get_or, drop, eqb}
+use Rattle.std.specs.Prelude.{ℕ, zero, suc, ◌+◌, ◌-◌, ◌*◌, ◌/◌, ◌≤◌, ◌<◌, ◌≡◌, Bool, true, false, ◌&&◌, ◌||◌, List, [], ◌∷◌, ◌++◌, get_or, drop, eqb}
 use Rattle.grid.specs.Domain.{Lines}
 use Rattle.slices.specs.Lists.{elem}
 use Rattle.tables.specs.Tables.{Tables, cells, list_of, globals_of}

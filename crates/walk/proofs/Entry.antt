@@ -1,6 +1,6 @@
 -- The walk of one segment: the refusals before the walk, and the scratch behind it, which is what the walk leaves, and zero beyond its cells. Assumes nothing.
-use mathlib.Core.Path.{◌≡◌, refl, sym, ◌∙◌, subst}
-use mathlib.Core.Bool.{Bool, true, false, not, true≢false}
+use mathlib.Core.Path.{◌≡◌, refl, sym, ◌∙◌}
+use mathlib.Core.Bool.{Bool, true, false, true≢false}
 use Prim.Native.Nat.{ℕ}
 use native.Mathlib.Omega.{arith}
 use mathlib.Core.List.{List}
@@ -9,8 +9,8 @@ use Rattle.slices.specs.Slices.{cleared_from}
 use Rattle.refusals.specs.declared.Refusal.{Refusal}
 use Rattle.refusals.specs.declared.Check.TheVariants.{Fine}
 use Rattle.refusals.specs.declared.Check.TheVariants as check
-use Rattle.refusals.specs.Refusals.{refusal, unless, refused, gives, ◌then◌, answer_by, clears, left_by, left_in, zero_beyond}
-use Rattle.refusals.proofs.Answers.{then_refused, then_fine}
+use Rattle.refusals.specs.Refusals.{refusal, unless, refused, gives, ◌then◌, answer_by, clears, left_in, zero_beyond}
+use Rattle.refusals.proofs.Answers.{then_refused}
 use Rattle.refusals.proofs.Leaving.{left_same}
 use Rattle.grid.specs.declared.Grid.{Grid}
 use Rattle.grid.specs.declared.Segment.{Segment}
@@ -19,7 +19,7 @@ use Rattle.walk.specs.declared.Cells.TheVariants as cells
 use Rattle.walk.specs.declared.Reached.{Reached}
 use Rattle.walk.specs.declared.Reached.TheVariants.{Found, Everywhere, Refused}
 use Rattle.turns.specs.Pushes.{Outcome}
-use Rattle.walk.specs.Segment.{segment_of, everywhere_in, entry_check, off_in, off_check, entry_of, reach_of, as_is_of, cells_of, scratch_of, reached_of, Walked, Entered}
+use Rattle.walk.specs.Segment.{everywhere_in, entry_check, off_in, off_check, entry_of, reach_of, as_is_of, cells_of, scratch_of, reached_of, Walked, Entered}
 use Rattle.walk.proofs.Checked.{entry_spares, as_is_checked}
 use Rattle.walk.proofs.Reaching.{everywhere_out}
 

@@ -1,5 +1,5 @@
 -- The table of sides and modes: what the Rust's mode is in document 01's words, and where the modes agree. Assumes nothing.
-use mathlib.Core.Path.{◌≡◌, refl, sym, ap, ◌∙◌}
+use mathlib.Core.Path.{◌≡◌, refl}
 use mathlib.Core.Bool.{Bool, true, false, cond}
 use lib.Ieee.{Float, lt}
 use Rattle.numbers.specs.Away.{round_away}
@@ -12,7 +12,7 @@ use Rattle.grid.specs.Axes.{x_axis, y_axis, scaled_on, near_whole, boundary_on, 
 use Rattle.walk.specs.declared.Mode.{Mode}
 use Rattle.walk.specs.declared.Mode.TheVariants.{Rust, Sided, Covering}
 use Rattle.walk.specs.declared.Neighbour.{Neighbour}
-use Rattle.walk.specs.declared.Neighbour.TheVariants.{None, Lower, Upper}
+use Rattle.walk.specs.declared.Neighbour.TheVariants.{None, Lower}
 use Rattle.walk.specs.Neighbours.{neighbour_for, neighbour_on, along_on, line_of, endpoint_of}
 use Rattle.walk.specs.Segment.{pushes_of, answered, by_turns, turns_of, turning, segment_of}
 

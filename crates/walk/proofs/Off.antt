@@ -1,14 +1,14 @@
 -- A value between two whole numbers that are next to each other, and off both, is on no boundary; and a line whose coordinates all are adds nothing.
 -- Assumes nothing.
 use mathlib.Core.Path.{◌≡◌, refl, sym, ap, ◌∙◌, subst}
-use Prim.Native.Nat.{ℕ, ◌+◌, ◌*◌, ◌/◌, ◌^◌, ◌≤◌, ◌<◌}
-use native.Mathlib.Nat.{mul_left_comm, mul-pos, add-mul, zero-lt-suc, div-eq_of_lt-le}
+use Prim.Native.Nat.{ℕ, ◌+◌, ◌*◌, ◌/◌, ◌≤◌, ◌<◌}
+use native.Mathlib.Nat.{mul_left_comm, add-mul, zero-lt-suc, div-eq_of_lt-le}
 use native.Mathlib.Omega.{arith}
 use mathlib.Core.Logic.{◌⊎◌, inl, inr}
 use mathlib.Core.Bool.{Bool, true, false, cond, true≢false}
 use mathlib.Core.List.{List, []}
 use lib.ListN.{length, take}
-use lib.IntN.{ℤ, pos}
+use lib.IntN.{pos}
 use lib.Dec.{ltb}
 use lib.Ieee.{Float, nan, inf, fin, up, down, binary64, round, of_int, add, sub, lt, le, eq}
 use lib.Ieee.Exact.{HasValue}

@@ -4,7 +4,7 @@ use mathlib.Core.Path.{◌≡◌, refl, sym, ap, ◌∙◌, subst}
 use Prim.Native.Nat.{ℕ, zero, suc, ◌+◌, ◌-◌, ◌*◌, ◌/◌, ◌%◌, ◌≤◌, ◌<◌}
 use native.Mathlib.Nat.{div-lt_iff_lt-mul, div-add-mod'}
 use native.Mathlib.Omega.{arith}
-use mathlib.Core.Bool.{Bool, true, false, cond, true≢false}
+use mathlib.Core.Bool.{Bool, true, false, true≢false}
 use mathlib.Core.List.{List, [], ◌∷◌, ◌++◌, flat_map}
 use lib.ListN.{length, length-append}
 use lib.Dec.{ltb, eqb}
@@ -22,7 +22,7 @@ use Rattle.grid.specs.declared.Segment.{Segment}
 use Rattle.grid.specs.Axes.{x_axis, y_axis}
 use Rattle.grid.specs.Domain.{shape, fit}
 use Rattle.grid.proofs.Shapes.{Shape, shape_says, fit_shape, cell_inside}
-use Rattle.cover.specs.Covering.{covering_of, everywhere}
+use Rattle.cover.specs.Covering.{covering_of}
 use Rattle.cover.proofs.Laws.{covering_rises, found_few, everywhere_all}
 use Rattle.walk.specs.declared.Mode.{Mode}
 use Rattle.walk.specs.declared.Neighbour.{Neighbour}

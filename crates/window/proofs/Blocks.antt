@@ -1,15 +1,15 @@
 -- The lists of the block: those of a row stand side by side in the items, so a line is in a row's part exactly if a cell of the row lists it, and in
 -- some row's part exactly if a cell of the block lists it. Assumes nothing.
-use mathlib.Core.Path.{◌≡◌, refl, sym, ap, ap₂, subst, ◌∙◌}
-use mathlib.Core.Logic.{◌⊎◌, ⊎_elim}
-use mathlib.Core.Bool.{Bool, true, false, cond, ◌&&◌, ◌||◌, true≢false}
+use mathlib.Core.Path.{◌≡◌, refl, sym, ap, ◌∙◌}
+use mathlib.Core.Logic.{⊎_elim}
+use mathlib.Core.Bool.{Bool, true, false, ◌&&◌, ◌||◌, true≢false}
 use mathlib.Core.List.{List, [], ◌∷◌, ◌++◌}
 use Prim.Native.Nat.{ℕ, zero, suc, ◌+◌, ◌-◌, ◌*◌, ◌/◌, ◌%◌, ◌≤◌, ◌<◌}
-use native.Mathlib.Nat.{mod-lt, div-add-mod', mul-le-mul_right}
+use native.Mathlib.Nat.{div-add-mod', mul-le-mul_right}
 use native.Mathlib.Omega.{arith}
 use borrow.Author.Tests.{le-leb, leb-true, eqb-true, eqb-false}
 use lib.Dec.{leb, eqb}
-use lib.ListN.{length, get_or, take, drop}
+use lib.ListN.{get_or}
 use lib.Seq.{slice, slice_empty}
 use Rattle.slices.specs.Lists.{elem}
 use Rattle.slices.proofs.Members.{any_append}

@@ -3,7 +3,7 @@
 use mathlib.Core.Path.{◌≡◌, refl, sym, ap, ap₂, subst, ◌∙◌}
 use mathlib.Core.Bool.{Bool, true, false, cond, ◌&&◌}
 use mathlib.Core.List.{List}
-use Prim.Native.Nat.{ℕ, zero, suc, ◌+◌, ◌-◌, ◌*◌, ◌/◌, ◌%◌, ◌≤◌, ◌<◌}
+use Prim.Native.Nat.{ℕ, ◌+◌, ◌-◌, ◌*◌, ◌/◌, ◌%◌, ◌≤◌, ◌<◌}
 use native.Mathlib.Nat.{mul-zero}
 use native.Mathlib.Omega.{arith}
 use lib.ListN.{length, get_or, take, drop}
@@ -19,7 +19,7 @@ use Rattle.grid.specs.Domain.{fit}
 use Rattle.grid.proofs.Bools.{and_left}
 use Rattle.grid.proofs.Shapes.{fit_says}
 use Rattle.tables.specs.Tables.{Tables, tables, cells, list_in, list_of}
-use Rattle.tables.specs.Fit.{ListsFit, TablesFit}
+use Rattle.tables.specs.Fit.{TablesFit}
 use Rattle.tables.proofs.Facts.{not_true, all_within, part_slice}
 use Rattle.window.specs.Window.{within, in_block, some, listed}
 use Rattle.window.specs.Inside.{row_part, marked_rows, Block, LinesMarked}

@@ -1,13 +1,13 @@
 -- The query case by case: its checks in their order, which lines are met, and the answer. Assumes nothing.
-use mathlib.Core.Path.{◌≡◌, refl, sym, ap, ap₂, subst, ◌∙◌}
+use mathlib.Core.Path.{◌≡◌, refl, sym, ap, subst, ◌∙◌}
 use mathlib.Core.Bool.{Bool, true, false, cond, ◌&&◌, ◌||◌}
 use mathlib.Core.List.{List, []}
-use Prim.Native.Nat.{ℕ, ◌+◌, ◌-◌, ◌*◌, ◌≤◌, ◌<◌}
+use Prim.Native.Nat.{ℕ, ◌≤◌, ◌<◌}
 use native.Mathlib.Nat.{sub-zero}
 use native.Mathlib.Omega.{arith}
 use borrow.Author.Tests.{le-leb, lt-leb}
-use lib.Dec.{leb, eqb}
-use lib.ListN.{length, get_or, take, replicate, length-replicate, get_or-replicate}
+use lib.Dec.{eqb}
+use lib.ListN.{length, get_or, replicate, length-replicate, get_or-replicate}
 use Rattle.slices.specs.Slices.{cleared_from}
 use Rattle.slices.specs.Lists.{elem, Below}
 use Rattle.slices.proofs.Members.{below_elem, below_of}
@@ -15,7 +15,7 @@ use Rattle.refusals.specs.declared.Refusal.{Refusal}
 use Rattle.refusals.specs.declared.Check.{Check}
 use Rattle.refusals.specs.declared.Check.TheVariants.{Fine}
 use Rattle.refusals.specs.declared.Check.TheVariants as check
-use Rattle.refusals.specs.Refusals.{refusal, unless, and_then, Answer, refused, gives, ◌then◌, answer_by, clears, left_by, left_in, zero_beyond}
+use Rattle.refusals.specs.Refusals.{refusal, unless, and_then, Answer, refused, gives, ◌then◌, answer_by, clears, left_in, zero_beyond}
 use Rattle.refusals.proofs.Checks.{and_then_refused, and_then_fine, and_then_left, and_then_right}
 use Rattle.refusals.proofs.Answers.{then_refused, then_fine, then_and_then}
 use Rattle.refusals.proofs.Leaving.{left_zero, left_same, Clearing, clearing_unless, clearing_then, numbers_clear}
@@ -28,10 +28,9 @@ use Rattle.refusals.proofs.Checks.{unless_fine}
 use Rattle.tables.specs.Tables.{Tables, globals_of}
 use Rattle.tables.specs.Fit.{TablesFit, tables_check, standing_check}
 use Rattle.tables.proofs.Facts.{check_facts}
-use Rattle.window.specs.declared.Listing.{Listing}
 use Rattle.window.specs.declared.Listing.TheVariants.{Listed, Refused}
 use Rattle.window.specs.Window.{in_order, listed, may_enter, those, lines_in, window_check, output_room_check, window_end, window_answer, WindowIs}
-use Rattle.window.specs.Inside.{marked_with, LinesMarked, met, list_written, Wrote, WindowChecked}
+use Rattle.window.specs.Inside.{marked_with, LinesMarked, met, Wrote, WindowChecked}
 use Rattle.window.proofs.Marking.{marked_length, marked_at}
 use Rattle.window.proofs.Those.{those_same, those_none, written_length, cleared_beyond}
 

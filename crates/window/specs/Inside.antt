@@ -8,7 +8,6 @@ use Rattle.grid.specs.Boxes.{box_of, overlaps}
 use Rattle.grid.specs.Domain.{Lines, Alike, count, segment_at, fit}
 use Rattle.tables.specs.Tables.{Tables}
 use Rattle.tables.specs.Fit.{ListsFit, TablesFit}
-use Rattle.window.specs.Window.{listed}
 
 -- ---- marks
 

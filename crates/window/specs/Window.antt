@@ -11,7 +11,7 @@ use Rattle.grid.specs.declared.Box.{Box}
 use Rattle.grid.specs.Axes.{x_axis, y_axis, index_on}
 use Rattle.grid.specs.Boxes.{box_of, overlaps}
 use Rattle.grid.specs.Domain.{Lines, count, segment_at, point, lines_check, grid_check}
-use Rattle.tables.specs.Tables.{Tables, tables, cells, list_of, globals_of}
+use Rattle.tables.specs.Tables.{Tables, cells, list_of, globals_of}
 use Rattle.tables.specs.Lists.{only}
 use Rattle.tables.specs.Fit.{tables_check}
 use Rattle.window.specs.declared.Listing.{Listing}

@@ -1,9 +1,7 @@
 -- `members::add_up` meets its contract. The invariant: the first k lengths were added up, and are right. Assumes nothing.
 use mathlib.Core.Path.{◌≡◌, refl, sym, ap, ◌∙◌}
 use mathlib.Core.Bool.{true}
-use Prim.Native.Nat.{◌-◌}
 use native.Mathlib.Omega.{arith}
-use lib.ListN.{length}
 use Rattle.members.specs.Held.{is_length}
 use Rattle.members.proofs.Held.{length_is}
 use Rattle.members.proofs.Along.{summed_none, summed_more, summed_wrong, summed_all}

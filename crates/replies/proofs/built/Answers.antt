@@ -2,7 +2,7 @@
 use Prim.Native.Nat.{ℕ}
 use mathlib.Core.Path.{◌≡◌, sym, ap, ◌∙◌}
 use mathlib.Core.List.{[], ◌∷◌}
-use lib.Ieee.{binary64, toBits}
+use lib.Ieee.{binary64, to_bits}
 use Rattle.build.specs.declared.Standing.{Standing}
 use Rattle.replies.specs.Replies.{success}
 use Rattle.replies.specs.Answers.{of_built}
@@ -10,14 +10,14 @@ use Rattle.replies.proofs.Handing.{short_replies, handed}
 use Rattle.replies.proofs.built.Goals as goal
 
 -- the patterns of the grid's floats, as they were found
-of_grid : (t : Standing) (p q w h : ℕ) → p ≡ toBits binary64 t.grid.min_x → q ≡ toBits binary64 t.grid.min_y → w ≡ toBits binary64 t.grid.cell_width
-    → h ≡ toBits binary64 t.grid.cell_height →
+of_grid : (t : Standing) (p q w h : ℕ) → p ≡ to_bits binary64 t.grid.min_x → q ≡ to_bits binary64 t.grid.min_y → w ≡ to_bits binary64 t.grid.cell_width
+    → h ≡ to_bits binary64 t.grid.cell_height →
     success (p ∷ q ∷ w ∷ h ∷ t.grid.cols ∷ t.grid.rows ∷ t.items ∷ t.globals ∷ [])
     ≡ success
-    (toBits binary64 t.grid.min_x
-    ∷ toBits binary64 t.grid.min_y
-    ∷ toBits binary64 t.grid.cell_width
-    ∷ toBits binary64 t.grid.cell_height
+    (to_bits binary64 t.grid.min_x
+    ∷ to_bits binary64 t.grid.min_y
+    ∷ to_bits binary64 t.grid.cell_width
+    ∷ to_bits binary64 t.grid.cell_height
     ∷ t.grid.cols
     ∷ t.grid.rows
     ∷ t.items

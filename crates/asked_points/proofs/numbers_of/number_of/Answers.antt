@@ -1,6 +1,6 @@
 -- `asked_points::numbers_of::number_of` meets its contract. Assumes nothing.
 use mathlib.Core.Path.{◌∙◌, ap}
-use lib.Ieee.{binary64, toBits}
+use lib.Ieee.{binary64, to_bits}
 use borrow.Author.Rules.{rules}
 use Rattle.records.specs.Questions.{short_by, float_by}
 use Rattle.asked_points.specs.Asked.{number_by}
@@ -47,5 +47,5 @@ pub returns : goal.returns
 unfolding number_by float_by short_by
 returns c =
     c.to_bits-2.ensures
-    ∙ ap (toBits binary64) c.mt_square_root.ensures
+    ∙ ap (to_bits binary64) c.mt_square_root.ensures
     ∙ number_last _ _ _ c.if-function-eq1.false c.if-function-eq2.false c.if-function-eq3.false c.if-function-eq4.false c.if-function-eq5.false c.if-function-eq6.false c.if-function-eq7.false

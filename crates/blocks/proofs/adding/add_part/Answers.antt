@@ -1,5 +1,4 @@
 -- `blocks::adding::add_part` meets its contract: the numbers before `block` are added. Assumes nothing.
-use Prim.Native.Nat.{◌-◌}
 use native.Mathlib.Omega.{arith}
 use Rattle.blocks.proofs.Rectangles.{along_none, along_fits, along_more, along_done}
 use Rattle.blocks.proofs.adding.add_part.Goals as goal

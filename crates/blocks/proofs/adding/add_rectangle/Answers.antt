@@ -1,5 +1,4 @@
 -- `blocks::adding::add_rectangle` meets its contract: the rows below `row` are added. Assumes nothing.
-use Prim.Native.Nat.{◌-◌}
 use native.Mathlib.Omega.{arith}
 use Rattle.blocks.specs.Blocks.{blocks}
 use Rattle.blocks.specs.Query.{items_in}

@@ -1,5 +1,5 @@
 -- `blocks::making::add_row` meets its contract: the cells before x are added. Assumes nothing.
-use Prim.Native.Nat.{◌+◌, ◌-◌}
+use Prim.Native.Nat.{◌+◌}
 use native.Mathlib.Omega.{arith}
 use Rattle.blocks.proofs.Telling.{across_none, part_says, next_few, block_in, cell_in, cell_few, part_rises, part_small, across_more, across_done}
 use Rattle.blocks.proofs.making.add_row.Goals as goal

@@ -1,6 +1,6 @@
 -- `blocks::making::add_rows` meets its contract: the rows before `row` are added. Assumes nothing.
 use mathlib.Core.Path.{refl, sym, ap, ◌∙◌}
-use Prim.Native.Nat.{ℕ, ◌-◌, ◌*◌, ◌/◌}
+use Prim.Native.Nat.{ℕ, ◌*◌, ◌/◌}
 use native.Mathlib.Omega.{arith}
 use Rattle.blocks.specs.Blocks.{along}
 use Rattle.blocks.proofs.Telling.{downward_none, row_asks, row_few, block_few, downward_more, downward_done}

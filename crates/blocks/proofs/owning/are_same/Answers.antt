@@ -1,5 +1,4 @@
 -- `blocks::owning::are_same` meets its contract: no number before b differs. Assumes nothing.
-use Prim.Native.Nat.{◌-◌}
 use native.Mathlib.Omega.{arith}
 use borrow.Author.Tests.{eq-eqb, ne_eqb}
 use lib.Dec.{eqb}

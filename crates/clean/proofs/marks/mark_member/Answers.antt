@@ -1,6 +1,6 @@
 -- `clean::marks::mark_member` meets its contract. The invariant: the pieces before `start`, and the points between them, are marked. Assumes nothing.
 use mathlib.Core.Path.{◌∙◌}
-use Prim.Native.Nat.{◌-◌, ◌<◌}
+use Prim.Native.Nat.{◌<◌}
 use native.Mathlib.Omega.{arith}
 use Rattle.wkb.proofs.Stores.{put_length, fill_length}
 use Rattle.clean.proofs.Walking.{in_first, in_lies, in_room, in_piece, in_few, in_last, in_inside, in_next}

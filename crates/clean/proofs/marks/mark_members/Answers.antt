@@ -1,6 +1,5 @@
 -- `clean::marks::mark_members` meets its contract. The invariant: the first k members, with `from` points, are marked. Assumes nothing.
 use mathlib.Core.Path.{◌∙◌}
-use Prim.Native.Nat.{◌-◌}
 use native.Mathlib.Omega.{arith}
 use Rattle.wkb.proofs.Stores.{fill_length}
 use Rattle.members.proofs.Held.{held_says}

@@ -1,6 +1,5 @@
 -- `clean::marks::mark_repeats` meets its contract. The invariant: the points up to i are marked, and `last` is the place of the one kept last.
 -- Assumes nothing.
-use Prim.Native.Nat.{◌-◌}
 use native.Mathlib.Omega.{arith}
 use Rattle.wkb.proofs.Stores.{fill_length}
 use Rattle.clean.proofs.Parts.{marking_first, marking_more, marking_all, one_most}

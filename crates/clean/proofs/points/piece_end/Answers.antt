@@ -1,6 +1,5 @@
 -- `clean::points::piece_end` meets its contract. The invariant: the points up to i obey the rule. Assumes nothing.
 use mathlib.Core.Path.{sym, ◌∙◌}
-use Prim.Native.Nat.{◌-◌}
 use native.Mathlib.Omega.{arith}
 use Rattle.clean.proofs.Parts.{ending_none, ending_more, ending_bad, ending_all}
 use Rattle.clean.proofs.points.piece_end.Goals as goal

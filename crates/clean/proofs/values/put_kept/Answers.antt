@@ -1,6 +1,5 @@
 -- `clean::values::put_kept` meets its contract. The invariant: of the first i values, those that are kept stand at the start. Assumes nothing.
 use mathlib.Core.Path.{◌∙◌}
-use Prim.Native.Nat.{◌-◌}
 use native.Mathlib.Omega.{arith}
 use Rattle.wkb.proofs.Stores.{fill_length}
 use Rattle.clean.proofs.Parts.{keeping_none, keeping_more, keeping_all, keeping_room}

@@ -1,5 +1,4 @@
 -- `listed::boxes::is_inner` meets its contract. The invariant: the box is within those before u, where all of them held. Assumes nothing.
-use Prim.Native.Nat.{◌-◌}
 use borrow.Author.Rules.{rules}
 use Rattle.listed.proofs.BoxLaws.{inner_start, inner_more, inner_end}
 use Rattle.listed.proofs.boxes.is_inner.Goals as goal

@@ -1,7 +1,7 @@
 -- `listed::lists::next_cell` meets its contract. The invariant: the cells before this one are passed over. Assumes nothing.
 use native.Mathlib.Omega.{arith}
 use mathlib.Core.Path.{ap, ◌∙◌}
-use Prim.Native.Nat.{◌-◌, min}
+use Prim.Native.Nat.{min}
 use Rattle.listed.proofs.CellLaws.{look_start, look_more, look_here, look_end}
 use Rattle.listed.proofs.lists.next_cell.Goals as goal
 

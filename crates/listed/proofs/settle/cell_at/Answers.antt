@@ -1,6 +1,5 @@
 -- `listed::settle::cell_at` meets its contract. The invariant: the same is left as at the start. Assumes nothing.
 use native.Mathlib.Omega.{arith}
-use Prim.Native.Nat.{◌-◌}
 use Rattle.listed.proofs.CellLaws.{settling_none, settled_past, settled_here, settling_more, settling_passed, next_passed}
 use Rattle.listed.proofs.ListLaws.{row_at_is, row_at_past}
 use Rattle.listed.proofs.settle.cell_at.Goals as goal

@@ -1,5 +1,4 @@
 -- `members::bytes::clear_bytes` meets its contract. The invariant: from `from` up to i there are zeros. Assumes nothing.
-use Prim.Native.Nat.{◌-◌}
 use native.Mathlib.Omega.{arith}
 use Rattle.wkb.proofs.Stores.{zero_none, zero_more, zero_all}
 use Rattle.members.proofs.bytes.clear_bytes.Goals as goal

@@ -2,7 +2,7 @@
 -- Assumes nothing.
 use mathlib.Core.Path.{◌≡◌, sym, ◌∙◌}
 use mathlib.Core.List.{List}
-use Prim.Native.Nat.{ℕ, ◌+◌, ◌*◌, ◌-◌, ◌≤◌, ◌<◌}
+use Prim.Native.Nat.{ℕ, ◌+◌, ◌*◌, ◌≤◌, ◌<◌}
 use native.Mathlib.Omega.{arith}
 use lib.ListN.{length, take, drop, get_or, length-drop}
 use lib.Seq.{length-take-le}
@@ -22,13 +22,16 @@ use Rattle.members.proofs.bytes.put_members.Goals as goal
 module _ {x y ns s₀ s : List ℕ} {at from k : ℕ} (t : Turned x y ns s₀ s at from k) (h : k < length ns) (n : ℕ) (e : n ≡ get_or ns k 0) where
   fitting : Fitting (length x) from n
   fitting = along_next t.along h n e
+
   length_next : 9 + 16 * n ≡ length (line_bytes Little (take n (drop from (points_of x y))))
   length_next =
       let ps = points_of x y in
       let k : n ≤ length (drop from ps) = rw (length-drop from ps) (omega (arith, length_points_of x y t.alike, fitting.within)) in
       sym (length_line Little (take n (drop from ps)) ∙ rw (length-take-le n (drop from ps) k))
+
   room_next : at + 9 + 16 * n ≤ length s
   room_next = let r = fill_room t.filled (line_bytes Little (take n (drop from (points_of x y)))) _ (bytes_next ns k from (points_of x y) n h e) t.room in omega (arith, length_next)
+
   turned_more : {s₁ : List ℕ} → PutIn at (line_bytes Little (take n (drop from (points_of x y)))) s s₁ → Turned x y ns s₀ s₁ (at + 9 + 16 * n) (from + n) (k + 1)
   turned_more p = record {
     alike = t.alike;

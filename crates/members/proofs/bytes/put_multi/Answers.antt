@@ -14,18 +14,18 @@ use Rattle.members.proofs.bytes.put_multi.Goals as goal
 
 pub bounds-s-0 : goal.bounds-s-0
 bounds-s-0 c =
-    let room : let a = c.args in 9 + length (flat_map (line_bytes Little) (chains_of a.lengths.now (points_of a.x.now a.y.now))) ≤ length a.s.now = 
-        let a = c.args in
-        let n = length_parts (chains_of a.lengths.now (points_of a.x.now a.y.now)) in
-        omega (arith, c.requires.1) in
+    let room : let a = c.args in 9 + length (flat_map (line_bytes Little) (chains_of a.lengths.now (points_of a.x.now a.y.now))) ≤ length a.s.now =
+    let a = c.args in
+    let n = length_parts (chains_of a.lengths.now (points_of a.x.now a.y.now)) in
+    omega (arith, c.requires.1) in
     let r = room in omega arith
 
 pub put_4-requires : goal.put_4-requires
 put_4-requires c =
-    let room : let a = c.args in 9 + length (flat_map (line_bytes Little) (chains_of a.lengths.now (points_of a.x.now a.y.now))) ≤ length a.s.now = 
-        let a = c.args in
-        let n = length_parts (chains_of a.lengths.now (points_of a.x.now a.y.now)) in
-        omega (arith, c.requires.1) in
+    let room : let a = c.args in 9 + length (flat_map (line_bytes Little) (chains_of a.lengths.now (points_of a.x.now a.y.now))) ≤ length a.s.now =
+    let a = c.args in
+    let n = length_parts (chains_of a.lengths.now (points_of a.x.now a.y.now)) in
+    omega (arith, c.requires.1) in
     let a = c.args in
     let r = room in
     let l = length-set a.s.now 0 1 in
@@ -33,10 +33,10 @@ put_4-requires c =
 
 pub put_4-requires-2 : goal.put_4-requires-2
 put_4-requires-2 c =
-    let room : let a = c.args in 9 + length (flat_map (line_bytes Little) (chains_of a.lengths.now (points_of a.x.now a.y.now))) ≤ length a.s.now = 
-        let a = c.args in
-        let n = length_parts (chains_of a.lengths.now (points_of a.x.now a.y.now)) in
-        omega (arith, c.requires.1) in
+    let room : let a = c.args in 9 + length (flat_map (line_bytes Little) (chains_of a.lengths.now (points_of a.x.now a.y.now))) ≤ length a.s.now =
+    let a = c.args in
+    let n = length_parts (chains_of a.lengths.now (points_of a.x.now a.y.now)) in
+    omega (arith, c.requires.1) in
     let a = c.args in
     let r = room in
     let l : length c.put_4.new.s ≡ length a.s.now = put_length c.put_4.ensures ∙ length-set a.s.now 0 1 in
@@ -44,10 +44,10 @@ put_4-requires-2 c =
 
 pub put_members-requires : goal.put_members-requires
 put_members-requires c =
-    let room : let a = c.args in 9 + length (flat_map (line_bytes Little) (chains_of a.lengths.now (points_of a.x.now a.y.now))) ≤ length a.s.now = 
-        let a = c.args in
-        let n = length_parts (chains_of a.lengths.now (points_of a.x.now a.y.now)) in
-        omega (arith, c.requires.1) in
+    let room : let a = c.args in 9 + length (flat_map (line_bytes Little) (chains_of a.lengths.now (points_of a.x.now a.y.now))) ≤ length a.s.now =
+    let a = c.args in
+    let n = length_parts (chains_of a.lengths.now (points_of a.x.now a.y.now)) in
+    omega (arith, c.requires.1) in
     let a = c.args in
     let p = c.requires in
     let r = room in
@@ -57,10 +57,10 @@ put_members-requires c =
 
 pub returns : goal.returns
 returns c =
-    let room : let a = c.args in 9 + length (flat_map (line_bytes Little) (chains_of a.lengths.now (points_of a.x.now a.y.now))) ≤ length a.s.now = 
-        let a = c.args in
-        let n = length_parts (chains_of a.lengths.now (points_of a.x.now a.y.now)) in
-        omega (arith, c.requires.1) in
+    let room : let a = c.args in 9 + length (flat_map (line_bytes Little) (chains_of a.lengths.now (points_of a.x.now a.y.now))) ≤ length a.s.now =
+    let a = c.args in
+    let n = length_parts (chains_of a.lengths.now (points_of a.x.now a.y.now)) in
+    omega (arith, c.requires.1) in
     let a = c.args in
     let pss = chains_of a.lengths.now (points_of a.x.now a.y.now) in
     let r = room in

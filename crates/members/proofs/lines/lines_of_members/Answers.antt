@@ -14,35 +14,35 @@ use Rattle.members.proofs.lines.lines_of_members.Goals as goal
 
 pub returns-in-Refused : goal.returns-in-Refused
 returns-in-Refused c =
-    let patterns : let a = c.args in Patterns (points_of a.x.now a.y.now) = 
-        let a = c.args in
-        patterns_of a.x.now a.y.now (λ i. omega (arith, c.shared_slice_known-1.given i)) (λ i. omega (arith, c.shared_slice_known-2-1.given i)) in
+    let patterns : let a = c.args in Patterns (points_of a.x.now a.y.now) =
+    let a = c.args in
+    patterns_of a.x.now a.y.now (λ i. omega (arith, c.shared_slice_known-1.given i)) (λ i. omega (arith, c.shared_slice_known-2-1.given i)) in
     let a = c.args in
     line_alike a.x.now a.y.now a.lengths.now (lines a.start_x.now a.start_y.now a.end_x.now a.end_y.now) patterns _ (sym c.check_lengths-alike.ensures ∙ c.in-Refused.is)
 
 pub returns-in-Refused-held : goal.returns-in-Refused-held
 returns-in-Refused-held c =
-    let patterns : let a = c.args in Patterns (points_of a.x.now a.y.now) = 
-        let a = c.args in
-        patterns_of a.x.now a.y.now (λ i. omega (arith, c.shared_slice_known-1.given i)) (λ i. omega (arith, c.shared_slice_known-2-1.given i)) in
+    let patterns : let a = c.args in Patterns (points_of a.x.now a.y.now) =
+    let a = c.args in
+    patterns_of a.x.now a.y.now (λ i. omega (arith, c.shared_slice_known-1.given i)) (λ i. omega (arith, c.shared_slice_known-2-1.given i)) in
     let alike : let a = c.args in lengths_check (lines a.start_x.now a.start_y.now a.end_x.now a.end_y.now) ≡ Fine = sym c.check_lengths-alike.ensures ∙ c.in_default.is in
     let a = c.args in
     line_lent a.x.now a.y.now a.lengths.now (lines a.start_x.now a.start_y.now a.end_x.now a.end_y.now) patterns alike _ (sym c.check_held-held.ensures ∙ c.in-Refused-held.is)
 
 pub overflow_sub-count : goal.overflow_sub-count
 overflow_sub-count c =
-    let patterns : let a = c.args in Patterns (points_of a.x.now a.y.now) = 
-        let a = c.args in
-        patterns_of a.x.now a.y.now (λ i. omega (arith, c.shared_slice_known-1.given i)) (λ i. omega (arith, c.shared_slice_known-2-1.given i)) in
+    let patterns : let a = c.args in Patterns (points_of a.x.now a.y.now) =
+    let a = c.args in
+    patterns_of a.x.now a.y.now (λ i. omega (arith, c.shared_slice_known-1.given i)) (λ i. omega (arith, c.shared_slice_known-2-1.given i)) in
     let held : let a = c.args in held_check (length a.x.now) (length a.y.now) a.lengths.now ≡ Fine = sym c.check_held-held.ensures ∙ c.in_default-held.is in
     let counted : let a = c.args in Counts a.x.now a.y.now a.lengths.now = let a = c.args in counts a.x.now a.y.now a.lengths.now patterns held in
     omega (arith, counted.some)
 
 pub returns-in-Refused-few : goal.returns-in-Refused-few
 returns-in-Refused-few c =
-    let patterns : let a = c.args in Patterns (points_of a.x.now a.y.now) = 
-        let a = c.args in
-        patterns_of a.x.now a.y.now (λ i. omega (arith, c.shared_slice_known-1.given i)) (λ i. omega (arith, c.shared_slice_known-2-1.given i)) in
+    let patterns : let a = c.args in Patterns (points_of a.x.now a.y.now) =
+    let a = c.args in
+    patterns_of a.x.now a.y.now (λ i. omega (arith, c.shared_slice_known-1.given i)) (λ i. omega (arith, c.shared_slice_known-2-1.given i)) in
     let alike : let a = c.args in lengths_check (lines a.start_x.now a.start_y.now a.end_x.now a.end_y.now) ≡ Fine = sym c.check_lengths-alike.ensures ∙ c.in_default.is in
     let held : let a = c.args in held_check (length a.x.now) (length a.y.now) a.lengths.now ≡ Fine = sym c.check_held-held.ensures ∙ c.in_default-held.is in
     let a = c.args in
@@ -50,9 +50,9 @@ returns-in-Refused-few c =
 
 pub returns-in-Refused-room : goal.returns-in-Refused-room
 returns-in-Refused-room c =
-    let patterns : let a = c.args in Patterns (points_of a.x.now a.y.now) = 
-        let a = c.args in
-        patterns_of a.x.now a.y.now (λ i. omega (arith, c.shared_slice_known-1.given i)) (λ i. omega (arith, c.shared_slice_known-2-1.given i)) in
+    let patterns : let a = c.args in Patterns (points_of a.x.now a.y.now) =
+    let a = c.args in
+    patterns_of a.x.now a.y.now (λ i. omega (arith, c.shared_slice_known-1.given i)) (λ i. omega (arith, c.shared_slice_known-2-1.given i)) in
     let alike : let a = c.args in lengths_check (lines a.start_x.now a.start_y.now a.end_x.now a.end_y.now) ≡ Fine = sym c.check_lengths-alike.ensures ∙ c.in_default.is in
     let held : let a = c.args in held_check (length a.x.now) (length a.y.now) a.lengths.now ≡ Fine = sym c.check_held-held.ensures ∙ c.in_default-held.is in
     let few : let a = c.args in count_check (length a.x.now - length a.lengths.now) ≡ Fine = sym c.check_count-few.ensures ∙ c.in_default-few.is in
@@ -69,9 +69,9 @@ put_lines-requires c =
 
 pub returns : goal.returns
 returns c =
-    let patterns : let a = c.args in Patterns (points_of a.x.now a.y.now) = 
-        let a = c.args in
-        patterns_of a.x.now a.y.now (λ i. omega (arith, c.shared_slice_known-1.given i)) (λ i. omega (arith, c.shared_slice_known-2-1.given i)) in
+    let patterns : let a = c.args in Patterns (points_of a.x.now a.y.now) =
+    let a = c.args in
+    patterns_of a.x.now a.y.now (λ i. omega (arith, c.shared_slice_known-1.given i)) (λ i. omega (arith, c.shared_slice_known-2-1.given i)) in
     let alike : let a = c.args in lengths_check (lines a.start_x.now a.start_y.now a.end_x.now a.end_y.now) ≡ Fine = sym c.check_lengths-alike.ensures ∙ c.in_default.is in
     let held : let a = c.args in held_check (length a.x.now) (length a.y.now) a.lengths.now ≡ Fine = sym c.check_held-held.ensures ∙ c.in_default-held.is in
     let few : let a = c.args in count_check (length a.x.now - length a.lengths.now) ≡ Fine = sym c.check_count-few.ensures ∙ c.in_default-few.is in

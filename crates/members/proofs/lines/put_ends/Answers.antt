@@ -18,12 +18,15 @@ use Rattle.members.proofs.lines.put_ends.Goals as goal
 module _ {cs ns : List ℕ} {skip : ℕ} {s₀ s : List Float} {at to k : ℕ} (t : Turned cs ns skip s₀ s at to k) (h : k < length ns) (n : ℕ) (e : n ≡ get_or ns k 0) where
   fitting : Fitting (length cs) at n
   fitting = along_next t.along h n e
+
   length_next : length (map (of_bits binary64) (take (n - 1) (drop (at + skip) cs))) ≡ n - 1
   length_next = floats_count (of_bits binary64) skip ns k at cs n t.one fitting
+
   room_next : to + (n - 1) ≤ length s
   room_next =
       let r = fill_room t.filled (map (of_bits binary64) (take (n - 1) (drop (at + skip) cs))) _ (floats_next (of_bits binary64) skip ns k at cs n h e) t.room in
       omega (arith, length_next)
+
   turned_more : {s₁ : List Float} → PutIn to (map (of_bits binary64) (take (n - 1) (drop (at + skip) cs))) s s₁ → Turned cs ns skip s₀ s₁ (at + n) (to + (n - 1)) (k + 1)
   turned_more p = record {
     along = along_more t.along h n e;

@@ -26,70 +26,70 @@ asks skip ns cs m h a e l = record { one = h; each = a; sum = e; room = let n = 
 
 pub put_ends-requires : goal.put_ends-requires
 put_ends-requires c =
-    let asked : let a = c.args in Asks 0 a.lengths.now a.x.now (length a.start_x.now) × Asks 0 a.lengths.now a.y.now (length a.start_y.now) × Asks 1 a.lengths.now a.x.now (length a.end_x.now) × Asks 1 a.lengths.now a.y.now (length a.end_y.now) = 
-        let a = c.args in
-        let p = c.requires in
-        let ns = a.lengths.now in
-        let h = held_says (length a.x.now) (length a.y.now) ns p.0 in
-        let l = lengths_fine (lines a.start_x.now a.start_y.now a.end_x.now a.end_y.now) p.1 in
-        let f = fit_says (length a.start_x.now) (length a.x.now - length ns) p.2 in
-        let y : sum_of ns ≡ length a.y.now = h.sum ∙ sym h.alike in (
-          asks 0 ns a.x.now (length a.start_x.now) (omega arith) h.each h.sum f,
-          asks 0 ns a.y.now (length a.start_y.now) (omega arith) h.each y (omega (arith, h.alike, l.start_y)),
-          asks 1 ns a.x.now (length a.end_x.now) (omega arith) h.each h.sum (omega (arith, l.end_x)),
-          asks 1 ns a.y.now (length a.end_y.now) (omega arith) h.each y (omega (arith, h.alike, l.end_y)),
-        ) in
+    let asked : let a = c.args in Asks 0 a.lengths.now a.x.now (length a.start_x.now) × Asks 0 a.lengths.now a.y.now (length a.start_y.now) × Asks 1 a.lengths.now a.x.now (length a.end_x.now) × Asks 1 a.lengths.now a.y.now (length a.end_y.now) =
+    let a = c.args in
+    let p = c.requires in
+    let ns = a.lengths.now in
+    let h = held_says (length a.x.now) (length a.y.now) ns p.0 in
+    let l = lengths_fine (lines a.start_x.now a.start_y.now a.end_x.now a.end_y.now) p.1 in
+    let f = fit_says (length a.start_x.now) (length a.x.now - length ns) p.2 in
+    let y : sum_of ns ≡ length a.y.now = h.sum ∙ sym h.alike in (
+      asks 0 ns a.x.now (length a.start_x.now) (omega arith) h.each h.sum f,
+      asks 0 ns a.y.now (length a.start_y.now) (omega arith) h.each y (omega (arith, h.alike, l.start_y)),
+      asks 1 ns a.x.now (length a.end_x.now) (omega arith) h.each h.sum (omega (arith, l.end_x)),
+      asks 1 ns a.y.now (length a.end_y.now) (omega arith) h.each y (omega (arith, h.alike, l.end_y)),
+    ) in
     let q = asked.0 in (q.one, q.each, q.sum, omega (arith, q.room))
 
 pub put_ends-requires-2 : goal.put_ends-requires-2
 put_ends-requires-2 c =
-    let asked : let a = c.args in Asks 0 a.lengths.now a.x.now (length a.start_x.now) × Asks 0 a.lengths.now a.y.now (length a.start_y.now) × Asks 1 a.lengths.now a.x.now (length a.end_x.now) × Asks 1 a.lengths.now a.y.now (length a.end_y.now) = 
-        let a = c.args in
-        let p = c.requires in
-        let ns = a.lengths.now in
-        let h = held_says (length a.x.now) (length a.y.now) ns p.0 in
-        let l = lengths_fine (lines a.start_x.now a.start_y.now a.end_x.now a.end_y.now) p.1 in
-        let f = fit_says (length a.start_x.now) (length a.x.now - length ns) p.2 in
-        let y : sum_of ns ≡ length a.y.now = h.sum ∙ sym h.alike in (
-          asks 0 ns a.x.now (length a.start_x.now) (omega arith) h.each h.sum f,
-          asks 0 ns a.y.now (length a.start_y.now) (omega arith) h.each y (omega (arith, h.alike, l.start_y)),
-          asks 1 ns a.x.now (length a.end_x.now) (omega arith) h.each h.sum (omega (arith, l.end_x)),
-          asks 1 ns a.y.now (length a.end_y.now) (omega arith) h.each y (omega (arith, h.alike, l.end_y)),
-        ) in
+    let asked : let a = c.args in Asks 0 a.lengths.now a.x.now (length a.start_x.now) × Asks 0 a.lengths.now a.y.now (length a.start_y.now) × Asks 1 a.lengths.now a.x.now (length a.end_x.now) × Asks 1 a.lengths.now a.y.now (length a.end_y.now) =
+    let a = c.args in
+    let p = c.requires in
+    let ns = a.lengths.now in
+    let h = held_says (length a.x.now) (length a.y.now) ns p.0 in
+    let l = lengths_fine (lines a.start_x.now a.start_y.now a.end_x.now a.end_y.now) p.1 in
+    let f = fit_says (length a.start_x.now) (length a.x.now - length ns) p.2 in
+    let y : sum_of ns ≡ length a.y.now = h.sum ∙ sym h.alike in (
+      asks 0 ns a.x.now (length a.start_x.now) (omega arith) h.each h.sum f,
+      asks 0 ns a.y.now (length a.start_y.now) (omega arith) h.each y (omega (arith, h.alike, l.start_y)),
+      asks 1 ns a.x.now (length a.end_x.now) (omega arith) h.each h.sum (omega (arith, l.end_x)),
+      asks 1 ns a.y.now (length a.end_y.now) (omega arith) h.each y (omega (arith, h.alike, l.end_y)),
+    ) in
     let q = asked.1 in (q.one, q.each, q.sum, omega (arith, q.room))
 
 pub put_ends-requires-3 : goal.put_ends-requires-3
 put_ends-requires-3 c =
-    let asked : let a = c.args in Asks 0 a.lengths.now a.x.now (length a.start_x.now) × Asks 0 a.lengths.now a.y.now (length a.start_y.now) × Asks 1 a.lengths.now a.x.now (length a.end_x.now) × Asks 1 a.lengths.now a.y.now (length a.end_y.now) = 
-        let a = c.args in
-        let p = c.requires in
-        let ns = a.lengths.now in
-        let h = held_says (length a.x.now) (length a.y.now) ns p.0 in
-        let l = lengths_fine (lines a.start_x.now a.start_y.now a.end_x.now a.end_y.now) p.1 in
-        let f = fit_says (length a.start_x.now) (length a.x.now - length ns) p.2 in
-        let y : sum_of ns ≡ length a.y.now = h.sum ∙ sym h.alike in (
-          asks 0 ns a.x.now (length a.start_x.now) (omega arith) h.each h.sum f,
-          asks 0 ns a.y.now (length a.start_y.now) (omega arith) h.each y (omega (arith, h.alike, l.start_y)),
-          asks 1 ns a.x.now (length a.end_x.now) (omega arith) h.each h.sum (omega (arith, l.end_x)),
-          asks 1 ns a.y.now (length a.end_y.now) (omega arith) h.each y (omega (arith, h.alike, l.end_y)),
-        ) in
+    let asked : let a = c.args in Asks 0 a.lengths.now a.x.now (length a.start_x.now) × Asks 0 a.lengths.now a.y.now (length a.start_y.now) × Asks 1 a.lengths.now a.x.now (length a.end_x.now) × Asks 1 a.lengths.now a.y.now (length a.end_y.now) =
+    let a = c.args in
+    let p = c.requires in
+    let ns = a.lengths.now in
+    let h = held_says (length a.x.now) (length a.y.now) ns p.0 in
+    let l = lengths_fine (lines a.start_x.now a.start_y.now a.end_x.now a.end_y.now) p.1 in
+    let f = fit_says (length a.start_x.now) (length a.x.now - length ns) p.2 in
+    let y : sum_of ns ≡ length a.y.now = h.sum ∙ sym h.alike in (
+      asks 0 ns a.x.now (length a.start_x.now) (omega arith) h.each h.sum f,
+      asks 0 ns a.y.now (length a.start_y.now) (omega arith) h.each y (omega (arith, h.alike, l.start_y)),
+      asks 1 ns a.x.now (length a.end_x.now) (omega arith) h.each h.sum (omega (arith, l.end_x)),
+      asks 1 ns a.y.now (length a.end_y.now) (omega arith) h.each y (omega (arith, h.alike, l.end_y)),
+    ) in
     let q = asked.2 in (q.one, q.each, q.sum, omega (arith, q.room))
 
 pub put_ends-requires-4 : goal.put_ends-requires-4
 put_ends-requires-4 c =
-    let asked : let a = c.args in Asks 0 a.lengths.now a.x.now (length a.start_x.now) × Asks 0 a.lengths.now a.y.now (length a.start_y.now) × Asks 1 a.lengths.now a.x.now (length a.end_x.now) × Asks 1 a.lengths.now a.y.now (length a.end_y.now) = 
-        let a = c.args in
-        let p = c.requires in
-        let ns = a.lengths.now in
-        let h = held_says (length a.x.now) (length a.y.now) ns p.0 in
-        let l = lengths_fine (lines a.start_x.now a.start_y.now a.end_x.now a.end_y.now) p.1 in
-        let f = fit_says (length a.start_x.now) (length a.x.now - length ns) p.2 in
-        let y : sum_of ns ≡ length a.y.now = h.sum ∙ sym h.alike in (
-          asks 0 ns a.x.now (length a.start_x.now) (omega arith) h.each h.sum f,
-          asks 0 ns a.y.now (length a.start_y.now) (omega arith) h.each y (omega (arith, h.alike, l.start_y)),
-          asks 1 ns a.x.now (length a.end_x.now) (omega arith) h.each h.sum (omega (arith, l.end_x)),
-          asks 1 ns a.y.now (length a.end_y.now) (omega arith) h.each y (omega (arith, h.alike, l.end_y)),
-        ) in
+    let asked : let a = c.args in Asks 0 a.lengths.now a.x.now (length a.start_x.now) × Asks 0 a.lengths.now a.y.now (length a.start_y.now) × Asks 1 a.lengths.now a.x.now (length a.end_x.now) × Asks 1 a.lengths.now a.y.now (length a.end_y.now) =
+    let a = c.args in
+    let p = c.requires in
+    let ns = a.lengths.now in
+    let h = held_says (length a.x.now) (length a.y.now) ns p.0 in
+    let l = lengths_fine (lines a.start_x.now a.start_y.now a.end_x.now a.end_y.now) p.1 in
+    let f = fit_says (length a.start_x.now) (length a.x.now - length ns) p.2 in
+    let y : sum_of ns ≡ length a.y.now = h.sum ∙ sym h.alike in (
+      asks 0 ns a.x.now (length a.start_x.now) (omega arith) h.each h.sum f,
+      asks 0 ns a.y.now (length a.start_y.now) (omega arith) h.each y (omega (arith, h.alike, l.start_y)),
+      asks 1 ns a.x.now (length a.end_x.now) (omega arith) h.each h.sum (omega (arith, l.end_x)),
+      asks 1 ns a.y.now (length a.end_y.now) (omega arith) h.each y (omega (arith, h.alike, l.end_y)),
+    ) in
     let q = asked.3 in (q.one, q.each, q.sum, omega (arith, q.room))
 
 pub returns : goal.returns

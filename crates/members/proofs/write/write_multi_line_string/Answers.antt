@@ -16,91 +16,91 @@ use Rattle.members.proofs.write.write_multi_line_string.Goals as goal
 
 pub returns-in-Refused : goal.returns-in-Refused
 returns-in-Refused c =
-    let patterns : let a = c.args in Patterns (points_of a.x.now a.y.now) = 
-        let a = c.args in
-        patterns_of a.x.now a.y.now (λ i. omega (arith, c.shared_slice_known-1.given i)) (λ i. omega (arith, c.shared_slice_known-2-1.given i)) in
+    let patterns : let a = c.args in Patterns (points_of a.x.now a.y.now) =
+    let a = c.args in
+    patterns_of a.x.now a.y.now (λ i. omega (arith, c.shared_slice_known-1.given i)) (λ i. omega (arith, c.shared_slice_known-2-1.given i)) in
     let a = c.args in
     write_lent a.x.now a.y.now a.lengths.now a.bytes.now patterns _ (sym c.check_held-held.ensures ∙ c.in-Refused.is)
 
 pub overflow_sub-x : goal.overflow_sub-x
 overflow_sub-x c =
-    let patterns : let a = c.args in Patterns (points_of a.x.now a.y.now) = 
-        let a = c.args in
-        patterns_of a.x.now a.y.now (λ i. omega (arith, c.shared_slice_known-1.given i)) (λ i. omega (arith, c.shared_slice_known-2-1.given i)) in
+    let patterns : let a = c.args in Patterns (points_of a.x.now a.y.now) =
+    let a = c.args in
+    patterns_of a.x.now a.y.now (λ i. omega (arith, c.shared_slice_known-1.given i)) (λ i. omega (arith, c.shared_slice_known-2-1.given i)) in
     let held : let a = c.args in held_check (length a.x.now) (length a.y.now) a.lengths.now ≡ Fine = sym c.check_held-held.ensures ∙ c.in_default.is in
     let counted : let a = c.args in Counts a.x.now a.y.now a.lengths.now = let a = c.args in counts a.x.now a.y.now a.lengths.now patterns held in
     omega (arith, counted.some)
 
 pub returns-in-Refused-few : goal.returns-in-Refused-few
 returns-in-Refused-few c =
-    let patterns : let a = c.args in Patterns (points_of a.x.now a.y.now) = 
-        let a = c.args in
-        patterns_of a.x.now a.y.now (λ i. omega (arith, c.shared_slice_known-1.given i)) (λ i. omega (arith, c.shared_slice_known-2-1.given i)) in
+    let patterns : let a = c.args in Patterns (points_of a.x.now a.y.now) =
+    let a = c.args in
+    patterns_of a.x.now a.y.now (λ i. omega (arith, c.shared_slice_known-1.given i)) (λ i. omega (arith, c.shared_slice_known-2-1.given i)) in
     let held : let a = c.args in held_check (length a.x.now) (length a.y.now) a.lengths.now ≡ Fine = sym c.check_held-held.ensures ∙ c.in_default.is in
     let a = c.args in
     write_many a.x.now a.y.now a.lengths.now a.bytes.now patterns held _ (sym c.check_count-few.ensures ∙ c.in-Refused-few.is)
 
 pub overflow_mul-need : goal.overflow_mul-need
 overflow_mul-need c =
-    let patterns : let a = c.args in Patterns (points_of a.x.now a.y.now) = 
-        let a = c.args in
-        patterns_of a.x.now a.y.now (λ i. omega (arith, c.shared_slice_known-1.given i)) (λ i. omega (arith, c.shared_slice_known-2-1.given i)) in
+    let patterns : let a = c.args in Patterns (points_of a.x.now a.y.now) =
+    let a = c.args in
+    patterns_of a.x.now a.y.now (λ i. omega (arith, c.shared_slice_known-1.given i)) (λ i. omega (arith, c.shared_slice_known-2-1.given i)) in
     let held : let a = c.args in held_check (length a.x.now) (length a.y.now) a.lengths.now ≡ Fine = sym c.check_held-held.ensures ∙ c.in_default.is in
     let counted : let a = c.args in Counts a.x.now a.y.now a.lengths.now = let a = c.args in counts a.x.now a.y.now a.lengths.now patterns held in
     let few : let a = c.args in count_check (length a.x.now - length a.lengths.now) ≡ Fine = sym c.check_count-few.ensures ∙ c.in_default-few.is in
-    let small : let a = c.args in (length a.lengths.now ≤ 4294967295) × (length a.x.now ≤ 4295032831) = 
-        let n = counted in
-        let l = count_says _ few in
-        (n.held.most, omega (arith, n.some, n.held.most)) in
+    let small : let a = c.args in (length a.lengths.now ≤ 4294967295) × (length a.x.now ≤ 4295032831) =
+    let n = counted in
+    let l = count_says _ few in
+    (n.held.most, omega (arith, n.some, n.held.most)) in
     let n = small in omega arith
 
 pub overflow_add-need : goal.overflow_add-need
 overflow_add-need c =
-    let patterns : let a = c.args in Patterns (points_of a.x.now a.y.now) = 
-        let a = c.args in
-        patterns_of a.x.now a.y.now (λ i. omega (arith, c.shared_slice_known-1.given i)) (λ i. omega (arith, c.shared_slice_known-2-1.given i)) in
+    let patterns : let a = c.args in Patterns (points_of a.x.now a.y.now) =
+    let a = c.args in
+    patterns_of a.x.now a.y.now (λ i. omega (arith, c.shared_slice_known-1.given i)) (λ i. omega (arith, c.shared_slice_known-2-1.given i)) in
     let held : let a = c.args in held_check (length a.x.now) (length a.y.now) a.lengths.now ≡ Fine = sym c.check_held-held.ensures ∙ c.in_default.is in
     let counted : let a = c.args in Counts a.x.now a.y.now a.lengths.now = let a = c.args in counts a.x.now a.y.now a.lengths.now patterns held in
     let few : let a = c.args in count_check (length a.x.now - length a.lengths.now) ≡ Fine = sym c.check_count-few.ensures ∙ c.in_default-few.is in
-    let small : let a = c.args in (length a.lengths.now ≤ 4294967295) × (length a.x.now ≤ 4295032831) = 
-        let n = counted in
-        let l = count_says _ few in
-        (n.held.most, omega (arith, n.some, n.held.most)) in
+    let small : let a = c.args in (length a.lengths.now ≤ 4294967295) × (length a.x.now ≤ 4295032831) =
+    let n = counted in
+    let l = count_says _ few in
+    (n.held.most, omega (arith, n.some, n.held.most)) in
     let n = small in omega arith
 
 pub overflow_mul-need-2 : goal.overflow_mul-need-2
 overflow_mul-need-2 c =
-    let patterns : let a = c.args in Patterns (points_of a.x.now a.y.now) = 
-        let a = c.args in
-        patterns_of a.x.now a.y.now (λ i. omega (arith, c.shared_slice_known-1.given i)) (λ i. omega (arith, c.shared_slice_known-2-1.given i)) in
+    let patterns : let a = c.args in Patterns (points_of a.x.now a.y.now) =
+    let a = c.args in
+    patterns_of a.x.now a.y.now (λ i. omega (arith, c.shared_slice_known-1.given i)) (λ i. omega (arith, c.shared_slice_known-2-1.given i)) in
     let held : let a = c.args in held_check (length a.x.now) (length a.y.now) a.lengths.now ≡ Fine = sym c.check_held-held.ensures ∙ c.in_default.is in
     let counted : let a = c.args in Counts a.x.now a.y.now a.lengths.now = let a = c.args in counts a.x.now a.y.now a.lengths.now patterns held in
     let few : let a = c.args in count_check (length a.x.now - length a.lengths.now) ≡ Fine = sym c.check_count-few.ensures ∙ c.in_default-few.is in
-    let small : let a = c.args in (length a.lengths.now ≤ 4294967295) × (length a.x.now ≤ 4295032831) = 
-        let n = counted in
-        let l = count_says _ few in
-        (n.held.most, omega (arith, n.some, n.held.most)) in
+    let small : let a = c.args in (length a.lengths.now ≤ 4294967295) × (length a.x.now ≤ 4295032831) =
+    let n = counted in
+    let l = count_says _ few in
+    (n.held.most, omega (arith, n.some, n.held.most)) in
     let n = small in omega arith
 
 pub overflow_add-need-2 : goal.overflow_add-need-2
 overflow_add-need-2 c =
-    let patterns : let a = c.args in Patterns (points_of a.x.now a.y.now) = 
-        let a = c.args in
-        patterns_of a.x.now a.y.now (λ i. omega (arith, c.shared_slice_known-1.given i)) (λ i. omega (arith, c.shared_slice_known-2-1.given i)) in
+    let patterns : let a = c.args in Patterns (points_of a.x.now a.y.now) =
+    let a = c.args in
+    patterns_of a.x.now a.y.now (λ i. omega (arith, c.shared_slice_known-1.given i)) (λ i. omega (arith, c.shared_slice_known-2-1.given i)) in
     let held : let a = c.args in held_check (length a.x.now) (length a.y.now) a.lengths.now ≡ Fine = sym c.check_held-held.ensures ∙ c.in_default.is in
     let counted : let a = c.args in Counts a.x.now a.y.now a.lengths.now = let a = c.args in counts a.x.now a.y.now a.lengths.now patterns held in
     let few : let a = c.args in count_check (length a.x.now - length a.lengths.now) ≡ Fine = sym c.check_count-few.ensures ∙ c.in_default-few.is in
-    let small : let a = c.args in (length a.lengths.now ≤ 4294967295) × (length a.x.now ≤ 4295032831) = 
-        let n = counted in
-        let l = count_says _ few in
-        (n.held.most, omega (arith, n.some, n.held.most)) in
+    let small : let a = c.args in (length a.lengths.now ≤ 4294967295) × (length a.x.now ≤ 4295032831) =
+    let n = counted in
+    let l = count_says _ few in
+    (n.held.most, omega (arith, n.some, n.held.most)) in
     let n = small in omega arith
 
 pub returns-in-Refused-room : goal.returns-in-Refused-room
 returns-in-Refused-room c =
-    let patterns : let a = c.args in Patterns (points_of a.x.now a.y.now) = 
-        let a = c.args in
-        patterns_of a.x.now a.y.now (λ i. omega (arith, c.shared_slice_known-1.given i)) (λ i. omega (arith, c.shared_slice_known-2-1.given i)) in
+    let patterns : let a = c.args in Patterns (points_of a.x.now a.y.now) =
+    let a = c.args in
+    patterns_of a.x.now a.y.now (λ i. omega (arith, c.shared_slice_known-1.given i)) (λ i. omega (arith, c.shared_slice_known-2-1.given i)) in
     let held : let a = c.args in held_check (length a.x.now) (length a.y.now) a.lengths.now ≡ Fine = sym c.check_held-held.ensures ∙ c.in_default.is in
     let few : let a = c.args in count_check (length a.x.now - length a.lengths.now) ≡ Fine = sym c.check_count-few.ensures ∙ c.in_default-few.is in
     let a = c.args in
@@ -110,9 +110,9 @@ returns-in-Refused-room c =
 pub put_multi-requires : goal.put_multi-requires
 put_multi-requires c =
     let held : let a = c.args in held_check (length a.x.now) (length a.y.now) a.lengths.now ≡ Fine = sym c.check_held-held.ensures ∙ c.in_default.is in
-    let patterns : let a = c.args in Patterns (points_of a.x.now a.y.now) = 
-        let a = c.args in
-        patterns_of a.x.now a.y.now (λ i. omega (arith, c.shared_slice_known-1.given i)) (λ i. omega (arith, c.shared_slice_known-2-1.given i)) in
+    let patterns : let a = c.args in Patterns (points_of a.x.now a.y.now) =
+    let a = c.args in
+    patterns_of a.x.now a.y.now (λ i. omega (arith, c.shared_slice_known-1.given i)) (λ i. omega (arith, c.shared_slice_known-2-1.given i)) in
     let counted : let a = c.args in Counts a.x.now a.y.now a.lengths.now = let a = c.args in counts a.x.now a.y.now a.lengths.now patterns held in
     let room : let a = c.args in fit_check (length a.bytes.now) (9 + 9 * length a.lengths.now + 16 * length a.x.now) ≡ Fine = sym c.check_fit-room.ensures ∙ c.in_default-room.is in
     let n = counted in
@@ -120,9 +120,9 @@ put_multi-requires c =
 
 pub returns : goal.returns
 returns c =
-    let patterns : let a = c.args in Patterns (points_of a.x.now a.y.now) = 
-        let a = c.args in
-        patterns_of a.x.now a.y.now (λ i. omega (arith, c.shared_slice_known-1.given i)) (λ i. omega (arith, c.shared_slice_known-2-1.given i)) in
+    let patterns : let a = c.args in Patterns (points_of a.x.now a.y.now) =
+    let a = c.args in
+    patterns_of a.x.now a.y.now (λ i. omega (arith, c.shared_slice_known-1.given i)) (λ i. omega (arith, c.shared_slice_known-2-1.given i)) in
     let held : let a = c.args in held_check (length a.x.now) (length a.y.now) a.lengths.now ≡ Fine = sym c.check_held-held.ensures ∙ c.in_default.is in
     let counted : let a = c.args in Counts a.x.now a.y.now a.lengths.now = let a = c.args in counts a.x.now a.y.now a.lengths.now patterns held in
     let few : let a = c.args in count_check (length a.x.now - length a.lengths.now) ≡ Fine = sym c.check_count-few.ensures ∙ c.in_default-few.is in

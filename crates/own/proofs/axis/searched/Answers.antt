@@ -1,6 +1,6 @@
 -- `own::axis::searched` meets its contract. The loop's invariant is `Halved`; the measure is what is left between the two ends.
 -- Assumes nothing.
-use Rattle.std.proofs.Common.{◌-◌, sym, ◌∙◌, arith}
+use Rattle.std.proofs.Common.{sym, ◌∙◌, arith}
 use Rattle.own.proofs.Halving.{lower_half, upper_half, found, nowhere}
 use Rattle.own.proofs.axis.searched.Goals as goal
 

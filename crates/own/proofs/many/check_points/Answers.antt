@@ -1,5 +1,5 @@
 -- `own::many::check_points` meets its contract: no point before the one that it looks at was bad. Assumes nothing.
-use Rattle.std.proofs.Common.{◌-◌, sym, ◌∙◌, arith}
+use Rattle.std.proofs.Common.{sym, ◌∙◌, arith}
 use borrow.Author.Tests.{not-true, not-false}
 use Rattle.own.specs.Many.{point_fits}
 use Rattle.own.proofs.ManyLaws.{sought_none, sought_more, sought_bad, sought_over}

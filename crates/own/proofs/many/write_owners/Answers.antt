@@ -1,5 +1,5 @@
 -- `own::many::write_owners` meets its contract: the first i answers are written, and the others are as they were. Assumes nothing.
-use Rattle.std.proofs.Common.{◌-◌, arith}
+use Rattle.std.proofs.Common.{arith}
 use Rattle.own.proofs.ManyLaws.{telling_none, telling_more, telling_over, askable, point_at}
 use Rattle.own.proofs.many.write_owners.Goals as goal
 

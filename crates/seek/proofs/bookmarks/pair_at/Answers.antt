@@ -29,20 +29,20 @@ returns-in_default-sought c =
 
 pub pair_of-requires : goal.pair_of-requires
 pair_of-requires c =
-    let sought : let a = c.args in let ls = lines a.start_x.now a.start_y.now a.end_x.now a.end_y.now in SoughtAt ls a.grid (beside ls a.grid a.offsets.now a.items.now a.globals.now a.global_count) a.bookmark c.in-At.cursor = 
-        let a = c.args in
-        let ls = lines a.start_x.now a.start_y.now a.end_x.now a.end_y.now in
-        let t = beside ls a.grid a.offsets.now a.items.now a.globals.now a.global_count in
-        seek_at ls a.grid t a.bookmark _ c.seek-sought.ensures c.in-At.cursor c.in-At.is in
+    let sought : let a = c.args in let ls = lines a.start_x.now a.start_y.now a.end_x.now a.end_y.now in SoughtAt ls a.grid (beside ls a.grid a.offsets.now a.items.now a.globals.now a.global_count) a.bookmark c.in-At.cursor =
+    let a = c.args in
+    let ls = lines a.start_x.now a.start_y.now a.end_x.now a.end_y.now in
+    let t = beside ls a.grid a.offsets.now a.items.now a.globals.now a.global_count in
+    seek_at ls a.grid t a.bookmark _ c.seek-sought.ensures c.in-At.cursor c.in-At.is in
     sought.asks
 
 pub returns : goal.returns
 returns c =
-    let sought : let a = c.args in let ls = lines a.start_x.now a.start_y.now a.end_x.now a.end_y.now in SoughtAt ls a.grid (beside ls a.grid a.offsets.now a.items.now a.globals.now a.global_count) a.bookmark c.in-At.cursor = 
-        let a = c.args in
-        let ls = lines a.start_x.now a.start_y.now a.end_x.now a.end_y.now in
-        let t = beside ls a.grid a.offsets.now a.items.now a.globals.now a.global_count in
-        seek_at ls a.grid t a.bookmark _ c.seek-sought.ensures c.in-At.cursor c.in-At.is in
+    let sought : let a = c.args in let ls = lines a.start_x.now a.start_y.now a.end_x.now a.end_y.now in SoughtAt ls a.grid (beside ls a.grid a.offsets.now a.items.now a.globals.now a.global_count) a.bookmark c.in-At.cursor =
+    let a = c.args in
+    let ls = lines a.start_x.now a.start_y.now a.end_x.now a.end_y.now in
+    let t = beside ls a.grid a.offsets.now a.items.now a.globals.now a.global_count in
+    seek_at ls a.grid t a.bookmark _ c.seek-sought.ensures c.in-At.cursor c.in-At.is in
     let a = c.args in
     let ls = lines a.start_x.now a.start_y.now a.end_x.now a.end_y.now in
     let t = beside ls a.grid a.offsets.now a.items.now a.globals.now a.global_count in

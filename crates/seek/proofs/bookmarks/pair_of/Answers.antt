@@ -28,18 +28,18 @@ pub overflow_add-i : goal.overflow_add-i
 overflow_add-i c =
     let area : c.wide.result * c.wide-2.result ≡ c.args.grid.rows * c.args.grid.cols = rw (c.wide.ensures, c.wide-2.ensures) in
     let inside : let a = c.args in a.cursor.cell < a.grid.rows * a.grid.cols = rw area at c.if-cell-cells.true in
-    let entries : let a = c.args in get_or a.offsets.now a.cursor.cell 0 + a.cursor.j < length a.items.now = 
-        let a = c.args in
-        pair_in (a.grid.rows * a.grid.cols) a.offsets.now a.items.now a.globals.now a.global_count a.cursor c.requires inside in
+    let entries : let a = c.args in get_or a.offsets.now a.cursor.cell 0 + a.cursor.j < length a.items.now =
+    let a = c.args in
+    pair_in (a.grid.rows * a.grid.cols) a.offsets.now a.items.now a.globals.now a.global_count a.cursor c.requires inside in
     omega (arith, c.wide-from.ensures, entries, c.requires.later, c.well_formed.1.1.1.0)
 
 pub overflow_add-j : goal.overflow_add-j
 overflow_add-j c =
     let area : c.wide.result * c.wide-2.result ≡ c.args.grid.rows * c.args.grid.cols = rw (c.wide.ensures, c.wide-2.ensures) in
     let inside : let a = c.args in a.cursor.cell < a.grid.rows * a.grid.cols = rw area at c.if-cell-cells.true in
-    let entries : let a = c.args in get_or a.offsets.now a.cursor.cell 0 + a.cursor.j < length a.items.now = 
-        let a = c.args in
-        pair_in (a.grid.rows * a.grid.cols) a.offsets.now a.items.now a.globals.now a.global_count a.cursor c.requires inside in
+    let entries : let a = c.args in get_or a.offsets.now a.cursor.cell 0 + a.cursor.j < length a.items.now =
+    let a = c.args in
+    pair_in (a.grid.rows * a.grid.cols) a.offsets.now a.items.now a.globals.now a.global_count a.cursor c.requires inside in
     omega (arith, c.wide-from.ensures, entries, c.well_formed.1.1.1.0)
 
 pub overflow_cast-n : goal.overflow_cast-n
@@ -66,36 +66,36 @@ pub offset_bounds-items-i : goal.offset_bounds-items-i
 offset_bounds-items-i c =
     let area : c.wide.result * c.wide-2.result ≡ c.args.grid.rows * c.args.grid.cols = rw (c.wide.ensures, c.wide-2.ensures) in
     let inside : let a = c.args in a.cursor.cell < a.grid.rows * a.grid.cols = rw area at c.if-cell-cells.true in
-    let entries : let a = c.args in get_or a.offsets.now a.cursor.cell 0 + a.cursor.j < length a.items.now = 
-        let a = c.args in
-        pair_in (a.grid.rows * a.grid.cols) a.offsets.now a.items.now a.globals.now a.global_count a.cursor c.requires inside in
+    let entries : let a = c.args in get_or a.offsets.now a.cursor.cell 0 + a.cursor.j < length a.items.now =
+    let a = c.args in
+    pair_in (a.grid.rows * a.grid.cols) a.offsets.now a.items.now a.globals.now a.global_count a.cursor c.requires inside in
     omega (arith, c.wide-from.ensures, entries, c.requires.later, c.well_formed.1.1.1.0)
 
 pub bounds-items-i : goal.bounds-items-i
 bounds-items-i c =
     let area : c.wide.result * c.wide-2.result ≡ c.args.grid.rows * c.args.grid.cols = rw (c.wide.ensures, c.wide-2.ensures) in
     let inside : let a = c.args in a.cursor.cell < a.grid.rows * a.grid.cols = rw area at c.if-cell-cells.true in
-    let entries : let a = c.args in get_or a.offsets.now a.cursor.cell 0 + a.cursor.j < length a.items.now = 
-        let a = c.args in
-        pair_in (a.grid.rows * a.grid.cols) a.offsets.now a.items.now a.globals.now a.global_count a.cursor c.requires inside in
+    let entries : let a = c.args in get_or a.offsets.now a.cursor.cell 0 + a.cursor.j < length a.items.now =
+    let a = c.args in
+    pair_in (a.grid.rows * a.grid.cols) a.offsets.now a.items.now a.globals.now a.global_count a.cursor c.requires inside in
     omega (arith, c.wide-from.ensures, entries, c.requires.later)
 
 pub offset_bounds-items-j : goal.offset_bounds-items-j
 offset_bounds-items-j c =
     let area : c.wide.result * c.wide-2.result ≡ c.args.grid.rows * c.args.grid.cols = rw (c.wide.ensures, c.wide-2.ensures) in
     let inside : let a = c.args in a.cursor.cell < a.grid.rows * a.grid.cols = rw area at c.if-cell-cells.true in
-    let entries : let a = c.args in get_or a.offsets.now a.cursor.cell 0 + a.cursor.j < length a.items.now = 
-        let a = c.args in
-        pair_in (a.grid.rows * a.grid.cols) a.offsets.now a.items.now a.globals.now a.global_count a.cursor c.requires inside in
+    let entries : let a = c.args in get_or a.offsets.now a.cursor.cell 0 + a.cursor.j < length a.items.now =
+    let a = c.args in
+    pair_in (a.grid.rows * a.grid.cols) a.offsets.now a.items.now a.globals.now a.global_count a.cursor c.requires inside in
     omega (arith, c.wide-from.ensures, entries, c.well_formed.1.1.1.0)
 
 pub bounds-items-j : goal.bounds-items-j
 bounds-items-j c =
     let area : c.wide.result * c.wide-2.result ≡ c.args.grid.rows * c.args.grid.cols = rw (c.wide.ensures, c.wide-2.ensures) in
     let inside : let a = c.args in a.cursor.cell < a.grid.rows * a.grid.cols = rw area at c.if-cell-cells.true in
-    let entries : let a = c.args in get_or a.offsets.now a.cursor.cell 0 + a.cursor.j < length a.items.now = 
-        let a = c.args in
-        pair_in (a.grid.rows * a.grid.cols) a.offsets.now a.items.now a.globals.now a.global_count a.cursor c.requires inside in
+    let entries : let a = c.args in get_or a.offsets.now a.cursor.cell 0 + a.cursor.j < length a.items.now =
+    let a = c.args in
+    pair_in (a.grid.rows * a.grid.cols) a.offsets.now a.items.now a.globals.now a.global_count a.cursor c.requires inside in
     omega (arith, c.wide-from.ensures, entries)
 
 pub returns-then-cell-cells : goal.returns-then-cell-cells

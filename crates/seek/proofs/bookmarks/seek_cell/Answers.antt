@@ -1,5 +1,4 @@
 -- `seek::bookmarks::seek_cell` meets its contract. The invariant: what is left is dropped from the cells from `cell` on. Assumes nothing.
-use Prim.Native.Nat.{◌-◌}
 use Rattle.seek.proofs.SeekTurns.{cell_seek, cell_end, cell_up, cell_found, cell_passed}
 use Rattle.seek.proofs.bookmarks.seek_cell.Goals as goal
 

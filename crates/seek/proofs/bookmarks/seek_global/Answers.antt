@@ -1,5 +1,4 @@
 -- `seek::bookmarks::seek_global` meets its contract. The invariant: what is left is dropped from the globals from p on. Assumes nothing.
-use Prim.Native.Nat.{◌-◌}
 use native.Mathlib.Omega.{arith}
 use Rattle.seek.proofs.SeekTurns.{global_seek, global_end, global_some, global_found, global_passed}
 use Rattle.seek.proofs.bookmarks.seek_global.Goals as goal

@@ -1,5 +1,4 @@
 -- `seek::bookmarks::seek_line` meets its contract. The invariant: what is left is dropped from the lines from k on. Assumes nothing.
-use Prim.Native.Nat.{◌-◌}
 use native.Mathlib.Omega.{arith}
 use Rattle.seek.proofs.SeekTurns.{line_seek, line_last, global_in, line_ahead, line_below, line_before, line_passed}
 use Rattle.seek.proofs.bookmarks.seek_line.Goals as goal

@@ -1,5 +1,4 @@
 -- `seek::bookmarks::seek_row` meets its contract. The invariant: what is left is dropped from the rows from i on. Assumes nothing.
-use Prim.Native.Nat.{◌-◌}
 use native.Mathlib.Omega.{arith}
 use Rattle.seek.proofs.SeekTurns.{row_seek, row_none, row_found, row_passed}
 use Rattle.seek.proofs.bookmarks.seek_row.Goals as goal

@@ -1,6 +1,6 @@
 -- `visit::cursor::settle_cell` meets its contract. The invariant: the same is left as at the start. Assumes nothing.
 use mathlib.Core.Path.{refl}
-use Prim.Native.Nat.{◌+◌, ◌-◌}
+use Prim.Native.Nat.{◌+◌}
 use native.Mathlib.Omega.{arith}
 use Rattle.visit.proofs.CellTurns.{settling_none, settled_past, from_to, settled_here, settled_row, settling_more}
 use Rattle.visit.proofs.cursor.settle_cell.Goals as goal

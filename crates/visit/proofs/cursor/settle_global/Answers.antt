@@ -1,5 +1,4 @@
 -- `visit::cursor::settle_global` meets its contract. The invariant: the same is left as at the start. Assumes nothing.
-use Prim.Native.Nat.{◌-◌}
 use native.Mathlib.Omega.{arith}
 use Rattle.visit.proofs.GlobalTurns.{gliding_none, stop_asks, glided_here, glided_past, gliding_pass, gliding_next, stop_fits, global_less}
 use Rattle.visit.proofs.cursor.settle_global.Goals as goal

@@ -1,5 +1,4 @@
 -- `visit::scan::put_places` meets its contract. The invariant: what is put so far. Assumes nothing.
-use Prim.Native.Nat.{◌-◌}
 use native.Mathlib.Omega.{arith}
 use Rattle.visit.proofs.Placing.{putting_none, put_short, putting_more, putting_done}
 use Rattle.visit.proofs.scan.put_places.Goals as goal

@@ -1,6 +1,5 @@
 -- `visit::scan::run_cells` meets its contract. The invariant: what a batch of the cells' tests makes is what was made and what a batch of the rest makes. Assumes nothing.
 use mathlib.Core.List.{[]}
-use Prim.Native.Nat.{◌-◌}
 use Rattle.visit.proofs.RunTurns.{cell_at, cells_run, cells_full, cells_over, cell_row_asks, cells_turn, cells_less, cells_small}
 use Rattle.visit.proofs.scan.run_cells.Goals as goal
 

@@ -1,5 +1,4 @@
 -- `visit::scan::run_globals` meets its contract. The invariant: what a batch of the globals' tests makes is what was made and what a batch of the rest makes. Assumes nothing.
-use Prim.Native.Nat.{◌-◌}
 use native.Mathlib.Omega.{arith}
 use Rattle.grid.specs.Domain.{lines}
 use Rattle.grid.proofs.Fine.{lines_fine}

@@ -1,6 +1,5 @@
 -- `visit::scan::scan_lines` meets its contract. The invariant: what a batch of the row makes is what was made and what a batch of the rest makes. Assumes nothing.
 use mathlib.Core.Path.{sym, ◌∙◌}
-use Prim.Native.Nat.{◌-◌}
 use native.Mathlib.Omega.{arith}
 use Rattle.grid.specs.Domain.{lines}
 use Rattle.visit.proofs.RowTurns.{lines_scan, lines_some, lines_hit, lines_miss, lines_full, lines_over}

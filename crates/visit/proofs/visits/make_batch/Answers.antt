@@ -22,15 +22,15 @@ returns-then-first-second c =
 pub overflow_mul-cells : goal.overflow_mul-cells
 overflow_mul-cells c =
     let same : let a = c.args in outputs_check a.first.now a.second.now ≡ Fine = let a = c.args in outputs_alike a.first.now a.second.now c.if-first-second.false in
-    let found : let a = c.args in let ls = lines a.start_x.now a.start_y.now a.end_x.now a.end_y.now in CursorIs ls a.grid (beside ls a.grid a.offsets.now a.items.now a.globals.now a.global_count) a.bookmark c.in-At.cursor = 
-        let a = c.args in
-        let ls = lines a.start_x.now a.start_y.now a.end_x.now a.end_y.now in
-        let t = beside ls a.grid a.offsets.now a.items.now a.globals.now a.global_count in
-        found_at ls a.grid t a.bookmark _ c.find-found.ensures c.in-At.cursor c.in-At.is in
-    let asks : let a = c.args in let ls = lines a.start_x.now a.start_y.now a.end_x.now a.end_y.now in RunAsks ls a.grid (beside ls a.grid a.offsets.now a.items.now a.globals.now a.global_count) c.in-At.cursor a.first.now a.second.now = 
-        let a = c.args in
-        let ls = lines a.start_x.now a.start_y.now a.end_x.now a.end_y.now in
-        run_asks ls a.grid a.offsets.now a.items.now a.globals.now a.global_count a.bookmark c.in-At.cursor found a.first.now a.second.now a.places.now same in
+    let found : let a = c.args in let ls = lines a.start_x.now a.start_y.now a.end_x.now a.end_y.now in CursorIs ls a.grid (beside ls a.grid a.offsets.now a.items.now a.globals.now a.global_count) a.bookmark c.in-At.cursor =
+    let a = c.args in
+    let ls = lines a.start_x.now a.start_y.now a.end_x.now a.end_y.now in
+    let t = beside ls a.grid a.offsets.now a.items.now a.globals.now a.global_count in
+    found_at ls a.grid t a.bookmark _ c.find-found.ensures c.in-At.cursor c.in-At.is in
+    let asks : let a = c.args in let ls = lines a.start_x.now a.start_y.now a.end_x.now a.end_y.now in RunAsks ls a.grid (beside ls a.grid a.offsets.now a.items.now a.globals.now a.global_count) c.in-At.cursor a.first.now a.second.now =
+    let a = c.args in
+    let ls = lines a.start_x.now a.start_y.now a.end_x.now a.end_y.now in
+    run_asks ls a.grid a.offsets.now a.items.now a.globals.now a.global_count a.bookmark c.in-At.cursor found a.first.now a.second.now a.places.now same in
     let a = c.args in
     let ls = lines a.start_x.now a.start_y.now a.end_x.now a.end_y.now in
     record { fits = rows_cols ls a.grid a.offsets.now a.items.now a.globals.now a.global_count asks.ready.fine _ _ refl refl }
@@ -38,15 +38,15 @@ overflow_mul-cells c =
 pub run_cells-listed-requires : goal.run_cells-listed-requires
 run_cells-listed-requires c =
     let same : let a = c.args in outputs_check a.first.now a.second.now ≡ Fine = let a = c.args in outputs_alike a.first.now a.second.now c.if-first-second.false in
-    let found : let a = c.args in let ls = lines a.start_x.now a.start_y.now a.end_x.now a.end_y.now in CursorIs ls a.grid (beside ls a.grid a.offsets.now a.items.now a.globals.now a.global_count) a.bookmark c.in-At.cursor = 
-        let a = c.args in
-        let ls = lines a.start_x.now a.start_y.now a.end_x.now a.end_y.now in
-        let t = beside ls a.grid a.offsets.now a.items.now a.globals.now a.global_count in
-        found_at ls a.grid t a.bookmark _ c.find-found.ensures c.in-At.cursor c.in-At.is in
-    let asks : let a = c.args in let ls = lines a.start_x.now a.start_y.now a.end_x.now a.end_y.now in RunAsks ls a.grid (beside ls a.grid a.offsets.now a.items.now a.globals.now a.global_count) c.in-At.cursor a.first.now a.second.now = 
-        let a = c.args in
-        let ls = lines a.start_x.now a.start_y.now a.end_x.now a.end_y.now in
-        run_asks ls a.grid a.offsets.now a.items.now a.globals.now a.global_count a.bookmark c.in-At.cursor found a.first.now a.second.now a.places.now same in
+    let found : let a = c.args in let ls = lines a.start_x.now a.start_y.now a.end_x.now a.end_y.now in CursorIs ls a.grid (beside ls a.grid a.offsets.now a.items.now a.globals.now a.global_count) a.bookmark c.in-At.cursor =
+    let a = c.args in
+    let ls = lines a.start_x.now a.start_y.now a.end_x.now a.end_y.now in
+    let t = beside ls a.grid a.offsets.now a.items.now a.globals.now a.global_count in
+    found_at ls a.grid t a.bookmark _ c.find-found.ensures c.in-At.cursor c.in-At.is in
+    let asks : let a = c.args in let ls = lines a.start_x.now a.start_y.now a.end_x.now a.end_y.now in RunAsks ls a.grid (beside ls a.grid a.offsets.now a.items.now a.globals.now a.global_count) c.in-At.cursor a.first.now a.second.now =
+    let a = c.args in
+    let ls = lines a.start_x.now a.start_y.now a.end_x.now a.end_y.now in
+    run_asks ls a.grid a.offsets.now a.items.now a.globals.now a.global_count a.bookmark c.in-At.cursor found a.first.now a.second.now a.places.now same in
     let a = c.args in
     let ls = lines a.start_x.now a.start_y.now a.end_x.now a.end_y.now in
     cells_asks ls a.grid a.offsets.now a.items.now a.globals.now a.global_count c.in-At.cursor a.first.now a.second.now a.places.now asks _ refl
@@ -54,15 +54,15 @@ run_cells-listed-requires c =
 pub run_globals-global-requires : goal.run_globals-global-requires
 run_globals-global-requires c =
     let same : let a = c.args in outputs_check a.first.now a.second.now ≡ Fine = let a = c.args in outputs_alike a.first.now a.second.now c.if-first-second.false in
-    let found : let a = c.args in let ls = lines a.start_x.now a.start_y.now a.end_x.now a.end_y.now in CursorIs ls a.grid (beside ls a.grid a.offsets.now a.items.now a.globals.now a.global_count) a.bookmark c.in-At.cursor = 
-        let a = c.args in
-        let ls = lines a.start_x.now a.start_y.now a.end_x.now a.end_y.now in
-        let t = beside ls a.grid a.offsets.now a.items.now a.globals.now a.global_count in
-        found_at ls a.grid t a.bookmark _ c.find-found.ensures c.in-At.cursor c.in-At.is in
-    let asks : let a = c.args in let ls = lines a.start_x.now a.start_y.now a.end_x.now a.end_y.now in RunAsks ls a.grid (beside ls a.grid a.offsets.now a.items.now a.globals.now a.global_count) c.in-At.cursor a.first.now a.second.now = 
-        let a = c.args in
-        let ls = lines a.start_x.now a.start_y.now a.end_x.now a.end_y.now in
-        run_asks ls a.grid a.offsets.now a.items.now a.globals.now a.global_count a.bookmark c.in-At.cursor found a.first.now a.second.now a.places.now same in
+    let found : let a = c.args in let ls = lines a.start_x.now a.start_y.now a.end_x.now a.end_y.now in CursorIs ls a.grid (beside ls a.grid a.offsets.now a.items.now a.globals.now a.global_count) a.bookmark c.in-At.cursor =
+    let a = c.args in
+    let ls = lines a.start_x.now a.start_y.now a.end_x.now a.end_y.now in
+    let t = beside ls a.grid a.offsets.now a.items.now a.globals.now a.global_count in
+    found_at ls a.grid t a.bookmark _ c.find-found.ensures c.in-At.cursor c.in-At.is in
+    let asks : let a = c.args in let ls = lines a.start_x.now a.start_y.now a.end_x.now a.end_y.now in RunAsks ls a.grid (beside ls a.grid a.offsets.now a.items.now a.globals.now a.global_count) c.in-At.cursor a.first.now a.second.now =
+    let a = c.args in
+    let ls = lines a.start_x.now a.start_y.now a.end_x.now a.end_y.now in
+    run_asks ls a.grid a.offsets.now a.items.now a.globals.now a.global_count a.bookmark c.in-At.cursor found a.first.now a.second.now a.places.now same in
     let a = c.args in
     let ls = lines a.start_x.now a.start_y.now a.end_x.now a.end_y.now in
     globals_asks ls a.grid a.offsets.now a.items.now a.globals.now a.global_count c.in-At.cursor a.first.now a.second.now a.places.now asks _ refl _ _ _ c.run_cells-listed.result c.run_cells-listed.ensures
@@ -70,31 +70,31 @@ run_globals-global-requires c =
 pub overflow_add-made : goal.overflow_add-made
 overflow_add-made c =
     let same : let a = c.args in outputs_check a.first.now a.second.now ≡ Fine = let a = c.args in outputs_alike a.first.now a.second.now c.if-first-second.false in
-    let found : let a = c.args in let ls = lines a.start_x.now a.start_y.now a.end_x.now a.end_y.now in CursorIs ls a.grid (beside ls a.grid a.offsets.now a.items.now a.globals.now a.global_count) a.bookmark c.in-At.cursor = 
-        let a = c.args in
-        let ls = lines a.start_x.now a.start_y.now a.end_x.now a.end_y.now in
-        let t = beside ls a.grid a.offsets.now a.items.now a.globals.now a.global_count in
-        found_at ls a.grid t a.bookmark _ c.find-found.ensures c.in-At.cursor c.in-At.is in
-    let asks : let a = c.args in let ls = lines a.start_x.now a.start_y.now a.end_x.now a.end_y.now in RunAsks ls a.grid (beside ls a.grid a.offsets.now a.items.now a.globals.now a.global_count) c.in-At.cursor a.first.now a.second.now = 
-        let a = c.args in
-        let ls = lines a.start_x.now a.start_y.now a.end_x.now a.end_y.now in
-        run_asks ls a.grid a.offsets.now a.items.now a.globals.now a.global_count a.bookmark c.in-At.cursor found a.first.now a.second.now a.places.now same in
+    let found : let a = c.args in let ls = lines a.start_x.now a.start_y.now a.end_x.now a.end_y.now in CursorIs ls a.grid (beside ls a.grid a.offsets.now a.items.now a.globals.now a.global_count) a.bookmark c.in-At.cursor =
+    let a = c.args in
+    let ls = lines a.start_x.now a.start_y.now a.end_x.now a.end_y.now in
+    let t = beside ls a.grid a.offsets.now a.items.now a.globals.now a.global_count in
+    found_at ls a.grid t a.bookmark _ c.find-found.ensures c.in-At.cursor c.in-At.is in
+    let asks : let a = c.args in let ls = lines a.start_x.now a.start_y.now a.end_x.now a.end_y.now in RunAsks ls a.grid (beside ls a.grid a.offsets.now a.items.now a.globals.now a.global_count) c.in-At.cursor a.first.now a.second.now =
+    let a = c.args in
+    let ls = lines a.start_x.now a.start_y.now a.end_x.now a.end_y.now in
+    run_asks ls a.grid a.offsets.now a.items.now a.globals.now a.global_count a.bookmark c.in-At.cursor found a.first.now a.second.now a.places.now same in
     let a = c.args in
     let ls = lines a.start_x.now a.start_y.now a.end_x.now a.end_y.now in
     record { fits = run_small ls a.grid a.offsets.now a.items.now a.globals.now a.global_count c.in-At.cursor a.first.now a.second.now a.places.now asks _ refl _ _ _ c.run_cells-listed.result c.run_cells-listed.ensures _ _ _ c.run_globals-global.result c.run_globals-global.ensures }
 
 pub overflow_add-result : goal.overflow_add-result
 overflow_add-result c =
-    let found : let a = c.args in let ls = lines a.start_x.now a.start_y.now a.end_x.now a.end_y.now in CursorIs ls a.grid (beside ls a.grid a.offsets.now a.items.now a.globals.now a.global_count) a.bookmark c.in-At.cursor = 
-        let a = c.args in
-        let ls = lines a.start_x.now a.start_y.now a.end_x.now a.end_y.now in
-        let t = beside ls a.grid a.offsets.now a.items.now a.globals.now a.global_count in
-        found_at ls a.grid t a.bookmark _ c.find-found.ensures c.in-At.cursor c.in-At.is in
+    let found : let a = c.args in let ls = lines a.start_x.now a.start_y.now a.end_x.now a.end_y.now in CursorIs ls a.grid (beside ls a.grid a.offsets.now a.items.now a.globals.now a.global_count) a.bookmark c.in-At.cursor =
+    let a = c.args in
+    let ls = lines a.start_x.now a.start_y.now a.end_x.now a.end_y.now in
+    let t = beside ls a.grid a.offsets.now a.items.now a.globals.now a.global_count in
+    found_at ls a.grid t a.bookmark _ c.find-found.ensures c.in-At.cursor c.in-At.is in
     let same : let a = c.args in outputs_check a.first.now a.second.now ≡ Fine = let a = c.args in outputs_alike a.first.now a.second.now c.if-first-second.false in
-    let asks : let a = c.args in let ls = lines a.start_x.now a.start_y.now a.end_x.now a.end_y.now in RunAsks ls a.grid (beside ls a.grid a.offsets.now a.items.now a.globals.now a.global_count) c.in-At.cursor a.first.now a.second.now = 
-        let a = c.args in
-        let ls = lines a.start_x.now a.start_y.now a.end_x.now a.end_y.now in
-        run_asks ls a.grid a.offsets.now a.items.now a.globals.now a.global_count a.bookmark c.in-At.cursor found a.first.now a.second.now a.places.now same in
+    let asks : let a = c.args in let ls = lines a.start_x.now a.start_y.now a.end_x.now a.end_y.now in RunAsks ls a.grid (beside ls a.grid a.offsets.now a.items.now a.globals.now a.global_count) c.in-At.cursor a.first.now a.second.now =
+    let a = c.args in
+    let ls = lines a.start_x.now a.start_y.now a.end_x.now a.end_y.now in
+    run_asks ls a.grid a.offsets.now a.items.now a.globals.now a.global_count a.bookmark c.in-At.cursor found a.first.now a.second.now a.places.now same in
     let a = c.args in
     let ls = lines a.start_x.now a.start_y.now a.end_x.now a.end_y.now in
     record { fits = bookmark_fits ls a.grid a.offsets.now a.items.now a.globals.now a.global_count a.bookmark c.in-At.cursor found a.first.now a.second.now a.places.now _ _ _ _ (run_is ls a.grid a.offsets.now a.items.now a.globals.now a.global_count c.in-At.cursor a.first.now a.second.now a.places.now asks _ refl _ _ _ c.run_cells-listed.result c.run_cells-listed.ensures _ _ _ c.run_globals-global.result c.run_globals-global.ensures) }
@@ -119,15 +119,15 @@ shape_of-places c = c.clear_from-in-At-2.auto.s ∙ c.run_globals-global.auto.pl
 pub returns-in-At : goal.returns-in-At
 returns-in-At c =
     let same : let a = c.args in outputs_check a.first.now a.second.now ≡ Fine = let a = c.args in outputs_alike a.first.now a.second.now c.if-first-second.false in
-    let found : let a = c.args in let ls = lines a.start_x.now a.start_y.now a.end_x.now a.end_y.now in CursorIs ls a.grid (beside ls a.grid a.offsets.now a.items.now a.globals.now a.global_count) a.bookmark c.in-At.cursor = 
-        let a = c.args in
-        let ls = lines a.start_x.now a.start_y.now a.end_x.now a.end_y.now in
-        let t = beside ls a.grid a.offsets.now a.items.now a.globals.now a.global_count in
-        found_at ls a.grid t a.bookmark _ c.find-found.ensures c.in-At.cursor c.in-At.is in
-    let asks : let a = c.args in let ls = lines a.start_x.now a.start_y.now a.end_x.now a.end_y.now in RunAsks ls a.grid (beside ls a.grid a.offsets.now a.items.now a.globals.now a.global_count) c.in-At.cursor a.first.now a.second.now = 
-        let a = c.args in
-        let ls = lines a.start_x.now a.start_y.now a.end_x.now a.end_y.now in
-        run_asks ls a.grid a.offsets.now a.items.now a.globals.now a.global_count a.bookmark c.in-At.cursor found a.first.now a.second.now a.places.now same in
+    let found : let a = c.args in let ls = lines a.start_x.now a.start_y.now a.end_x.now a.end_y.now in CursorIs ls a.grid (beside ls a.grid a.offsets.now a.items.now a.globals.now a.global_count) a.bookmark c.in-At.cursor =
+    let a = c.args in
+    let ls = lines a.start_x.now a.start_y.now a.end_x.now a.end_y.now in
+    let t = beside ls a.grid a.offsets.now a.items.now a.globals.now a.global_count in
+    found_at ls a.grid t a.bookmark _ c.find-found.ensures c.in-At.cursor c.in-At.is in
+    let asks : let a = c.args in let ls = lines a.start_x.now a.start_y.now a.end_x.now a.end_y.now in RunAsks ls a.grid (beside ls a.grid a.offsets.now a.items.now a.globals.now a.global_count) c.in-At.cursor a.first.now a.second.now =
+    let a = c.args in
+    let ls = lines a.start_x.now a.start_y.now a.end_x.now a.end_y.now in
+    run_asks ls a.grid a.offsets.now a.items.now a.globals.now a.global_count a.bookmark c.in-At.cursor found a.first.now a.second.now a.places.now same in
     let a = c.args in
     let ls = lines a.start_x.now a.start_y.now a.end_x.now a.end_y.now in
     let t = beside ls a.grid a.offsets.now a.items.now a.globals.now a.global_count in

@@ -1,5 +1,4 @@
 -- `walk::beside::besides` meets its contract. Assumes nothing.
-use Prim.Native.Nat.{◌-◌}
 use native.Mathlib.Omega.{arith}
 use Rattle.walk.proofs.Added.{beside_le, added_room, added_within, added_more, added_start, added_done}
 use Rattle.walk.proofs.beside.besides.Goals as goal

@@ -18,9 +18,9 @@ returns-then-is_clear c = clear_complete _ _ _ _ _ (omega (arith, c.requires.roo
 pub added-a-requires : goal.added-a-requires
 added-a-requires c =
     let in_x : let a = c.args in c.along-x.result ≡ along_on a.mode (x_axis a.grid) a.line.start_x a.line.end_x = let a = c.args in c.along-x.ensures ∙ ap (λ (z : Axis). along_on a.mode z a.line.start_x a.line.end_x) c.x_axis.ensures in
-    let in_y : let a = c.args in c.along-y.result ≡ along_on a.mode (y_axis a.grid) a.line.start_y a.line.end_y = 
-        let a = c.args in
-        c.along-y.ensures ∙ ap (λ (z : Axis). along_on a.mode z a.line.start_y a.line.end_y) c.y_axis.ensures in
+    let in_y : let a = c.args in c.along-y.result ≡ along_on a.mode (y_axis a.grid) a.line.start_y a.line.end_y =
+    let a = c.args in
+    c.along-y.ensures ∙ ap (λ (z : Axis). along_on a.mode z a.line.start_y a.line.end_y) c.y_axis.ensures in
     let shared : let a = c.args in a.trod.count * share_of a.mode a.grid a.line ≡ a.trod.count * share c.along-x.result c.along-y.result = ap (λ (k : ℕ). c.args.trod.count * k) (share_is _ _ _ _ _ in_x in_y) in
     let p = c.requires in
     record { room = omega (arith, p.room, shared); all_inside = record { most = shape_within p.shape p.some_columns; inside = p.all_below } }
@@ -28,9 +28,9 @@ added-a-requires c =
 pub ended-b-requires : goal.ended-b-requires
 ended-b-requires c =
     let in_x : let a = c.args in c.along-x.result ≡ along_on a.mode (x_axis a.grid) a.line.start_x a.line.end_x = let a = c.args in c.along-x.ensures ∙ ap (λ (z : Axis). along_on a.mode z a.line.start_x a.line.end_x) c.x_axis.ensures in
-    let in_y : let a = c.args in c.along-y.result ≡ along_on a.mode (y_axis a.grid) a.line.start_y a.line.end_y = 
-        let a = c.args in
-        c.along-y.ensures ∙ ap (λ (z : Axis). along_on a.mode z a.line.start_y a.line.end_y) c.y_axis.ensures in
+    let in_y : let a = c.args in c.along-y.result ≡ along_on a.mode (y_axis a.grid) a.line.start_y a.line.end_y =
+    let a = c.args in
+    c.along-y.ensures ∙ ap (λ (z : Axis). along_on a.mode z a.line.start_y a.line.end_y) c.y_axis.ensures in
     let shared : let a = c.args in a.trod.count * share_of a.mode a.grid a.line ≡ a.trod.count * share c.along-x.result c.along-y.result = ap (λ (k : ℕ). c.args.trod.count * k) (share_is _ _ _ _ _ in_x in_y) in
     let p = c.requires in
     let k = c.added-a.ensures in
@@ -39,13 +39,14 @@ ended-b-requires c =
 pub ended-requires : goal.ended-requires
 ended-requires c =
     let in_x : let a = c.args in c.along-x.result ≡ along_on a.mode (x_axis a.grid) a.line.start_x a.line.end_x = let a = c.args in c.along-x.ensures ∙ ap (λ (z : Axis). along_on a.mode z a.line.start_x a.line.end_x) c.x_axis.ensures in
-    let in_y : let a = c.args in c.along-y.result ≡ along_on a.mode (y_axis a.grid) a.line.start_y a.line.end_y = 
-        let a = c.args in
-        c.along-y.ensures ∙ ap (λ (z : Axis). along_on a.mode z a.line.start_y a.line.end_y) c.y_axis.ensures in
+    let in_y : let a = c.args in c.along-y.result ≡ along_on a.mode (y_axis a.grid) a.line.start_y a.line.end_y =
+    let a = c.args in
+    c.along-y.ensures ∙ ap (λ (z : Axis). along_on a.mode z a.line.start_y a.line.end_y) c.y_axis.ensures in
     let shared : let a = c.args in a.trod.count * share_of a.mode a.grid a.line ≡ a.trod.count * share c.along-x.result c.along-y.result = ap (λ (k : ℕ). c.args.trod.count * k) (share_is _ _ _ _ _ in_x in_y) in
     let p = c.requires in
     let k = c.added-a.ensures in
-    let e = c.ended-b.ensures in record { room = omega (
+    let e = c.ended-b.ensures in record {
+      room = omega (
         arith,
         p.room,
         shared,
@@ -54,13 +55,16 @@ ended-requires c =
         e.len,
         e.count,
         end_le c.args.mode c.args.grid c.args.line.start_x c.args.line.start_y,
-      ); shape = p.shape; some_columns = p.some_columns }
+      );
+      shape = p.shape;
+      some_columns = p.some_columns;
+    }
 
 pub returns : goal.returns
 returns c =
     let in_x : let a = c.args in c.along-x.result ≡ along_on a.mode (x_axis a.grid) a.line.start_x a.line.end_x = let a = c.args in c.along-x.ensures ∙ ap (λ (z : Axis). along_on a.mode z a.line.start_x a.line.end_x) c.x_axis.ensures in
-    let in_y : let a = c.args in c.along-y.result ≡ along_on a.mode (y_axis a.grid) a.line.start_y a.line.end_y = 
-        let a = c.args in
-        c.along-y.ensures ∙ ap (λ (z : Axis). along_on a.mode z a.line.start_y a.line.end_y) c.y_axis.ensures in
+    let in_y : let a = c.args in c.along-y.result ≡ along_on a.mode (y_axis a.grid) a.line.start_y a.line.end_y =
+    let a = c.args in
+    c.along-y.ensures ∙ ap (λ (z : Axis). along_on a.mode z a.line.start_y a.line.end_y) c.y_axis.ensures in
     completes _ _ _ _ _ in_x in_y c.added-a.ensures
     c.ended-b.ensures c.ended.ensures

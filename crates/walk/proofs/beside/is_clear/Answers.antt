@@ -1,5 +1,5 @@
 -- `walk::beside::is_clear` meets its contract. Assumes nothing.
-use mathlib.Core.Bool.{true, true≢false}
+use mathlib.Core.Bool.{true≢false}
 use mathlib.Core.Path.{◌≡◌, sym, subst}
 use Rattle.grid.specs.declared.Axis.{Axis}
 use Rattle.grid.specs.declared.Side.TheVariants.{Off}

@@ -1,5 +1,4 @@
 -- `walk::beside::rows` meets its contract. Assumes nothing.
-use Prim.Native.Nat.{◌-◌}
 use native.Mathlib.Omega.{arith}
 use Rattle.walk.proofs.Added.{row_le, within_less, added_room, added_within, added_more, added_start, added_done}
 use Rattle.walk.proofs.beside.rows.Goals as goal

@@ -1,5 +1,4 @@
 -- `window::found::write_lines` meets its contract: the lines below i are gone through. Assumes nothing.
-use Prim.Native.Nat.{◌-◌}
 use native.Mathlib.Omega.{arith}
 use Rattle.window.proofs.Those.{writing_none, writing_more, writing_over, writing_few, writing_long}
 use Rattle.window.proofs.found.write_lines.Goals as goal

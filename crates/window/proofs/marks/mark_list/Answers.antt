@@ -1,5 +1,4 @@
 -- `window::marks::mark_list` meets its contract: what is left of the list is still to be marked. Assumes nothing.
-use Prim.Native.Nat.{◌-◌}
 use native.Mathlib.Omega.{arith}
 use Rattle.slices.proofs.Members.{below_at}
 use Rattle.window.proofs.Marking.{marking_none, marking_more, marking_over}

@@ -1,7 +1,7 @@
 -- `window::marks::mark_rows` meets its contract: the rows from `row` on are still to be marked. Assumes nothing.
 use mathlib.Core.Path.{ap, ◌∙◌}
 use mathlib.Core.List.{List}
-use Prim.Native.Nat.{ℕ, ◌-◌}
+use Prim.Native.Nat.{ℕ}
 use native.Mathlib.Omega.{arith}
 use Rattle.window.specs.Inside.{marked_with}
 use Rattle.window.proofs.Marking.{rows_none, rows_more, rows_over}

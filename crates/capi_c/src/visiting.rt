@@ -10,6 +10,8 @@ ghost use Rattle.replies.specs.Answers.{of_part, of_test};
 ghost use Rattle.capi.specs.Few.{unless_few};
 ghost use Rattle.capi.specs.Lent.{BatchReplies};
 
+use seek::Place;
+
 // The list of a cell is a part of the items. Out: where it starts, and its length.
 #[unsafe(no_mangle)]
 pub extern "C" fn mt_cell_list<'a>(

@@ -24,8 +24,8 @@ built=$PWD/target/compare
 mkdir -p "$built"
 tools/build_library >"$built/library.log" 2>&1 || { cat "$built/library.log"; echo "${0##*/}: the port's library was not built"; exit 1; }
 export MORELTURRET_LIB=$PWD/target/library MORELTURRET_INNER_LIB=$built/libinner_walk.a
-if [ ! -f "$MORELTURRET_INNER_LIB" ] || [ -n "$(find crates crates.txt -newer "$MORELTURRET_INNER_LIB" -print -quit)" ]; then
-    tools/native_lib "$MORELTURRET_INNER_LIB" inner_walk >>"$built/library.log" 2>&1 || { cat "$built/library.log"; echo "${0##*/}: the inner walk was not built"; exit 1; }
+if ! is_newer "$MORELTURRET_INNER_LIB"; then
+    tools/native_lib "$MORELTURRET_INNER_LIB" inner_walk_c >>"$built/library.log" 2>&1 || { cat "$built/library.log"; echo "${0##*/}: the inner walk was not built"; exit 1; }
 fi
 
 # cargo writes its lock file beside the manifest, so the package is laid out under target/.

@@ -30,6 +30,28 @@ one_of() {
     refuse "there is no $what $word"
 }
 
+# is_newer FILE: it stands, and is newer than all that the crates are made of. At the top of the repository.
+is_newer() {
+    [ -f "$1" ] && [ -z "$(find crates crates.txt \( -name out -o -name must-fail \) -prune -o -type f -newer "$1" -print -quit)" ]
+}
+
+# program NAME: sees that the proved program stands as crates/NAME/out/NAME, and is newer than the crates. At the top of the repository. What is said goes to
+# standard error.
+program() {
+    local made=crates/$1/out/$1 log
+    ! is_newer "$made" || return 0
+    echo "${0##*/}: proving and building $1" >&2
+    log=$(mktemp)
+    if ! (cd "crates/$1" && rt run) >"$log" 2>&1 </dev/null || [ ! -x "$made" ]; then
+        tail -n 5 "$log" >&2
+        rm "$log"
+        echo "${0##*/}: $1 was not built" >&2
+        return 1
+    fi
+    rm "$log"
+    touch "$made"
+}
+
 for word in "$@"; do
     case $word in
     -h | --help)

@@ -1,0 +1,151 @@
+// Visits of standing tables: lists by their place, one test by its bookmark, and a batch of tests.
+ghost use Rattle.std.specs.Prelude.{suc, ◌+◌, ◌*◌, get_or};
+ghost use Rattle.grid.specs.Domain.{lines};
+ghost use Rattle.tables.specs.Tables.{tables, beside};
+ghost use Rattle.seek.specs.Places.{list_check};
+ghost use Rattle.visit.specs.Entries.{test_at};
+ghost use Rattle.grid.specs.Words.{grid_by};
+ghost use Rattle.replies.specs.Replies.{Replies};
+ghost use Rattle.replies.specs.Answers.{of_part, of_test};
+ghost use Rattle.capi.specs.Few.{unless_few};
+ghost use Rattle.capi.specs.Lent.{BatchReplies};
+
+use seek::Place;
+
+// The list of a cell is a part of the items. Out: where it starts, and its length.
+#[unsafe(no_mangle)]
+pub extern "C" fn mt_cell_list<'a>(
+    grid: &[u64],
+    lines: usize,
+    offsets: &[u32],
+    items: &'a [u32],
+    globals: &'a [u32],
+    global_count: u64,
+    row: u32,
+    col: u32,
+    out: &mut [u64],
+) -> u32
+    ensures { let w = grid.now in
+        let g = grid_by w in
+        let o = offsets.now in
+        let t = tables g lines o items.now globals.now global_count in
+        let cell = row * g.cols + col in
+        Replies 2 (unless_few w (of_part (list_check g t (Place.Cell row col)) (get_or o cell 0) (get_or o (suc cell) 0))) out.old result out.new }
+{
+    capi::visiting::mt_cell_list(
+        grid,
+        lines,
+        offsets,
+        items,
+        globals,
+        global_count,
+        row,
+        col,
+        out,
+    )
+}
+
+// The list of a global line, by its position, is a part of the globals. Out: where it starts, and its length.
+#[unsafe(no_mangle)]
+pub extern "C" fn mt_global_list<'a>(
+    grid: &[u64],
+    lines: usize,
+    offsets: &[u32],
+    items: &'a [u32],
+    globals: &'a [u32],
+    global_count: u64,
+    position: u64,
+    out: &mut [u64],
+) -> u32
+    ensures { let w = grid.now in
+        let g = grid_by w in
+        let t = tables g lines offsets.now items.now globals.now global_count in
+        Replies 2 (unless_few w (of_part (list_check g t (Place.Global position)) position global_count)) out.old result out.new }
+{
+    capi::visiting::mt_global_list(
+        grid,
+        lines,
+        offsets,
+        items,
+        globals,
+        global_count,
+        position,
+        out,
+    )
+}
+
+// Out: 0 for a cell, 1 for a global line, 2 for the end mark; row or position; column; first; second; 1 where the boxes overlap.
+#[unsafe(no_mangle)]
+pub extern "C" fn mt_test_at(
+    grid: &[u64],
+    start_x: &[f64],
+    start_y: &[f64],
+    end_x: &[f64],
+    end_y: &[f64],
+    offsets: &[u32],
+    items: &[u32],
+    globals: &[u32],
+    global_count: u64,
+    bookmark: u64,
+    out: &mut [u64],
+) -> u32
+    ensures { let ls = lines start_x.now start_y.now end_x.now end_y.now in
+        let w = grid.now in
+        let g = grid_by w in
+        let t = beside ls g offsets.now items.now globals.now global_count in
+        Replies 6 (unless_few w (of_test (test_at ls g t bookmark))) out.old result out.new }
+{
+    capi::visiting::mt_test_at(
+        grid,
+        start_x,
+        start_y,
+        end_x,
+        end_y,
+        offsets,
+        items,
+        globals,
+        global_count,
+        bookmark,
+        out,
+    )
+}
+
+// Out: the tests made, the overlaps, the new bookmark. The pairs that overlap stand in first and second, and zero beyond them.
+#[unsafe(no_mangle)]
+pub extern "C" fn mt_batch(
+    grid: &[u64],
+    start_x: &[f64],
+    start_y: &[f64],
+    end_x: &[f64],
+    end_y: &[f64],
+    offsets: &[u32],
+    items: &[u32],
+    globals: &[u32],
+    global_count: u64,
+    bookmark: u64,
+    first: &mut [u32],
+    second: &mut [u32],
+    out: &mut [u64],
+) -> u32
+    ensures { let ls = lines start_x.now start_y.now end_x.now end_y.now in
+        let w = grid.now in
+        let g = grid_by w in
+        let t = beside ls g offsets.now items.now globals.now global_count in
+        BatchReplies w ls g t bookmark first.old second.old out.old result first.new second.new out.new }
+{
+    capi::visiting::mt_batch(
+        grid,
+        start_x,
+        start_y,
+        end_x,
+        end_y,
+        offsets,
+        items,
+        globals,
+        global_count,
+        bookmark,
+        first,
+        second,
+        out,
+    )
+}

@@ -26,8 +26,8 @@ fn add_row(offsets: &[u32], cols: usize, at: usize, first: usize, summary: &mut 
 
 // Adds the cells of all rows to a summary of zeros.
 pub(crate) fn add_rows(grid: Grid, offsets: &[u32], summary: &mut [u32])
-    requires fact_1 { Fills grid.cols grid.rows offsets.now summary.old }
-    requires fact_2 { Told grid.cols offsets.now 0 summary.old }
+    requires fills { Fills grid.cols grid.rows offsets.now summary.old }
+    requires told { Told grid.cols offsets.now 0 summary.old }
     ensures { BlocksFilled grid.cols offsets.now (grid.rows * grid.cols) summary.old summary.new }
 {
     let cols = wide(grid.cols);

@@ -4,79 +4,99 @@
 #![tactic(auto)]
 
 use input::Input;
-use libc::{STDERR_FILENO, STDIN_FILENO, STDOUT_FILENO};
+use std::fs::{Files, OpenFile, OpenOptions};
+use std::io::{Cursor, Write};
+use std::{fs, io, str};
 
-// All bytes to a new file, which is closed.
-fn fill(fd: i32, bytes: &[u8]) -> bool {
-    let written = io::write_all(fd, bytes);
-    let stored = libc::fsync(fd) == 0;
-    let closed = libc::close(fd) == 0;
-    written && stored && closed
+// Says on standard error what failed, and why in the system's words. Where standard error takes no line, there is no place to say so.
+fn fail<R: Eprint>(rt: &R, what: &str, error: io::Error) {
+    let mut cursor = Cursor::new([0u8; 128]);
+    let _ = write!(cursor, "{error}");
+    let text = cursor.into_inner();
+    let said = str::from_utf8(&text).unwrap_or("");
+    let why = before(before(said, "\0"), " (os error ");
+    let _ = eprintln!(rt; "{what}: {why}");
+}
+
+// A text as far as a mark, or all of it where the mark isn't in it.
+fn before<'a>(text: &'a str, mark: &str) -> &'a str {
+    match text.split_once(mark) {
+        Some((front, _)) => front,
+        None => text,
+    }
+}
+
+// All bytes to a new file, which is closed. What failed last is told.
+fn fill<F: Write + OpenFile + Drop>(mut file: F, bytes: &[u8]) -> io::Result<()> {
+    let written = file.write_all(bytes);
+    let stored = file.sync_all();
+    stored.and(written)
 }
 
 // Puts the file in place. A file that stands at the name beside is another run's, and is left alone.
-fn put_file(bytes: &[u8]) -> bool {
-    let fd = os::create(b"clean.wkb.new");
-    if fd < 0 {
-        os::fail(b"morelturret: clean.wkb.new can't be made");
+fn put_file<R: Files + Eprint>(rt: &R, bytes: &[u8]) -> bool {
+    let made = OpenOptions::new()
+        .write(true)
+        .create_new(true)
+        .open(rt, "clean.wkb.new");
+    let file = match made {
+        Ok(file) => file,
+        Err(e) => {
+            fail(rt, "morelturret: clean.wkb.new can't be made", e);
+            return false;
+        }
+    };
+    if let Err(e) = fill(file, bytes) {
+        fail(rt, "morelturret: clean.wkb.new can't be written", e);
+        let _ = fs::remove_file(rt, "clean.wkb.new");
         return false;
     }
-    if !fill(fd, bytes) {
-        os::fail(b"morelturret: clean.wkb.new can't be written");
-        os::unlink(b"clean.wkb.new");
-        return false;
-    }
-    if os::rename(b"clean.wkb.new", b"clean.wkb") != 0 {
-        os::fail(b"morelturret: clean.wkb can't be put in place");
-        os::unlink(b"clean.wkb.new");
+    if let Err(e) = fs::rename(rt, "clean.wkb.new", "clean.wkb") {
+        fail(rt, "morelturret: clean.wkb can't be put in place", e);
+        let _ = fs::remove_file(rt, "clean.wkb.new");
         return false;
     }
     true
 }
 
-fn print(text: &[u8]) {
-    if !io::write_all(STDOUT_FILENO, text) {
-        io::write_all(
-            STDERR_FILENO,
-            b"morelturret: standard output can't be written\n",
-        );
+fn print<R: Print + Eprint>(rt: &R, text: &[u8]) {
+    if rt.write_all(text).is_err() {
+        let _ = eprintln!(rt; "morelturret: standard output can't be written");
     }
 }
 
 // A file of 0 bytes is none.
-fn keep(file: &[u8]) -> bool {
+fn keep<R: Files + Eprint>(rt: &R, file: &[u8]) -> bool {
     if file.len() == 0 {
         return true;
     }
-    put_file(file)
+    put_file(rt, file)
 }
 
 // The file, and the text once it is in place.
-fn deliver(file: &[u8], text: &[u8]) {
-    if keep(file) {
-        print(text);
+fn deliver<R: Files + Print + Eprint>(rt: &R, file: &[u8], text: &[u8]) {
+    if keep(rt, file) {
+        print(rt, text);
     }
 }
 
 // Cleans the bytes of the input. Every text has room (`text_fits` of `clean_bytes`).
-fn respond(bytes: &[u8]) {
+fn respond<R: Files + Print + Eprint>(rt: &R, bytes: &[u8]) {
     let mut file = [0u8; 65545];
     let mut text = [0u8; 201000];
     let ends = clean_bytes::clean_bytes(bytes, &mut file, &mut text);
-    deliver(&file[..ends.bytes], &text[..ends.text]);
+    deliver(rt, &file[..ends.bytes], &text[..ends.text]);
 }
 
 // An input of more than 65,536 bytes is refused by its 65,537th: the rest is not read.
-fn main() {
+fn main(rt: HostRuntime) {
     let mut bytes = [0u8; 65537];
-    let read = input::read_input(STDIN_FILENO, &mut bytes);
+    let mut reader = rt.reader();
+    let read = input::read_input(&mut reader, &mut bytes);
     match read {
-        Input::Bytes(n) => respond(&bytes[..n]),
+        Input::Bytes(n) => respond(&rt, &bytes[..n]),
         Input::Failed => {
-            io::write_all(
-                STDERR_FILENO,
-                b"morelturret: standard input can't be read\n",
-            );
-        },
+            let _ = eprintln!(rt; "morelturret: standard input can't be read");
+        }
     }
 }

@@ -5,9 +5,12 @@ use build::Plan;
 use sizing::Sizing;
 use walk::Mode;
 
-fn main() {
-    program::run(Plan {
-        sizing: Sizing::Square,
-        mode: Mode::Covering,
-    });
+fn main(rt: HostRuntime) {
+    program::run(
+        &rt,
+        Plan {
+            sizing: Sizing::Square,
+            mode: Mode::Covering,
+        },
+    );
 }

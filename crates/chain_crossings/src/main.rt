@@ -5,14 +5,14 @@
 
 use build::Plan;
 use input::Input;
-use libc::{STDERR_FILENO, STDIN_FILENO, STDOUT_FILENO};
 use sizing::Sizing;
+use std::env::Env;
 use walk::Mode;
 
-// The first letter of an argument; 0 where there is none.
-fn letter(i: usize) -> u8 {
+// The first letter of an argument; 0 where there is none. Of a word that is longer than the room, the front is there.
+fn letter<R: Env>(rt: &R, i: usize) -> u8 {
     let mut word = [0u8; 16];
-    os::arg(i, &mut word);
+    let _ = rt.arg(i, &mut word);
     word[0]
 }
 
@@ -34,32 +34,27 @@ fn mode_of(letter: u8) -> Mode {
 }
 
 // Prints what there is to print for the bytes of the input. Every text has room (`printed_fits` of `crossing_chain`).
-fn print(bytes: &[u8], plan: Plan) {
+fn print<R: Print + Eprint>(rt: &R, bytes: &[u8], plan: Plan) {
     let mut out = [0u8; 192600];
     let end = crossing_chain::print_crossings(bytes, plan, &mut out);
-    if !io::write_all(STDOUT_FILENO, &out[..end]) {
-        io::write_all(
-            STDERR_FILENO,
-            b"morelturret: standard output can't be written\n",
-        );
+    if rt.write_all(&out[..end]).is_err() {
+        let _ = eprintln!(rt; "morelturret: standard output can't be written");
     }
 }
 
 // As of the programs of the grid, 16,394 bytes are enough.
-fn main() {
+fn main(rt: HostRuntime) {
     let plan = Plan {
-        sizing: sizing_of(letter(1)),
-        mode: mode_of(letter(2)),
+        sizing: sizing_of(letter(&rt, 1)),
+        mode: mode_of(letter(&rt, 2)),
     };
     let mut bytes = [0u8; 16394];
-    let read = input::read_input(STDIN_FILENO, &mut bytes);
+    let mut reader = rt.reader();
+    let read = input::read_input(&mut reader, &mut bytes);
     match read {
-        Input::Bytes(n) => print(&bytes[..n], plan),
+        Input::Bytes(n) => print(&rt, &bytes[..n], plan),
         Input::Failed => {
-            io::write_all(
-                STDERR_FILENO,
-                b"morelturret: standard input can't be read\n",
-            );
-        },
+            let _ = eprintln!(rt; "morelturret: standard input can't be read");
+        }
     }
 }

@@ -2,12 +2,11 @@
 -- fine units, and what the code's cut asks holds. Assumes nothing.
 use mathlib.Core.Path.{◌≡◌, refl, sym, subst}
 use mathlib.Core.Logic.{inl, inr}
-use mathlib.Core.Bool.{Bool, true, false, not, true≢false}
+use mathlib.Core.Bool.{true, false}
 use Prim.Native.Nat.{ℕ, ◌+◌, ◌-◌, ◌*◌, ◌/◌, ◌^◌, ◌≤◌, ◌<◌, min}
-use native.Mathlib.Nat.{le_trans, le_of_lt, mul-le-mul_right, le_of_mul-le-mul_right, mul-pos, zero-div, div-lt_iff_lt-mul}
+use native.Mathlib.Nat.{le_trans, le_of_lt, mul-le-mul_right, le_of_mul-le-mul_right, mul-pos, div-lt_iff_lt-mul}
 use native.Mathlib.Omega.{arith}
-use lib.IntN.{pos}
-use lib.Dec.{T, ltb→lt, lt→ltb, nltb→le, lit≤, lit<}
+use lib.Dec.{T, ltb→lt, lit≤, lit<}
 use lib.Pow.{pow_pos}
 use lib.Ieee.{Float, nan, inf, fin, Format, up, down, low, round, neg, add, sub, div, le, lt, to_unsigned}
 use lib.Ieee.Exact.{HasValue}

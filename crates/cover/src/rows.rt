@@ -51,8 +51,8 @@ fn bottom(e: Ends, r: u64) -> u64
 }
 
 fn top(e: Ends, last: u64, r: u64) -> u64
-    requires fact_1 { r < last }
-    requires fact_2 { last < 4096 }
+    requires before_last { r < last }
+    requires few_rows { last < 4096 }
     ensures { result ≡ top_of e last r }
 {
     lesser((r + 1) * 1048576 + 3, e.to_y)
@@ -79,9 +79,9 @@ fn aside(e: Ends, s: u64, y: u64) -> u64
 
 // The least and the greatest place of a row, of a line that has come `near` at its bottom and `far` at its top.
 fn left(e: Ends, near: u64, far: u64) -> u64
-    requires fact_1 { Small e }
-    requires fact_2 { near < 4294967296 }
-    requires fact_3 { far < 4294967296 }
+    requires small { Small e }
+    requires near_fits { near < 4294967296 }
+    requires far_fits { far < 4294967296 }
     ensures { result ≡ left_of e near far }
 {
     if e.to_x < e.from_x {
@@ -91,9 +91,9 @@ fn left(e: Ends, near: u64, far: u64) -> u64
 }
 
 fn right(e: Ends, near: u64, far: u64) -> u64
-    requires fact_1 { Small e }
-    requires fact_2 { near < 4294967296 }
-    requires fact_3 { far < 4294967296 }
+    requires small { Small e }
+    requires near_fits { near < 4294967296 }
+    requires far_fits { far < 4294967296 }
     ensures { result ≡ right_of e near far }
 {
     if e.to_x < e.from_x {
@@ -104,8 +104,8 @@ fn right(e: Ends, near: u64, far: u64) -> u64
 
 // The columns of a row r before the last, of a line with the slope s that crosses rows.
 fn columns(e: Ends, s: u64, cols: u64, rows: u64, last: u64, r: u64) -> Columns
-    requires fact_1 { CoveredRow cols rows e s last r }
-    requires fact_2 { r < last }
+    requires covered { CoveredRow cols rows e s last r }
+    requires before_last { r < last }
     ensures { ColumnsAre cols rows e r result.first result.last }
 {
     let near = aside(e, s, bottom(e, r));
@@ -120,8 +120,8 @@ fn columns(e: Ends, s: u64, cols: u64, rows: u64, last: u64, r: u64) -> Columns
 
 // The columns of the first row: the line begins in it, so it has come no way at its bottom.
 fn start_columns(e: Ends, s: u64, cols: u64, rows: u64, last: u64, r: u64) -> Columns
-    requires fact_1 { CoveredRow cols rows e s last r }
-    requires fact_2 { r ≡ first_row rows e }
+    requires covered { CoveredRow cols rows e s last r }
+    requires at_first { r ≡ first_row rows e }
     ensures { ColumnsAre cols rows e r result.first result.last }
 {
     let far = aside(e, s, top(e, last, r));

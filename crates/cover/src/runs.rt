@@ -5,8 +5,8 @@ ghost use Rattle.cover.specs.Inside.{Appended};
 
 // Writes k numbers from `first` on, at n.
 fn put_each(scratch: &mut [u32], n: usize, first: u64, k: u64) -> usize
-    requires fact_1 { n + k ≤ length scratch.old }
-    requires fact_2 { first + k < 4294967296 }
+    requires room { n + k ≤ length scratch.old }
+    requires numbers_fit { first + k < 4294967296 }
     ensures { Appended scratch.old scratch.new n result (run k first) }
 {
     let mut m = n;
@@ -21,9 +21,9 @@ fn put_each(scratch: &mut [u32], n: usize, first: u64, k: u64) -> usize
 
 // The same. It writes eight at once, whatever k is: most runs are shorter, and what is beyond k is written over later.
 pub(crate) fn put_run(scratch: &mut [u32], n: usize, first: u64, k: u64) -> usize
-    requires fact_1 { n + 8 ≤ length scratch.old }
-    requires fact_2 { n + k ≤ length scratch.old }
-    requires fact_3 { first + k < 16777216 }
+    requires room_for_eight { n + 8 ≤ length scratch.old }
+    requires room { n + k ≤ length scratch.old }
+    requires numbers_fit { first + k < 16777216 }
     ensures { Appended scratch.old scratch.new n result (run k first) }
 {
     let m = put_each(scratch, n, first, 8);

@@ -6,8 +6,8 @@ ghost use Rattle.crossing_chain.specs.Printed.{pair_lines};
 
 // A line for each pair of the first n of two slices.
 fn put_pairs(n: usize, first: &[u32], second: &[u32], out: &mut [u8], at: usize) -> usize
-    requires fact_1 { n ≤ length first.now }
-    requires fact_2 { n ≤ length second.now }
+    requires first_lent { n ≤ length first.now }
+    requires second_lent { n ≤ length second.now }
     ensures { Puts (pair_lines (take n first.now) (take n second.now)) (page out.old at) (page out.new result) }
 {
     let mut at = at;
@@ -21,8 +21,8 @@ fn put_pairs(n: usize, first: &[u32], second: &[u32], out: &mut [u8], at: usize)
 
 // How many there are, and a line for each.
 pub(crate) fn put_crossings(n: u64, first: &[u32], second: &[u32], out: &mut [u8]) -> usize
-    requires fact_1 { n ≤ length first.now }
-    requires fact_2 { n ≤ length second.now }
+    requires first_lent { n ≤ length first.now }
+    requires second_lent { n ≤ length second.now }
     ensures { Puts (crossings_line n ++ pair_lines (take n first.now) (take n second.now)) (page out.old 0) (page out.new result) }
 {
     let at = report::crossings_line(n, out, 0);

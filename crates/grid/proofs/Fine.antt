@@ -4,11 +4,11 @@ use mathlib.Core.Bool.{Bool, true, false, ◌&&◌}
 use Prim.Native.Nat.{ℕ, ◌+◌, ◌-◌, ◌≤◌, ◌<◌}
 use native.Mathlib.Omega.{arith}
 use borrow.Author.Tests.{eqb-true, leb-true}
-use lib.Dec.{leb, eqb}
+use lib.Dec.{eqb}
 use lib.ListN.{length, get_or}
 use lib.Ieee.{nan}
 use Rattle.refusals.specs.declared.Check.TheVariants.{Fine, Refused}
-use Rattle.refusals.specs.Refusals.{refusal, unless, each_from, clears}
+use Rattle.refusals.specs.Refusals.{refusal, each_from, clears}
 use Rattle.refusals.proofs.Checks.{unless_fine, and_then_left, and_then_right, each_good, each_bad, each_over, each_says}
 use Rattle.refusals.proofs.Leaving.{Clearing, clearing_unless, clearing_then, clearing_each}
 use Rattle.grid.specs.declared.Grid.{Grid}

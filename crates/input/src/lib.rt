@@ -1,7 +1,9 @@
 // The whole of an input, read into a buffer.
 #![tactic(auto)]
 
-ghost use Rattle.input.specs.Whole.{Within};
+ghost use Rattle.input.specs.Whole.{IsPrefixLen, Within};
+
+use std::io::Read;
 
 // What a read of the whole input comes to: so many bytes, or a read that failed.
 #[derive(Clone, Copy)]
@@ -11,20 +13,31 @@ pub enum Input {
 }
 
 // Reads until the bytes are full or the input ends.
-pub fn read_input(fd: i32, bytes: &mut [u8]) -> Input
+pub fn read_input<R: Read>(reader: &mut R, bytes: &mut [u8]) -> Input
     ensures { Within result bytes.new }
 {
     let mut done = 0;
     while done < bytes.len() {
-        let got = libc::read(fd, &mut bytes[done..]);
-        if got < 0 {
-            return Input::Failed;
+        match reader.read(&mut bytes[done..]) {
+            Ok(0) => return Input::Bytes(done),
+            Ok(n) => done += n,
+            Err(_) => return Input::Failed,
         }
-        let more = io::count(got, &bytes[done..]);
-        if more == 0 {
-            return Input::Bytes(done);
-        }
-        done += more;
     }
     Input::Bytes(done)
+}
+
+// The same, where a read that fails ends the input: answers how many bytes came before.
+pub fn read_full<R: Read>(reader: &mut R, bytes: &mut [u8]) -> usize
+    ensures { IsPrefixLen result bytes.new }
+{
+    let mut done = 0;
+    while done < bytes.len() {
+        match reader.read(&mut bytes[done..]) {
+            Ok(0) => return done,
+            Ok(n) => done += n,
+            Err(_) => return done,
+        }
+    }
+    done
 }

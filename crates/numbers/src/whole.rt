@@ -7,8 +7,8 @@ ghost use Rattle.std.specs.Float.Ieee.Positive.{num, den};
 // The whole part of a v above 0 and below 2^52. From 2^52 on floats are whole numbers, so v + 2^52 is rounded to one of the two next to it.
 // Less 2^52 again, it is the whole part of v or one more.
 pub(crate) fn whole_part(v: f64) -> f64
-    requires fact_1 { T (lt (fin false 0 (pos 0)) v) }
-    requires fact_2 { T (lt v (fin false 1 (pos 52))) }
+    requires above_zero { T (lt (fin false 0 (pos 0)) v) }
+    requires below_limit { T (lt v (fin false 1 (pos 52))) }
     ensures { result ≡ round binary64 false (num v / den v) 1 }
 {
     let near = (v + 4503599627370496.0) - 4503599627370496.0;
@@ -17,9 +17,9 @@ pub(crate) fn whole_part(v: f64) -> f64
 
 // The same of a v below 2^32 - 1, as an index. From 2^52 on the lowest bits of a float are those of its number, so v + 2^52 needs no cast.
 pub(crate) fn whole_index(v: f64) -> u32
-    requires fact_1 { T (lt (fin false 0 (pos 0)) v) }
-    requires fact_2 { T (lt v (fin false 1 (pos 52))) }
-    requires fact_3 { num v / den v < 4294967295 }
+    requires above_zero { T (lt (fin false 0 (pos 0)) v) }
+    requires below_limit { T (lt v (fin false 1 (pos 52))) }
+    requires fits_index { num v / den v < 4294967295 }
     ensures { result ≡ num v / den v }
 {
     let moved = v + 4503599627370496.0;

@@ -80,8 +80,8 @@ pub(crate) fn settled(axis: Axis, p: f64, guess: u32) -> bool
 
 // What the high edge of an index leaves of the indexes among which the search goes on.
 fn narrowed(axis: Axis, p: f64, left: Stretch, at: u32) -> Stretch
-    requires fact_1 { Searchable axis p }
-    requires fact_2 { HalvedRange axis p left.low left.high }
+    requires searchable { Searchable axis p }
+    requires halved { HalvedRange axis p left.low left.high }
     ensures { HalvedRange axis p result.low result.high }
 {
     if left.low <= at {
@@ -112,9 +112,9 @@ fn two_before(i: u32) -> u32
 
 // The indexes among which the search goes on: one alone, where the guess is right or one beside it is.
 fn about(axis: Axis, p: f64, guess: u32) -> Stretch
-    requires fact_1 { Searchable axis p }
-    requires fact_2 { 0 < axis.count }
-    requires fact_3 { guess ≤ axis.count }
+    requires searchable { Searchable axis p }
+    requires some_cells { 0 < axis.count }
+    requires guess_within { guess ≤ axis.count }
     ensures { HalvedRange axis p result.low result.high }
 {
     let whole = Stretch {
@@ -131,9 +131,9 @@ fn about(axis: Axis, p: f64, guess: u32) -> Stretch
 // The first index that owns p, sought about a guess. The edges keep their order along the axis, so the first index with p below its high
 // edge, or else the last, is found by halving; if that index does not own p, none does.
 fn searched(axis: Axis, p: f64, guess: u32) -> Found
-    requires fact_1 { Searchable axis p }
-    requires fact_2 { 0 < axis.count }
-    requires fact_3 { guess ≤ axis.count }
+    requires searchable { Searchable axis p }
+    requires some_cells { 0 < axis.count }
+    requires guess_within { guess ≤ axis.count }
     ensures { result ≡ first_owning axis p }
 {
     let stretch = about(axis, p, guess);

@@ -160,8 +160,8 @@ fn seam_or_outside(grid: Grid, x: f64, y: f64) -> Owner
 
 // The first column that owns x, and the first row that owns y: ownership goes axis by axis, so theirs is the first cell.
 pub(crate) fn first_cell(grid: Grid, x: f64, y: f64) -> Owner
-    requires fact_1 { Searchable (x_axis grid) x }
-    requires fact_2 { Searchable (y_axis grid) y }
+    requires x_searchable { Searchable (x_axis grid) x }
+    requires y_searchable { Searchable (y_axis grid) y }
     ensures { result ≡ owner_of grid x y }
 {
     let across = axis::first(grid.x_axis(), x);

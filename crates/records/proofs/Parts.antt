@@ -7,7 +7,7 @@ use mathlib.Core.Path.{◌≡◌, refl, sym, ap, ◌∙◌}
 use mathlib.Core.Logic.{◌⊎◌, inl, inr}
 use mathlib.Core.List.{List, [], ◌∷◌, map}
 use lib.ListN.{length, get_or, take, drop, set, length-take, length-set, length-map, get_or-map, get_or-eq_default, drop_of_length-le}
-use lib.Seq.{slice, take-nil, drop-nil, take_all, get_or-set_same, get_or-set_other, ext_get_or, take-take}
+use lib.Seq.{slice, take-nil, drop-nil, take_all, get_or-set_same, get_or-set_other, ext_get_or}
 use Rattle.slices.proofs.Laws.{le_or}
 use Rattle.records.specs.Questions.{slice_end, slice_place, beside_slice, words_in, first_words}
 

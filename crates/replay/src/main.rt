@@ -4,23 +4,20 @@
 
 ghost use Rattle.std.specs.Prelude.{◌≡◌, ◌≤◌, length};
 
-use libc::{STDIN_FILENO, STDOUT_FILENO};
 use records::words;
 
-// A name and a number.
-fn say(name: &[u8], n: usize) {
-    io::write_all(STDOUT_FILENO, name);
-    io::write_all(STDOUT_FILENO, b" ");
-    io::print_decimal(STDOUT_FILENO, n as u64);
-    io::write_all(STDOUT_FILENO, b"\n");
+// A name and a number. Where standard output takes no line, there is no place to say so.
+fn say<R: Print>(rt: &R, name: &[u8], n: usize) {
+    let _ = rt.write_all(name);
+    let _ = println!(rt; " {n}");
 }
 
 // How many records of a kind agree. Answers how many words they have.
-fn say_kind(name: &[u8], file: &[u64], kind: u64) -> usize
+fn say_kind<R: Print>(rt: &R, name: &[u8], file: &[u64], kind: u64) -> usize
     ensures { result ≤ length file.now }
 {
     let tally = agreed::agreeing(file, kind);
-    say(name, tally.records);
+    say(rt, name, tally.records);
     tally.words
 }
 
@@ -40,7 +37,7 @@ fn line_end(text: &[u8], from: usize) -> usize
 }
 
 // The kinds in order, each by the line that names it. Answers how many words the records that agree have.
-fn say_kinds(names: &[u8], file: &[u64]) -> usize
+fn say_kinds<R: Print>(rt: &R, names: &[u8], file: &[u64]) -> usize
     requires { (length names.now ≤ 196608) × (length file.now ≤ 196608) }
 {
     let mut agree = 0;
@@ -48,7 +45,7 @@ fn say_kinds(names: &[u8], file: &[u64]) -> usize
     let mut from = 0;
     while from < names.len() {
         let to = line_end(names, from);
-        agree += say_kind(&names[from..to], file, kind);
+        agree += say_kind(rt, &names[from..to], file, kind);
         kind += 1;
         from = to + 1;
     }
@@ -56,17 +53,17 @@ fn say_kinds(names: &[u8], file: &[u64]) -> usize
 }
 
 // Whether every word of the file is one of a record that agrees.
-fn replay(file: &[u64])
+fn replay<R: Print>(rt: &R, file: &[u64])
     requires { length file.now ≤ 196608 }
 {
     let names =
         b"numbers\nwalks\nbuilds\nbatches\ntests\npoints owned\noverlaps owned\nowners\nsnaps\nstrategies\nowners of many\n";
-    let agree = say_kinds(names, file);
+    let agree = say_kinds(rt, names, file);
     if agree == file.len() {
-        io::write_all(STDOUT_FILENO, b"all agree\n");
+        let _ = println!(rt; "all agree");
         return;
     }
-    say(b"differs at word", agreed::agree_to(file));
+    say(rt, b"differs at word", agreed::agree_to(file));
 }
 
 fn room_for_bytes() -> [u8; 1572864]
@@ -82,18 +79,19 @@ fn room_for_words() -> [u64; 196608]
 }
 
 // A file that fills all the room may go on, and is not compared.
-fn main() {
+fn main(rt: HostRuntime) {
     let mut bytes = room_for_bytes();
-    let n = io::read_full(STDIN_FILENO, &mut bytes);
+    let mut reader = rt.reader();
+    let n = input::read_full(&mut reader, &mut bytes);
     if n == 1572864 {
-        io::write_all(STDOUT_FILENO, b"too long\n");
+        let _ = println!(rt; "too long");
         return;
     }
     if n % 8 != 0 {
-        io::write_all(STDOUT_FILENO, b"not whole words\n");
+        let _ = println!(rt; "not whole words");
         return;
     }
     let mut file = room_for_words();
     words::words_of(&bytes[..n], &mut file);
-    replay(&file[..n / 8]);
+    replay(&rt, &file[..n / 8]);
 }

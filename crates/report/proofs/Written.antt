@@ -1,10 +1,10 @@
 -- What stands in a buffer after a text was put into it from its start: the text, as far as there is room, and zero beyond where that is cleared.
 -- Assumes nothing.
 use mathlib.Core.Path.{◌≡◌, refl, sym, ap, ◌∙◌}
-use mathlib.Core.List.{List, [], ◌∷◌, ◌++◌, append_assoc, append-nil}
+use mathlib.Core.List.{List, [], ◌∷◌, ◌++◌, append-nil}
 use Prim.Native.Nat.{ℕ, suc, ◌+◌, ◌-◌, ◌≤◌, ◌<◌, min}
 use native.Mathlib.Omega.{arith}
-use lib.ListN.{length, take, drop, set, replicate, length-append, length-take, length-drop, drop_of_length-le}
+use lib.ListN.{length, take, drop, replicate, length-append, length-take, length-drop, drop_of_length-le}
 use lib.Seq.{take-nil, drop-nil, set-append_seam, append_snoc, take_at, length-take-le}
 use Rattle.report.specs.Pages.{Page, page, put, put_all, Puts, Prints}
 use Rattle.report.proofs.Putting.{put_room, put_full}

@@ -2,13 +2,13 @@
 -- and a, b from 0 to q as it says. Assumes nothing.
 use mathlib.Core.Path.{◌≡◌, refl, sym, ap, ◌∙◌, subst}
 use mathlib.Core.Bool.{Bool, true, false, true≢false, not, ◌&&◌, ◌||◌}
-use Prim.Native.Nat.{ℕ, suc, ◌+◌, ◌-◌, ◌*◌, ◌≤◌, ◌<◌, min, max}
+use Prim.Native.Nat.{ℕ, suc, ◌+◌, ◌-◌, ◌*◌, ◌≤◌, min, max}
 use native.Mathlib.Omega.{arith}
 use borrow.Author.Tests.{ltb-true, leb-true, le-leb, lt-ltb, not-true}
 use lib.Dec.{leb, ltb}
 use lib.IntN.{ℤ, pos, negsuc}
 use Rattle.grid.specs.Points.{WholeSegment, WholeShare, q_times}
-use Rattle.grid.proofs.Bools.{and_left, and_right, and_both}
+use Rattle.grid.proofs.Bools.{and_left, and_right}
 use Rattle.samples.specs.declared.Raised.{Raised}
 use Rattle.samples.specs.Samples.{sample, lifted, raised, raised_of, all_samples, sampled}
 use Rattle.samples.specs.Sharing.{left_sum, right_sum, aside, boxes_overlap, sharing}

@@ -7,7 +7,7 @@ use borrow.Author.Tests.{eqb-true, leb-true}
 use lib.Dec.{eqb}
 use lib.ListN.{length}
 use Rattle.refusals.specs.declared.Check.TheVariants.{Fine, Refused}
-use Rattle.refusals.specs.Refusals.{refusal, unless, each_from, clears}
+use Rattle.refusals.specs.Refusals.{refusal, each_from, clears}
 use Rattle.refusals.proofs.Leaving.{Clearing, clearing_unless, clearing_then, clearing_each}
 use Rattle.refusals.proofs.Checks.{unless_fine, and_then_left, and_then_right, each_good, each_bad, each_over, each_says}
 use Rattle.grid.specs.Domain.{count_check}

@@ -7,7 +7,7 @@ use lib.IntN.{ℤ, pos, negsuc}
 use Rattle.grid.specs.Points.{WholeSegment, WholeShare, q_times}
 use Rattle.samples.specs.Samples.{sample, lifted, raised, raised_of, all_samples, sampled}
 use Rattle.samples.specs.Sharing.{left_sum, right_sum, aside, boxes_overlap, sharing}
-use Rattle.samples.proofs.Both.{Exact, exact}
+use Rattle.samples.proofs.Both.{exact}
 
 abbrev line : ℤ → ℤ → ℤ → ℤ → WholeSegment
 line x₀ y₀ x₁ y₁ = record { start_x = x₀; start_y = y₀; end_x = x₁; end_y = y₁ }

@@ -41,8 +41,8 @@ pub(crate) fn boxes_overlap(a: Raised, b: Raised) -> bool
 
 // A product of two raised samples, which is at most 2^60.
 fn product(a: u32, b: u32) -> u64
-    requires fact_1 { a ≤ 1073741824 }
-    requires fact_2 { b ≤ 1073741824 }
+    requires a_small { a ≤ 1073741824 }
+    requires b_small { b ≤ 1073741824 }
     ensures { Product a b result }
 {
     (a as u64) * (b as u64)
@@ -50,18 +50,18 @@ fn product(a: u32, b: u32) -> u64
 
 // The two sums whose order says on which side of a line the point (x, y) lies. Each is at most 3 x 2^60.
 fn left_sum(a: Raised, x: u32, y: u32) -> u64
-    requires fact_1 { sampled a ≡ true }
-    requires fact_2 { x ≤ 1073741824 }
-    requires fact_3 { y ≤ 1073741824 }
+    requires a_sampled { sampled a ≡ true }
+    requires x_small { x ≤ 1073741824 }
+    requires y_small { y ≤ 1073741824 }
     ensures { result ≡ left_sum a x y }
 {
     product(a.end_x, y) + product(a.start_x, a.end_y) + product(x, a.start_y)
 }
 
 fn right_sum(a: Raised, x: u32, y: u32) -> u64
-    requires fact_1 { sampled a ≡ true }
-    requires fact_2 { x ≤ 1073741824 }
-    requires fact_3 { y ≤ 1073741824 }
+    requires a_sampled { sampled a ≡ true }
+    requires x_small { x ≤ 1073741824 }
+    requires y_small { y ≤ 1073741824 }
     ensures { result ≡ right_sum a x y }
 {
     product(a.end_x, a.start_y) + product(a.start_x, y) + product(x, a.end_y)
@@ -69,8 +69,8 @@ fn right_sum(a: Raised, x: u32, y: u32) -> u64
 
 // Whether both ends of b lie strictly on one side of a.
 pub(crate) fn both_aside(a: Raised, b: Raised) -> bool
-    requires fact_1 { sampled a ≡ true }
-    requires fact_2 { sampled b ≡ true }
+    requires a_sampled { sampled a ≡ true }
+    requires b_sampled { sampled b ≡ true }
     ensures { result ≡ aside a b }
 {
     let l1 = left_sum(a, b.start_x, b.start_y);

@@ -5,7 +5,7 @@ use lib.Ieee.{Float, nan, inf, fin, binary64, up, down, unlike, fits, round, of_
 use lib.Ieee.Order.{round_mono}
 use lib.Ieee.Fits.{div-fits, of_int-fits}
 use lib.Ieee.Scale.{finite}
-use lib.Ieee.Positive.{num, den, den_pos, positive, positive_of_value, between}
+use lib.Ieee.Positive.{num, den, den_pos, positive, between}
 use Rattle.numbers.specs.Order.{greatest_of}
 use Rattle.numbers.specs.Root.{root}
 use Rattle.numbers.specs.Nearer.{plain, above}

@@ -1,6 +1,6 @@
 -- A width, stretched by 1e-9, is at most 1,001 times a cell size that is at least a thousandth of the width, and at least 1e-6. The stretch is a
 -- thousandth of the least size, and a rounding changes a value by less than a millionth of it, so 1,001 has room. Assumes nothing.
-use Rattle.std.proofs.Common.{◌≡◌, ℕ, ◌+◌, ◌-◌, ◌*◌, ◌^◌, ◌<◌, ◌≤◌, true, false, T, sym, refl, ap, ◌∙◌, subst, le_trans, le_of_eq, mul-le-mul_right, mul_assoc, mul-pos, mul-one, le_of_mul-le-mul_right, mul_left_comm, arith, lit<, lit≤, pow_pos}
+use Rattle.std.proofs.Common.{◌≡◌, ℕ, ◌+◌, ◌*◌, ◌^◌, ◌<◌, ◌≤◌, true, false, T, sym, refl, ap, ◌∙◌, subst, le_trans, le_of_eq, mul-le-mul_right, mul_assoc, mul-pos, mul-one, le_of_mul-le-mul_right, mul_left_comm, arith, lit<, lit≤, pow_pos}
 use lib.Ieee.{Float, nan, inf, fin, Format, binary32, binary64, round, add, div, le, low}
 use lib.Ieee.Exact.{HasValue}
 use lib.Ieee.Scale.{grid, finite}

@@ -11,8 +11,8 @@ use refusals::Check;
 // They differ where |v / size| is the largest float below one half, and nowhere else: there the sum with 0.5 is rounded up to 1. A quotient by
 // size 0 is no finite number, so that size needs no test.
 fn compare(v: f64, size: f64) -> Agreement
-    requires fact_1 { T (coordinate v) }
-    requires fact_2 { T (snap_size size) }
+    requires v_in_range { T (coordinate v) }
+    requires size_in_range { T (snap_size size) }
     ensures { result ≡ agreed (same_bits size v) }
 {
     let scaled = v / size;

@@ -1,9 +1,8 @@
 -- The test of tables is true exactly where the facts hold, and what the facts say besides. Assumes nothing.
-use mathlib.Core.Path.{◌≡◌, refl, sym, ap, ◌∙◌}
+use mathlib.Core.Path.{◌≡◌, refl}
 use mathlib.Core.Bool.{Bool, true, false, ◌&&◌}
 use mathlib.Core.List.{List, [], ◌∷◌}
-use Prim.Native.Nat.{ℕ, zero, suc, ◌+◌, ◌-◌, ◌*◌, ◌≤◌, ◌<◌}
-use native.Mathlib.Numerals.{add-one}
+use Prim.Native.Nat.{ℕ, zero, suc, ◌+◌, ◌-◌, ◌≤◌, ◌<◌}
 use native.Mathlib.Nat.{sub-zero, zero-sub, suc-sub-suc}
 use native.Mathlib.Omega.{arith}
 use native.Mathlib.Decide.{ℕ_discrete}
@@ -15,7 +14,7 @@ use Rattle.refusals.specs.declared.Check.TheVariants.{Fine}
 use Rattle.refusals.proofs.Checks.{unless_fine}
 use Rattle.grid.proofs.Bools.{and_left, and_right, and_both}
 use Rattle.slices.specs.Lists.{Below, Rising}
-use Rattle.tables.specs.Tables.{Tables, cells, list_in, list_of, globals_of}
+use Rattle.tables.specs.Tables.{Tables, cells, list_in, globals_of}
 use Rattle.tables.specs.Fit.{Increasing, ListsFit, TablesFit, increases, every, lists_fit, tables_fit, tables_check}
 
 -- what is not true is false

@@ -1,19 +1,15 @@
 -- The turns of the loops of the check. Assumes nothing.
-use mathlib.Core.Path.{◌≡◌, refl, sym, ap, ◌∙◌}
+use mathlib.Core.Path.{◌≡◌, refl, sym}
 use mathlib.Core.Bool.{Bool, true, false, ◌&&◌}
-use mathlib.Core.List.{List, [], ◌∷◌}
-use Prim.Native.Nat.{ℕ, zero, suc, ◌+◌, ◌-◌, ◌≤◌, ◌<◌}
-use native.Mathlib.Numerals.{add-one}
+use mathlib.Core.List.{List}
+use Prim.Native.Nat.{ℕ, ◌+◌, ◌≤◌, ◌<◌}
 use native.Mathlib.Omega.{arith}
-use native.Mathlib.Decide.{ℕ_discrete}
-use lib.ListN.{length, get_or, take, drop, drop_of_length-le}
-use lib.Seq.{drop-cons}
-use lib.Dec.{leb, ltb, eqb}
-use borrow.Author.Count.{below_none, below_more}
-use borrow.Author.Tests.{le-leb, lt-leb, lt-ltb, le-ltb}
-use Rattle.tables.specs.Tables.{Tables, cells, list_in, list_of, globals_of}
-use Rattle.tables.specs.Fit.{Increasing, ListsFit, TablesFit, increases, every, lists_fit, tables_fit}
-use Rattle.tables.proofs.Facts.{part_slice, not_true, lists_facts, facts_lists, all_within, says_increases, increases_says}
+use lib.ListN.{length, get_or, take}
+use lib.Dec.{leb}
+use borrow.Author.Tests.{le-leb, lt-leb}
+use Rattle.tables.specs.Tables.{Tables, cells, globals_of}
+use Rattle.tables.specs.Fit.{increases, lists_fit, tables_fit}
+use Rattle.tables.proofs.Facts.{not_true, lists_facts}
 
 -- the first offset is not 0
 pub first_bad : (m n : ℕ) (offsets items : List ℕ) → (get_or offsets 0 0 ≡ 0 → ⊥) → false ≡ lists_fit m n offsets items

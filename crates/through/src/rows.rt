@@ -52,10 +52,9 @@ fn scan_part(
 ) -> PartRan
     requires { let ls = lines start_x.now start_y.now end_x.now end_y.now in
         PartAsks ls list.now i j window.from window.held room.old marks.old first.old second.old hits }
-    ensures fact_1 { let ls = lines start_x.now start_y.now end_x.now end_y.now in
+    ensures part { let ls = lines start_x.now start_y.now end_x.now end_y.now in
         PartIs ls list.now i j first.old second.old hits room.new first.new second.new result }
-    ensures fact_2 { let ls = lines start_x.now start_y.now end_x.now end_y.now in
-        SameScratch room.old marks.old room.new marks.new }
+    ensures same_scratch { SameScratch room.old marks.old room.new marks.new }
 {
     let window = boxes::window_at(list, j, window, start_x, start_y, end_x, end_y, room);
     let ready = window.from + window.held - j;
@@ -94,10 +93,9 @@ fn run_brief(
     hits: usize,
 ) -> ListRan
     requires { BriefAsks (lines start_x.now start_y.now end_x.now end_y.now) list.now flat.old first.old second.old hits }
-    ensures fact_1 { let ls = lines start_x.now start_y.now end_x.now end_y.now in
+    ensures ran { let ls = lines start_x.now start_y.now end_x.now end_y.now in
         ListRanIs ls list.now 0 1 first.old second.old hits first.new second.new result }
-    ensures fact_2 { let ls = lines start_x.now start_y.now end_x.now end_y.now in
-        length flat.new ≡ length flat.old }
+    ensures same_length { length flat.new ≡ length flat.old }
 {
     boxes::gather_flat(list, start_x, start_y, end_x, end_y, flat);
     let mut i = 0;
@@ -134,10 +132,9 @@ fn run_list(
     hits: usize,
 ) -> ListRan
     requires { ListAsks (lines start_x.now start_y.now end_x.now end_y.now) list.now i j room.old marks.old first.old second.old hits }
-    ensures fact_1 { let ls = lines start_x.now start_y.now end_x.now end_y.now in
+    ensures ran { let ls = lines start_x.now start_y.now end_x.now end_y.now in
         ListRanIs ls list.now i j first.old second.old hits first.new second.new result }
-    ensures fact_2 { let ls = lines start_x.now start_y.now end_x.now end_y.now in
-        SameScratch room.old marks.old room.new marks.new }
+    ensures same_scratch { SameScratch room.old marks.old room.new marks.new }
 {
     if lists::is_brief(list.len(), i, j, first.len() - hits) {
         return run_brief(

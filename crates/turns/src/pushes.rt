@@ -10,8 +10,8 @@ use crate::{Next, Ran, Turn, Walk, Way};
 
 // Pushes the cell, where it is inside the grid.
 fn put(s: &mut [u32], n: usize, cols: u32, rows: u32, col: u32, row: u32) -> usize
-    requires fact_1 { n < length s.old }
-    requires fact_2 { rows * cols ≤ 1002001 }
+    requires room { n < length s.old }
+    requires few_cells { rows * cols ≤ 1002001 }
     ensures { Appended s.old s.new n result (push_by cols rows col row) }
 {
     if col < cols {
@@ -37,8 +37,8 @@ fn last_is(s: &[u32], n: usize, c: u32) -> bool
 
 // Pushes the cell, where it is inside the grid and not the last pushed. A walk mostly ends in its end cell, which is thus pushed once.
 fn put_other(s: &mut [u32], n: usize, cols: u32, rows: u32, col: u32, row: u32) -> usize
-    requires fact_1 { n < length s.old }
-    requires fact_2 { rows * cols ≤ 1002001 }
+    requires room { n < length s.old }
+    requires few_cells { rows * cols ≤ 1002001 }
     ensures { Appended s.old s.new n result (unless_there (take n s.old) (push_by cols rows col row)) }
 {
     if col < cols {
@@ -57,8 +57,8 @@ fn put_other(s: &mut [u32], n: usize, cols: u32, rows: u32, col: u32, row: u32) 
 
 // Pushes the side cells of a turn both ways.
 fn sides(s: &mut [u32], n: usize, cols: u32, rows: u32, way: Way, w: Walk) -> usize
-    requires fact_1 { n + 2 ≤ length s.old }
-    requires fact_2 { rows * cols ≤ 1002001 }
+    requires room { n + 2 ≤ length s.old }
+    requires few_cells { rows * cols ≤ 1002001 }
     ensures { Appended s.old s.new n result (sides_by true cols rows way w) }
 {
     let a = put(s, n, cols, rows, w.x.stepped(way.x), w.y.index);
@@ -76,8 +76,8 @@ fn arrive(s: &mut [u32], n: usize, cols: u32, rows: u32, w: Walk) -> Next
 
 // One turn. Each way has a branch of its own, to the push: which way comes next is guessed well, and asking for it once more is slower.
 fn stride(s: &mut [u32], n: usize, cols: u32, rows: u32, way: Way, w: Walk, k: Turn) -> Next
-    requires fact_1 { n + 3 ≤ length s.old }
-    requires fact_2 { rows * cols ≤ 1002001 }
+    requires room { n + 3 ≤ length s.old }
+    requires few_cells { rows * cols ≤ 1002001 }
     ensures { (result.at ≡ moved_by k way w) × Appended s.old s.new n result.count (pushed_by k cols rows way w) }
 {
     if k.x {
@@ -92,8 +92,8 @@ fn stride(s: &mut [u32], n: usize, cols: u32, rows: u32, way: Way, w: Walk, k: T
 
 // The turns from a state on, 5,000 of them allowed.
 fn run(s: &mut [u32], n: usize, cols: u32, rows: u32, way: Way, start: Walk) -> Ran
-    requires fact_1 { n + 15000 ≤ length s.old }
-    requires fact_2 { rows * cols ≤ 1002001 }
+    requires room { n + 15000 ≤ length s.old }
+    requires few_cells { rows * cols ≤ 1002001 }
     ensures { Runs (before (take n s.old) (turns_by 5000 cols rows way start)) n result s.new }
 {
     let mut w = start;
@@ -116,8 +116,8 @@ fn run(s: &mut [u32], n: usize, cols: u32, rows: u32, way: Way, start: Walk) -> 
 
 // The start cell, the turns, the end cell.
 pub(crate) fn walked(s: &mut [u32], cols: u32, rows: u32, way: Way, start: Walk) -> Ran
-    requires fact_1 { 16384 ≤ length s.old }
-    requires fact_2 { rows * cols ≤ 1002001 }
+    requires room { 16384 ≤ length s.old }
+    requires few_cells { rows * cols ≤ 1002001 }
     ensures { RanTo (trodden_by cols rows way start) result s.new }
 {
     let n = put(s, 0, cols, rows, start.x.index, start.y.index);

@@ -52,8 +52,8 @@ fn along(mode: Mode, axis: Axis, start: f64, end: f64) -> Neighbour
 }
 
 fn low_col(s: &mut [u32], n: usize, cols: u32, c: u32) -> usize
-    requires fact_1 { n < length s.old }
-    requires fact_2 { 0 < cols }
+    requires room { n < length s.old }
+    requires some_columns { 0 < cols }
     ensures { Appended s.old s.new n result (low_col_of cols c) }
 {
     if c % cols == 0 {
@@ -64,8 +64,8 @@ fn low_col(s: &mut [u32], n: usize, cols: u32, c: u32) -> usize
 }
 
 fn up_col(s: &mut [u32], n: usize, cols: u32, c: u32) -> usize
-    requires fact_1 { n < length s.old }
-    requires fact_2 { Within cols c }
+    requires room { n < length s.old }
+    requires inside { Within cols c }
     ensures { Appended s.old s.new n result (up_col_of cols c) }
 {
     if c % cols + 1 < cols {
@@ -87,8 +87,8 @@ fn low_row(s: &mut [u32], n: usize, cols: u32, c: u32) -> usize
 }
 
 fn up_row(s: &mut [u32], n: usize, cols: u32, cells: u32, c: u32) -> usize
-    requires fact_1 { n < length s.old }
-    requires fact_2 { Within cols c }
+    requires room { n < length s.old }
+    requires inside { Within cols c }
     ensures { Appended s.old s.new n result (up_row_of cols cells c) }
 {
     let next = c + cols;
@@ -101,8 +101,8 @@ fn up_row(s: &mut [u32], n: usize, cols: u32, cells: u32, c: u32) -> usize
 
 // Pushes the neighbour of a cell in x.
 fn column(s: &mut [u32], n: usize, x: Neighbour, cols: u32, c: u32) -> usize
-    requires fact_1 { n + many_of x ≤ length s.old }
-    requires fact_2 { Within cols c }
+    requires room { n + many_of x ≤ length s.old }
+    requires inside { Within cols c }
     ensures { Appended s.old s.new n result (column_of x cols c) }
 {
     match x {
@@ -114,8 +114,8 @@ fn column(s: &mut [u32], n: usize, x: Neighbour, cols: u32, c: u32) -> usize
 
 // Pushes the neighbour of a cell in y.
 fn row(s: &mut [u32], n: usize, y: Neighbour, cols: u32, cells: u32, c: u32) -> usize
-    requires fact_1 { n + many_of y ≤ length s.old }
-    requires fact_2 { Within cols c }
+    requires room { n + many_of y ≤ length s.old }
+    requires inside { Within cols c }
     ensures { Appended s.old s.new n result (row_of y cols cells c) }
 {
     match y {
@@ -135,8 +135,8 @@ fn beside(
     cells: u32,
     c: u32,
 ) -> usize
-    requires fact_1 { n + share x y ≤ length s.old }
-    requires fact_2 { Within cols (c + 1) }
+    requires room { n + share x y ≤ length s.old }
+    requires inside { Within cols (c + 1) }
     ensures { Appended s.old s.new n result (beside_of x y cols cells c) }
 {
     let a = column(s, n, x, cols, c);
@@ -150,8 +150,8 @@ fn beside(
 
 // Pushes the neighbours of each of the first n.
 fn besides(s: &mut [u32], n: usize, x: Neighbour, y: Neighbour, cols: u32, cells: u32) -> usize
-    requires fact_1 { n + n * share x y ≤ length s.old }
-    requires fact_2 { AllWithin cols cells (take n s.old) }
+    requires room { n + n * share x y ≤ length s.old }
+    requires all_inside { AllWithin cols cells (take n s.old) }
     ensures { Appended s.old s.new n result (flat_map (beside_of x y cols cells) (take n s.old)) }
 {
     let mut m = n;
@@ -166,8 +166,8 @@ fn besides(s: &mut [u32], n: usize, x: Neighbour, y: Neighbour, cols: u32, cells
 
 // Pushes the neighbours in y of each of the first n.
 fn rows(s: &mut [u32], n: usize, y: Neighbour, cols: u32, cells: u32) -> usize
-    requires fact_1 { n + n * many_of y ≤ length s.old }
-    requires fact_2 { AllWithin cols cells (take n s.old) }
+    requires room { n + n * many_of y ≤ length s.old }
+    requires all_inside { AllWithin cols cells (take n s.old) }
     ensures { Appended s.old s.new n result (flat_map (row_of y cols cells) (take n s.old)) }
 {
     let mut m = n;
@@ -192,8 +192,8 @@ fn lower(cols: u32, c: u32) -> u32
 
 // Writes the lower column of each of the first n beside it, from the last to the first: so a walk up or down a boundary stays in order.
 fn spread(s: &mut [u32], n: usize, cols: u32) -> usize
-    requires fact_1 { n + n ≤ length s.old }
-    requires fact_2 { 0 < cols }
+    requires room { n + n ≤ length s.old }
+    requires some_columns { 0 < cols }
     ensures { Covers s.old s.new n result n (flat_map (low_col_of cols) (take n s.old)) }
 {
     let mut i = n;
@@ -209,8 +209,8 @@ fn spread(s: &mut [u32], n: usize, cols: u32) -> usize
 
 // What the line adds to each of the first n. Mostly it adds on one axis, or on none.
 fn added(s: &mut [u32], n: usize, x: Neighbour, y: Neighbour, cols: u32, cells: u32) -> usize
-    requires fact_1 { n + n * share x y ≤ length s.old }
-    requires fact_2 { AllWithin cols cells (take n s.old) }
+    requires room { n + n * share x y ≤ length s.old }
+    requires all_inside { AllWithin cols cells (take n s.old) }
     ensures { Covers s.old s.new n result (n * share x y) (flat_map (beside_of x y cols cells) (take n s.old)) }
 {
     match x {
@@ -242,8 +242,8 @@ fn nothing(x: Neighbour, y: Neighbour) -> bool
 
 // The number of the cell of a point.
 fn cell(grid: Grid, x: f64, y: f64) -> u32
-    requires fact_1 { Shape grid.cols grid.rows }
-    requires fact_2 { 0 < grid.cols }
+    requires shape { Shape grid.cols grid.rows }
+    requires some_columns { 0 < grid.cols }
     ensures { result ≡ cell_of grid x y }
 {
     grid.y_axis().index(y) * grid.cols + grid.x_axis().index(x)
@@ -251,9 +251,9 @@ fn cell(grid: Grid, x: f64, y: f64) -> u32
 
 // Pushes what an endpoint adds. Mostly that is nothing, and its cell is not asked for.
 fn ended(s: &mut [u32], n: usize, mode: Mode, grid: Grid, x: f64, y: f64) -> usize
-    requires fact_1 { n + 3 ≤ length s.old }
-    requires fact_2 { Shape grid.cols grid.rows }
-    requires fact_3 { 0 < grid.cols }
+    requires room { n + 3 ≤ length s.old }
+    requires shape { Shape grid.cols grid.rows }
+    requires some_columns { 0 < grid.cols }
     ensures { Appended s.old s.new n result (endpoint_of mode grid x y) }
 {
     let in_x = neighbour(mode, grid.x_axis(), x);
@@ -312,10 +312,10 @@ fn is_clear(grid: Grid, line: Segment, trod: Trod) -> bool
 
 // Pushes what the line and its endpoints add to the cells that were walked. Mostly that is nothing, which the indices of a walk show.
 pub(crate) fn completed(s: &mut [u32], mode: Mode, grid: Grid, line: Segment, trod: Trod) -> usize
-    requires fact_1 { Shape grid.cols grid.rows }
-    requires fact_2 { 0 < grid.cols }
-    requires fact_3 { trod.count + trod.count * share_of mode grid line + 6 ≤ length s.old }
-    requires fact_4 { Below (grid.rows * grid.cols) (take trod.count s.old) }
+    requires shape { Shape grid.cols grid.rows }
+    requires some_columns { 0 < grid.cols }
+    requires room { trod.count + trod.count * share_of mode grid line + 6 ≤ length s.old }
+    requires all_below { Below (grid.rows * grid.cols) (take trod.count s.old) }
     ensures { Complete s.new result (pushes_of mode grid line (take trod.count s.old)) }
 {
     if is_clear(grid, line, trod) {

@@ -48,9 +48,9 @@ fn write_line(
     i: usize,
     n: usize,
 ) -> usize
-    requires fact_1 { i < length marks.now }
-    requires fact_2 { i < 65536 }
-    requires fact_3 { n ≤ i }
+    requires marked { i < length marks.now }
+    requires few_lines { i < 65536 }
+    requires within { n ≤ i }
     ensures { let ls = lines start_x.now start_y.now end_x.now end_y.now in
         WroteOne (met ls window marks.now i) i n out.old result out.new }
 {

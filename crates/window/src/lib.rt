@@ -86,10 +86,10 @@ fn write_found(
     window: Box,
     out: &mut [u32],
 ) -> usize
-    requires fact_1 { let ls = lines start_x.now start_y.now end_x.now end_y.now in
+    requires checked { let ls = lines start_x.now start_y.now end_x.now end_y.now in
         let t = beside ls grid offsets.now items.now globals.now global_count in
         WindowChecked ls grid t }
-    requires fact_2 { let ls = lines start_x.now start_y.now end_x.now end_y.now in
+    requires ordered { let ls = lines start_x.now start_y.now end_x.now end_y.now in
         let t = beside ls grid offsets.now items.now globals.now global_count in
         in_order window ≡ true }
     ensures { let ls = lines start_x.now start_y.now end_x.now end_y.now in

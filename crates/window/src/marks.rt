@@ -58,9 +58,9 @@ pub(crate) fn mark_block(
     global_count: usize,
     window: Box,
 )
-    requires fact_1 { fit grid ≡ true }
-    requires fact_2 { TablesFit (tables grid lines offsets.now items.now globals.now global_count) }
-    requires fact_3 { lines ≤ length marks.old }
+    requires fit_grid { fit grid ≡ true }
+    requires tables_fit { TablesFit (tables grid lines offsets.now items.now globals.now global_count) }
+    requires lines_marked { lines ≤ length marks.old }
     ensures { let t = tables grid lines offsets.now items.now globals.now global_count in
         LinesMarked (listed grid t window) marks.old marks.new }
 {

@@ -1,12 +1,12 @@
 -- Laws of points held member by member: which of a part of them are starts and ends of lines, and how many lines they make. Assumes nothing.
-use mathlib.Core.Path.{◌≡◌, refl, sym, ap, ◌∙◌}
+use mathlib.Core.Path.{◌≡◌, refl, sym}
 use mathlib.Core.List.{List, [], ◌∷◌, flatten, flat_map}
 use Prim.Native.Nat.{ℕ, zero, suc, ◌+◌, ◌-◌, ◌≤◌}
 use native.Mathlib.Omega.{arith}
 use lib.ListN.{length, take, drop, length-append}
 use lib.Seq.{length-take-le, take-take, take-nil}
 use Rattle.refusals.specs.declared.Check.TheVariants.{Fine}
-use Rattle.wkb.specs.Reading.{count_at, line_at, end_at}
+use Rattle.wkb.specs.Reading.{end_at}
 use Rattle.wkb.specs.Multi.{starts, ends, starts_of, members_check, chains_at}
 use Rattle.wkb.proofs.Fields.{line_passed}
 use Rattle.wkb.proofs.Walks.{members_line, members_rest, length_line_at}

@@ -4,9 +4,9 @@ use mathlib.Core.Path.{◌≡◌, refl, sym, ap, ◌∙◌, subst}
 use mathlib.Core.List.{List, [], ◌∷◌, ◌++◌, append_assoc, append-nil}
 use Prim.Native.Nat.{ℕ, zero, suc, ◌+◌, ◌-◌, ◌*◌, ◌^◌, ◌≤◌, ◌<◌}
 use native.Mathlib.Omega.{arith}
-use lib.ListN.{length, take, drop, get_or, length-append, length-drop, take-append-drop, drop_of_length-le}
+use lib.ListN.{length, take, drop, get_or, length-append, length-drop, take-append-drop}
 use lib.Seq.{drop-cons, drop-drop, get_or-drop, length-take-le, take_all, take_at, drop_at}
-use Rattle.refusals.specs.Refusals.{Answer, gives, ◌then◌}
+use Rattle.refusals.specs.Refusals.{gives}
 use Rattle.refusals.proofs.Answers.{then_passed, then_fine}
 use Rattle.wkb.specs.Bytes.{order_byte, word_bytes, Point, point_bytes, points_bytes, line_bytes, Patterns, LineString, number, number_at, points_at}
 use Rattle.wkb.specs.Reading.{order_of, order_at, type_at, count_at, line_at, end_at, line_check, end_check, found}

@@ -5,8 +5,8 @@ use Prim.Native.Nat.{ℕ}
 use Rattle.refusals.specs.declared.Check.TheVariants.{Refused}
 use Rattle.refusals.specs.Refusals.{refusal}
 use Rattle.wkb.specs.Reading.{head_check, line_check}
-use Rattle.wkb.specs.Multi.{members_check, multi_check}
-use Rattle.wkb.specs.Inside.{HeadAt, HeadAs, LineAt, CheckedAs, MembersIn, MembersAs, MultiAt, LookedAs}
+use Rattle.wkb.specs.Multi.{multi_check}
+use Rattle.wkb.specs.Inside.{HeadAt, HeadAs, LineAt, CheckedAs, MultiAt, LookedAs}
 use Rattle.wkb.specs.declared.Order.{Order}
 use Rattle.wkb.specs.declared.Head.{Head}
 use Rattle.wkb.specs.declared.Head.TheVariants as head

@@ -8,19 +8,18 @@ use native.Mathlib.Omega.{arith}
 use lib.ListN.{length, take, drop, take-append-drop, drop_of_length-le}
 use lib.Seq.{drop-drop}
 use Rattle.refusals.specs.declared.Check.TheVariants.{Fine, Refused}
-use Rattle.refusals.specs.Refusals.{refusal, Answer, gives, ◌then◌}
+use Rattle.refusals.specs.Refusals.{refusal, gives}
 use Rattle.refusals.proofs.Checks.{and_then_refused, and_then_fine, and_then_left, and_then_right}
 use Rattle.refusals.proofs.Answers.{then_passed, then_fine}
-use Rattle.wkb.specs.Bytes.{order_byte, word_bytes, Point, LineString, Members, none, more, multi_head, MultiLineString}
-use Rattle.wkb.specs.Reading.{field_check, order_at, count_at, line_at, end_at, head_check, line_check, end_check}
+use Rattle.wkb.specs.Bytes.{order_byte, word_bytes, Point, Members, none, more, multi_head, MultiLineString}
+use Rattle.wkb.specs.Reading.{field_check, order_at, count_at, line_at, end_at, head_check}
 use Rattle.wkb.specs.Multi.{members_check, multi_check, chains_at, found_multi}
 use Rattle.wkb.specs.Inside.{MembersAs, LookedAs}
-use Rattle.wkb.specs.declared.Order.{Order}
 use Rattle.wkb.specs.declared.Looked.{Looked}
 use Rattle.wkb.specs.declared.Looked.TheVariants.{Whole, Fault}
 use Rattle.wkb.proofs.Words.{Small, at_below}
 use Rattle.wkb.proofs.Fields.{field_cut, field_right, field_passed, head_right, head_passed, line_right, line_passed, end_right, end_passed}
-use Rattle.wkb.proofs.LineStrings.{none_left, gives_same, head_bytes, HeadStands, head_stands, line_there, LineStands, line_stands}
+use Rattle.wkb.proofs.LineStrings.{none_left, gives_same, head_bytes, HeadStands, head_stands, line_there, line_stands}
 use Rattle.wkb.proofs.Walks.{members_line, members_rest, length_chains}
 
 -- ---- the look at the fields

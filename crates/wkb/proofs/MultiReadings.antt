@@ -1,27 +1,26 @@
 -- The promise of the reader of a MultiLineString from its parts: after each refusal, and after members were read. Assumes nothing.
 use mathlib.Core.Path.{◌≡◌, refl, sym, ap, ◌∙◌}
-use mathlib.Core.Bool.{Bool, true, false}
-use mathlib.Core.List.{List, flatten, map}
-use Prim.Native.Nat.{ℕ, ◌+◌, ◌-◌, ◌≤◌}
+use mathlib.Core.Bool.{true, false}
+use mathlib.Core.List.{List, flatten}
+use Prim.Native.Nat.{ℕ, ◌-◌, ◌≤◌}
 use native.Mathlib.Omega.{arith}
 use lib.Dec.{leb, eqb}
 use lib.ListN.{length, replicate, length-map}
 use borrow.Author.Tests.{leb-true, eqb-true}
 use Rattle.refusals.specs.declared.Refusal.{Refusal}
 use Rattle.refusals.specs.declared.Check.TheVariants as check
-use Rattle.refusals.specs.Refusals.{refusal, unless, and_then, Answer, refused, gives, ◌then◌, ◌into◌, answer_by, clears, left_in, zero_beyond}
+use Rattle.refusals.specs.Refusals.{refusal, unless, Answer, refused, gives, ◌then◌, ◌into◌, answer_by, clears, left_in, zero_beyond}
 use Rattle.refusals.proofs.Checks.{unless_fine, and_then_left, and_then_right}
 use Rattle.refusals.proofs.Answers.{then_refused, then_fine}
 use Rattle.refusals.proofs.Leaving.{left_same, left_zero, clearing_unless, clearing_then}
 use Rattle.grid.specs.Domain.{count_check}
 use Rattle.wkb.specs.Bytes.{Point}
-use Rattle.wkb.specs.Reading.{count_at}
-use Rattle.wkb.specs.Multi.{starts_of, members_check, multi_check, chains_at, found_multi, pair_check, members_room_check, multi_outcome, multi_read_of, axis_left, lengths_left, MultiReadAs}
-use Rattle.wkb.specs.Inside.{MembersIn, MultiAt, axes_at, counts_at}
+use Rattle.wkb.specs.Multi.{starts_of, multi_check, chains_at, found_multi, pair_check, members_room_check, multi_outcome, multi_read_of, axis_left, lengths_left, MultiReadAs}
+use Rattle.wkb.specs.Inside.{MultiAt, axes_at, counts_at}
 use Rattle.wkb.specs.declared.MultiRead.TheVariants.{Members, Refused}
 use Rattle.wkb.proofs.Words.{Small}
 use Rattle.wkb.proofs.Chains.{length_starts, chains_some}
-use Rattle.wkb.proofs.Walks.{axes_x, axes_y, counts, length_counts, length_chains}
+use Rattle.wkb.proofs.Walks.{axes_x, axes_y, counts, length_chains}
 use Rattle.wkb.proofs.MultiLineStrings.{multi_sound, multi_complete}
 
 -- ---- an answer that goes on

@@ -1,21 +1,21 @@
 -- The reader's promise from its parts: after a refusal, and after points were read. Assumes nothing.
-use mathlib.Core.Path.{◌≡◌, refl, sym, ap, ◌∙◌}
-use mathlib.Core.Bool.{Bool, true, false, ◌&&◌}
-use mathlib.Core.List.{List, ◌++◌, map}
-use Prim.Native.Nat.{ℕ, ◌+◌, ◌-◌, ◌*◌, ◌≤◌, ◌<◌}
+use mathlib.Core.Path.{◌≡◌, refl, sym, ◌∙◌}
+use mathlib.Core.Bool.{false, ◌&&◌}
+use mathlib.Core.List.{List, map}
+use Prim.Native.Nat.{ℕ, ◌+◌, ◌*◌, ◌≤◌, ◌<◌}
 use lib.Dec.{leb, eqb}
 use lib.Ieee.{Float, binary64, of_bits}
-use lib.ListN.{length, replicate, length-map}
+use lib.ListN.{length}
 use borrow.Author.Tests.{leb-true, eqb-true}
 use Rattle.refusals.specs.declared.Refusal.{Refusal}
 use Rattle.refusals.specs.declared.Check.TheVariants as check
-use Rattle.refusals.specs.Refusals.{refusal, unless, Answer, refused, gives, answer_by, clears, left_in, zero_beyond}
+use Rattle.refusals.specs.Refusals.{refusal, refused, gives, answer_by, clears, left_in, zero_beyond}
 use Rattle.refusals.proofs.Checks.{unless_fine}
 use Rattle.refusals.proofs.Answers.{then_refused, then_fine}
 use Rattle.refusals.proofs.Leaving.{left_same, clearing_unless}
 use Rattle.grid.proofs.Bools.{and_says}
-use Rattle.wkb.specs.Bytes.{Point, points_at}
-use Rattle.wkb.specs.Reading.{order_at, count_at, line_at, end_at, line_check, found, slices_check, outcome, read_of, points_left, nought, ReadAs}
+use Rattle.wkb.specs.Bytes.{points_at}
+use Rattle.wkb.specs.Reading.{line_at, end_at, line_check, found, slices_check, outcome, read_of, points_left, nought, ReadAs}
 use Rattle.wkb.specs.Inside.{numbers_at, LineAt}
 use Rattle.wkb.specs.declared.Order.{Order}
 use Rattle.wkb.specs.declared.Read.TheVariants.{Points, Refused}

@@ -1,20 +1,20 @@
 -- Laws of the two ways over the members of a MultiLineString: the look at all of them, and the reading of a slice, member by member; and what the
 -- slices are to hold. Assumes nothing.
 use mathlib.Core.Path.{◌≡◌, refl, sym, ap, ◌∙◌}
-use mathlib.Core.List.{List, [], ◌∷◌, ◌++◌, map, map-append, append_assoc, append-nil, flatten}
+use mathlib.Core.List.{List, [], ◌∷◌, ◌++◌, map, map-append, flatten}
 use Prim.Native.Nat.{ℕ, zero, suc, ◌+◌, ◌*◌, ◌-◌, ◌≤◌, ◌<◌}
 use native.Mathlib.Omega.{arith}
 use lib.ListN.{length, length-append}
 use Rattle.refusals.specs.declared.Check.TheVariants.{Fine, Refused}
-use Rattle.refusals.specs.Refusals.{refusal, and_then}
+use Rattle.refusals.specs.Refusals.{refusal}
 use Rattle.refusals.proofs.Checks.{and_then_refused, and_then_fine, and_then_left, and_then_right}
 use Rattle.wkb.specs.declared.Order.{Order}
 use Rattle.wkb.specs.Bytes.{Point}
 use Rattle.wkb.specs.Reading.{order_at, count_at, line_at, end_at, line_check, end_check}
 use Rattle.wkb.specs.Multi.{members_check, chains_at}
 use Rattle.wkb.specs.Inside.{LineAt, MembersIn, numbers_at, axes_at, counts_at}
-use Rattle.wkb.proofs.Axes.{length_points, length_numbers, axis_x, axis_y}
-use Rattle.wkb.proofs.Fields.{LineFits, line_passed, end_right, end_more, end_passed}
+use Rattle.wkb.proofs.Axes.{length_points, axis_x, axis_y}
+use Rattle.wkb.proofs.Fields.{LineFits, line_passed, end_right, end_more}
 
 -- ---- one member more
 

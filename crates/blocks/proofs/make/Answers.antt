@@ -15,7 +15,7 @@ add_rows-requires c =
     let both = let a = c.args in
     let t = tables a.grid a.lines a.offsets.now a.items.now a.globals.now a.global_count in
     make_asks a.grid t a.summary.now (sym c.check_make-check.ensures ∙ c.in_default.is) refl refl _ c.clear.ensures in
-    record { fact_1 = both.0; fact_2 = both.1 }
+    record { fills = both.0; told = both.1 }
 
 pub returns : goal.returns
 returns c =

@@ -43,7 +43,7 @@ returns-then-all-gt2048 c =
 pub put_run-n-requires : goal.put_run-n-requires
 put_run-n-requires c =
     let checked : let a = c.args in scratch_shape_check (length a.scratch.now) a.grid ≡ Fine = sym c.check_room-check.ensures ∙ c.in_default.is in
-    let r = room_for _ _ checked in record { fact_1 = omega arith; fact_2 = omega arith; fact_3 = omega arith }
+    let r = room_for _ _ checked in record { room_for_eight = omega arith; room = omega arith; numbers_fit = omega arith }
 
 pub returns : goal.returns
 returns c =

@@ -13,7 +13,7 @@ returns-in-Refused c = refused_by _ _ _ _ _ (sym c.check_place-place.ensures ∙
 
 pub first_cell-requires : goal.first_cell-requires
 first_cell-requires c =
-    let s = searchable _ _ _ (sym c.check_place-place.ensures ∙ c.in_default.is) in record { fact_1 = s.0; fact_2 = s.1 }
+    let s = searchable _ _ _ (sym c.check_place-place.ensures ∙ c.in_default.is) in record { x_searchable = s.0; y_searchable = s.1 }
 
 pub returns : goal.returns
 unfolding owner_answer answer_by

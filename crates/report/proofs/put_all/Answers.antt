@@ -1,6 +1,5 @@
 -- `report::put_all` meets its contract. The invariant: the first i bytes of the text are put. Assumes nothing.
 use mathlib.Core.Path.{refl, ◌∙◌}
-use Prim.Native.Nat.{◌-◌}
 use native.Mathlib.Omega.{arith}
 use Rattle.report.proofs.Putting.{puts_none, puts_more, puts_all}
 use Rattle.report.proofs.put_all.Goals as goal

@@ -1,6 +1,5 @@
 -- `report::put_decimal` meets its contract. The invariant: the digits from i on stand in the text. Assumes nothing.
 use mathlib.Core.Path.{refl}
-use Prim.Native.Nat.{◌-◌}
 use native.Mathlib.Omega.{arith}
 use lib.ListN.{replicate}
 use Rattle.report.proofs.Putting.{puts_text}

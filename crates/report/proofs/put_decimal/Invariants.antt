@@ -1,5 +1,4 @@
 -- `report::put_decimal` meets its contract. The invariant: the digits from i on stand in the text. Assumes nothing.
-use Prim.Native.Nat.{◌-◌}
 use Rattle.report.proofs.Digits.{Found10}
 use Rattle.report.proofs.put_decimal.Given as goal
 

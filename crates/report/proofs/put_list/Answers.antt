@@ -1,6 +1,5 @@
 -- `report::put_list` meets its contract. The invariant: the first i numbers of the list are put. Assumes nothing.
 use mathlib.Core.Path.{refl, ◌∙◌}
-use Prim.Native.Nat.{◌-◌}
 use native.Mathlib.Omega.{arith}
 use Rattle.report.proofs.Putting.{spaced_start, spaced_more, spaced_all}
 use Rattle.report.proofs.put_list.Goals as goal

@@ -1,8 +1,6 @@
 -- `samples::raise` meets its contract. Assumes nothing.
-use mathlib.Core.Path.{◌≡◌, sym}
-use mathlib.Core.Bool.{true}
+use mathlib.Core.Path.{sym}
 use mir.Facts.{to_z-of_z}
-use Rattle.samples.specs.Samples.{sample}
 use Rattle.samples.proofs.Raising.{raised_none, below_none, above_none, between_sample, sum_fits, sum_cast, sum_raised}
 use Rattle.samples.proofs.raise.Goals as goal
 

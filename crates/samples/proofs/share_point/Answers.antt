@@ -40,7 +40,7 @@ returns-then-not-is_sampled-2 c =
     (sym c.is_sampled.ensures ∙ not-false _ c.if-not-is_sampled.false-raw) (sym c.is_sampled-2.ensures ∙ not-true _ c.if-not-is_sampled-2.true-raw)
 
 pub both_aside-requires : goal.both_aside-requires
-both_aside-requires c = record { fact_1 = sym c.is_sampled.ensures ∙ not-false _ c.if-not-is_sampled.false-raw; fact_2 = sym c.is_sampled-2.ensures ∙ not-false _ c.if-not-is_sampled-2.false-raw }
+both_aside-requires c = record { a_sampled = sym c.is_sampled.ensures ∙ not-false _ c.if-not-is_sampled.false-raw; b_sampled = sym c.is_sampled-2.ensures ∙ not-false _ c.if-not-is_sampled-2.false-raw }
 
 pub returns-then-both_aside : goal.returns-then-both_aside
 returns-then-both_aside c =
@@ -50,7 +50,7 @@ returns-then-both_aside c =
 
 pub both_aside-requires-2 : goal.both_aside-requires-2
 both_aside-requires-2 c =
-    record { fact_1 = sym c.is_sampled-2.ensures ∙ not-false _ c.if-not-is_sampled-2.false-raw; fact_2 = sym c.is_sampled.ensures ∙ not-false _ c.if-not-is_sampled.false-raw }
+    record { a_sampled = sym c.is_sampled-2.ensures ∙ not-false _ c.if-not-is_sampled-2.false-raw; b_sampled = sym c.is_sampled.ensures ∙ not-false _ c.if-not-is_sampled.false-raw }
 
 pub returns : goal.returns
 returns c =

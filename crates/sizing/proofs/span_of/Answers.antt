@@ -1,5 +1,5 @@
 -- `sizing::span_of` meets its contract. The invariant: the bounds so far are those of the first i lines. Assumes nothing.
-use Rattle.std.proofs.Common.{◌-◌, arith}
+use Rattle.std.proofs.Common.{arith}
 use Rattle.sizing.proofs.Steps.{lowest_none, highest_none, lowest_more, highest_more, all_lines}
 use Rattle.sizing.proofs.span_of.Goals as goal
 

@@ -1,5 +1,4 @@
 -- `tables::rises` meets its contract. The invariant: the entries before `i` were looked at, and `all` says whether they rise. Assumes nothing.
-use Prim.Native.Nat.{◌-◌}
 use native.Mathlib.Omega.{arith}
 use Rattle.tables.proofs.Climbing.{climbed_first, climbed_more, climbed_last}
 use Rattle.tables.proofs.rises.Goals as goal

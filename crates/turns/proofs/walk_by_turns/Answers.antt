@@ -12,7 +12,7 @@ returns-in-Refused c = check_trail _ _ _ _ (sym c.check_room-check.ensures ∙ c
 pub walked-ran-requires : goal.walked-ran-requires
 walked-ran-requires c =
     let checked : let a = c.args in scratch_shape_check (length a.scratch.now) a.grid ≡ Fine = sym c.check_room-check.ensures ∙ c.in_default.is in
-    let f = checked in record { fact_1 = room_for _ _ f; fact_2 = (room_shape _ _ f).cells }
+    let f = checked in record { room = room_for _ _ f; few_cells = (room_shape _ _ f).cells }
 
 pub returns-in-Done : goal.returns-in-Done
 returns-in-Done c =

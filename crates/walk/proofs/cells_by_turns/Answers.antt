@@ -13,7 +13,7 @@ completed-m-requires c =
     let h = c.if-grid-eq0.false in
     let p = c.walk_by_turns-trail.ensures in
     let e = c.in-Walked.is in
-    record { fact_1 = trod_shape m _ _ h p _ e; fact_2 = omega (arith, h); fact_3 = trod_room m _ _ h p _ e; fact_4 = trod_inside m _ _ h p _ e }
+    record { shape = trod_shape m _ _ h p _ e; some_columns = omega (arith, h); room = trod_room m _ _ h p _ e; all_below = trod_inside m _ _ h p _ e }
 
 pub returns-in-Walked : goal.returns-in-Walked
 returns-in-Walked c =

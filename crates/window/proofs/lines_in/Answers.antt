@@ -26,7 +26,7 @@ write_found-n-requires c =
     let a = c.args in
     let ls = lines a.start_x.now a.start_y.now a.end_x.now a.end_y.now in
     let t = beside ls a.grid a.offsets.now a.items.now a.globals.now a.global_count in
-    record { fact_1 = checked ls a.grid t a.window (sym c.check_all-check.ensures ∙ c.in_default.is); fact_2 = sym c.is_in_order.ensures ∙ not-false _ c.if-not-is_in_order.false-raw }
+    record { checked = checked ls a.grid t a.window (sym c.check_all-check.ensures ∙ c.in_default.is); ordered = sym c.is_in_order.ensures ∙ not-false _ c.if-not-is_in_order.false-raw }
 
 pub returns-then-out-n : goal.returns-then-out-n
 returns-then-out-n c =

@@ -1,5 +1,4 @@
 -- `wkb::zero_from` meets its contract. The invariant: from `from` up to i there are zeros. Assumes nothing.
-use Prim.Native.Nat.{◌-◌}
 use native.Mathlib.Omega.{arith}
 use lib.Ieee.{of_bits}
 use Rattle.wkb.specs.Reading.{nought}

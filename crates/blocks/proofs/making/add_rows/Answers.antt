@@ -7,7 +7,7 @@ use Rattle.blocks.proofs.Telling.{downward_none, row_asks, row_few, block_few, d
 use Rattle.blocks.proofs.making.add_rows.Goals as goal
 
 pub loop-row-init : goal.loop-row-init
-loop-row-init c = rw (c.wide-cols.ensures, c.wide-rows.ensures) (downward_none c.requires.fact_1 c.requires.fact_2)
+loop-row-init c = rw (c.wide-cols.ensures, c.wide-rows.ensures) (downward_none c.requires.fills c.requires.told)
 
 pub overflow_mul-row : goal.overflow_mul-row
 overflow_mul-row c = omega (arith, row_few c.loop-row.invariant (omega arith))

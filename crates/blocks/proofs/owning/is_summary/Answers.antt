@@ -24,7 +24,7 @@ pub add_rows-requires : goal.add_rows-requires
 add_rows-requires c =
     let both = let a = c.args in
     numbers_ask a.grid a.offsets.now a.summary.now (sym c.is_fit.ensures ∙ not-false _ c.if-not-is_fit.false-raw) (sym c.is_rising.ensures ∙ not-false _ c.if-not-is_rising.false-raw) _ refl in
-    record { fact_1 = both.0; fact_2 = both.1 }
+    record { fills = both.0; told = both.1 }
 
 pub are_same-requires : goal.are_same-requires
 are_same-requires c =

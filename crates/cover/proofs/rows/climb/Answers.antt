@@ -1,6 +1,5 @@
 -- `cover::rows::climb` meets its contract. Assumes nothing.
 use mathlib.Core.Path.{◌∙◌}
-use Prim.Native.Nat.{◌-◌}
 use native.Mathlib.Omega.{arith}
 use Rattle.cover.proofs.Climbing.{climbing_start, climbing_row, climbing_room, climbing_more, climbing_on, climbing_last, climbing_done}
 use Rattle.cover.proofs.rows.climb.Goals as goal
@@ -12,7 +11,7 @@ pub start_columns-requires : goal.start_columns-requires
 start_columns-requires c =
     let p = c.requires in
     let h = p.rises in
-    record { fact_1 = climbing_row (climbing_start c.args.scratch.now p c.slope-s.ensures) (omega arith); fact_2 = p.first_is }
+    record { covered = climbing_row (climbing_start c.args.scratch.now p c.slope-s.ensures) (omega arith); at_first = p.first_is }
 
 pub put_row-n-requires : goal.put_row-n-requires
 put_row-n-requires c =
@@ -31,7 +30,7 @@ loop-r-init c =
     (climbing_on k, omega arith)
 
 pub columns-requires : goal.columns-requires
-columns-requires c = record { fact_1 = climbing_row c.loop-r.invariant.0 (omega arith); fact_2 = omega arith }
+columns-requires c = record { covered = climbing_row c.loop-r.invariant.0 (omega arith); before_last = omega arith }
 
 pub put_row-n-requires-in-loop-r : goal.put_row-n-requires-in-loop-r
 put_row-n-requires-in-loop-r c = climbing_room c.loop-r.invariant.0 (omega arith) c.columns.ensures

@@ -3,17 +3,17 @@ use Rattle.cover.proofs.Climbing.{last_few, across_bottom, across_top, columns_r
 use Rattle.cover.proofs.rows.columns.Goals as goal
 
 pub aside-near-requires : goal.aside-near-requires
-aside-near-requires c = across_bottom c.requires.fact_1 _ c.bottom.ensures
+aside-near-requires c = across_bottom c.requires.covered _ c.bottom.ensures
 
 pub top-requires : goal.top-requires
-top-requires c = let p = c.requires in record { fact_1 = p.fact_2; fact_2 = last_few p.fact_1 }
+top-requires c = let p = c.requires in record { before_last = p.before_last; few_rows = last_few p.covered }
 
 pub aside-far-requires : goal.aside-far-requires
-aside-far-requires c = across_top c.requires.fact_1 _ c.top.ensures
+aside-far-requires c = across_top c.requires.covered _ c.top.ensures
 
 pub returns : goal.returns
 returns c =
-    columns_rising c.requires.fact_1
+    columns_rising c.requires.covered
     c.bottom.ensures c.aside-near.ensures.0
     c.top.ensures c.aside-far.ensures.0
     c.left.ensures c.cell-first.ensures c.right.ensures c.cell-to.ensures

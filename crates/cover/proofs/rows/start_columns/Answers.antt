@@ -4,17 +4,17 @@ use Rattle.cover.proofs.Climbing.{last_few, starts, across_top, columns_start_le
 use Rattle.cover.proofs.rows.start_columns.Goals as goal
 
 pub top-requires : goal.top-requires
-top-requires c = let p = c.requires in record { fact_1 = starts p.fact_1 p.fact_2; fact_2 = last_few p.fact_1 }
+top-requires c = let p = c.requires in record { before_last = starts p.covered p.at_first; few_rows = last_few p.covered }
 
 pub aside-far-requires : goal.aside-far-requires
-aside-far-requires c = across_top c.requires.fact_1 _ c.top.ensures
+aside-far-requires c = across_top c.requires.covered _ c.top.ensures
 
 pub returns-then-e : goal.returns-then-e
 returns-then-e c =
-    columns_start_left c.requires.fact_1 c.requires.fact_2 c.top.ensures c.aside-far.ensures.0 (omega arith)
+    columns_start_left c.requires.covered c.requires.at_first c.top.ensures c.aside-far.ensures.0 (omega arith)
     c.left.ensures c.cell-to.ensures c.cell.ensures
 
 pub returns : goal.returns
 returns c =
-    columns_start_right c.requires.fact_1 c.requires.fact_2 c.top.ensures c.aside-far.ensures.0 (omega arith)
+    columns_start_right c.requires.covered c.requires.at_first c.top.ensures c.aside-far.ensures.0 (omega arith)
     c.cell-2.ensures c.right.ensures c.cell-to-2.ensures

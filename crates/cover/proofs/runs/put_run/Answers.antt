@@ -9,7 +9,7 @@ returns-then-k-lt9 c = run_front 8 _ _ (omega arith) (omega arith) c.put_each-m.
 pub put_each-requires : goal.put_each-requires
 put_each-requires c =
     let a = c.args in
-    record { fact_1 = run_room 8 a.first a.k (omega arith) (omega arith) c.put_each-m.ensures; fact_2 = omega arith }
+    record { room = run_room 8 a.first a.k (omega arith) (omega arith) c.put_each-m.ensures; numbers_fit = omega arith }
 
 pub returns : goal.returns
 returns c = run_rest 8 _ _ (omega arith) c.put_each-m.ensures c.put_each.ensures

@@ -1,4 +1,3 @@
-use Prim.Native.Nat.{◌-◌}
 use Rattle.grid.proofs.Fine.{looked_none, looked_more, looked_over}
 use Rattle.grid.proofs.checks.all_obey.Goals as goal
 

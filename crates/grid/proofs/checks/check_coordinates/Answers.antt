@@ -1,7 +1,6 @@
 -- `grid::checks::check_coordinates` meets its contract. Assumes nothing.
 use mathlib.Core.Path.{sym, ap, ◌∙◌}
 use borrow.Author.Tests.{not-true, not-false}
-use Prim.Native.Nat.{◌-◌}
 use native.Mathlib.Omega.{arith}
 use Rattle.grid.specs.Domain.{segment, line_fits}
 use Rattle.grid.proofs.Fine.{searched_none, searched_more, searched_bad, searched_over}

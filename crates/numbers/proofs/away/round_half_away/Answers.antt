@@ -17,7 +17,7 @@ fine v size e above below = small _ (subst (λ (x : Float). T (lt (fin false 0 (
 
 pub round_positive-requires : goal.round_positive-requires
 unfolding of_bits
-round_positive-requires c = record { fact_1 = holds _ c.if-size.true; fact_2 = holds _ c.if-size-2.true }
+round_positive-requires c = record { above_zero = holds _ c.if-size.true; below_limit = holds _ c.if-size-2.true }
 
 pub returns-then-size-2 : goal.returns-then-size-2
 unfolding of_bits

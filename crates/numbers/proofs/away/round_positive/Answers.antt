@@ -7,4 +7,4 @@ use Rattle.numbers.proofs.away.round_positive.Goals as goal
 
 pub returns : goal.returns
 unfolding of_bits
-returns c = ap (sub binary64 _) c.one_if_above.ensures ∙ away_positive _ _ (small _ c.requires.fact_1 c.requires.fact_2) c.whole_part-part.ensures
+returns c = ap (sub binary64 _) c.one_if_above.ensures ∙ away_positive _ _ (small _ c.requires.above_zero c.requires.below_limit) c.whole_part-part.ensures

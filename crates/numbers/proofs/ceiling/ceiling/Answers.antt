@@ -23,7 +23,7 @@ back v part more s is one =
 
 pub whole_part-part-requires : goal.whole_part-part-requires
 unfolding of_bits
-whole_part-part-requires c = record { fact_1 = holds _ c.if-v.true; fact_2 = holds _ c.if-v-2.true }
+whole_part-part-requires c = record { above_zero = holds _ c.if-v.true; below_limit = holds _ c.if-v-2.true }
 
 pub float_to_int-result : goal.float_to_int-result
 unfolding of_bits

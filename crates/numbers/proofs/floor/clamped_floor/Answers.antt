@@ -12,7 +12,7 @@ returns-then-count-eq0 c = subst (λ (n : ℕ). 0 ≡ clamped_floor c.args.v n) 
 
 pub whole_index-requires : goal.whole_index-requires
 unfolding of_bits
-whole_index-requires c = let w : Within c.args.v c.args.count = within _ _ (omega arith) c.if-v.true c.if-v-last.true in record { fact_1 = holds _ c.if-v.true; fact_2 = w.small; fact_3 = omega arith }
+whole_index-requires c = let w : Within c.args.v c.args.count = within _ _ (omega arith) c.if-v.true c.if-v-last.true in record { above_zero = holds _ c.if-v.true; below_limit = w.small; fits_index = omega arith }
 
 pub returns-then-v-last : goal.returns-then-v-last
 unfolding of_bits

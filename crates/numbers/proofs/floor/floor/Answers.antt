@@ -17,7 +17,7 @@ fine v size e above below = small _ (subst (λ (x : Float). T (lt (fin false 0 (
 
 pub whole_part-requires : goal.whole_part-requires
 unfolding of_bits
-whole_part-requires c = record { fact_1 = holds _ c.if-size.true; fact_2 = holds _ c.if-size-2.true }
+whole_part-requires c = record { above_zero = holds _ c.if-size.true; below_limit = holds _ c.if-size-2.true }
 
 pub returns-then-size-2 : goal.returns-then-size-2
 unfolding of_bits

@@ -1,5 +1,5 @@
 -- `numbers::root::long_root` meets its contract: what is left is a * 4 ^ i without the square, and at most twice the root. Assumes nothing.
-use Rattle.std.proofs.Common.{◌≡◌, ℕ, ◌+◌, ◌-◌, ◌*◌, ◌^◌, ap, ◌∙◌, inl, inr, ⊎_elim, lt_of_le_of_lt, arith}
+use Rattle.std.proofs.Common.{◌≡◌, ℕ, ◌+◌, ◌*◌, ◌^◌, ap, ◌∙◌, inl, inr, lt_of_le_of_lt, arith}
 use Rattle.numbers.proofs.Squares.{sq1, digit}
 use Rattle.numbers.proofs.root.long_root.Goals as goal
 use Rattle.numbers.proofs.root.long_root.Goals.{then-t-rest, else-t-rest}

@@ -1,5 +1,5 @@
 -- `numbers::root::normal_root` meets its contract. Assumes nothing.
-use Rattle.std.proofs.Common.{◌≡◌, ◌≤◌, ◌%◌, ℕ, ◌*◌, ◌^◌, ◌<◌, sym, subst, ⊎_elim, arith}
+use Rattle.std.proofs.Common.{◌≡◌, ◌≤◌, ◌%◌, ℕ, ◌*◌, ◌^◌, ◌<◌, sym, subst, arith}
 use Rattle.numbers.proofs.Squares.{IsRoot}
 use Rattle.numbers.proofs.RootCases.{Rooted, even_part, odd_part, root_high, pattern_root_at}
 use Rattle.numbers.proofs.root.normal_root.Goals as goal
@@ -10,7 +10,6 @@ even m e r h two is = record { a = m; lo = omega arith; hi = omega arith; same =
 
 odd : (m e r : ℕ) → (2 ^ 52 ≤ m) × (m < 2 ^ 53) × (1022 ≤ e) × (e < 3120) → (e % 2 ≡ 0 → ⊥) → IsRoot (m * 2 * 4 ^ 27) r → Rooted m e r
 odd m e r h two is = record { a = m * 2; lo = omega arith; hi = omega arith; same = odd_part m e two; is = is }
-
 
 pub overflow_add-result : goal.overflow_add-result
 overflow_add-result c =

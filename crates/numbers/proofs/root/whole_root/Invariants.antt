@@ -1,5 +1,5 @@
 -- `numbers::root::whole_root` meets its contract: the root lies from r up to r + width. Assumes nothing.
-use Rattle.std.proofs.Common.{◌+◌, ◌-◌, ◌*◌, ◌<◌, ◌≤◌}
+use Rattle.std.proofs.Common.{◌+◌, ◌*◌, ◌<◌, ◌≤◌}
 use Rattle.numbers.proofs.root.whole_root.Given as goal
 
 abbrev pub invariant-loop-width : goal.invariant-loop-width

@@ -13,16 +13,16 @@ less_one a q e = omega arith
 
 pub float_to_bits-index : goal.float_to_bits-index
 unfolding of_bits
-float_to_bits-index c = moved_number _ (small _ c.requires.fact_1 c.requires.fact_2)
+float_to_bits-index c = moved_number _ (small _ c.requires.above_zero c.requires.below_limit)
 
 pub overflow_sub-result : goal.overflow_sub-result
 unfolding of_bits
-overflow_sub-result c = let p = c.requires in some _ _ ((index_of _ _ (small _ p.fact_1 p.fact_2) refl p.fact_3).0 c.if-v-near.true)
+overflow_sub-result c = let p = c.requires in some _ _ ((index_of _ _ (small _ p.above_zero p.below_limit) refl p.fits_index).0 c.if-v-near.true)
 
 pub returns-then-v-near : goal.returns-then-v-near
 unfolding of_bits
-returns-then-v-near c = let p = c.requires in less_one _ _ ((index_of _ _ (small _ p.fact_1 p.fact_2) refl p.fact_3).0 c.if-v-near.true)
+returns-then-v-near c = let p = c.requires in less_one _ _ ((index_of _ _ (small _ p.above_zero p.below_limit) refl p.fits_index).0 c.if-v-near.true)
 
 pub returns : goal.returns
 unfolding of_bits
-returns c = let p = c.requires in (index_of _ _ (small _ p.fact_1 p.fact_2) refl p.fact_3).1 c.if-v-near.false
+returns c = let p = c.requires in (index_of _ _ (small _ p.above_zero p.below_limit) refl p.fits_index).1 c.if-v-near.false

@@ -7,4 +7,4 @@ use Rattle.numbers.proofs.whole.whole_part.Goals as goal
 
 pub returns : goal.returns
 unfolding of_bits
-returns c = ap (sub binary64 _) c.one_if_above.ensures ∙ part_of _ _ (small _ c.requires.fact_1 c.requires.fact_2) refl
+returns c = ap (sub binary64 _) c.one_if_above.ensures ∙ part_of _ _ (small _ c.requires.above_zero c.requires.below_limit) refl

@@ -4,4 +4,4 @@ use Rattle.own.proofs.Halving.{whole_axis}
 use Rattle.own.proofs.axis.about.Goals as goal
 
 pub narrowed-there-requires : goal.narrowed-there-requires
-narrowed-there-requires c = record { fact_1 = c.requires.fact_1; fact_2 = whole_axis _ _ c.requires.fact_1 (omega arith) }
+narrowed-there-requires c = record { searchable = c.requires.searchable; halved = whole_axis _ _ c.requires.searchable (omega arith) }

@@ -10,7 +10,7 @@ pub returns-then-settled : goal.returns-then-settled
 returns-then-settled c = c.settled.ensures c.if-settled.true
 
 pub searched-requires : goal.searched-requires
-searched-requires c = record { fact_1 = c.requires; fact_2 = omega arith; fact_3 = c.guessed-guess.ensures }
+searched-requires c = record { searchable = c.requires; some_cells = omega arith; guess_within = c.guessed-guess.ensures }
 
 pub returns : goal.returns
 returns c = c.searched.ensures

@@ -11,13 +11,13 @@ pub loop-low-init : goal.loop-low-init
 loop-low-init c = c.about-stretch.ensures
 
 pub loop-low-preserved-then-p-high_edge : goal.loop-low-preserved-then-p-high_edge
-loop-low-preserved-then-p-high_edge c = lower_half _ _ c.requires.fact_1 _ _ _ c.loop-low.invariant (omega arith) (omega arith) _ c.high_edge.ensures c.if-p-high_edge.true
+loop-low-preserved-then-p-high_edge c = lower_half _ _ c.requires.searchable _ _ _ c.loop-low.invariant (omega arith) (omega arith) _ c.high_edge.ensures c.if-p-high_edge.true
 
 pub loop-low-preserved : goal.loop-low-preserved
-loop-low-preserved c = upper_half _ _ c.requires.fact_1 _ _ _ c.loop-low.invariant (omega arith) (omega arith) _ c.high_edge.ensures c.if-p-high_edge.false
+loop-low-preserved c = upper_half _ _ c.requires.searchable _ _ _ c.loop-low.invariant (omega arith) (omega arith) _ c.high_edge.ensures c.if-p-high_edge.false
 
 pub returns-then-owns : goal.returns-then-owns
-returns-then-owns c = found _ _ c.requires.fact_1 _ _ c.loop-low.invariant c.loop-low-test.false (sym c.if-owns.true ∙ c.owns.ensures)
+returns-then-owns c = found _ _ c.requires.searchable _ _ c.loop-low.invariant c.loop-low-test.false (sym c.if-owns.true ∙ c.owns.ensures)
 
 pub returns : goal.returns
-returns c = nowhere _ _ c.requires.fact_1 _ _ c.loop-low.invariant c.loop-low-test.false (sym c.if-owns.false ∙ c.owns.ensures)
+returns c = nowhere _ _ c.requires.searchable _ _ c.loop-low.invariant c.loop-low-test.false (sym c.if-owns.false ∙ c.owns.ensures)

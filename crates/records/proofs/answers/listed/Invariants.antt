@@ -1,6 +1,6 @@
 -- `records::answers::listed` meets its contract. The invariant: beyond n entries there is nothing to list. Assumes nothing.
 use mathlib.Core.Path.{◌≡◌}
-use Prim.Native.Nat.{◌-◌, ◌≤◌}
+use Prim.Native.Nat.{◌≤◌}
 use lib.ListN.{length, take}
 use Rattle.records.specs.Answers.{listed_of}
 use Rattle.records.proofs.answers.listed.Given as goal

@@ -1,7 +1,6 @@
 -- `records::answers::words` meets its contract. The invariant: the first i words are put. Assumes nothing.
 use mathlib.Core.Path.{refl}
 use mathlib.Core.List.{[]}
-use Prim.Native.Nat.{◌-◌}
 use native.Mathlib.Omega.{arith}
 use lib.Seq.{take_all}
 use Rattle.records.proofs.Puts.{put_none, put_more, put_length}

@@ -1,7 +1,6 @@
 -- `records::answers::written` meets its contract. The invariant: after the number of entries, the first i are put. Assumes nothing.
 use mathlib.Core.Path.{◌≡◌, refl, ◌∙◌}
 use mathlib.Core.List.{[]}
-use Prim.Native.Nat.{◌-◌}
 use native.Mathlib.Omega.{arith}
 use Rattle.records.proofs.Puts.{put_none, put_more, put_then, put_length, lent_words_lem}
 use Rattle.records.proofs.answers.written.Goals as goal

@@ -1,5 +1,4 @@
 -- `records::questions::all_floats` meets its contract. The invariant: the first i entries are the words' floats. Assumes nothing.
-use Prim.Native.Nat.{◌-◌}
 use native.Mathlib.Omega.{arith}
 use lib.ListN.{length-replicate}
 use lib.Ieee.{Float, binary64, of_bits}

@@ -1,5 +1,5 @@
 -- `records::questions::all_shorts` meets its contract. The invariant: the first i entries are the words' numbers of 32 bits. Assumes nothing.
-use Prim.Native.Nat.{ℕ, ◌-◌}
+use Prim.Native.Nat.{ℕ}
 use native.Mathlib.Omega.{arith}
 use lib.ListN.{length-replicate}
 use Rattle.records.specs.Questions.{short_by, short_at}

@@ -1,6 +1,5 @@
 -- `records::questions::place` meets its contract. The invariant: it is at the place of slice i. Assumes nothing.
 use mathlib.Core.Path.{◌≡◌, ap, ◌∙◌}
-use Prim.Native.Nat.{◌-◌}
 use native.Mathlib.Omega.{arith}
 use Rattle.records.specs.Questions.{slice_place}
 use Rattle.records.proofs.Parts.{place_first, place_next}

@@ -1,7 +1,6 @@
 -- `samples::checks::check_samples` meets its contract. Assumes nothing.
 use mathlib.Core.Path.{sym, ap, ◌∙◌}
 use borrow.Author.Tests.{not-true, not-false}
-use Prim.Native.Nat.{◌-◌}
 use native.Mathlib.Omega.{arith}
 use Rattle.samples.specs.Samples.{sampled}
 use Rattle.samples.proofs.Checking.{searched_none, searched_more, searched_bad, searched_over}

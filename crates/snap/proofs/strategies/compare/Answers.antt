@@ -10,14 +10,14 @@ pub returns-then-scaled : goal.returns-then-scaled
 unfolding of_bits
 returns-then-scaled c =
     let held : T (fits binary64 c.args.size) = subst T (sym c.well_formed.1.0.1) tt in
-    ap agreed (sym (differ_there _ _ held c.requires.fact_2 (above_zero _ c.if-scaled.true)))
+    ap agreed (sym (differ_there _ _ held c.requires.size_in_range (above_zero _ c.if-scaled.true)))
 
 pub returns-then-scaled-2 : goal.returns-then-scaled-2
 unfolding of_bits neg
 returns-then-scaled-2 c =
     let held : T (fits binary64 c.args.size) = subst T (sym c.well_formed.1.0.1) tt in
-    ap agreed (sym (differ_there _ _ held c.requires.fact_2 (below_zero _ c.if-scaled-2.true)))
+    ap agreed (sym (differ_there _ _ held c.requires.size_in_range (below_zero _ c.if-scaled-2.true)))
 
 pub returns : goal.returns
 unfolding of_bits neg
-returns c = ap agreed (sym (agree_elsewhere _ _ c.requires.fact_1 c.requires.fact_2 (neither _ c.if-scaled.false c.if-scaled-2.false)))
+returns c = ap agreed (sym (agree_elsewhere _ _ c.requires.v_in_range c.requires.size_in_range (neither _ c.if-scaled.false c.if-scaled-2.false)))

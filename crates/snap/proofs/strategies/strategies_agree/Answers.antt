@@ -24,7 +24,7 @@ unfolding coordinate_check snap_size_check
 compare-requires c =
     let p = sym c.check_coordinate-value.ensures ∙ c.in_default.is in
     let q = sym c.check_snap_size-fit.ensures ∙ c.in_default-fit.is in
-    record { fact_1 = holds _ (unless_fine _ _ _ p); fact_2 = holds _ (unless_fine _ _ _ q) }
+    record { v_in_range = holds _ (unless_fine _ _ _ p); size_in_range = holds _ (unless_fine _ _ _ q) }
 
 pub returns : goal.returns
 unfolding agreement_answer answer_by

@@ -1,5 +1,4 @@
 -- `tables::rising::count_begins` meets its contract. The invariant: the lists before that of `c` were looked at, and `to` is not passed. Assumes nothing.
-use Prim.Native.Nat.{◌-◌}
 use native.Mathlib.Numerals.{add-one}
 use native.Mathlib.Omega.{arith}
 use Rattle.tables.proofs.Breaks.{begin_inside, begins_more, begins_all}

@@ -1,5 +1,4 @@
 -- `tables::rising::count_breaks` meets its contract. The invariant: those before `k` were looked at, and `to` is not passed. Assumes nothing.
-use Prim.Native.Nat.{◌-◌}
 use native.Mathlib.Omega.{arith}
 use Rattle.tables.proofs.Breaks.{breaks_more, breaks_all}
 use Rattle.tables.proofs.rising.count_breaks.Goals as goal

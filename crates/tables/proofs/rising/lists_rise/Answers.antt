@@ -1,5 +1,4 @@
 -- `tables::rising::lists_rise` meets its contract. The invariant: the lists before that of `cell`, and the entries before `k`, were looked at. Assumes nothing.
-use Prim.Native.Nat.{◌-◌}
 use native.Mathlib.Omega.{arith}
 use Rattle.tables.proofs.Breaks.{all_rise, none_rise, no_lines, cut_at, blocks_none, block_entries, block_lists, block_seen, blocks_all}
 use Rattle.tables.proofs.rising.lists_rise.Goals as goal

@@ -1,5 +1,4 @@
 -- `tables::rising::never_fall` meets its contract. The invariant: the offsets before `c` were looked at. Assumes nothing.
-use Prim.Native.Nat.{◌-◌}
 use native.Mathlib.Omega.{arith}
 use Rattle.tables.proofs.Breaks.{offsets_none, offsets_more, offsets_all}
 use Rattle.tables.proofs.rising.never_fall.Goals as goal

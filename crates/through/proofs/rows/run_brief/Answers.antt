@@ -30,4 +30,4 @@ pub shape_of-second : goal.shape_of-second
 shape_of-second c = brief_second_long _ _ _ _ _ _ _ _ _ _ _ c.loop-i.invariant
 
 pub returns : goal.returns
-returns c = record { fact_1 = brief_end _ _ _ _ _ _ _ _ _ _ _ c.loop-i.invariant c.loop-i-test.false; fact_2 = search rules }
+returns c = record { ran = brief_end _ _ _ _ _ _ _ _ _ _ _ c.loop-i.invariant c.loop-i-test.false; same_length = search rules }

@@ -12,22 +12,22 @@ pub run_list-ran-requires : goal.run_list-ran-requires
 run_list-ran-requires c = cells_list _ _ _ _ _ _ _ _ _ _ _ _ _ _ _ _ _ _ _ _ _ c.loop-cell.invariant c.loop-cell-test.true _ c.list_of-list.ensures
 
 pub overflow_add-tests : goal.overflow_add-tests
-overflow_add-tests c = record { fits = cells_small _ _ _ _ _ _ _ _ _ _ _ _ _ _ _ _ _ _ _ _ _ c.loop-cell.invariant c.loop-cell-test.true _ c.list_of-list.ensures _ _ _ _ _ c.run_list-ran.ensures.fact_1 c.run_list-ran.ensures.fact_2 }
+overflow_add-tests c = record { fits = cells_small _ _ _ _ _ _ _ _ _ _ _ _ _ _ _ _ _ _ _ _ _ c.loop-cell.invariant c.loop-cell-test.true _ c.list_of-list.ensures _ _ _ _ _ c.run_list-ran.ensures.ran c.run_list-ran.ensures.same_scratch }
 
 pub shape_of-room-then-first-hits : goal.shape_of-room-then-first-hits
-shape_of-room-then-first-hits c = (cells_kept _ _ _ _ _ _ _ _ _ _ _ _ _ _ _ _ _ _ _ _ _ c.loop-cell.invariant c.loop-cell-test.true _ c.list_of-list.ensures _ _ _ _ _ c.run_list-ran.ensures.fact_1 c.run_list-ran.ensures.fact_2).boxes
+shape_of-room-then-first-hits c = (cells_kept _ _ _ _ _ _ _ _ _ _ _ _ _ _ _ _ _ _ _ _ _ c.loop-cell.invariant c.loop-cell-test.true _ c.list_of-list.ensures _ _ _ _ _ c.run_list-ran.ensures.ran c.run_list-ran.ensures.same_scratch).boxes
 
 pub shape_of-marks-then-first-hits : goal.shape_of-marks-then-first-hits
-shape_of-marks-then-first-hits c = (cells_kept _ _ _ _ _ _ _ _ _ _ _ _ _ _ _ _ _ _ _ _ _ c.loop-cell.invariant c.loop-cell-test.true _ c.list_of-list.ensures _ _ _ _ _ c.run_list-ran.ensures.fact_1 c.run_list-ran.ensures.fact_2).bytes
+shape_of-marks-then-first-hits c = (cells_kept _ _ _ _ _ _ _ _ _ _ _ _ _ _ _ _ _ _ _ _ _ c.loop-cell.invariant c.loop-cell-test.true _ c.list_of-list.ensures _ _ _ _ _ c.run_list-ran.ensures.ran c.run_list-ran.ensures.same_scratch).bytes
 
 pub shape_of-first-then-first-hits : goal.shape_of-first-then-first-hits
-shape_of-first-then-first-hits c = cells_first_kept _ _ _ _ _ _ _ _ _ _ _ _ _ _ _ _ _ _ _ _ _ c.loop-cell.invariant c.loop-cell-test.true _ c.list_of-list.ensures _ _ _ _ _ c.run_list-ran.ensures.fact_1 c.run_list-ran.ensures.fact_2
+shape_of-first-then-first-hits c = cells_first_kept _ _ _ _ _ _ _ _ _ _ _ _ _ _ _ _ _ _ _ _ _ c.loop-cell.invariant c.loop-cell-test.true _ c.list_of-list.ensures _ _ _ _ _ c.run_list-ran.ensures.ran c.run_list-ran.ensures.same_scratch
 
 pub shape_of-second-then-first-hits : goal.shape_of-second-then-first-hits
-shape_of-second-then-first-hits c = cells_second_kept _ _ _ _ _ _ _ _ _ _ _ _ _ _ _ _ _ _ _ _ _ c.loop-cell.invariant c.loop-cell-test.true _ c.list_of-list.ensures _ _ _ _ _ c.run_list-ran.ensures.fact_1 c.run_list-ran.ensures.fact_2
+shape_of-second-then-first-hits c = cells_second_kept _ _ _ _ _ _ _ _ _ _ _ _ _ _ _ _ _ _ _ _ _ c.loop-cell.invariant c.loop-cell-test.true _ c.list_of-list.ensures _ _ _ _ _ c.run_list-ran.ensures.ran c.run_list-ran.ensures.same_scratch
 
 pub returns-then-first-hits : goal.returns-then-first-hits
-returns-then-first-hits c = cells_full _ _ _ _ _ _ _ _ _ _ _ _ _ _ _ _ _ _ _ _ _ c.loop-cell.invariant c.loop-cell-test.true _ c.list_of-list.ensures _ _ _ _ _ c.run_list-ran.ensures.fact_1 c.run_list-ran.ensures.fact_2 c.if-first-hits.true
+returns-then-first-hits c = cells_full _ _ _ _ _ _ _ _ _ _ _ _ _ _ _ _ _ _ _ _ _ c.loop-cell.invariant c.loop-cell-test.true _ c.list_of-list.ensures _ _ _ _ _ c.run_list-ran.ensures.ran c.run_list-ran.ensures.same_scratch c.if-first-hits.true
 
 pub overflow_add-cell : goal.overflow_add-cell
 overflow_add-cell c = omega (arith, c.loop-cell-test.true, c)
@@ -38,7 +38,7 @@ loop-cell-smaller c = omega (arith, c.loop-cell-test.true, c.next_cell-cell.ensu
 pub loop-cell-preserved : goal.loop-cell-preserved
 loop-cell-preserved c =
     cells_passed _ _ _ _ _ _ _ _ _ _ _ _ _ _ _ _ _ _ _ _
-    (cells_turn _ _ _ _ _ _ _ _ _ _ _ _ _ _ _ _ _ _ _ _ _ c.loop-cell.invariant c.loop-cell-test.true _ c.list_of-list.ensures _ _ _ _ _ c.run_list-ran.ensures.fact_1 c.run_list-ran.ensures.fact_2 c.if-first-hits.false)
+    (cells_turn _ _ _ _ _ _ _ _ _ _ _ _ _ _ _ _ _ _ _ _ _ c.loop-cell.invariant c.loop-cell-test.true _ c.list_of-list.ensures _ _ _ _ _ c.run_list-ran.ensures.ran c.run_list-ran.ensures.same_scratch c.if-first-hits.false)
     (next_passed _ _ _ _ c.next_cell-cell.ensures)
 
 pub shape_of-room : goal.shape_of-room

@@ -10,7 +10,7 @@ pub run_brief-requires : goal.run_brief-requires
 run_brief-requires c = brief_asks _ _ _ _ _ _ _ _ _ (brief_says _ _ _ _ _ c.is_brief.ensures c.if-is_brief.true) c.requires
 
 pub returns-then-is_brief : goal.returns-then-is_brief
-returns-then-is_brief c = record { fact_1 = brief_ran _ _ _ _ _ _ _ _ _ _ _ (brief_says _ _ _ _ _ c.is_brief.ensures c.if-is_brief.true) c.run_brief.ensures.fact_1; fact_2 = brief_scratch _ _ _ c.run_brief.ensures.fact_2 }
+returns-then-is_brief c = record { ran = brief_ran _ _ _ _ _ _ _ _ _ _ _ (brief_says _ _ _ _ _ c.is_brief.ensures c.if-is_brief.true) c.run_brief.ensures.ran; same_scratch = brief_scratch _ _ _ c.run_brief.ensures.same_length }
 
 pub loop-hits-init : goal.loop-hits-init
 loop-hits-init c = list_run _ _ _ _ _ _ _ _ _ c.requires
@@ -19,16 +19,16 @@ pub scan_part-part-requires : goal.scan_part-part-requires
 scan_part-part-requires c = list_part _ _ _ _ _ _ _ _ _ _ _ _ _ _ _ _ _ _ _ c.loop-hits.invariant _ _ (row_at_is _ _ _ _ c.row_at.ensures _ _ c.in-At.is) c.loop-hits-test.true
 
 pub overflow_add-tests : goal.overflow_add-tests
-overflow_add-tests c = record { fits = list_small _ _ _ _ _ _ _ _ _ _ _ _ _ _ _ _ _ _ _ c.loop-hits.invariant _ _ (row_at_is _ _ _ _ c.row_at.ensures _ _ c.in-At.is) _ _ _ _ _ c.scan_part-part.ensures.fact_1 c.scan_part-part.ensures.fact_2 }
+overflow_add-tests c = record { fits = list_small _ _ _ _ _ _ _ _ _ _ _ _ _ _ _ _ _ _ _ c.loop-hits.invariant _ _ (row_at_is _ _ _ _ c.row_at.ensures _ _ c.in-At.is) _ _ _ _ _ c.scan_part-part.ensures.part c.scan_part-part.ensures.same_scratch }
 
 pub overflow_add-j : goal.overflow_add-j
-overflow_add-j c = omega (arith, c.scan_part-part.ensures.fact_1.inside, c)
+overflow_add-j c = omega (arith, c.scan_part-part.ensures.part.inside, c)
 
 pub loop-hits-smaller : goal.loop-hits-smaller
-loop-hits-smaller c = list_less _ _ _ _ _ _ _ _ _ _ _ _ _ _ _ _ _ _ _ c.loop-hits.invariant _ _ (row_at_is _ _ _ _ c.row_at.ensures _ _ c.in-At.is) _ _ _ _ _ c.scan_part-part.ensures.fact_1 c.scan_part-part.ensures.fact_2
+loop-hits-smaller c = list_less _ _ _ _ _ _ _ _ _ _ _ _ _ _ _ _ _ _ _ c.loop-hits.invariant _ _ (row_at_is _ _ _ _ c.row_at.ensures _ _ c.in-At.is) _ _ _ _ _ c.scan_part-part.ensures.part c.scan_part-part.ensures.same_scratch
 
 pub loop-hits-preserved : goal.loop-hits-preserved
-loop-hits-preserved c = list_turn _ _ _ _ _ _ _ _ _ _ _ _ _ _ _ _ _ _ _ c.loop-hits.invariant _ _ (row_at_is _ _ _ _ c.row_at.ensures _ _ c.in-At.is) _ _ _ _ _ c.scan_part-part.ensures.fact_1 c.scan_part-part.ensures.fact_2
+loop-hits-preserved c = list_turn _ _ _ _ _ _ _ _ _ _ _ _ _ _ _ _ _ _ _ c.loop-hits.invariant _ _ (row_at_is _ _ _ _ c.row_at.ensures _ _ c.in-At.is) _ _ _ _ _ c.scan_part-part.ensures.part c.scan_part-part.ensures.same_scratch
 
 pub shape_of-room-after-loop-hits : goal.shape_of-room-after-loop-hits
 shape_of-room-after-loop-hits c = c.loop-hits.invariant.same.boxes
@@ -43,7 +43,7 @@ pub shape_of-second-after-loop-hits : goal.shape_of-second-after-loop-hits
 shape_of-second-after-loop-hits c = list_second_long _ _ _ _ _ _ _ _ _ _ _ _ _ _ _ _ _ _ _ c.loop-hits.invariant
 
 pub returns-after-loop-hits : goal.returns-after-loop-hits
-returns-after-loop-hits c = record { fact_1 = list_full _ _ _ _ _ _ _ _ _ _ _ _ _ _ _ _ _ _ _ c.loop-hits.invariant (omega (arith, list_first_long _ _ _ _ _ _ _ _ _ _ _ _ _ _ _ _ _ _ _ c.loop-hits.invariant, c.loop-hits-test.false)); fact_2 = c.loop-hits.invariant.same }
+returns-after-loop-hits c = record { ran = list_full _ _ _ _ _ _ _ _ _ _ _ _ _ _ _ _ _ _ _ c.loop-hits.invariant (omega (arith, list_first_long _ _ _ _ _ _ _ _ _ _ _ _ _ _ _ _ _ _ _ c.loop-hits.invariant, c.loop-hits-test.false)); same_scratch = c.loop-hits.invariant.same }
 
 pub shape_of-room-in_default : goal.shape_of-room-in_default
 shape_of-room-in_default c = c.loop-hits.invariant.same.boxes
@@ -58,4 +58,4 @@ pub shape_of-second-in_default : goal.shape_of-second-in_default
 shape_of-second-in_default c = list_second_long _ _ _ _ _ _ _ _ _ _ _ _ _ _ _ _ _ _ _ c.loop-hits.invariant
 
 pub returns-in_default : goal.returns-in_default
-returns-in_default c = record { fact_1 = list_over _ _ _ _ _ _ _ _ _ _ _ _ _ _ _ _ _ _ _ c.loop-hits.invariant (row_at_past _ _ _ _ c.row_at.ensures c.in_default.is); fact_2 = c.loop-hits.invariant.same }
+returns-in_default c = record { ran = list_over _ _ _ _ _ _ _ _ _ _ _ _ _ _ _ _ _ _ _ c.loop-hits.invariant (row_at_past _ _ _ _ c.row_at.ensures c.in_default.is); same_scratch = c.loop-hits.invariant.same }

@@ -17,4 +17,4 @@ pub scan-found-requires : goal.scan-found-requires
 scan-found-requires c = part_scan_part _ _ _ _ _ _ _ _ _ _ _ c.requires _ _ c.window_at-window.ensures _ c.least-many.ensures (omega arith)
 
 pub returns : goal.returns
-returns c = record { fact_1 = part_is_part _ _ _ _ _ _ _ _ _ _ _ c.requires _ _ c.window_at-window.ensures _ c.least-many.ensures (omega arith) _ _ _ _ c.scan-found.ensures; fact_2 = part_same_part _ _ _ _ _ _ _ _ _ _ _ c.requires _ _ c.window_at-window.ensures _ c.least-many.ensures (omega arith) _ _ _ _ c.scan-found.ensures }
+returns c = record { part = part_is_part _ _ _ _ _ _ _ _ _ _ _ c.requires _ _ c.window_at-window.ensures _ c.least-many.ensures (omega arith) _ _ _ _ c.scan-found.ensures; same_scratch = part_same_part _ _ _ _ _ _ _ _ _ _ _ c.requires _ _ c.window_at-window.ensures _ c.least-many.ensures (omega arith) _ _ _ _ c.scan-found.ensures }

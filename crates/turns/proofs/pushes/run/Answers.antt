@@ -5,7 +5,7 @@ use Rattle.turns.proofs.Loop.{going_is, again, done, over}
 use Rattle.turns.proofs.pushes.run.Goals as goal
 
 pub loop-way-init : goal.loop-way-init
-loop-way-init c = (record { size = c.requires.fact_1; room = omega arith; is = refl }, refl)
+loop-way-init c = (record { size = c.requires.room; room = omega arith; is = refl }, refl)
 
 pub shape_of-s-then-not-goes : goal.shape_of-s-then-not-goes
 shape_of-s-then-not-goes c = c.loop-way.invariant.1
@@ -22,7 +22,7 @@ returns-then-left-eq0 c = over c.loop-way.invariant.0 (going_is _ _ _ _ c.turn-k
 pub stride-next-requires : goal.stride-next-requires
 stride-next-requires c =
     let g = c.loop-way.invariant.0 in
-    record { fact_1 = omega (arith, g.room, g.size); fact_2 = c.requires.fact_2 }
+    record { room = omega (arith, g.room, g.size); few_cells = c.requires.few_cells }
 
 pub loop-way-preserved : goal.loop-way-preserved
 loop-way-preserved c =

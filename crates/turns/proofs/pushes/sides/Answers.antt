@@ -6,7 +6,7 @@ use Rattle.turns.proofs.Grows.{at_most_one}
 use Rattle.turns.proofs.pushes.sides.Goals as goal
 
 pub put-requires : goal.put-requires
-put-requires c = let a = c.args in let p = c.put-a.ensures in record { fact_1 = omega (arith, p.count, p.len, at_most_one a.cols a.rows c.stepped.result a.w.y.index); fact_2 = omega arith }
+put-requires c = let a = c.args in let p = c.put-a.ensures in record { room = omega (arith, p.count, p.len, at_most_one a.cols a.rows c.stepped.result a.w.y.index); few_cells = omega arith }
 
 pub returns : goal.returns
 unfolding sides_by

@@ -6,7 +6,7 @@ use Rattle.turns.proofs.pushes.stride.Goals as goal
 pub arrive-requires : goal.arrive-requires
 arrive-requires c =
     let p = c.sides-a.ensures in
-    (omega (arith, p.count, p.len, c.requires.fact_1, sides_le true c.args.cols c.args.rows c.args.way c.args.w), c.requires.fact_2)
+    (omega (arith, p.count, p.len, c.requires.room, sides_le true c.args.cols c.args.rows c.args.way c.args.w), c.requires.few_cells)
 
 -- both ways
 pub returns-then-k-2 : goal.returns-then-k-2
@@ -20,7 +20,7 @@ pub returns-then-k : goal.returns-then-k
 returns-then-k c =
     let k = c.args.k in
     strode _ _ _ _ _ _ _ c.moved-then-k.ensures
-    (no_sides k c.args.cols c.args.rows c.args.way c.args.w (not_both_y k c.if-k.true c.if-k-2.false) (omega (arith, c.requires.fact_1)))
+    (no_sides k c.args.cols c.args.rows c.args.way c.args.w (not_both_y k c.if-k.true c.if-k-2.false) (omega (arith, c.requires.room)))
     c.arrive-then-k.ensures
 
 -- in y
@@ -28,5 +28,5 @@ pub returns : goal.returns
 returns c =
     let k = c.args.k in
     strode _ _ _ _ _ _ _ c.moved-2.ensures
-    (no_sides k c.args.cols c.args.rows c.args.way c.args.w (not_both_x k c.if-k.false) (omega (arith, c.requires.fact_1)))
+    (no_sides k c.args.cols c.args.rows c.args.way c.args.w (not_both_x k c.if-k.false) (omega (arith, c.requires.room)))
     c.arrive-2.ensures

@@ -5,10 +5,10 @@ use Rattle.turns.proofs.Grows.{at_most_one}
 use Rattle.turns.proofs.pushes.walked.Goals as goal
 
 pub run-r-requires : goal.run-r-requires
-run-r-requires c = let a = c.args in let p = c.put-n.ensures in record { fact_1 = omega (arith, p.count, p.len, at_most_one a.cols a.rows a.start.x.index a.start.y.index); fact_2 = c.requires.fact_2 }
+run-r-requires c = let a = c.args in let p = c.put-n.ensures in record { room = omega (arith, p.count, p.len, at_most_one a.cols a.rows a.start.x.index a.start.y.index); few_cells = c.requires.few_cells }
 
 pub put_other-requires : goal.put_other-requires
-put_other-requires c = let a = c.args in let p = c.put-n.ensures in let q = c.run-r in let l = within_done _ _ _ c.in-Done.is q.ensures.all in record { fact_1 = omega (arith, p.count, p.len, q.auto.s, at_most_one a.cols a.rows a.start.x.index a.start.y.index); fact_2 = c.requires.fact_2 }
+put_other-requires c = let a = c.args in let p = c.put-n.ensures in let q = c.run-r in let l = within_done _ _ _ c.in-Done.is q.ensures.all in record { room = omega (arith, p.count, p.len, q.auto.s, at_most_one a.cols a.rows a.start.x.index a.start.y.index); few_cells = c.requires.few_cells }
 
 pub returns-in-Done : goal.returns-in-Done
 returns-in-Done c = walked_done _ _ _ _ c.put-n.ensures c.run-r.ensures c.in-Done.is c.put_other.ensures

@@ -8,12 +8,12 @@ use Rattle.walk.proofs.beside.added.Goals as goal
 pub rows-requires : goal.rows-requires
 rows-requires c =
     let q = ap (λ (k : ℕ). c.args.n * k) (rows_share _ c.args.y c.in-None.is) in
-    record { fact_1 = omega (arith, c.requires.fact_1); fact_2 = c.requires.fact_2 }
+    record { room = omega (arith, c.requires.room); all_inside = c.requires.all_inside }
 
 pub spread-requires : goal.spread-requires
 spread-requires c =
     let q = ap (λ (k : ℕ). c.args.n * k) (lower_share c.in-Lower.is c.in-None-y-2.is) in
-    record { fact_1 = omega (arith, c.requires.fact_1); fact_2 = c.requires.fact_2.most.some }
+    record { room = omega (arith, c.requires.room); some_columns = c.requires.all_inside.most.some }
 
 pub returns-in-None-y : goal.returns-in-None-y
 returns-in-None-y c = nothing_covers _ _ _ _ c.in-None.is c.in-None-y.is (omega arith)

@@ -4,12 +4,12 @@ use Rattle.walk.proofs.Added.{within_less, column_room, row_room, corner_room, c
 use Rattle.walk.proofs.beside.beside.Goals as goal
 
 pub column-a-requires : goal.column-a-requires
-column-a-requires c = let p = c.requires in record { fact_1 = column_room _ _ _ _ p.fact_1; fact_2 = within_less p.fact_2 }
+column-a-requires c = let p = c.requires in record { room = column_room _ _ _ _ p.room; inside = within_less p.inside }
 
 pub row-b-requires : goal.row-b-requires
 row-b-requires c =
     let p = c.requires in
-    record { fact_1 = row_room _ _ _ _ c.column-a.ensures p.fact_1; fact_2 = within_less p.fact_2 }
+    record { room = row_room _ _ _ _ c.column-a.ensures p.room; inside = within_less p.inside }
 
 pub row-requires : goal.row-requires
 row-requires c =
@@ -17,7 +17,7 @@ row-requires c =
     let a = c.column-a.ensures in
     let b = c.row-b.ensures in
     let h = c.if-n-a.true in
-    record { fact_1 = corner_room (omega arith) _ _ _ _ _ a b h p.fact_1; fact_2 = corner_within (omega arith) _ _ _ _ _ a b h p.fact_2 }
+    record { room = corner_room (omega arith) _ _ _ _ _ a b h p.room; inside = corner_within (omega arith) _ _ _ _ _ a b h p.inside }
 
 pub returns-then-n-a : goal.returns-then-n-a
 returns-then-n-a c = with_corner (omega arith) _ _ _ _ _ c.column-a.ensures c.row-b.ensures c.if-n-a.true c.row.ensures

@@ -5,10 +5,10 @@ use Rattle.walk.proofs.Added.{beside_le, added_room, added_within, added_more, a
 use Rattle.walk.proofs.beside.besides.Goals as goal
 
 pub loop-i-init : goal.loop-i-init
-loop-i-init c = added_start _ _ _ _ c.requires.fact_1
+loop-i-init c = added_start _ _ _ _ c.requires.room
 
 pub beside-m-requires : goal.beside-m-requires
-beside-m-requires c = record { fact_1 = added_room c.loop-i.invariant (omega arith); fact_2 = added_within c.loop-i.invariant _ _ (omega arith) c.requires.fact_2 (omega arith) }
+beside-m-requires c = record { room = added_room c.loop-i.invariant (omega arith); inside = added_within c.loop-i.invariant _ _ (omega arith) c.requires.all_inside (omega arith) }
 
 pub loop-i-preserved : goal.loop-i-preserved
 loop-i-preserved c = added_more c.loop-i.invariant (beside_le _ _ _ _) (omega arith) (omega arith) c.beside-m.ensures

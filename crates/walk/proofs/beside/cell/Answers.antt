@@ -9,10 +9,10 @@ use Rattle.turns.proofs.Floats.{index_le}
 use Rattle.walk.proofs.beside.cell.Goals as goal
 
 pub overflow_mul-result : goal.overflow_mul-result
-overflow_mul-result c = let p = c.requires in let i : c.index.result < c.args.grid.rows = omega (arith, c.index.ensures, index_le c.y_axis.result c.args.y, ap (λ (a : Axis). a.count) c.y_axis.ensures, p.fact_1.alike p.fact_2) in omega (arith, cell_inside _ _ _ 0 i p.fact_2, p.fact_1.cells)
+overflow_mul-result c = let p = c.requires in let i : c.index.result < c.args.grid.rows = omega (arith, c.index.ensures, index_le c.y_axis.result c.args.y, ap (λ (a : Axis). a.count) c.y_axis.ensures, p.shape.alike p.some_columns) in omega (arith, cell_inside _ _ _ 0 i p.some_columns, p.shape.cells)
 
 pub overflow_add-result : goal.overflow_add-result
-overflow_add-result c = let p = c.requires in let i : c.index.result < c.args.grid.rows = omega (arith, c.index.ensures, index_le c.y_axis.result c.args.y, ap (λ (a : Axis). a.count) c.y_axis.ensures, p.fact_1.alike p.fact_2) in let j : c.index-2.result < c.args.grid.cols = omega (arith, c.index-2.ensures, index_le c.x_axis.result c.args.x, ap (λ (a : Axis). a.count) c.x_axis.ensures, p.fact_2) in omega (arith, cell_inside _ _ _ _ i j, p.fact_1.cells)
+overflow_add-result c = let p = c.requires in let i : c.index.result < c.args.grid.rows = omega (arith, c.index.ensures, index_le c.y_axis.result c.args.y, ap (λ (a : Axis). a.count) c.y_axis.ensures, p.shape.alike p.some_columns) in let j : c.index-2.result < c.args.grid.cols = omega (arith, c.index-2.ensures, index_le c.x_axis.result c.args.x, ap (λ (a : Axis). a.count) c.x_axis.ensures, p.some_columns) in omega (arith, cell_inside _ _ _ _ i j, p.shape.cells)
 
 pub returns : goal.returns
 unfolding cell_of

@@ -8,12 +8,12 @@ use Rattle.walk.proofs.beside.column.Goals as goal
 pub low_col-requires : goal.low_col-requires
 low_col-requires c =
     let p = c.requires in
-    record { fact_1 = omega (arith, p.fact_1, one_lower c.in-Lower.is); fact_2 = p.fact_2.some }
+    record { room = omega (arith, p.room, one_lower c.in-Lower.is); some_columns = p.inside.some }
 
 pub up_col-requires : goal.up_col-requires
 up_col-requires c =
     let p = c.requires in
-    record { fact_1 = omega (arith, p.fact_1, one_upper c.in-Upper.is); fact_2 = p.fact_2 }
+    record { room = omega (arith, p.room, one_upper c.in-Upper.is); inside = p.inside }
 
 pub returns-in-None : goal.returns-in-None
 unfolding column_of

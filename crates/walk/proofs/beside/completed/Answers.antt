@@ -13,7 +13,7 @@ use Rattle.walk.proofs.Added.{end_le, shape_within}
 use Rattle.walk.proofs.beside.completed.Goals as goal
 
 pub returns-then-is_clear : goal.returns-then-is_clear
-returns-then-is_clear c = clear_complete _ _ _ _ _ (omega (arith, c.requires.fact_3)) (c.is_clear.ensures c.if-is_clear.true)
+returns-then-is_clear c = clear_complete _ _ _ _ _ (omega (arith, c.requires.room)) (c.is_clear.ensures c.if-is_clear.true)
 
 pub added-a-requires : goal.added-a-requires
 added-a-requires c =
@@ -23,7 +23,7 @@ added-a-requires c =
         c.along-y.ensures ∙ ap (λ (z : Axis). along_on a.mode z a.line.start_y a.line.end_y) c.y_axis.ensures in
     let shared : let a = c.args in a.trod.count * share_of a.mode a.grid a.line ≡ a.trod.count * share c.along-x.result c.along-y.result = ap (λ (k : ℕ). c.args.trod.count * k) (share_is _ _ _ _ _ in_x in_y) in
     let p = c.requires in
-    record { fact_1 = omega (arith, p.fact_3, shared); fact_2 = record { most = shape_within p.fact_1 p.fact_2; inside = p.fact_4 } }
+    record { room = omega (arith, p.room, shared); all_inside = record { most = shape_within p.shape p.some_columns; inside = p.all_below } }
 
 pub ended-b-requires : goal.ended-b-requires
 ended-b-requires c =
@@ -34,7 +34,7 @@ ended-b-requires c =
     let shared : let a = c.args in a.trod.count * share_of a.mode a.grid a.line ≡ a.trod.count * share c.along-x.result c.along-y.result = ap (λ (k : ℕ). c.args.trod.count * k) (share_is _ _ _ _ _ in_x in_y) in
     let p = c.requires in
     let k = c.added-a.ensures in
-    record { fact_1 = omega (arith, p.fact_3, shared, k.count, k.len); fact_2 = p.fact_1; fact_3 = p.fact_2 }
+    record { room = omega (arith, p.room, shared, k.count, k.len); shape = p.shape; some_columns = p.some_columns }
 
 pub ended-requires : goal.ended-requires
 ended-requires c =
@@ -45,16 +45,16 @@ ended-requires c =
     let shared : let a = c.args in a.trod.count * share_of a.mode a.grid a.line ≡ a.trod.count * share c.along-x.result c.along-y.result = ap (λ (k : ℕ). c.args.trod.count * k) (share_is _ _ _ _ _ in_x in_y) in
     let p = c.requires in
     let k = c.added-a.ensures in
-    let e = c.ended-b.ensures in record { fact_1 = omega (
+    let e = c.ended-b.ensures in record { room = omega (
         arith,
-        p.fact_3,
+        p.room,
         shared,
         k.count,
         k.len,
         e.len,
         e.count,
         end_le c.args.mode c.args.grid c.args.line.start_x c.args.line.start_y,
-      ); fact_2 = p.fact_1; fact_3 = p.fact_2 }
+      ); shape = p.shape; some_columns = p.some_columns }
 
 pub returns : goal.returns
 returns c =

@@ -18,7 +18,7 @@ returns-then-nothing c =
 pub beside-requires : goal.beside-requires
 beside-requires c =
     let p = c.requires in
-    record { fact_1 = omega (arith, p.fact_1, share_le c.neighbour-in_x.result c.neighbour-in_y.result); fact_2 = cell_within _ _ _ _ c.cell.ensures p.fact_2 p.fact_3 }
+    record { room = omega (arith, p.room, share_le c.neighbour-in_x.result c.neighbour-in_y.result); inside = cell_within _ _ _ _ c.cell.ensures p.shape p.some_columns }
 
 pub returns : goal.returns
 unfolding endpoint_of

@@ -8,12 +8,12 @@ use Rattle.walk.proofs.beside.row.Goals as goal
 pub low_row-requires : goal.low_row-requires
 low_row-requires c =
     let p = c.requires in
-    omega (arith, p.fact_1, one_lower c.in-Lower.is)
+    omega (arith, p.room, one_lower c.in-Lower.is)
 
 pub up_row-requires : goal.up_row-requires
 up_row-requires c =
     let p = c.requires in
-    record { fact_1 = omega (arith, p.fact_1, one_upper c.in-Upper.is); fact_2 = p.fact_2 }
+    record { room = omega (arith, p.room, one_upper c.in-Upper.is); inside = p.inside }
 
 pub returns-in-None : goal.returns-in-None
 unfolding row_of

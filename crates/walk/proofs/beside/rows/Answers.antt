@@ -5,10 +5,10 @@ use Rattle.walk.proofs.Added.{row_le, within_less, added_room, added_within, add
 use Rattle.walk.proofs.beside.rows.Goals as goal
 
 pub loop-i-init : goal.loop-i-init
-loop-i-init c = added_start _ _ _ _ c.requires.fact_1
+loop-i-init c = added_start _ _ _ _ c.requires.room
 
 pub row-m-requires : goal.row-m-requires
-row-m-requires c = record { fact_1 = added_room c.loop-i.invariant (omega arith); fact_2 = within_less (added_within c.loop-i.invariant _ _ (omega arith) c.requires.fact_2 (omega arith)) }
+row-m-requires c = record { room = added_room c.loop-i.invariant (omega arith); inside = within_less (added_within c.loop-i.invariant _ _ (omega arith) c.requires.all_inside (omega arith)) }
 
 pub loop-i-preserved : goal.loop-i-preserved
 loop-i-preserved c = added_more c.loop-i.invariant (row_le _ _ _) (omega arith) (omega arith) c.row-m.ensures

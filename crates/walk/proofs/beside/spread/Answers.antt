@@ -5,7 +5,7 @@ use Rattle.walk.proofs.Spread.{spread_start, spread_more, spread_done}
 use Rattle.walk.proofs.beside.spread.Goals as goal
 
 pub loop-i-init : goal.loop-i-init
-loop-i-init c = spread_start _ _ _ c.requires.fact_1
+loop-i-init c = spread_start _ _ _ c.requires.room
 
 pub bounds-s-k-in-loop-i : goal.bounds-s-k-in-loop-i
 bounds-s-k-in-loop-i c = simp length-set (omega arith)

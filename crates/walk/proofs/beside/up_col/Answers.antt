@@ -6,7 +6,7 @@ use Rattle.walk.proofs.Added.{up_col_none, up_col_one}
 use Rattle.walk.proofs.beside.up_col.Goals as goal
 
 pub overflow_add-c : goal.overflow_add-c
-overflow_add-c c = let w = c.requires.fact_2 in omega (arith, w.wide, mod-lt c.args.c w.some)
+overflow_add-c c = let w = c.requires.inside in omega (arith, w.wide, mod-lt c.args.c w.some)
 
 pub returns-then-c-cols : goal.returns-then-c-cols
 returns-then-c-cols c = rw (up_col_one _ _ c.if-c-cols.true) (one _ _ _ (omega arith))

@@ -8,7 +8,7 @@ pub loop-i-init : goal.loop-i-init
 loop-i-init c = writing_none _ _ _
 
 pub write_line-n-requires : goal.write_line-n-requires
-write_line-n-requires c = record { fact_1 = omega (arith, c.requires.room); fact_2 = omega (arith, c.requires.few); fact_3 = writing_few _ _ _ _ _ _ c.loop-i.invariant }
+write_line-n-requires c = record { marked = omega (arith, c.requires.room); few_lines = omega (arith, c.requires.few); within = writing_few _ _ _ _ _ _ c.loop-i.invariant }
 
 pub loop-i-preserved : goal.loop-i-preserved
 loop-i-preserved c = writing_more _ _ _ _ _ _ _ _ c.loop-i.invariant (omega arith) c.write_line-n.ensures

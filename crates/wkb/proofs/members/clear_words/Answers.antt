@@ -1,5 +1,4 @@
 -- `wkb::members::clear_words` meets its contract. The invariant: from `from` up to i there are zeros. Assumes nothing.
-use Prim.Native.Nat.{◌-◌}
 use native.Mathlib.Omega.{arith}
 use Rattle.wkb.proofs.Stores.{zero_none, zero_more, zero_all}
 use Rattle.wkb.proofs.members.clear_words.Goals as goal

@@ -44,13 +44,13 @@ unfolding order_at
 read_numbers-requires c =
     let line : LineFits c.loop-left.at c.args.bytes.now = left_line c.loop-left.left _ _ c.loop-left-test.true c.loop-left.invariant.2 in
     let order_is : c.order_of-order.result ≡ order_at c.loop-left.at c.args.bytes.now = c.order_of-order.ensures in
-    let room : c.loop-left.to + c.points_at-n.result ≤ length c.loop-left.s = 
-        let c = c in
-        let a = c.args in
-        let e = axes_next a.bytes.now a.skip c.loop-left.left c.loop-left.at c.loop-left-test.true order_is c.points_at-n.ensures in
-        let part = numbers_at c.order_of-order.result c.points_at-n.result (c.loop-left.at + 9 + a.skip) a.bytes.now in
-        let r : c.loop-left.to + length part ≤ length c.loop-left.s = fill_room c.loop-left.invariant.3 part _ e (omega (arith, c.loop-left.invariant.1)) in
-        omega (arith, length_numbers c.order_of-order.result a.bytes.now c.points_at-n.result (c.loop-left.at + 9 + a.skip)) in
+    let room : c.loop-left.to + c.points_at-n.result ≤ length c.loop-left.s =
+    let c = c in
+    let a = c.args in
+    let e = axes_next a.bytes.now a.skip c.loop-left.left c.loop-left.at c.loop-left-test.true order_is c.points_at-n.ensures in
+    let part = numbers_at c.order_of-order.result c.points_at-n.result (c.loop-left.at + 9 + a.skip) a.bytes.now in
+    let r : c.loop-left.to + length part ≤ length c.loop-left.s = fill_room c.loop-left.invariant.3 part _ e (omega (arith, c.loop-left.invariant.1)) in
+    omega (arith, length_numbers c.order_of-order.result a.bytes.now c.points_at-n.result (c.loop-left.at + 9 + a.skip)) in
     let l = line in
     let r = room in
     let n = c.points_at-n.ensures in
@@ -75,13 +75,13 @@ pub overflow_add-to : goal.overflow_add-to
 unfolding order_at
 overflow_add-to c =
     let order_is : c.order_of-order.result ≡ order_at c.loop-left.at c.args.bytes.now = c.order_of-order.ensures in
-    let room : c.loop-left.to + c.points_at-n.result ≤ length c.loop-left.s = 
-        let c = c in
-        let a = c.args in
-        let e = axes_next a.bytes.now a.skip c.loop-left.left c.loop-left.at c.loop-left-test.true order_is c.points_at-n.ensures in
-        let part = numbers_at c.order_of-order.result c.points_at-n.result (c.loop-left.at + 9 + a.skip) a.bytes.now in
-        let r : c.loop-left.to + length part ≤ length c.loop-left.s = fill_room c.loop-left.invariant.3 part _ e (omega (arith, c.loop-left.invariant.1)) in
-        omega (arith, length_numbers c.order_of-order.result a.bytes.now c.points_at-n.result (c.loop-left.at + 9 + a.skip)) in
+    let room : c.loop-left.to + c.points_at-n.result ≤ length c.loop-left.s =
+    let c = c in
+    let a = c.args in
+    let e = axes_next a.bytes.now a.skip c.loop-left.left c.loop-left.at c.loop-left-test.true order_is c.points_at-n.ensures in
+    let part = numbers_at c.order_of-order.result c.points_at-n.result (c.loop-left.at + 9 + a.skip) a.bytes.now in
+    let r : c.loop-left.to + length part ≤ length c.loop-left.s = fill_room c.loop-left.invariant.3 part _ e (omega (arith, c.loop-left.invariant.1)) in
+    omega (arith, length_numbers c.order_of-order.result a.bytes.now c.points_at-n.result (c.loop-left.at + 9 + a.skip)) in
     let r = room in omega (arith, fill_length c.loop-left.invariant.3)
 
 pub loop-left-preserved : goal.loop-left-preserved

@@ -37,22 +37,22 @@ overflow_cast-s c =
 
 pub offset_bounds-s-to : goal.offset_bounds-s-to
 offset_bounds-s-to c =
-    let room : c.loop-left.to < length c.loop-left.s = 
-        let c = c in
-        let a = c.args in
-        let e = counts_next a.bytes.now c.loop-left.left c.loop-left.at c.loop-left-test.true c.points_at-n.ensures in
-        let r = fill_room c.loop-left.invariant.2 (c.points_at-n.result ∷ []) _ e (omega (arith, c.loop-left.invariant.0)) in
-        omega arith in
+    let room : c.loop-left.to < length c.loop-left.s =
+    let c = c in
+    let a = c.args in
+    let e = counts_next a.bytes.now c.loop-left.left c.loop-left.at c.loop-left-test.true c.points_at-n.ensures in
+    let r = fill_room c.loop-left.invariant.2 (c.points_at-n.result ∷ []) _ e (omega (arith, c.loop-left.invariant.0)) in
+    omega arith in
     let r = room in omega (arith, fill_length c.loop-left.invariant.2)
 
 pub bounds-s-to : goal.bounds-s-to
 bounds-s-to c =
-    let room : c.loop-left.to < length c.loop-left.s = 
-        let c = c in
-        let a = c.args in
-        let e = counts_next a.bytes.now c.loop-left.left c.loop-left.at c.loop-left-test.true c.points_at-n.ensures in
-        let r = fill_room c.loop-left.invariant.2 (c.points_at-n.result ∷ []) _ e (omega (arith, c.loop-left.invariant.0)) in
-        omega arith in
+    let room : c.loop-left.to < length c.loop-left.s =
+    let c = c in
+    let a = c.args in
+    let e = counts_next a.bytes.now c.loop-left.left c.loop-left.at c.loop-left-test.true c.points_at-n.ensures in
+    let r = fill_room c.loop-left.invariant.2 (c.points_at-n.result ∷ []) _ e (omega (arith, c.loop-left.invariant.0)) in
+    omega arith in
     let r = room in omega (arith, fill_length c.loop-left.invariant.2)
 
 pub overflow_add-at : goal.overflow_add-at
@@ -72,22 +72,22 @@ overflow_add-at-in-loop-left c =
 
 pub overflow_add-to : goal.overflow_add-to
 overflow_add-to c =
-    let room : c.loop-left.to < length c.loop-left.s = 
-        let c = c in
-        let a = c.args in
-        let e = counts_next a.bytes.now c.loop-left.left c.loop-left.at c.loop-left-test.true c.points_at-n.ensures in
-        let r = fill_room c.loop-left.invariant.2 (c.points_at-n.result ∷ []) _ e (omega (arith, c.loop-left.invariant.0)) in
-        omega arith in
+    let room : c.loop-left.to < length c.loop-left.s =
+    let c = c in
+    let a = c.args in
+    let e = counts_next a.bytes.now c.loop-left.left c.loop-left.at c.loop-left-test.true c.points_at-n.ensures in
+    let r = fill_room c.loop-left.invariant.2 (c.points_at-n.result ∷ []) _ e (omega (arith, c.loop-left.invariant.0)) in
+    omega arith in
     let r = room in omega (arith, fill_length c.loop-left.invariant.2)
 
 pub loop-left-preserved : goal.loop-left-preserved
 loop-left-preserved c =
-    let room : c.loop-left.to < length c.loop-left.s = 
-        let c = c in
-        let a = c.args in
-        let e = counts_next a.bytes.now c.loop-left.left c.loop-left.at c.loop-left-test.true c.points_at-n.ensures in
-        let r = fill_room c.loop-left.invariant.2 (c.points_at-n.result ∷ []) _ e (omega (arith, c.loop-left.invariant.0)) in
-        omega arith in
+    let room : c.loop-left.to < length c.loop-left.s =
+    let c = c in
+    let a = c.args in
+    let e = counts_next a.bytes.now c.loop-left.left c.loop-left.at c.loop-left-test.true c.points_at-n.ensures in
+    let r = fill_room c.loop-left.invariant.2 (c.points_at-n.result ∷ []) _ e (omega (arith, c.loop-left.invariant.0)) in
+    omega arith in
     let a = c.args in
     let v = c.loop-left.invariant in
     let h = c.loop-left-test.true in

@@ -1,8 +1,0 @@
--- `program::run` is safe and ends. Assumes nothing.
-use Rattle.program.proofs.run.Goals as goal
-
-pub slice_bounds-bytes-end : goal.slice_bounds-bytes-end
-slice_bounds-bytes-end c = (rw c.in-Bytes.is at c.read_input-read.ensures).0
-
-pub slice_bounds-respond-end : goal.slice_bounds-respond-end
-slice_bounds-respond-end c = (rw c.in-Bytes.is at c.read_input-read.ensures).1

@@ -1,25 +1,24 @@
 -- The checks in their order, case by case. Assumes nothing.
-use mathlib.Core.Path.{◌≡◌, refl, sym, ap, ◌∙◌}
-use mathlib.Core.Bool.{Bool, true, false, ◌&&◌}
-use Prim.Native.Nat.{ℕ, ◌≤◌, ◌<◌}
+use mathlib.Core.Path.{◌≡◌, sym, ap, ◌∙◌}
+use mathlib.Core.Bool.{Bool, ◌&&◌}
+use Prim.Native.Nat.{ℕ}
 use borrow.Author.Tests.{leb-true, ltb-true}
 use lib.Dec.{leb, ltb}
 use lib.ListN.{length}
 use Rattle.refusals.specs.declared.Refusal.{Refusal}
 use Rattle.refusals.specs.declared.Check.{Check}
 use Rattle.refusals.specs.declared.Check.TheVariants.{Fine, Refused}
-use Rattle.refusals.specs.Refusals.{unless, and_then}
+use Rattle.refusals.specs.Refusals.{unless}
 use Rattle.refusals.proofs.Checks.{unless_fine, and_then_refused, and_then_fine, and_then_left, and_then_right}
 use Rattle.grid.specs.declared.Grid.{Grid}
 use Rattle.grid.specs.declared.Segment.{Segment}
 use Rattle.grid.specs.Domain.{segment, fit, scratch_check, segment_check}
 use Rattle.grid.proofs.Bools.{and_left, and_right}
 use Rattle.tables.specs.Tables.{Tables}
-use Rattle.tables.specs.Fit.{tables_fit, tables_check}
+use Rattle.tables.specs.Fit.{tables_check}
 use Rattle.tables.proofs.Facts.{check_facts}
-use Rattle.tables.proofs.Checking.{unfit_refused}
 use Rattle.added.specs.Added.{below_check, cells_check, ask_check}
-use Rattle.added.specs.Inside.{space_by, SegmentWalkable, Placeable}
+use Rattle.added.specs.Inside.{space_by, Placeable}
 use mathlib.Core.List.{List}
 
 -- ---- 5, then 6

@@ -1,12 +1,12 @@
 -- The lists that the line goes to, by its walk; and the globals with it. Assumes nothing.
-use mathlib.Core.Path.{◌≡◌, refl, sym, ap, ◌∙◌}
+use mathlib.Core.Path.{◌≡◌, refl, ap, ◌∙◌}
 use mathlib.Core.Bool.{Bool, true, false}
 use mathlib.Core.List.{List, [], ◌∷◌, ◌++◌, append-nil}
-use Prim.Native.Nat.{ℕ, zero, suc, ◌+◌, ◌-◌, ◌≤◌, ◌<◌}
+use Prim.Native.Nat.{ℕ, suc, ◌+◌, ◌≤◌, ◌<◌}
 use native.Mathlib.Numerals.{add-one}
 use native.Mathlib.Omega.{arith}
 use borrow.Author.Tests.{le-leb, lt-leb}
-use lib.ListN.{length, get_or, take, set, replicate, length-append, length-set}
+use lib.ListN.{length, take, set, replicate, length-append, length-set}
 use lib.Seq.{length-take-le, take-suc-set}
 use Rattle.slices.specs.Slices.{cleared_from}
 use Rattle.refusals.specs.declared.Refusal.{Refusal}
@@ -19,7 +19,7 @@ use Rattle.walk.specs.declared.Reached.{Reached}
 use Rattle.walk.specs.declared.Reached.TheVariants as reached
 use Rattle.turns.specs.Pushes.{Outcome}
 use Rattle.walk.specs.Segment as walk
-use Rattle.walk.proofs.Visits.{Cells, segment_visits, segment_refused}
+use Rattle.walk.proofs.Visits.{segment_visits, segment_refused}
 use Rattle.walk.proofs.Answer.{reach_is}
 use Rattle.tables.specs.Lists.{long}
 use Rattle.added.specs.Added.{listing}

@@ -1,26 +1,11 @@
 -- Parts of lists, and the two loops that move a part: entries moved up with a number before them, and entries that grow. Assumes nothing.
 use mathlib.Core.Path.{◌≡◌, refl, sym, ap, ◌∙◌}
-use mathlib.Core.List.{List, [], ◌∷◌, ◌++◌, append_assoc, append-nil}
-use Prim.Native.Nat.{ℕ, zero, suc, ◌+◌, ◌-◌, ◌≤◌, ◌<◌, ◌^◌}
+use mathlib.Core.List.{List, [], ◌∷◌, ◌++◌, append_assoc}
+use Prim.Native.Nat.{ℕ, suc, ◌+◌, ◌-◌, ◌≤◌, ◌<◌, ◌^◌}
 use native.Mathlib.Numerals.{add-one}
 use native.Mathlib.Omega.{arith}
-use lib.ListN.{length, get_or, take, drop, set, length-append, length-set, length-take, length-drop, take-append-drop, get_or-append}
-use lib.Seq.{
-  slice,
-  slice_empty,
-  slice-cons,
-  length-slice,
-  length-take-le,
-  take-suc,
-  take-take,
-  take-append-le,
-  drop-append-le,
-  drop-cons,
-  drop_at,
-  set_at,
-  get_or_at,
-  get_or-take,
-}
+use lib.ListN.{length, get_or, take, drop, set, length-append, length-set, take-append-drop, get_or-append}
+use lib.Seq.{slice, slice_empty, slice-cons, length-slice, length-take-le, take-suc, take-take, drop-append-le, drop-cons, set_at, get_or_at, get_or-take}
 use Rattle.added.specs.Inside.{gap_of, more, raised_part, Raisable}
 
 -- ---- parts

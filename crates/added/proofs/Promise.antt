@@ -1,19 +1,19 @@
 -- From what the private functions leave to the promise of the entries. Assumes nothing.
-use mathlib.Core.Path.{◌≡◌, refl, sym, ap, ◌∙◌, subst}
+use mathlib.Core.Path.{◌≡◌, refl, sym, ap, ◌∙◌}
 use mathlib.Core.Bool.{Bool, true, false, ◌&&◌}
-use mathlib.Core.List.{List, [], ◌∷◌, ◌++◌}
-use Prim.Native.Nat.{ℕ, zero, suc, ◌+◌, ◌-◌, ◌*◌, ◌≤◌, ◌<◌, ◌^◌}
+use mathlib.Core.List.{List, []}
+use Prim.Native.Nat.{ℕ, ◌+◌, ◌*◌, ◌≤◌, ◌<◌}
 use native.Mathlib.Omega.{arith}
 use borrow.Author.Tests.{leb-true}
 use lib.Dec.{leb}
 use lib.ListN.{length, get_or, take, replicate, length-append}
 use lib.Seq.{length-take-le}
 use Rattle.slices.specs.Slices.{cleared_from}
-use Rattle.slices.specs.Lists.{elem, Below, Rising}
+use Rattle.slices.specs.Lists.{Below, Rising}
 use Rattle.refusals.specs.declared.Refusal.{Refusal}
 use Rattle.refusals.specs.declared.Check.{Check}
 use Rattle.refusals.specs.declared.Check.TheVariants.{Fine, Refused}
-use Rattle.refusals.specs.Refusals.{refusal, unless, and_then, Answer, refused, gives, ◌then◌, ◌into◌, answer_by, clears, left_by, left_in, zero_beyond}
+use Rattle.refusals.specs.Refusals.{refusal, Answer, refused, gives, ◌then◌, ◌into◌, answer_by, left_by, left_in, zero_beyond}
 use Rattle.refusals.proofs.Checks.{unless_fine, and_then_left, and_then_right}
 use Rattle.refusals.proofs.Answers.{then_refused, then_fine}
 use Rattle.refusals.proofs.Leaving.{left_zero, left_same, Clearing, clearing_unless, clearing_then, clears_then, clears_gives, in_alike, numbers_clear, numbers_below, numbers_above}
@@ -24,8 +24,8 @@ use Rattle.grid.proofs.Bools.{and_left, and_right}
 use Rattle.grid.proofs.Shapes.{shape_says, fit_shape}
 use Rattle.walk.specs.declared.Mode.{Mode}
 use Rattle.walk.specs.Segment.{segment_of}
-use Rattle.walk.proofs.Visits.{Cells, segment_visits}
-use Rattle.tables.specs.Tables.{Tables, tables, cells, list_in}
+use Rattle.walk.proofs.Visits.{segment_visits}
+use Rattle.tables.specs.Tables.{Tables, tables, cells}
 use Rattle.tables.specs.Lists.{long, only, start, items_of, offsets_of}
 use Rattle.tables.specs.Fit.{tables_check}
 use Rattle.added.specs.declared.Added.{Added}
@@ -48,7 +48,7 @@ use Rattle.added.specs.Added.{
   front,
   AddIs,
 }
-use Rattle.added.specs.Inside.{Went, Insertable, with_in, Inserted, globals_left, space_by, Puttable, Placeable}
+use Rattle.added.specs.Inside.{Went, Insertable, Inserted, globals_left, space_by, Puttable, Placeable}
 use Rattle.added.proofs.Laid.{totalled}
 
 -- ---- the promise, by how the call ends

@@ -6,7 +6,7 @@ use native.Mathlib.Nat.{le_refl}
 use native.Mathlib.Decide.{le_ind}
 use native.Mathlib.Numerals.{add-one}
 use native.Mathlib.Omega.{arith}
-use lib.ListN.{length, get_or, take, drop, length-take, length-drop, take-append-drop, drop_of_length-le}
+use lib.ListN.{length, get_or, take, drop, take-append-drop}
 use lib.Seq.{slice, length-take-le, take-take, take-append-le, drop-cons, drop_at, drop-length, get_or-take}
 use Rattle.slices.specs.Lists.{Below, Rising}
 use Rattle.slices.proofs.Members.{below_at}

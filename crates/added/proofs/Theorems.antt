@@ -1,22 +1,17 @@
 -- What follows from the promise of the entries alone: it settles everything; and a line that is added to standing tables leaves standing tables, of one line
 -- more. Assumes nothing.
-use mathlib.Core.Path.{◌≡◌, refl, sym, ap, ◌∙◌, subst}
-use mathlib.Core.Bool.{Bool, true, false, ◌&&◌}
-use mathlib.Core.List.{List, [], ◌∷◌, ◌++◌}
-use Prim.Native.Nat.{ℕ, zero, suc, ◌+◌, ◌-◌, ◌*◌, ◌≤◌, ◌<◌}
+use mathlib.Core.Path.{◌≡◌, refl, sym, ap, ◌∙◌}
+use mathlib.Core.List.{List}
+use Prim.Native.Nat.{ℕ, zero, suc, ◌*◌, ◌≤◌, ◌<◌}
 use native.Mathlib.Omega.{arith}
 use native.Mathlib.Decide.{ℕ_discrete}
-use borrow.Author.Tests.{leb-true, ltb-true}
-use lib.Dec.{leb, ltb}
-use lib.ListN.{length, replicate, length-append, length-replicate}
-use Rattle.slices.specs.Lists.{Below, Rising}
-use Rattle.refusals.specs.declared.Check.TheVariants.{Fine}
-use Rattle.refusals.specs.Refusals.{Answer, refused, gives, ◌then◌, ◌into◌, answer_by, left_in, zero_beyond}
+use borrow.Author.Tests.{leb-true}
+use lib.ListN.{length, length-append, length-replicate}
+use Rattle.refusals.specs.Refusals.{Answer, refused, gives, ◌then◌, answer_by, zero_beyond}
 use Rattle.refusals.proofs.Checks.{unless_fine, and_then_left, and_then_right}
 use Rattle.refusals.proofs.Answers.{then_passed, into_passed}
 use Rattle.grid.specs.declared.Grid.{Grid}
 use Rattle.grid.specs.declared.Segment.{Segment}
-use Rattle.grid.specs.Domain.{segment, fit}
 use Rattle.grid.proofs.Bools.{and_left}
 use Rattle.walk.specs.declared.Mode.{Mode}
 use Rattle.walk.specs.Segment.{segment_of}
@@ -25,7 +20,7 @@ use Rattle.tables.specs.Tables.{Tables, tables, cells}
 use Rattle.tables.specs.Lists.{Walks, local, local_lines, lines_at, global_lines, concat, tabulate, start, items_of, offsets_of}
 use Rattle.tables.specs.Stands.{Stands}
 use Rattle.tables.proofs.Laws.{sum_same, table_made, length_offsets, length_items}
-use Rattle.tables.proofs.Standing.{Laid, laid_stands}
+use Rattle.tables.proofs.Standing.{laid_stands}
 use Rattle.added.specs.declared.Added.{Added}
 use Rattle.added.specs.declared.Added.TheVariants as added
 use Rattle.added.specs.Added.{listing, list_with, globals_with, total_with, edge_check, ask_check, space_with_check, room_for, add_end, added_of, kept_in, AddIs}

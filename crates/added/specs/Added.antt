@@ -1,6 +1,6 @@
 -- Document 02, 11: a line, numbered n, is added to the standing tables of n lines at their standing grid: what the tables hold then, what is refused,
 -- and what is left in each lent slice. Definitions only.
-use Rattle.std.specs.Prelude.{◌≡◌, Bool, false, ◌&&◌, List, ◌++◌, ℕ, leb, ltb, Float, length, replicate}
+use Rattle.std.specs.Prelude.{◌≡◌, Bool, ◌&&◌, List, ◌++◌, ℕ, leb, ltb, Float, length, replicate}
 use Rattle.std.specs.Float.Ieee.{le}
 use Rattle.slices.specs.Lists.{elem}
 use Rattle.refusals.specs.declared.Check.{Check}

@@ -1,5 +1,5 @@
 -- What the private functions ask and promise: how items and offsets are moved in place, by the visited cells from the last to the first. Definitions only.
-use Rattle.std.specs.Prelude.{◌≡◌, Bool, true, false, ◌&&◌, List, [], ◌∷◌, ◌++◌, ℕ, zero, suc, ◌+◌, ◌≤◌, ◌<◌, ◌^◌, leb, length, get_or, take, drop, replicate}
+use Rattle.std.specs.Prelude.{◌≡◌, true, ◌&&◌, List, [], ◌∷◌, ◌++◌, ℕ, suc, ◌+◌, ◌≤◌, ◌<◌, ◌^◌, leb, length, get_or, take, drop, replicate}
 use Rattle.std.proofs.Math.Seq.{slice}
 use Rattle.slices.specs.Lists.{elem, Below, Rising}
 use Rattle.refusals.specs.declared.Check.{Check}

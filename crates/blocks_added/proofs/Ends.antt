@@ -11,7 +11,7 @@ use lib.ListN.{length}
 use Rattle.refusals.specs.declared.Refusal.{Refusal}
 use Rattle.refusals.specs.declared.Check.{Check}
 use Rattle.refusals.specs.declared.Check.TheVariants.{Fine, Refused}
-use Rattle.refusals.specs.Refusals.{refusal, unless, and_then, Answer, refused, gives, ◌then◌}
+use Rattle.refusals.specs.Refusals.{refusal, unless, and_then, Answer, refused, ◌then◌}
 use Rattle.refusals.proofs.Checks.{unless_fine, and_then_left, and_then_right}
 use Rattle.refusals.proofs.Answers.{then_fine, then_refused}
 use Rattle.refusals.proofs.Leaving.{Clearing, clearing_unless, clearing_then, numbers_below, numbers_above}

@@ -1,16 +1,15 @@
 -- The summary of the new offsets: a block has one item more for each cell of it that lists the line. Assumes nothing.
-use mathlib.Core.Path.{◌≡◌, refl, sym, ap, ap₂, ◌∙◌}
-use mathlib.Core.Bool.{Bool, true, false, cond, ◌||◌, ◌&&◌, true≢false}
-use mathlib.Core.List.{List, [], ◌∷◌, ◌++◌}
-use Prim.Native.Nat.{ℕ, zero, suc, ◌+◌, ◌-◌, ◌*◌, ◌≤◌, ◌<◌, ◌^◌}
+use mathlib.Core.Path.{◌≡◌, refl, sym, ap, ◌∙◌}
+use mathlib.Core.Bool.{Bool, true, false, cond, ◌||◌, true≢false}
+use mathlib.Core.List.{List, [], ◌∷◌}
+use Prim.Native.Nat.{ℕ, zero, suc, ◌+◌, ◌*◌, ◌≤◌, ◌<◌}
 use native.Mathlib.Omega.{arith}
-use borrow.Author.Tests.{leb-true, ltb-true, eqb-true, eq-eqb, ne_eqb}
-use lib.Dec.{leb, ltb, eqb}
-use lib.ListN.{length, get_or, take, replicate, length-append, length-replicate, get_or-append}
-use lib.Seq.{take-append_seam}
+use borrow.Author.Tests.{eqb-true, eq-eqb, ne_eqb}
+use lib.Dec.{eqb}
+use lib.ListN.{length, get_or, length-append, get_or-append}
 use Rattle.slices.specs.Slices.{cleared_from}
 use Rattle.slices.specs.Lists.{elem, Below, Rising}
-use Rattle.slices.proofs.Members.{Place, elem_at, below_at}
+use Rattle.slices.proofs.Members.{elem_at, below_at}
 use Rattle.slices.proofs.Distinct.{head_alone}
 use Rattle.refusals.specs.Refusals.{zero_beyond}
 use Rattle.grid.specs.declared.Grid.{Grid}

@@ -2,10 +2,10 @@
 --     one-outcome               the promise settles the answer and every entry
 --     kept-own                  after a line was added the summary is the new tables' own
 -- Assumes nothing.
-use mathlib.Core.Path.{◌≡◌, refl, sym, ap, ◌∙◌}
-use mathlib.Core.Bool.{Bool, true, ◌&&◌}
-use mathlib.Core.List.{List, ◌++◌}
-use Prim.Native.Nat.{ℕ, ◌+◌, ◌-◌, ◌*◌, ◌≤◌, ◌<◌}
+use mathlib.Core.Path.{◌≡◌, refl, sym, ◌∙◌}
+use mathlib.Core.Bool.{◌&&◌}
+use mathlib.Core.List.{List}
+use Prim.Native.Nat.{ℕ, ◌-◌, ◌*◌, ◌≤◌, ◌<◌}
 use native.Mathlib.Omega.{arith}
 use borrow.Author.Tests.{leb-true, ltb-true}
 use lib.Dec.{leb, ltb}
@@ -15,7 +15,7 @@ use Rattle.slices.specs.Slices.{cleared_from}
 use Rattle.slices.specs.Lists.{Below, Rising}
 use Rattle.refusals.specs.declared.Refusal.{Refusal}
 use Rattle.refusals.specs.declared.Check.TheVariants.{Fine, Refused}
-use Rattle.refusals.specs.Refusals.{Answer, refused, gives, ◌then◌, ◌into◌, answer_by, left_in, zero_beyond}
+use Rattle.refusals.specs.Refusals.{Answer, refused, gives, ◌then◌, answer_by, left_in, zero_beyond}
 use Rattle.refusals.proofs.Checks.{unless_fine, and_then_left, and_then_right}
 use Rattle.refusals.proofs.Answers.{then_passed, into_passed}
 use Rattle.refusals.proofs.Leaving.{left_same}
@@ -25,8 +25,8 @@ use Rattle.grid.specs.Domain.{fit}
 use Rattle.grid.proofs.Bools.{and_right}
 use Rattle.walk.specs.declared.Mode.{Mode}
 use Rattle.walk.specs.Segment.{segment_of}
-use Rattle.walk.proofs.Visits.{Cells, segment_visits}
-use Rattle.tables.specs.Tables.{Tables, tables, cells}
+use Rattle.walk.proofs.Visits.{segment_visits}
+use Rattle.tables.specs.Tables.{Tables, tables}
 use Rattle.tables.specs.Fit.{TablesFit}
 use Rattle.blocks.specs.Blocks.{blocks, block_totals, Own}
 use Rattle.blocks.proofs.Owns.{own_says}

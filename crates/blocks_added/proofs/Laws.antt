@@ -4,21 +4,20 @@
 -- That each number is then what the new offsets say is `kept_own` in `Kept.antt`. Assumes nothing.
 use mathlib.Core.Path.{◌≡◌, refl, sym, ap, ◌∙◌}
 use mathlib.Core.Bool.{Bool, true, false, true≢false}
-use mathlib.Core.List.{List, []}
+use mathlib.Core.List.{List}
 use Prim.Native.Nat.{ℕ, ◌*◌, ◌<◌}
 use native.Mathlib.Omega.{arith}
 use lib.ListN.{length, get_or}
 use Rattle.slices.specs.Lists.{elem}
-use Rattle.refusals.specs.declared.Check.{Check}
 use Rattle.refusals.specs.declared.Check.TheVariants.{Fine}
-use Rattle.refusals.specs.Refusals.{Answer, refused, gives, ◌then◌, ◌into◌, answer_by, zero_beyond}
+use Rattle.refusals.specs.Refusals.{Answer, refused, gives, ◌then◌, answer_by}
 use Rattle.refusals.proofs.Checks.{unless_fine}
 use Rattle.refusals.proofs.Answers.{then_fine, then_passed, into_passed}
 use Rattle.grid.specs.declared.Grid.{Grid}
 use Rattle.grid.specs.declared.Segment.{Segment}
 use Rattle.walk.specs.declared.Mode.{Mode}
 use Rattle.walk.specs.Segment.{segment_of}
-use Rattle.walk.proofs.Visits.{Cells, segment_visits}
+use Rattle.walk.proofs.Visits.{segment_visits}
 use Rattle.tables.specs.Tables.{Tables, tables}
 use Rattle.tables.specs.Lists.{long, none_if}
 use Rattle.blocks.specs.Blocks.{blocks, block_of, said, own, summary_check}
@@ -26,7 +25,7 @@ use Rattle.blocks.proofs.Owns.{own_says}
 use Rattle.added.specs.declared.Added.TheVariants as added
 use Rattle.added.specs.Added.{listing, edge_check, ask_check, space_with_check, room_for, add_end, added_of, kept_in, cleared, AddIs}
 use Rattle.added.proofs.Asking.{asked}
-use Rattle.blocks_added.specs.Beside.{own_check, beside_end, offsets_with, BesideIs}
+use Rattle.blocks_added.specs.Beside.{own_check, beside_end, BesideIs}
 use Rattle.blocks_added.proofs.Grows.{listing_rises, listing_below, others_stay}
 use Rattle.blocks_added.proofs.Kept.{kept_own}
 

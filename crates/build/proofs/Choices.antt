@@ -1,8 +1,8 @@
 -- One grid tried, and the choice that goes on from it. Assumes nothing.
 use mathlib.Core.Path.{◌≡◌, refl, sym, ap, ◌∙◌, subst}
 use mathlib.Core.Bool.{Bool, true, false, cond, ◌&&◌}
-use mathlib.Core.List.{List, ◌++◌}
-use Prim.Native.Nat.{ℕ, zero, suc, ◌+◌, ◌-◌, ◌*◌, ◌≤◌, ◌<◌}
+use mathlib.Core.List.{List}
+use Prim.Native.Nat.{ℕ, zero, suc, ◌-◌, ◌*◌, ◌≤◌, ◌<◌}
 use native.Mathlib.Nat.{le_trans}
 use native.Mathlib.Omega.{arith}
 use borrow.Author.Tests.{le-leb, lt-leb, lt-ltb, le-ltb, ltb-true}
@@ -28,8 +28,7 @@ use Rattle.sizing.specs.Size.{first_size, half_of}
 use Rattle.sizing.specs.Counts.{grid_of, empty_grid}
 use Rattle.sizing.proofs.FitLaws.{AllFit, fit_now, fit_next, all_fit, empty_fits}
 use Rattle.fill.specs.declared.Filled.{Filled}
-use Rattle.fill.specs.declared.Filled.TheVariants as filled
-use Rattle.fill.specs.OnGrid.{grid_cells, list_on, globals_on, total}
+use Rattle.fill.specs.OnGrid.{grid_cells, list_on, globals_on}
 use Rattle.fill.specs.Checks.{on_grid_check, tried_check, counting_check, space_check}
 use Rattle.fill.specs.Fill.{more_than, made, filling_of, filled_of, written_in, FillIs}
 use Rattle.fill.specs.Fill as filling

@@ -1,5 +1,5 @@
 -- What the private functions ask and promise. Definitions only.
-use Rattle.std.specs.Prelude.{◌≡◌, Bool, true, false, cond, ◌&&◌, List, ℕ, ◌-◌, ◌*◌, ◌<◌, ltb, length}
+use Rattle.std.specs.Prelude.{◌≡◌, true, cond, ◌&&◌, List, ℕ, ◌-◌, ◌*◌, ◌<◌, ltb, length}
 use Rattle.refusals.specs.declared.Check.{Check}
 use Rattle.refusals.specs.declared.Check.TheVariants.{Fine}
 use Rattle.refusals.specs.Refusals.{Answer, and_then, ◌then◌, ◌into◌}
@@ -13,7 +13,6 @@ use Rattle.sizing.specs.Counts.{grid_of}
 use Rattle.fill.specs.declared.Filled.{Filled}
 use Rattle.fill.specs.declared.Filled.TheVariants as filled
 use Rattle.fill.specs.OnGrid.{grid_cells}
-use Rattle.build.specs.declared.Built.{Built}
 use Rattle.build.specs.declared.Built.TheVariants as built
 use Rattle.build.specs.declared.Attempt.{Attempt}
 use Rattle.build.specs.declared.Attempt.TheVariants as attempt

@@ -1,17 +1,14 @@
 -- What the search for a common cell finds. Of the lists by line of tables, with the cells below c counted for each line, it finds whether some
 -- cell below c lists both lines (`met_is`). Assumes nothing.
 use mathlib.Core.Path.{◌≡◌, refl, sym, ap, ◌∙◌}
-use mathlib.Core.Bool.{Bool, true, false, cond, ◌&&◌, ◌||◌, or-false, or-true}
+use mathlib.Core.Bool.{Bool, true, false, ◌&&◌, ◌||◌, or-false, or-true}
 use mathlib.Core.List.{List, [], ◌∷◌, ◌++◌, append-nil, append_assoc}
 use Prim.Native.Nat.{ℕ, zero, suc, ◌+◌, ◌-◌, ◌≤◌, ◌<◌}
-use native.Mathlib.Nat.{le_refl}
-use native.Mathlib.Decide.{dec_lt, le_ind}
+use native.Mathlib.Decide.{le_ind}
 use native.Mathlib.Omega.{arith}
-use borrow.Author.Tests.{eq-eqb, ne_eqb, lt-ltb, le-ltb}
-use lib.Dec.{eqb, ltb, leb}
 use lib.ListN.{length, get_or, take, drop, length-append, get_or-append}
-use lib.Seq.{slice, get_or_at, take_at, take-append-le, take-take}
-use Rattle.slices.specs.Lists.{elem, Below, Rising}
+use lib.Seq.{get_or_at, take_at, take-take}
+use Rattle.slices.specs.Lists.{elem, Below}
 use Rattle.slices.proofs.Members.{below_at}
 use Rattle.tables.specs.Lists.{only, lines_at, start}
 use Rattle.tables.specs.InsidePasses.{Table, Counted}

@@ -1,8 +1,8 @@
 -- The lists by line have no more entries than the items of tables that fit, and what their checks say. Assumes nothing.
-use mathlib.Core.Path.{◌≡◌, refl, sym, ap, ◌∙◌}
-use mathlib.Core.Bool.{Bool, true, false, ◌&&◌, ◌||◌}
+use mathlib.Core.Path.{◌≡◌, refl, sym, ◌∙◌}
+use mathlib.Core.Bool.{Bool, true, false, ◌||◌}
 use mathlib.Core.List.{List, [], ◌∷◌, ◌++◌}
-use Prim.Native.Nat.{ℕ, zero, suc, ◌+◌, ◌-◌, ◌*◌, ◌≤◌, ◌<◌, ◌^◌}
+use Prim.Native.Nat.{ℕ, zero, suc, ◌+◌, ◌*◌, ◌≤◌, ◌<◌, ◌^◌}
 use native.Mathlib.Nat.{zero-add}
 use native.Mathlib.Omega.{arith}
 use native.Mathlib.Decide.{ℕ_discrete}
@@ -13,9 +13,8 @@ use lib.Seq.{length-slice}
 use Rattle.slices.specs.Lists.{elem, Below, Rising}
 use Rattle.slices.proofs.Distinct.{not_elem}
 use Rattle.refusals.specs.declared.Refusal.{Refusal}
-use Rattle.refusals.specs.declared.Check.{Check}
 use Rattle.refusals.specs.declared.Check.TheVariants.{Fine, Refused}
-use Rattle.refusals.specs.Refusals.{unless, and_then, Answer, refused, gives, ◌then◌, answer_by, clears, left_by, left_in}
+use Rattle.refusals.specs.Refusals.{unless, refused, gives, answer_by, clears, left_in}
 use Rattle.refusals.proofs.Checks.{unless_fine, and_then_left, and_then_right}
 use Rattle.refusals.proofs.Answers.{then_refused, then_fine}
 use Rattle.refusals.proofs.Leaving.{left_same, Clearing, clearing_unless, clearing_then}
@@ -24,13 +23,12 @@ use Rattle.grid.specs.Domain.{count_check, grid_check, fit}
 use Rattle.grid.proofs.Bools.{and_left, and_right}
 use Rattle.grid.proofs.Shapes.{Fit, fit_says}
 use Rattle.tables.specs.Tables.{Tables, tables, cells, list_in, list_of}
-use Rattle.tables.specs.Fit.{TablesFit, ListsFit, tables_check, standing_check}
-use Rattle.tables.specs.Lists.{Walks, only, lines_at, sum, start, items_of, offsets_of}
+use Rattle.tables.specs.Fit.{TablesFit, tables_check, standing_check}
+use Rattle.tables.specs.Lists.{Walks, only, lines_at, sum, start}
 use Rattle.tables.specs.InsideFit.{CellsFit}
 use Rattle.tables.proofs.Facts.{check_facts}
 use Rattle.tables.proofs.Parts.{fit_cells}
 use Rattle.tables.proofs.Laws.{sum_same, sum_add}
-use Rattle.by_line.specs.declared.ByLine.{ByLine}
 use Rattle.by_line.specs.declared.ByLine.TheVariants as answer
 use Rattle.by_line.specs.ByLine.{cells_listing, lists_room_check, by_line, ByLineIs}
 use Rattle.by_line.specs.Inside.{MakeAsks, Made}

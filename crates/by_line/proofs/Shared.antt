@@ -4,11 +4,11 @@ use mathlib.Core.Path.{◌≡◌, refl, sym, ap, ◌∙◌}
 use mathlib.Core.Logic.{◌⊎◌, inl, inr}
 use mathlib.Core.Bool.{Bool, true, false, cond, ◌&&◌, ◌||◌, true≢false, or-true}
 use mathlib.Core.List.{List, [], ◌∷◌, ◌++◌, append-nil}
-use Prim.Native.Nat.{ℕ, zero, suc, ◌+◌, ◌-◌, ◌/◌, ◌^◌, ◌≤◌, ◌<◌}
+use Prim.Native.Nat.{ℕ, zero, suc, ◌+◌, ◌-◌, ◌^◌, ◌≤◌, ◌<◌}
 use native.Mathlib.Decide.{dec_lt, dec_le, ℕ_discrete}
 use native.Mathlib.Omega.{arith}
 use borrow.Author.Tests.{eq-eqb, ne_eqb, eqb-true, lt-ltb, le-ltb, le-leb, lt-leb}
-use lib.Dec.{eqb, leb}
+use lib.Dec.{eqb}
 use lib.Bits.{bit_and, bit_or}
 use lib.ListN.{length, get_or, set, length-set, length-append, get_or-append}
 use lib.Seq.{get_or_at, get_or-set_same, get_or-set_other}
@@ -18,7 +18,7 @@ use Rattle.grid.proofs.Bools.{or_says, and_says}
 use Rattle.tables.specs.Lists.{only, lines_at}
 use Rattle.by_line.specs.First.{front_of, some_below, met_below}
 use Rattle.by_line.specs.Marks.{bit_place, bit_of, bits_back, mark_of, MarksAre}
-use Rattle.by_line.proofs.Bits.{bit_at, High, common_high, common_none, or_bit, or_left, or_right, zero_bit, power_bit, bit_power}
+use Rattle.by_line.proofs.Bits.{bit_at, common_high, common_none, or_bit, or_left, or_right, zero_bit, power_bit, bit_power}
 use Rattle.by_line.proofs.Common.{Standing, front_lines}
 
 -- ---- the bit of a cell

@@ -1,14 +1,14 @@
 -- The two passes over the cells: from a cell's list to the next, and from the counts to the lists by line. Assumes nothing.
-use mathlib.Core.Path.{◌≡◌, refl, sym, ap, ◌∙◌}
+use mathlib.Core.Path.{◌≡◌, refl, ap, ◌∙◌}
 use mathlib.Core.List.{List}
-use Prim.Native.Nat.{ℕ, zero, suc, ◌+◌, ◌-◌, ◌≤◌, ◌<◌, ◌^◌}
+use Prim.Native.Nat.{ℕ, ◌+◌, ◌≤◌, ◌<◌, ◌^◌}
 use native.Mathlib.Omega.{arith}
 use lib.ListN.{length, get_or, replicate}
 use lib.Seq.{take-length}
 use Rattle.slices.proofs.Distinct.{length_rising}
 use Rattle.slices.proofs.Clearing.{zeros_at}
 use Rattle.tables.specs.Tables.{list_in}
-use Rattle.tables.specs.Lists.{Walks, lines_at, sum, start, items_of, offsets_of}
+use Rattle.tables.specs.Lists.{lines_at, sum, items_of, offsets_of}
 use Rattle.tables.specs.InsidePasses.{Line, Table, Counted, Placed, CanCount, CanPlace}
 use Rattle.tables.proofs.Laws.{counts_sum, placed_none, table_of}
 use Rattle.fill.specs.Inside.{Summed, ShiftedBack}

@@ -1,7 +1,7 @@
 -- The lists by line of standing tables: for each line the cells that list it, increasing. Definitions only.
-use Rattle.std.specs.Prelude.{ℕ, ◌≤◌, ◌≡◌, ◌&&◌, List, leb, ltb, length}
+use Rattle.std.specs.Prelude.{ℕ, ◌≡◌, ◌&&◌, List, leb, ltb, length}
 use Rattle.refusals.specs.declared.Check.{Check}
-use Rattle.refusals.specs.Refusals.{unless, and_then, Answer, gives, ◌then◌, answer_by, left_in}
+use Rattle.refusals.specs.Refusals.{unless, Answer, gives, ◌then◌, answer_by, left_in}
 use Rattle.grid.specs.declared.Grid.{Grid}
 use Rattle.tables.specs.Tables.{Tables, cells, list_of}
 use Rattle.tables.specs.Fit.{standing_check}

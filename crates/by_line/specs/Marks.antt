@@ -1,5 +1,5 @@
 -- The mark of a line: a number whose bits say which of a few cells are among the first cells of the line. Definitions only.
-use Rattle.std.specs.Prelude.{ℕ, zero, suc, ◌+◌, ◌-◌, ◌/◌, ◌%◌, ◌^◌, ◌<◌, ◌≡◌, cond, List, leb, ltb, eqb, length, get_or}
+use Rattle.std.specs.Prelude.{ℕ, zero, suc, ◌-◌, ◌^◌, ◌<◌, ◌≡◌, cond, List, leb, ltb, eqb, length, get_or}
 use Rattle.std.specs.Int.Bits.{bit_or}
 use Rattle.by_line.specs.First.{front_of}
 

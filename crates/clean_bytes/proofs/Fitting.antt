@@ -1,11 +1,9 @@
 -- How long a text can be: 201,000 bytes hold every one, for at most 4,096 points have a line. What is used of the buffers is within them, and the promise
 -- settles it. Assumes nothing.
-use mathlib.Core.Path.{◌≡◌, refl, sym, ap, ◌∙◌}
-use mathlib.Core.Bool.{Bool, true, false, cond}
-use mathlib.Core.List.{List, [], ◌∷◌, ◌++◌, map, flatten}
-use Prim.Native.Nat.{ℕ, zero, suc, ◌+◌, ◌*◌, ◌≤◌}
+use mathlib.Core.Path.{◌≡◌, refl, sym, ◌∙◌}
+use mathlib.Core.List.{List, [], ◌∷◌, map, flatten}
+use Prim.Native.Nat.{ℕ, zero, suc, ◌*◌, ◌≤◌}
 use native.Mathlib.Omega.{arith}
-use lib.Dec.{eqb}
 use lib.ListN.{length, length-append, length-take}
 use Rattle.refusals.specs.Refusals.{Answer, refused, gives, answer_by, left_in}
 use Rattle.report.proofs.Outcomes.{one_print}

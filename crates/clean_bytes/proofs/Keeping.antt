@@ -2,15 +2,13 @@
 use mathlib.Core.Path.{◌≡◌, refl, sym, ap, ◌∙◌, subst}
 use mathlib.Core.Bool.{true}
 use mathlib.Core.List.{List, [], ◌∷◌, ◌++◌, map, flatten}
-use Prim.Native.Nat.{ℕ, ◌+◌, ◌-◌, ◌*◌, ◌/◌, ◌≤◌, ◌<◌}
+use Prim.Native.Nat.{ℕ, ◌-◌, ◌/◌, ◌≤◌, ◌<◌}
 use native.Mathlib.Omega.{arith}
-use lib.Dec.{leb, eqb}
-use lib.ListN.{length, take, drop, replicate, length-map}
+use lib.ListN.{length, take, drop, replicate}
 use borrow.Author.Tests.{le-leb, lt-leb}
 use Rattle.refusals.specs.declared.Refusal.{Refusal}
 use Rattle.refusals.specs.declared.Check.TheVariants as check
 use Rattle.refusals.specs.Refusals.{refusal, unless, and_then, Answer, refused, gives, ◌then◌, answer_by, clears, left_by, left_in, zero_beyond}
-use Rattle.refusals.proofs.Answers.{then_fine}
 use Rattle.refusals.proofs.Leaving.{left_same, left_zero}
 use Rattle.report.specs.Pages.{page, Puts}
 use Rattle.report.proofs.Putting.{puts_text}
@@ -21,7 +19,7 @@ use Rattle.wkb.specs.declared.MultiRead.{MultiRead}
 use Rattle.wkb.specs.declared.MultiRead.TheVariants as multi
 use Rattle.wkb.specs.Multi.{starts_of, found_multi, MultiReadAs}
 use Rattle.wkb.proofs.Chains.{Some, length_starts}
-use Rattle.members.specs.Held.{points_of, chains_of, all_lengths, sum_of, held_check}
+use Rattle.members.specs.Held.{points_of, chains_of, all_lengths, sum_of}
 use Rattle.members.specs.Writing.{fit_check, bytes_in, written, written_of, bytes_left, WrittenAs}
 use Rattle.members.specs.declared.Written.{Written}
 use Rattle.members.specs.declared.Written.TheVariants as written
@@ -31,7 +29,7 @@ use Rattle.clean.specs.Cleaning.{cleaned, member_reasons, reasons}
 use Rattle.clean.specs.Calls.{Outputs, kept_room_check, cleaning, cleaned_of, CleanedAs}
 use Rattle.clean.specs.declared.Cleaned.{Cleaned}
 use Rattle.clean.specs.declared.Cleaned.TheVariants.{Kept, Refused}
-use Rattle.clean.proofs.Rules.{Clean, AllClean, length_reasons, cleaned_clean}
+use Rattle.clean.proofs.Rules.{AllClean, length_reasons, cleaned_clean}
 use Rattle.clean.proofs.Again.{Gave, gave}
 use Rattle.clean_bytes.specs.declared.Ends.{Ends}
 use Rattle.clean_bytes.specs.Printed.{sizes_check, chains_in, text_from, text_of, file_of, file_left, CleansAs}

@@ -3,40 +3,36 @@
 use mathlib.Core.Path.{◌≡◌, refl, sym, ap, ◌∙◌, subst}
 use mathlib.Core.Bool.{Bool, true, false}
 use mathlib.Core.List.{List, [], ◌∷◌, ◌++◌, append-nil, map, flatten}
-use Prim.Native.Nat.{ℕ, zero, suc, ◌+◌, ◌*◌, ◌^◌, ◌≤◌, ◌<◌}
+use Prim.Native.Nat.{ℕ, zero, suc, ◌+◌, ◌*◌, ◌≤◌, ◌<◌}
 use native.Mathlib.Numerals.{add-one}
 use native.Mathlib.Omega.{arith}
-use lib.Dec.{leb, eqb}
+use lib.Dec.{leb}
 use lib.Ieee.{Float}
-use lib.ListN.{length, take, get_or, set, length-append, length-map}
+use lib.ListN.{length, take, get_or, set, length-append}
 use lib.Seq.{take_at, take_all, take-suc, length-take-le}
 use borrow.Author.Tests.{le-leb}
 use Rattle.refusals.specs.declared.Refusal.{Refusal}
 use Rattle.refusals.specs.declared.Check.{Check}
 use Rattle.refusals.specs.declared.Check.TheVariants as check
-use Rattle.refusals.specs.Refusals.{unless, and_then, Answer, refused, gives, ◌then◌, ◌into◌, answer_by, clears, left_in, zero_beyond}
-use Rattle.refusals.proofs.Answers.{then_fine, then_passed}
+use Rattle.refusals.specs.Refusals.{unless, and_then, Answer, refused, gives, ◌then◌, ◌into◌, answer_by, clears}
+use Rattle.refusals.proofs.Answers.{then_passed}
 use Rattle.refusals.proofs.Leaving.{Clearing, clearing_unless, clearing_then}
 use Rattle.grid.specs.Domain.{count_check}
-use Rattle.wkb.specs.declared.Order.{Order}
 use Rattle.wkb.specs.declared.Order.TheVariants.{Little}
 use Rattle.wkb.specs.declared.Read.{Read}
 use Rattle.wkb.specs.declared.Read.TheVariants as one
-use Rattle.wkb.specs.declared.MultiRead.{MultiRead}
-use Rattle.wkb.specs.declared.MultiRead.TheVariants as multi
 use Rattle.wkb.specs.Bytes.{Point, order_byte, little_bytes, word_bytes, LineString, Members, none, more, multi_head, MultiLineString}
 use Rattle.wkb.specs.Reading.{field_check, end_at, head_check, line_check, end_check, count_at, found, slices_check, outcome, read_of, ReadAs}
-use Rattle.wkb.specs.Multi.{starts_of, members_check, multi_check, chains_at, found_multi, pair_check, members_room_check, multi_outcome, multi_read_of, axis_left, lengths_left, MultiReadAs}
+use Rattle.wkb.specs.Multi.{starts_of, members_check, multi_check, chains_at, found_multi, pair_check, members_room_check, multi_outcome}
 use Rattle.wkb.specs.Inside.{PutIn}
 use Rattle.wkb.proofs.Words.{length_word}
 use Rattle.wkb.proofs.Stores.{put_length, put_more, put_then}
 use Rattle.wkb.proofs.Chains.{Some, length_starts}
 use Rattle.wkb.proofs.MultiLineStrings.{multi_complete}
-use Rattle.members.specs.Held.{points_of, chains_of, all_lengths, held_check}
-use Rattle.members.proofs.Held.{Held, held_fine, points_back, chains_back, sum_back}
+use Rattle.members.specs.Held.{all_lengths}
 use Rattle.clean_bytes.specs.Printed.{chains_found}
-use Rattle.clean_bytes.specs.Inside.{Widened, Parts, BytesAsk}
-use Rattle.clean_bytes.proofs.Sizes.{Sized, sized}
+use Rattle.clean_bytes.specs.Inside.{Widened}
+use Rattle.clean_bytes.proofs.Sizes.{sized}
 
 -- ---- a LineString
 

@@ -3,18 +3,15 @@
 use mathlib.Core.Path.{◌≡◌, refl, sym, ap, ◌∙◌, subst}
 use mathlib.Core.Bool.{Bool, true, false, cond}
 use mathlib.Core.List.{List, [], ◌∷◌, ◌++◌, map, flatten, flat_map}
-use Prim.Native.Nat.{ℕ, suc, ◌+◌, ◌*◌, ◌≤◌, ◌<◌}
+use Prim.Native.Nat.{ℕ, ◌+◌, ◌*◌, ◌≤◌}
 use native.Mathlib.Omega.{arith}
-use lib.Dec.{leb}
-use lib.ListN.{length, length-append, length-map}
-use Rattle.wkb.specs.Bytes.{Point, LineString, Members, none, more, MultiLineString, multi_head, multi_bytes, line_bytes}
+use lib.ListN.{length, length-append}
+use Rattle.wkb.specs.Bytes.{Point, Members, none, more}
 use Rattle.wkb.proofs.LineStrings.{length_line}
-use Rattle.wkb.proofs.Chains.{Some}
 use Rattle.members.specs.Held.{all_lengths}
 use Rattle.members.proofs.Held.{is_length_lem}
-use Rattle.clean.specs.Cleaning.{good, thin, is_piece, kept_of, cleaned_member, cleaned}
-use Rattle.clean.specs.Inside.{AllGood}
-use Rattle.clean.proofs.Rules.{Split, whole, broken, split, cleaned_whole, cleaned_broken, flatten_append, thin_most, Clean, AllClean, cleaned_clean}
+use Rattle.clean.specs.Cleaning.{thin, is_piece, kept_of, cleaned_member, cleaned}
+use Rattle.clean.proofs.Rules.{Split, whole, broken, split, cleaned_whole, cleaned_broken, flatten_append, thin_most, AllClean}
 
 -- ---- what is found
 

@@ -13,7 +13,7 @@ use lib.Seq.{take-nil}
 use borrow.Author.Tests.{le-leb, leb-true}
 use Rattle.refusals.specs.declared.Refusal.{Refusal}
 use Rattle.refusals.specs.declared.Check.TheVariants as check
-use Rattle.refusals.specs.Refusals.{unless, and_then, Answer, refused, gives, ◌then◌, answer_by, left_in}
+use Rattle.refusals.specs.Refusals.{unless, and_then, Answer, refused, gives, answer_by, left_in}
 use Rattle.refusals.proofs.Answers.{then_fine, then_passed}
 use Rattle.refusals.proofs.Checks.{unless_fine, and_then_right}
 use Rattle.report.specs.Pages.{Prints}
@@ -22,8 +22,8 @@ use Rattle.wkb.specs.Bytes.{Point, Patterns, LineString, Members, none, more, mu
 use Rattle.wkb.specs.Reading.{found, line_check}
 use Rattle.wkb.specs.Multi.{found_multi}
 use Rattle.wkb.proofs.Words.{Small, length_word}
-use Rattle.wkb.proofs.Fields.{HeadFits, line_passed}
-use Rattle.wkb.proofs.LineStrings.{length_line, HeadStands, head_stands, sound, gives_same}
+use Rattle.wkb.proofs.Fields.{line_passed}
+use Rattle.wkb.proofs.LineStrings.{length_line, head_stands, sound, gives_same}
 use Rattle.wkb.proofs.MultiLineStrings.{multi_sound, multi_complete}
 use Rattle.members.proofs.Held.{Fits, chains_fit, chains_back, sum_back}
 use Rattle.members.proofs.Putting.{length_multi, multi_is}
@@ -32,8 +32,8 @@ use Rattle.clean.specs.Cleaning.{cleaned, kept, kept_values, member_reasons, rea
 use Rattle.clean.proofs.Rules.{kept_are, AllClean, Clean, cleaned_clean, clean_same, cleaned_again}
 use Rattle.clean_bytes.specs.declared.Ends.{Ends}
 use Rattle.clean_bytes.specs.Printed.{chains_found, sizes_check, chains_in, dropped_if, member_text, text_from, text_of, file_of, file_left, CleansAs}
-use Rattle.clean_bytes.proofs.Sizes.{Sized, sized, cleaned_size}
-use Rattle.clean_bytes.proofs.Reading.{Few, few_of, one_member}
+use Rattle.clean_bytes.proofs.Sizes.{sized, cleaned_size}
+use Rattle.clean_bytes.proofs.Reading.{few_of, one_member}
 use Rattle.clean_bytes.proofs.Keeping.{kept_few}
 
 -- ---- bit patterns

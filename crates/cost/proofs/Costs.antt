@@ -3,25 +3,25 @@
 --   cost-..      the cells' tests and the globals' are all tests
 -- Assumes nothing.
 use mathlib.Core.Path.{◌≡◌, refl, sym, ap, ◌∙◌}
-use mathlib.Core.Bool.{Bool, true, false, cond}
+use mathlib.Core.Bool.{cond}
 use mathlib.Core.List.{List}
-use Prim.Native.Nat.{ℕ, zero, suc, ◌+◌, ◌-◌, ◌*◌, ◌/◌, ◌≤◌, ◌<◌, ◌^◌}
-use native.Mathlib.Nat.{mul-suc, suc-mul, mul-le-mul_left, mul-le-mul_right}
+use Prim.Native.Nat.{ℕ, zero, suc, ◌+◌, ◌-◌, ◌*◌, ◌≤◌, ◌<◌, ◌^◌}
+use native.Mathlib.Nat.{mul-suc, mul-le-mul_left, mul-le-mul_right}
 use native.Mathlib.Numerals.{add-one}
 use native.Mathlib.Omega.{arith}
 use lib.Dec.{leb}
-use lib.ListN.{length, get_or, take}
+use lib.ListN.{length, get_or}
 use lib.Seq.{length-take-le}
 use Rattle.refusals.specs.declared.Refusal.{Refusal}
 use Rattle.refusals.specs.declared.Check.TheVariants.{Fine, Refused}
-use Rattle.refusals.specs.Refusals.{gives, ◌then◌, answer_by}
+use Rattle.refusals.specs.Refusals.{gives, answer_by}
 use Rattle.refusals.proofs.Checks.{unless_fine, and_then_left, and_then_right}
 use Rattle.refusals.proofs.Answers.{refused_by, past}
 use Rattle.grid.specs.declared.Grid.{Grid}
 use Rattle.grid.specs.Domain.{count_check, grid_check, fit}
 use Rattle.grid.proofs.Shapes.{Fit, fit_says}
 use Rattle.tables.specs.Tables.{Tables, tables, cells, list_of, globals_of}
-use Rattle.tables.specs.Fit.{TablesFit, tables_check, standing_check}
+use Rattle.tables.specs.Fit.{TablesFit, standing_check}
 use Rattle.tables.proofs.Facts.{check_facts}
 use Rattle.seek.specs.Inside.{tri}
 use Rattle.seek.specs.Tests.{tests_of}
@@ -32,7 +32,6 @@ use Rattle.visit.specs.Words.{half_down, sum_below}
 use Rattle.visit.proofs.Number.{half_is, sum_zero, sum_suc, tests_number}
 use borrow.Author.Tests.{leb-true}
 use Rattle.cost.specs.declared.Cost.{Cost}
-use Rattle.cost.specs.declared.CostAnswer.{CostAnswer}
 use Rattle.cost.specs.declared.CostAnswer.TheVariants as answer
 use Rattle.cost.specs.Cost.{greatest, cost_of, cost_answer}
 use Rattle.cost.specs.Inside.{gap, GapsAsk, CellsCost, CostAsks}

@@ -1,28 +1,28 @@
 -- The entries: the checks, and what each answer leaves. Assumes nothing.
 use mathlib.Core.Path.{◌≡◌, refl, sym, ap, ap₂, ◌∙◌, subst}
-use mathlib.Core.Bool.{Bool, true, false, cond}
-use mathlib.Core.List.{List, [], ◌∷◌, ◌++◌}
-use Prim.Native.Nat.{ℕ, ◌+◌, ◌-◌, ◌≤◌, ◌<◌}
+use mathlib.Core.Bool.{Bool, true, false}
+use mathlib.Core.List.{List, ◌++◌}
+use Prim.Native.Nat.{ℕ, ◌≤◌, ◌<◌}
 use native.Mathlib.Omega.{arith}
 use borrow.Author.Tests.{leb-true}
-use lib.ListN.{length, get_or, take, drop, replicate, take-append-drop}
+use lib.ListN.{length, get_or, replicate, take-append-drop}
 use Rattle.refusals.specs.declared.Refusal.{Refusal}
 use Rattle.refusals.specs.declared.Check.{Check}
 use Rattle.refusals.specs.declared.Check.TheVariants.{Fine, Refused}
-use Rattle.refusals.specs.Refusals.{refusal, unless, and_then, Answer, refused, gives, ◌then◌, answer_by, left_by, left_in}
+use Rattle.refusals.specs.Refusals.{refusal, and_then, Answer, gives, ◌then◌, answer_by, left_by, left_in}
 use Rattle.refusals.proofs.Checks.{unless_fine, and_then_left, and_then_right}
 use Rattle.refusals.proofs.Leaving.{numbers_clear, left_zero, left_alike}
 use Rattle.grid.specs.declared.Grid.{Grid}
 use Rattle.grid.specs.Domain.{Lines, count, fit, scratch_check, lines_check, grid_check}
 use Rattle.grid.proofs.Fine.{LinesFit, lines_fine}
 use Rattle.walk.specs.declared.Mode.{Mode}
-use Rattle.tables.specs.Lists.{lines_at, tabulate, items_of, offsets_of}
+use Rattle.tables.specs.Lists.{lines_at, offsets_of}
 use Rattle.tables.proofs.Laws.{take_tabulate, drop_zeros, beyond}
 use Rattle.fill.specs.declared.Count.{Count}
 use Rattle.fill.specs.declared.Count.TheVariants as counted
 use Rattle.fill.specs.declared.Filled.{Filled}
 use Rattle.fill.specs.declared.Filled.TheVariants as filled
-use Rattle.fill.specs.OnGrid.{grid_cells, list_on, globals_on, total, counts_on}
+use Rattle.fill.specs.OnGrid.{grid_cells, list_on, total, counts_on}
 use Rattle.fill.specs.Checks.{on_grid_check, turns_check, room_check, tried_check, counting_check, space_check}
 use Rattle.fill.specs.Fill.{count_of, CountIs, more_than, Filling, crowded, made, filling_of, filled_of, written_in, FillIs}
 use Rattle.fill.specs.Inside.{CountAs, Walkable, local_on, CountedTo, PassAsks, AllCounted, CountLent, Summed, FillAsks, LayAsks, DueRefusal, PlanAs, PlanIs, rule_of}

@@ -1,29 +1,24 @@
 -- From the counts on a grid to its tables, or to refusal 5 or 6. Assumes nothing.
 use mathlib.Core.Path.{◌≡◌, refl, sym, ap, ◌∙◌, fun_ext}
-use mathlib.Core.Bool.{Bool, true, false, cond}
 use mathlib.Core.List.{List, [], ◌∷◌, ◌++◌}
-use Prim.Native.Nat.{ℕ, zero, suc, ◌+◌, ◌-◌, ◌≤◌, ◌<◌, ◌^◌}
+use Prim.Native.Nat.{ℕ, zero, suc, ◌-◌, ◌≤◌, ◌<◌, ◌^◌}
 use native.Mathlib.Omega.{arith}
 use borrow.Author.Tests.{le-leb, lt-leb}
-use lib.ListN.{length, get_or, replicate, take}
+use lib.ListN.{length, get_or, replicate}
 use Rattle.slices.specs.Slices.{cleared_from}
 use Rattle.slices.proofs.Clearing.{zeros_at}
-use Rattle.refusals.specs.declared.Refusal.{Refusal}
-use Rattle.refusals.specs.declared.Check.{Check}
 use Rattle.refusals.specs.declared.Check.TheVariants.{Fine, Refused}
-use Rattle.refusals.specs.Refusals.{refusal, unless, and_then, Answer, refused, gives, ◌then◌, answer_by, left_in, zero_beyond}
-use Rattle.refusals.proofs.Leaving.{numbers_clear, left_alike}
+use Rattle.refusals.specs.Refusals.{refusal, unless, and_then, gives, answer_by, left_in, zero_beyond}
 use Rattle.grid.specs.declared.Grid.{Grid}
 use Rattle.grid.specs.Domain.{Lines, count}
 use Rattle.walk.specs.declared.Mode.{Mode}
 use Rattle.tables.specs.Lists.{Walks, lines_at, sum, start, items_of, offsets_of}
 use Rattle.tables.specs.InsidePasses.{Counted, Placed, Table}
 use Rattle.tables.proofs.Laws.{counts_sum, placed_none, table_of}
-use Rattle.fill.specs.declared.Filled.{Filled}
 use Rattle.fill.specs.declared.Filled.TheVariants as filled
 use Rattle.fill.specs.OnGrid.{grid_cells, list_on, globals_on, total}
 use Rattle.fill.specs.Checks.{space_check}
-use Rattle.fill.specs.Fill.{more_than, Filling, crowded, made, filled_of, written_in, FillIs}
+use Rattle.fill.specs.Fill.{more_than, made, filled_of, written_in, FillIs}
 use Rattle.fill.specs.Inside.{local_on, PlaceAsks, AllPlaced, Summed, ShiftedBack, FillAsks, LayAsks}
 use Rattle.fill.proofs.Walks.{all_walks}
 use Rattle.fill.proofs.Lines.{total_small}

@@ -8,7 +8,7 @@ use Rattle.refusals.proofs.Leaving.{Clearing, clearing_unless, clearing_then, cl
 use Rattle.grid.specs.declared.Grid.{Grid}
 use Rattle.grid.specs.Domain.{Lines, count}
 use Rattle.walk.specs.declared.Mode.{Mode}
-use Rattle.fill.specs.OnGrid.{grid_cells, walk_on, completes, globals_on, total}
+use Rattle.fill.specs.OnGrid.{walk_on, completes, globals_on, total}
 use Rattle.fill.specs.Checks.{room_check, turns_check, tried_check, space_check}
 
 pub turns_clear : (mode : Mode) (g : Grid) (ls : Lines) → Clearing true (turns_check mode g ls)

@@ -1,6 +1,6 @@
 -- One line more, in either pass. Assumes nothing.
-use mathlib.Core.Path.{◌≡◌, refl, sym, ap, ◌∙◌}
-use mathlib.Core.Bool.{Bool, true, false}
+use mathlib.Core.Path.{◌≡◌}
+use mathlib.Core.Bool.{true}
 use mathlib.Core.List.{List}
 use mathlib.Core.Logic.{⊎_elim}
 use Prim.Native.Nat.{ℕ, ◌+◌, ◌*◌, ◌≤◌, ◌<◌, ◌^◌}
@@ -16,7 +16,7 @@ use Rattle.tables.specs.InsidePasses.{Counted, Placed, CanCount, CanPlace}
 use Rattle.tables.proofs.Laws.{total_few}
 use Rattle.tables.proofs.Lists.{local_long, local_few, list_none}
 use Rattle.fill.specs.OnGrid.{grid_cells, cells_on, list_on, total}
-use Rattle.fill.specs.Inside.{LineFront, local_on, VisitsCounted, CountedTo, CountAsks, LineCounted, VisitsPlaced, PlacedTo, LineAsks, LinePlaced}
+use Rattle.fill.specs.Inside.{LineFront, local_on, VisitsCounted, CountAsks, LineCounted, VisitsPlaced, LineAsks, LinePlaced}
 use Rattle.fill.proofs.Walks.{is_long, is_short, all_walks, line_at}
 
 -- a global line is in no list

@@ -1,12 +1,12 @@
 -- The loops over the cells of one line, in either pass. Assumes nothing.
-use mathlib.Core.Path.{◌≡◌, refl, sym, ap, ◌∙◌}
+use mathlib.Core.Path.{◌≡◌, refl}
 use mathlib.Core.List.{List}
-use Prim.Native.Nat.{ℕ, suc, ◌+◌, ◌-◌, ◌≤◌, ◌<◌, ◌^◌}
+use Prim.Native.Nat.{ℕ, ◌+◌, ◌≤◌, ◌<◌, ◌^◌}
 use native.Mathlib.Omega.{arith}
 use lib.ListN.{length, get_or, set, length-set}
-use Rattle.tables.specs.Lists.{lines_at, start}
-use Rattle.tables.specs.InsidePasses.{Line, Counted, Placed, CanCount, CanPlace}
-use Rattle.tables.proofs.Laws.{so_far, so_far_none, Turn, turn, line_done, count_step, count_fits, place_step, place_inside}
+use Rattle.tables.specs.Lists.{lines_at}
+use Rattle.tables.specs.InsidePasses.{Counted, Placed, CanCount, CanPlace}
+use Rattle.tables.proofs.Laws.{so_far, so_far_none, turn, line_done, count_step, count_fits, place_step, place_inside}
 
 -- ---- the first pass: j of the n cells at the front of s are counted
 

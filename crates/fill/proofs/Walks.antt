@@ -1,8 +1,8 @@
 -- The walks of lines on a fit grid. Assumes nothing.
 use mathlib.Core.Path.{◌≡◌, refl, sym, ap, ◌∙◌}
 use mathlib.Core.Bool.{Bool, true, false, not, true≢false}
-use mathlib.Core.List.{List, []}
-use Prim.Native.Nat.{ℕ, ◌+◌, ◌*◌, ◌≤◌, ◌<◌, ◌^◌}
+use mathlib.Core.List.{List}
+use Prim.Native.Nat.{ℕ, ◌≤◌, ◌<◌}
 use native.Mathlib.Omega.{arith}
 use borrow.Author.Tests.{le-leb, lt-leb}
 use lib.ListN.{length, take}
@@ -10,7 +10,7 @@ use Rattle.slices.specs.Lists.{Rising, Below}
 use Rattle.refusals.specs.declared.Refusal.{Refusal}
 use Rattle.refusals.specs.Refusals.{refused, gives, answer_by}
 use Rattle.grid.specs.declared.Grid.{Grid}
-use Rattle.grid.specs.Domain.{Lines, count, segment_at, line_fits, fit}
+use Rattle.grid.specs.Domain.{Lines, count, segment_at, fit}
 use Rattle.grid.proofs.Shapes.{shape_says, fit_shape}
 use Rattle.walk.specs.declared.Mode.{Mode}
 use Rattle.walk.specs.declared.Reached.{Reached}
@@ -19,7 +19,7 @@ use Rattle.turns.specs.Pushes.{Outcome}
 use Rattle.walk.specs.Segment as walk
 use Rattle.walk.proofs.Visits.{Cells, segment_visits}
 use Rattle.walk.proofs.Checked.{as_is}
-use Rattle.tables.specs.Lists.{Walks, long, local}
+use Rattle.tables.specs.Lists.{Walks, long}
 use Rattle.tables.specs.InsidePasses.{Line}
 use Rattle.tables.proofs.Lists.{local_walks, local_short}
 use Rattle.fill.specs.OnGrid.{grid_cells, walk_on, completes, visited, cells_on}

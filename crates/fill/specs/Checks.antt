@@ -1,5 +1,5 @@
 -- Document 01, "Refusal numbers": what is refused on a given grid, in its order. Definitions only.
-use Rattle.std.specs.Prelude.{Bool, ℕ, ◌+◌, leb, length}
+use Rattle.std.specs.Prelude.{ℕ, ◌+◌, leb, length}
 use Rattle.refusals.specs.declared.Check.{Check}
 use Rattle.refusals.specs.Refusals.{unless, and_then, each_from}
 use Rattle.grid.specs.declared.Grid.{Grid}

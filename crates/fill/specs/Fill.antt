@@ -1,5 +1,5 @@
 -- What the two entries answer, and what they leave in each lent slice: counting on a given grid, and filling its tables. Definitions only.
-use Rattle.std.specs.Prelude.{◌≡◌, Bool, true, false, cond, ◌||◌, List, ℕ, zero, suc, ltb, length, replicate}
+use Rattle.std.specs.Prelude.{◌≡◌, Bool, false, cond, ◌||◌, List, ℕ, zero, suc, ltb, length, replicate}
 use Rattle.refusals.specs.Refusals.{Answer, gives, ◌then◌, answer_by, left_in, zero_beyond}
 use Rattle.grid.specs.declared.Grid.{Grid}
 use Rattle.grid.specs.Domain.{Lines}

@@ -1,22 +1,21 @@
 -- How many tests can be left of the globals: few enough to be counted in 64 bits. Assumes nothing.
 use mathlib.Core.Path.{◌≡◌, refl, sym, ap, ◌∙◌}
-use mathlib.Core.Bool.{Bool, true, false, cond}
-use mathlib.Core.List.{List, [], ◌∷◌, ◌++◌}
-use Prim.Native.Nat.{ℕ, zero, suc, ◌+◌, ◌-◌, ◌*◌, ◌≤◌, ◌<◌, ◌^◌, min}
+use mathlib.Core.Bool.{Bool, true, false}
+use mathlib.Core.List.{List, [], ◌++◌}
+use Prim.Native.Nat.{ℕ, zero, suc, ◌-◌, ◌*◌, ◌≤◌, ◌<◌, min}
 use native.Mathlib.Decide.{dec_lt}
 use native.Mathlib.Omega.{arith}
-use lib.ListN.{length, get_or, take, drop, length-append, length-drop}
-use lib.Dec.{ltb}
-use Rattle.slices.specs.Lists.{elem, Below, Rising}
+use lib.ListN.{length, get_or, take, length-append}
+use Rattle.slices.specs.Lists.{elem}
 use Rattle.slices.proofs.Members.{below_at}
 use Rattle.slices.proofs.Distinct.{rising_at}
 use Rattle.tables.specs.Fit.{Increasing}
 use Rattle.seek.specs.declared.Place.TheVariants.{Global}
-use Rattle.seek.specs.Tests.{Pair, with_each, others, global_tests}
+use Rattle.seek.specs.Tests.{with_each, others, global_tests}
 use Rattle.tables.specs.InsideFit.{GlobalsFit}
-use Rattle.seek.specs.Cursors.{globals_rest, LineFits}
+use Rattle.seek.specs.Cursors.{globals_rest}
 use Rattle.visit.specs.Inside.{GlobalAsks}
-use Rattle.seek.proofs.Clauses.{length_with, others_zero, others_in, others_out, globals_zero, globals_suc, grest_zero, grest_suc, left_suc}
+use Rattle.seek.proofs.Clauses.{length_with, others_zero, others_in, others_out, globals_zero, globals_suc, grest_zero, grest_suc}
 use Rattle.seek.proofs.Lengths.{length_increasing}
 use Rattle.seek.proofs.GlobalRests.{globals_done}
 use Rattle.resume.specs.Cursors.{globals_from}

@@ -1,15 +1,12 @@
 -- Where a value stands in a list that rises, and the cursor of the first test that is left. Assumes nothing.
 use mathlib.Core.Path.{◌≡◌, refl, sym, ap, subst, ◌∙◌}
-use mathlib.Core.Bool.{Bool, true, false, cond}
 use mathlib.Core.List.{List, [], ◌∷◌, ◌++◌}
-use Prim.Native.Nat.{ℕ, zero, suc, ◌+◌, ◌-◌, ◌*◌, ◌/◌, ◌%◌, ◌≤◌, ◌<◌, ◌^◌, min}
+use Prim.Native.Nat.{ℕ, zero, suc, ◌+◌, ◌-◌, ◌*◌, ◌/◌, ◌%◌, ◌≤◌, ◌<◌, ◌^◌}
 use native.Mathlib.Nat.{div-add-mod', mul-le-mul_right}
 use native.Mathlib.Numerals.{add-one}
-use native.Mathlib.Decide.{ℕ_discrete}
 use native.Mathlib.Omega.{arith}
 use lib.ListN.{length, get_or, take, drop, drop_of_length-le}
 use lib.Seq.{drop-cons}
-use lib.Dec.{eqb}
 use borrow.Author.Tests.{eq-eqb, ne_eqb}
 use Rattle.slices.specs.Lists.{Rising}
 use Rattle.slices.proofs.Distinct.{rising_at}
@@ -24,7 +21,6 @@ use Rattle.seek.proofs.Clauses.{with_cons}
 use Rattle.seek.proofs.CellRests.{pair_taken}
 use Rattle.visit.proofs.RowTurns.{numbers_some}
 use Rattle.seek.proofs.GlobalRests.{grest_run}
-use Rattle.resume.specs.declared.Cursor.{Cursor}
 use Rattle.listed.specs.declared.CellAt.{CellAt}
 use Rattle.listed.specs.declared.CellAt.TheVariants as cellat
 use Rattle.listed.specs.Lists.{list_by, tests_of_cells}

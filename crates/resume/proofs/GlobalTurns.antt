@@ -1,26 +1,23 @@
 -- The turns of the run through the globals. Assumes nothing.
-use mathlib.Core.Path.{◌≡◌, refl, sym, ap, subst, ◌∙◌}
+use mathlib.Core.Path.{◌≡◌, sym, ap, subst, ◌∙◌}
 use mathlib.Core.List.{List, [], ◌∷◌, ◌++◌, append_assoc}
 use Prim.Native.Nat.{ℕ, zero, suc, ◌+◌, ◌-◌, ◌≤◌, ◌<◌, ◌^◌, min}
-use native.Mathlib.Nat.{sub-zero}
 use native.Mathlib.Decide.{ℕ_discrete}
 use native.Mathlib.Omega.{arith}
-use lib.ListN.{length, get_or, take, drop}
+use lib.ListN.{length, get_or, take}
 use Rattle.grid.specs.Domain.{Lines, count}
-use Rattle.seek.specs.declared.Place.{Place}
 use Rattle.seek.specs.declared.Place.TheVariants.{Global}
 use Rattle.seek.specs.Tests.{Pair, with_each, others, global_tests}
 use Rattle.seek.specs.Inside.{numbers}
-use Rattle.seek.specs.Cursors.{globals_rest, LineFits}
+use Rattle.seek.specs.Cursors.{LineFits}
 use Rattle.visit.specs.Inside.{GlobalAsks, GlobalIs}
 use Rattle.seek.proofs.Clauses.{with_nil, with_append, numbers_zero, numbers_suc}
 use Rattle.seek.proofs.OtherLines.{length_numbers}
 use Rattle.seek.proofs.GlobalRests.{grest_run, stop_most, line_further}
 use Rattle.resume.specs.declared.settle.GlobalAt.{GlobalAt}
 use Rattle.resume.specs.declared.settle.GlobalAt.TheVariants as globalat
-use Rattle.resume.specs.declared.globals.GlobalsRan.{GlobalsRan}
 use Rattle.resume.specs.Cursors.{globals_from}
-use Rattle.through.specs.Inside.{Goes, Lent}
+use Rattle.through.specs.Inside.{Goes}
 use Rattle.resume.specs.Inside.{ZeroAfter, LinesAsk, LinesScanned, Passed, GlobalFound, GlobalsAsk, GlobalsRanIs}
 use Rattle.through.proofs.Goings.{goes_none, goes_then, goes_row}
 

@@ -1,27 +1,22 @@
 -- What `next` refuses, case by case, and what both runs came to. Assumes nothing.
 use mathlib.Core.Path.{◌≡◌, refl, sym, ap, ◌∙◌}
 use mathlib.Core.Bool.{Bool, true, false, cond}
-use mathlib.Core.List.{List, [], ◌∷◌, ◌++◌, append-nil}
-use Prim.Native.Nat.{ℕ, zero, suc, ◌+◌, ◌-◌, ◌*◌, ◌≤◌, ◌<◌, ◌^◌, min}
+use mathlib.Core.List.{List, [], ◌++◌, append-nil}
+use Prim.Native.Nat.{ℕ, ◌+◌, ◌-◌, ◌*◌, ◌≤◌, ◌<◌, ◌^◌, min}
 use native.Mathlib.Nat.{sub-zero}
 use native.Mathlib.Decide.{dec_lt}
 use native.Mathlib.Omega.{arith}
-use lib.ListN.{length, get_or, take, drop, length-append, length-map}
+use lib.ListN.{length, take, drop, length-append, length-map}
 use lib.Seq.{drop-drop, length-take-le}
 use lib.Dec.{ltb}
 use borrow.Author.Tests.{lt-ltb, ltb-false}
 use Rattle.refusals.specs.declared.Refusal.{Refusal}
-use Rattle.refusals.specs.declared.Check.{Check}
 use Rattle.refusals.specs.declared.Check.TheVariants.{Fine, Refused}
 use Rattle.refusals.specs.Refusals.{unless}
-use Rattle.refusals.proofs.Checks.{unless_fine, and_then_refused, and_then_fine, and_then_left, and_then_right}
-use Rattle.grid.specs.Domain.{Lines, count, Alike, lengths_check, count_check}
-use Rattle.grid.proofs.Fine.{lengths_fine}
+use Rattle.grid.specs.Domain.{Lines, count, lengths_check, count_check}
 use Rattle.seek.specs.Tests.{Pair}
 use Rattle.visit.specs.Batches.{made, handed, firsts, seconds}
 use Rattle.visit.specs.Entries.{outputs_check}
-use Rattle.seek.specs.Cursors.{globals_rest}
-use Rattle.visit.specs.Inside.{TestsMoved}
 use Rattle.visit.proofs.Clauses.{made_full, handed_full, handed_none}
 use Rattle.visit.proofs.Moves.{none_made, none_handed}
 use Rattle.slices.specs.Slices.{cleared_from}
@@ -44,7 +39,7 @@ use Rattle.resume.specs.declared.Went.{Went}
 use Rattle.resume.specs.declared.nexts.Ran.{Ran}
 use Rattle.resume.specs.declared.globals.GlobalsRan.{GlobalsRan}
 use Rattle.resume.specs.declared.NextAnswer.TheVariants as next
-use Rattle.resume.specs.AsTheyAre.{cells_to_look, list_as, globals_as}
+use Rattle.resume.specs.AsTheyAre.{cells_to_look, globals_as}
 use Rattle.resume.specs.Cursors.{globals_from, left_from, cursor_of}
 use Rattle.resume.specs.Answers.{next_tests, next_answer, NextIs}
 use Rattle.resume.specs.Inside.{Passed, GlobalsAsk, GlobalsRanIs, GoAsks, RunAsks, still_left, RunIs, SettleAsks, Gone}

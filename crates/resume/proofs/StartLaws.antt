@@ -1,39 +1,29 @@
 -- Where each test of fit tables stands, and that `start` answers it; and the law that joins `next` to a batch. Assumes nothing.
-use mathlib.Core.Path.{◌≡◌, refl, sym, ap, subst, ◌∙◌}
-use mathlib.Core.Bool.{Bool, true, false, cond, ◌&&◌}
-use mathlib.Core.List.{List, [], ◌∷◌, ◌++◌, append_assoc}
-use Prim.Native.Nat.{ℕ, zero, suc, ◌+◌, ◌-◌, ◌*◌, ◌≤◌, ◌<◌, ◌^◌, min}
-use native.Mathlib.Nat.{sub-zero}
-use native.Mathlib.Decide.{dec_lt}
+use mathlib.Core.Path.{◌≡◌, refl, sym, ap, ◌∙◌}
+use mathlib.Core.List.{List, [], ◌∷◌, ◌++◌}
+use Prim.Native.Nat.{ℕ, zero, suc, ◌+◌, ◌≤◌, ◌<◌}
 use native.Mathlib.Omega.{arith}
-use lib.ListN.{length, get_or, take, drop, length-append}
-use lib.Seq.{drop-append-le, drop-cons, length-take-le, get_or-take, drop-drop}
-use lib.Dec.{ltb, leb}
-use borrow.Author.Tests.{lt-ltb, le-ltb, le-leb}
+use lib.ListN.{length, get_or, take, drop}
 use Rattle.refusals.specs.declared.Refusal.{Refusal}
 use Rattle.refusals.specs.declared.Check.{Check}
 use Rattle.refusals.specs.declared.Check.TheVariants.{Fine, Refused}
 use Rattle.refusals.specs.Refusals.{Answer, refused, gives, ◌then◌, answer_by}
 use Rattle.grid.specs.declared.Grid.{Grid}
-use Rattle.grid.specs.Domain.{Lines, count}
-use Rattle.tables.specs.Tables.{Tables, cells, list_in, globals_of}
-use Rattle.tables.specs.Fit.{TablesFit}
+use Rattle.grid.specs.Domain.{Lines}
+use Rattle.tables.specs.Tables.{Tables, cells, list_in}
 use Rattle.seek.specs.declared.Place.{Place}
 use Rattle.seek.specs.declared.Place.TheVariants.{Cell, Global}
 use Rattle.visit.specs.declared.Test.{Test}
 use Rattle.visit.specs.declared.TestAnswer.{TestAnswer}
 use Rattle.visit.specs.declared.TestAnswer.TheVariants as answer
-use Rattle.seek.specs.Tests.{Pair, pair, with_each, pairs, place_of, cell_tests, others, global_tests, tests_of}
+use Rattle.seek.specs.Tests.{Pair, with_each, pairs, place_of, cell_tests, others, global_tests, tests_of}
 use Rattle.seek.specs.Bookmarks.{visit_check, bookmark_check, tests_from}
 use Rattle.visit.specs.Entries.{next_test, test_at, test_of}
-use Rattle.seek.specs.Cursors.{rest_in, cells_rest, globals_rest}
-use Rattle.seek.proofs.Clauses.{drop_past, cells_zero, cells_suc, with_nil, with_cons, length_with, drop_with, pairs_nil, pairs_cons, globals_zero, globals_suc, others_zero, others_in, others_out}
-use Rattle.seek.proofs.Standing.{Stands, stands}
-use Rattle.resume.specs.declared.Cursor.{Cursor}
-use Rattle.resume.specs.declared.StartAnswer.{StartAnswer}
+use Rattle.seek.proofs.Clauses.{cells_zero, cells_suc, with_nil, with_cons, pairs_nil, pairs_cons, globals_zero, globals_suc}
+use Rattle.seek.proofs.Standing.{stands}
 use Rattle.resume.specs.declared.StartAnswer.TheVariants as start
-use Rattle.resume.specs.AsTheyAre.{cells_to_look, list_as, globals_as}
-use Rattle.resume.specs.Cursors.{cursor, spot_of, cursor_of, left_from}
+use Rattle.resume.specs.AsTheyAre.{cells_to_look, globals_as}
+use Rattle.resume.specs.Cursors.{cursor, spot_of, cursor_of}
 use Rattle.resume.specs.Answers.{start_answer}
 use Rattle.resume.specs.Inside.{SpotAsks}
 use Rattle.resume.proofs.CursorLaws.{cursor_end}

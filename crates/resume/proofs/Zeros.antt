@@ -1,12 +1,11 @@
 -- Zero beyond the pairs: after a run through the cells, after a store, and when all but one entry is zero. Assumes nothing.
-use mathlib.Core.Path.{◌≡◌, refl, sym, ap, subst, ◌∙◌}
+use mathlib.Core.Path.{◌≡◌, refl, sym, ap, ◌∙◌}
 use mathlib.Core.Bool.{Bool, true, false, cond, true≢false}
 use mathlib.Core.List.{List, [], ◌∷◌, ◌++◌}
 use Prim.Native.Nat.{ℕ, zero, suc, ◌+◌, ◌-◌, ◌≤◌, ◌<◌}
 use native.Mathlib.Nat.{sub-zero, zero-sub, suc-sub-suc}
-use native.Mathlib.Decide.{ℕ_discrete}
 use native.Mathlib.Omega.{arith}
-use lib.ListN.{length, get_or, take, set, replicate, length-append, length-replicate, get_or-eq_default}
+use lib.ListN.{length, get_or, take, set, replicate, length-append, length-replicate}
 use lib.Seq.{get_or-set_other}
 use Rattle.refusals.specs.Refusals.{zero_beyond}
 use Rattle.slices.specs.Slices.{cleared_from}

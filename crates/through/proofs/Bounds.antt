@@ -1,13 +1,13 @@
 -- How many tests can be left in the cells: few enough to be counted in 64 bits. Assumes nothing.
-use mathlib.Core.Path.{◌≡◌, refl, sym, ap, ◌∙◌}
+use mathlib.Core.Path.{ap}
 use mathlib.Core.Bool.{cond}
-use mathlib.Core.List.{List, [], ◌∷◌, ◌++◌}
-use Prim.Native.Nat.{ℕ, zero, suc, ◌+◌, ◌-◌, ◌*◌, ◌≤◌, ◌<◌}
+use mathlib.Core.List.{List}
+use Prim.Native.Nat.{ℕ, zero, suc, ◌-◌, ◌*◌, ◌≤◌}
 use native.Mathlib.Omega.{arith}
 use lib.ListN.{length, get_or, drop, length-append, length-drop}
 use lib.Dec.{ltb}
 use Rattle.seek.specs.declared.Place.{Place}
-use Rattle.seek.specs.Tests.{Pair, with_each, pairs, place_of}
+use Rattle.seek.specs.Tests.{with_each, pairs, place_of}
 use Rattle.seek.specs.Cursors.{rest_in}
 use Rattle.seek.proofs.Clauses.{length_with}
 use Rattle.seek.proofs.Lengths.{length_pairs, length_increasing, tri_few}

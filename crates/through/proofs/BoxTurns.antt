@@ -1,11 +1,11 @@
 -- The turns of the gathering, and the box within all that are gathered. Assumes nothing.
 use mathlib.Core.Path.{◌≡◌, refl, sym, ap, ◌∙◌}
 use mathlib.Core.Bool.{Bool, true, false, ◌&&◌, true≢false}
-use mathlib.Core.List.{List, [], ◌∷◌}
-use Prim.Native.Nat.{ℕ, zero, suc, ◌+◌, ◌-◌, ◌*◌, ◌≤◌, ◌<◌, min}
+use mathlib.Core.List.{List}
+use Prim.Native.Nat.{ℕ, zero, suc, ◌+◌, ◌-◌, ◌*◌, ◌≤◌, ◌<◌}
 use native.Mathlib.Decide.{ℕ_discrete}
 use native.Mathlib.Omega.{arith}
-use lib.ListN.{length, get_or, take, drop, set, length-set}
+use lib.ListN.{length, get_or, set, length-set}
 use lib.Seq.{get_or-set_same, get_or-set_other}
 use lib.Dec.{T, leb}
 use lib.Ieee.{Float, nan, le}
@@ -13,10 +13,9 @@ use lib.Ieee.Fits.{and_l, and_r, and_i}
 use lib.Ieee.Bits.{is_true}
 use Rattle.numbers.proofs.FloatOrder.{float_le_trans}
 use Rattle.numbers.proofs.Tests.{holds}
-use Rattle.slices.specs.Lists.{Below}
 use Rattle.slices.proofs.Members.{below_at}
 use Rattle.grid.specs.declared.Box.{Box}
-use Rattle.grid.specs.Domain.{Lines, count, Alike, segment_at}
+use Rattle.grid.specs.Domain.{Lines, count, segment_at}
 use Rattle.grid.specs.Boxes.{box_of, overlaps}
 use Rattle.listed.specs.Rooms.{BoxRoom, box_in, nowhere, is_within, within_all, inner_of}
 use Rattle.through.specs.Inside.{LineAsks, with_box, flat_in, FlatAsks, FlatFilled, GatherAsks, BoxesIn, Gathered, Inner}

@@ -3,7 +3,7 @@ use mathlib.Core.Path.{◌≡◌, refl, sym, ap, ◌∙◌}
 use mathlib.Core.Bool.{Bool, true, ◌&&◌}
 use mathlib.Core.List.{List, [], ◌∷◌, ◌++◌, append_assoc}
 use Prim.Native.Nat.{ℕ, zero, suc, ◌+◌, ◌-◌, ◌*◌, ◌≤◌, ◌<◌, ◌^◌}
-use native.Mathlib.Nat.{add-zero, mul-le-mul_right}
+use native.Mathlib.Nat.{mul-le-mul_right}
 use native.Mathlib.Numerals.{add-one}
 use native.Mathlib.Omega.{arith}
 use lib.ListN.{length, get_or, take, drop, set, length-drop, drop_of_length-le}
@@ -11,7 +11,6 @@ use lib.Seq.{drop-cons, get_or-drop, take_all}
 use lib.Dec.{eqb, leb}
 use lib.Ieee.{Float}
 use borrow.Author.Tests.{eqb-true, leb-true}
-use Rattle.slices.specs.Lists.{Below}
 use Rattle.grid.proofs.Bools.{and_left, and_right}
 use Rattle.grid.specs.declared.Box.{Box}
 use Rattle.grid.specs.Domain.{Lines, segment_at}
@@ -23,11 +22,10 @@ use Rattle.seek.proofs.Clauses.{with_nil, pairs_nil, pairs_cons}
 use Rattle.visit.specs.Overlap.{overlap}
 use Rattle.visit.specs.Inside.{TestsMoved}
 use Rattle.through.specs.declared.rows.ListRan.{ListRan}
-use Rattle.listed.specs.Lists.{list_from}
 use Rattle.listed.specs.Places.{is_brief}
 use Rattle.listed.specs.Bytes.{byte_of}
 use Rattle.listed.proofs.ByteLaws.{byte_most}
-use Rattle.through.specs.Inside.{flat_in, FlatAsks, FlatFilled, PutAsks, AnswersOf, PairsPut, FewAsks, answers_in, Goes, Brief, BriefAsks, ListAsks, ListRanIs, SameScratch}
+use Rattle.through.specs.Inside.{flat_in, FlatAsks, FlatFilled, AnswersOf, PairsPut, FewAsks, answers_in, Goes, Brief, BriefAsks, ListAsks, ListRanIs, SameScratch}
 use Rattle.through.proofs.ScanTurns.{Putting, put_start, put_more, put_end}
 use Rattle.through.proofs.Goings.{goes_none, goes_then, goes_row}
 use Rattle.listed.proofs.ListLaws.{from_begin, row_past}

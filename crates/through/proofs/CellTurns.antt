@@ -1,21 +1,16 @@
 -- The turns of the run through the cells. Assumes nothing.
-use mathlib.Core.Path.{◌≡◌, refl, sym, ap, subst, ◌∙◌}
-use mathlib.Core.List.{List, [], ◌∷◌, ◌++◌, append_assoc, append-nil}
-use Prim.Native.Nat.{ℕ, zero, suc, ◌+◌, ◌-◌, ◌≤◌, ◌<◌, ◌^◌}
-use native.Mathlib.Numerals.{add-one}
+use mathlib.Core.Path.{◌≡◌, refl, sym, ap, ◌∙◌}
+use mathlib.Core.List.{List, [], ◌++◌, append_assoc, append-nil}
+use Prim.Native.Nat.{ℕ, suc, ◌+◌, ◌-◌, ◌≤◌, ◌<◌, ◌^◌}
 use native.Mathlib.Omega.{arith}
-use lib.ListN.{length, get_or, length-append}
+use lib.ListN.{length, length-append}
 use lib.Ieee.{Float}
-use Rattle.slices.specs.Lists.{Below}
 use Rattle.grid.specs.Domain.{Lines, count}
 use Rattle.seek.specs.declared.Place.{Place}
-use Rattle.seek.specs.declared.Place.TheVariants.{Global}
-use Rattle.seek.specs.Tests.{Pair, pairs, place_of}
-use Rattle.seek.proofs.Clauses.{left_suc}
+use Rattle.seek.specs.Tests.{Pair, place_of}
 use Rattle.through.specs.declared.rows.ListRan.{ListRan}
-use Rattle.through.specs.declared.rows.CellsRan.{CellsRan}
 use Rattle.listed.specs.Lists.{list_by, list_from, tests_of_cells, cells_from}
-use Rattle.through.specs.Inside.{Goes, Lent, Scratch, SameScratch, ListAsks, ListRanIs, CellsAsk, CellsRanIs}
+use Rattle.through.specs.Inside.{Goes, SameScratch, ListAsks, ListRanIs, CellsAsk, CellsRanIs}
 use Rattle.through.proofs.Goings.{goes_none, goes_then}
 use Rattle.listed.proofs.ListLaws.{from_length}
 use Rattle.listed.proofs.AsIs.{list_increases}

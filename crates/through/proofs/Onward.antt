@@ -10,8 +10,7 @@ use lib.Seq.{drop-append-le}
 use Rattle.grid.specs.Domain.{Lines}
 use Rattle.seek.specs.Tests.{Pair}
 use Rattle.visit.specs.Overlap.{overlap}
-use Rattle.visit.specs.Batches.{made, overlapping, handed, firsts, seconds}
-use Rattle.visit.specs.Inside.{TestsMoved}
+use Rattle.visit.specs.Batches.{made, handed, firsts, seconds}
 use Rattle.visit.proofs.Clauses.{made_none, made_full, made_hit, made_miss, over_nil, over_hit, over_miss, handed_none, handed_full, handed_hit, handed_miss}
 use Rattle.through.specs.Inside.{Goes}
 

@@ -1,14 +1,14 @@
 -- The window of boxes, and the turns of the run through a list. Assumes nothing.
-use mathlib.Core.Path.{◌≡◌, refl, sym, ap, subst, ◌∙◌}
+use mathlib.Core.Path.{◌≡◌, refl, sym, ap, ◌∙◌}
 use mathlib.Core.List.{List, [], ◌∷◌, ◌++◌, append-nil}
 use Prim.Native.Nat.{ℕ, zero, suc, ◌+◌, ◌-◌, ◌≤◌, ◌<◌, ◌^◌, min}
 use native.Mathlib.Omega.{arith}
 use lib.ListN.{length, get_or, take, drop, length-drop}
 use lib.Seq.{get_or-take, get_or-drop, length-take-le}
-use lib.Ieee.{Float, nan}
+use lib.Ieee.{Float}
 use Rattle.slices.specs.Lists.{Below}
 use Rattle.slices.proofs.Members.{below_at, below_drop}
-use Rattle.grid.specs.Domain.{Lines, count, Alike, segment_at}
+use Rattle.grid.specs.Domain.{Lines, count, segment_at}
 use Rattle.grid.specs.Boxes.{box_of}
 use Rattle.seek.specs.declared.Place.{Place}
 use Rattle.seek.specs.declared.Place.TheVariants.{Global}
@@ -16,10 +16,8 @@ use Rattle.seek.specs.Tests.{Pair, with_each}
 use Rattle.visit.specs.Inside.{TestsMoved}
 use Rattle.through.specs.declared.boxes.Window.{Window}
 use Rattle.through.specs.declared.rows.PartRan.{PartRan}
-use Rattle.through.specs.declared.rows.ListRan.{ListRan}
 use Rattle.listed.specs.Lists.{list_from}
-use Rattle.listed.specs.Rooms.{box_in, BoxRoom}
-use Rattle.through.specs.Inside.{GatherAsks, Gathered, Holds, WindowAsks, ReadyIs, RoomFor, ScanAsks, Scanned, Goes, Lent, Scratch, SameScratch, PartAsks, PartIs, ListAsks, ListRanIs}
+use Rattle.through.specs.Inside.{GatherAsks, Gathered, Holds, WindowAsks, ReadyIs, ScanAsks, Scanned, Goes, SameScratch, PartAsks, PartIs, ListAsks, ListRanIs}
 use Rattle.through.proofs.Goings.{goes_none, goes_then, goes_row}
 use Rattle.listed.proofs.ListLaws.{RowIs, row_part}
 

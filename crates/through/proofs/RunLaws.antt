@@ -1,14 +1,14 @@
 -- What a run is refused for, case by case, and what it comes to. Assumes nothing.
 use mathlib.Core.Path.{◌≡◌, refl, sym, ap, ◌∙◌}
-use mathlib.Core.Bool.{Bool, true, false, cond}
-use mathlib.Core.List.{List, [], ◌∷◌, ◌++◌, append-nil}
-use Prim.Native.Nat.{ℕ, zero, suc, ◌+◌, ◌-◌, ◌≤◌, ◌<◌, ◌^◌, min}
+use mathlib.Core.Bool.{true, false}
+use mathlib.Core.List.{List, [], append-nil}
+use Prim.Native.Nat.{ℕ, ◌+◌, ◌-◌, ◌≤◌, ◌<◌, min}
 use native.Mathlib.Nat.{sub-zero}
 use native.Mathlib.Omega.{arith}
-use lib.ListN.{length, take, drop, length-map}
+use lib.ListN.{length, take, length-map}
 use lib.Seq.{length-take-le}
 use lib.Ieee.{Float}
-use lib.Dec.{eqb, ltb, leb}
+use lib.Dec.{eqb, leb}
 use borrow.Author.Tests.{eqb-true, leb-true, lt-ltb, le-ltb}
 use Rattle.refusals.specs.declared.Refusal.{Refusal}
 use Rattle.refusals.specs.declared.Check.{Check}
@@ -16,7 +16,7 @@ use Rattle.refusals.specs.declared.Check.TheVariants.{Fine, Refused}
 use Rattle.refusals.specs.Refusals.{unless, zero_beyond}
 use Rattle.refusals.proofs.Checks.{unless_fine, and_then_refused, and_then_fine, and_then_left, and_then_right}
 use Rattle.slices.specs.Slices.{cleared_from}
-use Rattle.grid.specs.Domain.{Lines, count, Alike, lengths_check, count_check}
+use Rattle.grid.specs.Domain.{Lines, count, lengths_check, count_check}
 use Rattle.grid.proofs.Fine.{lengths_fine}
 use Rattle.seek.specs.Tests.{Pair}
 use Rattle.visit.specs.Batches.{made, handed, firsts, seconds}
@@ -29,7 +29,7 @@ use Rattle.through.specs.declared.CellsMade.{CellsMade}
 use Rattle.through.specs.declared.rows.CellsRan.{CellsRan}
 use Rattle.listed.specs.Lists.{list_by, cells_from}
 use Rattle.listed.specs.Places.{LeftAt}
-use Rattle.through.specs.Runs.{outputs_lines_check, within_fit, also_if, runs, run_tests, RanIs, CellsMadeIs}
+use Rattle.through.specs.Runs.{outputs_lines_check, within_fit, also_if, runs, run_tests, CellsMadeIs}
 use Rattle.through.specs.Inside.{Goes, CellsAsk, CellsRanIs, GoAsks, GoneIs}
 use Rattle.through.proofs.Bounds.{cells_few}
 

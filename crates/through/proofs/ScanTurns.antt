@@ -2,18 +2,18 @@
 use mathlib.Core.Path.{◌≡◌, refl, sym, ap, ◌∙◌}
 use mathlib.Core.Bool.{Bool, true, false, ◌&&◌, true≢false}
 use mathlib.Core.List.{List, [], ◌∷◌, ◌++◌}
-use Prim.Native.Nat.{ℕ, zero, suc, ◌+◌, ◌-◌, ◌≤◌, ◌<◌}
-use native.Mathlib.Nat.{add-zero, sub-zero}
+use Prim.Native.Nat.{ℕ, zero, suc, ◌+◌, ◌≤◌, ◌<◌}
+use native.Mathlib.Nat.{add-zero}
 use native.Mathlib.Numerals.{add-one}
 use native.Mathlib.Decide.{ℕ_discrete}
 use native.Mathlib.Omega.{arith}
-use lib.ListN.{length, get_or, take, drop, set, length-set, drop_of_length-le}
+use lib.ListN.{length, get_or, drop, set, length-set, drop_of_length-le}
 use lib.Seq.{drop-cons, get_or-set_same, get_or-set_other}
 use lib.Dec.{eqb}
 use borrow.Author.Tests.{eqb-true}
 use lib.Ieee.{Float, nan, le}
 use Rattle.grid.specs.declared.Box.{Box}
-use Rattle.grid.specs.Domain.{Lines, count, Alike, segment_at}
+use Rattle.grid.specs.Domain.{Lines, segment_at}
 use Rattle.grid.specs.Boxes.{box_of, overlaps}
 use Rattle.grid.proofs.Bools.{and_left, and_right}
 use Rattle.seek.specs.declared.Place.{Place}
@@ -22,10 +22,10 @@ use Rattle.visit.specs.Overlap.{overlap}
 use Rattle.visit.specs.Inside.{TestsMoved}
 use Rattle.seek.proofs.Clauses.{with_nil, with_cons}
 use Rattle.visit.proofs.Moves.{moved_none, moved_then, moved_hit, moved_miss}
-use Rattle.listed.specs.Rooms.{box_in, BoxRoom}
+use Rattle.listed.specs.Rooms.{box_in}
 use Rattle.listed.specs.Bytes.{byte_of}
 use Rattle.listed.proofs.ByteLaws.{byte_true, byte_false, byte_most}
-use Rattle.through.specs.Inside.{LineAsks, MarkAsks, BytesOf, Whole, AskAsks, Asked, RoomFor, PutAsks, AnswersOf, PairsPut, PutWhole, ScanAsks, Scanned}
+use Rattle.through.specs.Inside.{MarkAsks, BytesOf, Whole, AskAsks, Asked, RoomFor, PutAsks, AnswersOf, PairsPut, PutWhole, ScanAsks, Scanned}
 
 -- ---- marking
 

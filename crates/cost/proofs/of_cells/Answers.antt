@@ -1,6 +1,5 @@
 -- `cost::of_cells` meets its contract. Assumes nothing.
 use mathlib.Core.Path.{refl}
-use Prim.Native.Nat.{◌-◌}
 use Rattle.cost.proofs.Costs.{adding_none, adding_up, adding_fits, adding_more, adding_done}
 use Rattle.cost.proofs.of_cells.Goals as goal
 

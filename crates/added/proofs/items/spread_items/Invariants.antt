@@ -1,5 +1,4 @@
 -- `added::items::spread_items` meets its contract. Assumes nothing.
-use Prim.Native.Nat.{◌-◌}
 use Rattle.added.proofs.Spreads.{Spreading}
 use Rattle.added.proofs.items.spread_items.Given as goal
 

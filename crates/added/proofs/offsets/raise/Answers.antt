@@ -1,5 +1,4 @@
 -- `added::offsets::raise` meets its contract. Assumes nothing.
-use Prim.Native.Nat.{◌-◌}
 use Rattle.added.proofs.Parts.{raising_none, raising_fits, raising_more, raising_done}
 use Rattle.added.proofs.offsets.raise.Goals as goal
 

@@ -1,5 +1,4 @@
 -- `blocks_added::raising::raise` meets its contract: the first k cells are added. Assumes nothing.
-use Prim.Native.Nat.{◌-◌}
 use native.Mathlib.Omega.{arith}
 use Rattle.blocks_added.proofs.Raises.{raising_none, block_in, block_fits, raising_more, raising_done}
 use Rattle.blocks_added.proofs.raising.raise.Goals as goal

@@ -1,5 +1,4 @@
 -- `by_line::marks::mark_list` meets its contract. Assumes nothing.
-use Prim.Native.Nat.{◌-◌}
 use native.Mathlib.Omega.{arith}
 use Rattle.by_line.proofs.Shared.{listing_none, listing_begin, listing_over, listing_more}
 use Rattle.by_line.proofs.marks.mark_list.Goals as goal

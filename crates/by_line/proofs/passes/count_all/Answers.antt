@@ -1,5 +1,4 @@
 -- `by_line::passes::count_all` meets its contract. Assumes nothing.
-use Prim.Native.Nat.{◌-◌}
 use Rattle.by_line.proofs.Turns.{counting_none, counting_can, counting_more, counting_done}
 use Rattle.by_line.proofs.passes.count_all.Goals as goal
 

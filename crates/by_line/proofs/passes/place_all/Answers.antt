@@ -1,5 +1,4 @@
 -- `by_line::passes::place_all` meets its contract. Assumes nothing.
-use Prim.Native.Nat.{◌-◌}
 use Rattle.by_line.proofs.Turns.{placing_none, placing_can, placing_more, placing_done}
 use Rattle.by_line.proofs.passes.place_all.Goals as goal
 

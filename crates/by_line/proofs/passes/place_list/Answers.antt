@@ -1,7 +1,6 @@
 -- `by_line::passes::place_list` meets its contract. Assumes nothing.
 use native.Mathlib.Nat.{lt_trans}
 use mathlib.Core.Path.{refl}
-use Prim.Native.Nat.{◌-◌}
 use native.Mathlib.Omega.{arith}
 use Rattle.fill.proofs.Visits.{placing_none, placing_read, placing_cell, placing_item, placing_fits, placing_more, placing_done}
 use Rattle.by_line.proofs.passes.place_list.Goals as goal

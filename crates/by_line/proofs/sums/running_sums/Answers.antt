@@ -1,5 +1,4 @@
 -- `by_line::sums::running_sums` meets its contract. Assumes nothing.
-use Prim.Native.Nat.{◌-◌}
 use lib.ListN.{length-set}
 use Rattle.fill.proofs.Sums.{summing_none, summing_fits, summing_more, summing_done}
 use Rattle.by_line.proofs.sums.running_sums.Goals as goal

@@ -1,6 +1,5 @@
 -- `clean_bytes::either::put_bytes` meets its contract. The invariant: the first i bytes are copied. Assumes nothing.
 use mathlib.Core.Path.{refl}
-use Prim.Native.Nat.{◌-◌}
 use native.Mathlib.Omega.{arith}
 use lib.ListN.{length-set}
 use Rattle.wkb.proofs.Stores.{put_none}

@@ -1,6 +1,5 @@
 -- `clean_bytes::text::put_member` meets its contract. The invariant: the lines of the first i points are put. Assumes nothing.
 use mathlib.Core.Path.{refl, ◌∙◌}
-use Prim.Native.Nat.{◌-◌}
 use native.Mathlib.Omega.{arith}
 use Rattle.clean_bytes.proofs.Texts.{points_none, points_more, points_all}
 use Rattle.clean_bytes.proofs.text.put_member.Goals as goal

@@ -1,6 +1,5 @@
 -- `clean_bytes::text::put_members` meets its contract. The invariant: the lines of the first k members are put. Assumes nothing.
 use mathlib.Core.Path.{refl, ◌∙◌}
-use Prim.Native.Nat.{◌-◌}
 use native.Mathlib.Omega.{arith}
 use Rattle.clean_bytes.proofs.Texts.{members_none, member_fits, members_more, members_all}
 use Rattle.clean_bytes.proofs.text.put_members.Goals as goal

@@ -1,6 +1,4 @@
 -- `fill::offsets::running_sums` meets its contract. Assumes nothing.
-use mathlib.Core.Bool.{false}
-use Prim.Native.Nat.{◌-◌}
 use lib.ListN.{length-set}
 use Rattle.fill.proofs.Sums.{summing_none, summing_fits, summing_more, above_none, sums_crowded, sums_pass, sums_end}
 use Rattle.fill.proofs.offsets.running_sums.Goals as goal

@@ -1,7 +1,6 @@
 -- `fill::passes::count_lines` meets its contract. Assumes nothing.
 use native.Mathlib.Omega.{arith}
 use mathlib.Core.Path.{◌∙◌}
-use Prim.Native.Nat.{◌-◌}
 use Rattle.fill.proofs.Counts.{counting_all, counting_walk, counting_can, counting_most, counting_next, counting_over, counting_end}
 use Rattle.fill.proofs.passes.count_lines.Goals as goal
 

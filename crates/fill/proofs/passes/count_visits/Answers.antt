@@ -1,6 +1,5 @@
 -- `fill::passes::count_visits` meets its contract. Assumes nothing.
 use mathlib.Core.Path.{refl}
-use Prim.Native.Nat.{◌-◌}
 use native.Mathlib.Omega.{arith}
 use Rattle.fill.proofs.Visits.{counting_none, counting_read, counting_cell, counting_fits, counting_more, counting_done}
 use Rattle.fill.proofs.passes.count_visits.Goals as goal

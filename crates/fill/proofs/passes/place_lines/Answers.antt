@@ -1,6 +1,5 @@
 -- `fill::passes::place_lines` meets its contract. Assumes nothing.
 use native.Mathlib.Omega.{arith}
-use Prim.Native.Nat.{◌-◌}
 use Rattle.fill.proofs.Places.{placing_all, placing_walk, placing_can, placing_few, placing_room, placing_found, placing_global, placing_local, placing_end}
 use Rattle.fill.proofs.passes.place_lines.Goals as goal
 

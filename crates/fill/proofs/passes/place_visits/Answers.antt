@@ -1,7 +1,6 @@
 -- `fill::passes::place_visits` meets its contract. Assumes nothing.
 use native.Mathlib.Nat.{lt_trans}
 use mathlib.Core.Path.{refl}
-use Prim.Native.Nat.{◌-◌}
 use native.Mathlib.Omega.{arith}
 use Rattle.fill.proofs.Visits.{placing_none, placing_read, placing_cell, placing_item, placing_fits, placing_more, placing_done}
 use Rattle.fill.proofs.passes.place_visits.Goals as goal

@@ -1,6 +1,5 @@
 -- `resume::globals::passed` meets its contract. The invariant: the globals before q are below the line. Assumes nothing.
 use native.Mathlib.Omega.{arith}
-use Prim.Native.Nat.{◌-◌}
 use Rattle.resume.proofs.GlobalTurns.{passing_none, passed_out, passing_more, passed_here, passed_all}
 use Rattle.resume.proofs.globals.passed.Goals as goal
 

@@ -1,7 +1,6 @@
 -- `resume::globals::run_globals` meets its contract. The invariant: what was left at the start is what was made and what is left now. Assumes nothing.
 use native.Mathlib.Omega.{arith}
 use mathlib.Core.Path.{refl}
-use Prim.Native.Nat.{◌-◌}
 use Rattle.resume.proofs.GlobalTurns.{globals_run, global_is, global_past, globals_first_long, globals_second_long, globals_place, globals_full, globals_over, globals_few, globals_stop, globals_asks, globals_turn, globals_less, globals_small, globals_k}
 use Rattle.resume.proofs.globals.run_globals.Goals as goal
 

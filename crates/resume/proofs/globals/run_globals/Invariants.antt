@@ -1,5 +1,4 @@
 -- `resume::globals::run_globals` meets its contract. The invariant: what was left at the start is what was made and what is left now. Assumes nothing.
-use Prim.Native.Nat.{◌-◌}
 use lib.ListN.{length}
 use Rattle.grid.specs.Domain.{lines}
 use Rattle.resume.proofs.GlobalTurns.{GlobalsRun}

@@ -1,6 +1,6 @@
 -- `resume::lines::scan_lines` meets its contract. The invariant: the lines before the u-th are done. Assumes nothing.
 use native.Mathlib.Omega.{arith}
-use Prim.Native.Nat.{◌-◌, ◌≤◌}
+use Prim.Native.Nat.{◌≤◌}
 use Rattle.listed.proofs.ByteLaws.{byte_most}
 use Rattle.resume.proofs.LineTurns.{lines_start, lines_asks, lines_more, lines_end, lines_in_first, lines_in_second}
 use Rattle.resume.proofs.lines.scan_lines.Goals as goal

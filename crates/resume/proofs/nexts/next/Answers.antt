@@ -1,6 +1,5 @@
 -- `resume::nexts::next` meets its contract. Assumes nothing.
 use mathlib.Core.Path.{sym, ◌∙◌}
-use Prim.Native.Nat.{◌-◌}
 use Rattle.grid.specs.Domain.{lines}
 use Rattle.tables.specs.Tables.{beside}
 use Rattle.resume.proofs.NextLaws.{next_refused, next_clears, next_fine, next_went}

@@ -1,8 +1,6 @@
 -- `resume::settle::global_at` meets its contract. The invariant: the same is left as at the start. Assumes nothing.
 use native.Mathlib.Omega.{arith}
-use Prim.Native.Nat.{◌-◌}
 use lib.ListN.{length}
-use Rattle.grid.specs.Domain.{lines}
 use Rattle.visit.proofs.GlobalTurns.{gliding_none, stop_asks, glided_here, glided_past, gliding_pass, gliding_next, stop_fits, global_less}
 use Rattle.resume.proofs.settle.global_at.Goals as goal
 

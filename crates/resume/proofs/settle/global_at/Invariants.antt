@@ -1,7 +1,6 @@
 -- `resume::settle::global_at` meets its contract. The invariant: the same is left as at the start. Assumes nothing.
 use Prim.Native.Nat.{◌+◌, ◌-◌, ◌*◌}
 use lib.ListN.{length}
-use Rattle.grid.specs.Domain.{lines}
 use Rattle.visit.proofs.GlobalTurns.{Gliding}
 use Rattle.resume.proofs.settle.global_at.Given as goal
 

@@ -1,5 +1,4 @@
 -- `resume::starts::index_in` meets its contract. The invariant: the value does not stand before u. Assumes nothing.
-use Prim.Native.Nat.{◌-◌}
 use Rattle.resume.proofs.CursorLaws.{seeking_none, seeking_here, seeking_more, seeking_over}
 use Rattle.resume.proofs.starts.index_in.Goals as goal
 

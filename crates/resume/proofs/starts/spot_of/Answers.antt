@@ -1,8 +1,7 @@
 -- `resume::starts::spot_of` meets its contract. Assumes nothing.
 use native.Mathlib.Omega.{arith}
-use Prim.Native.Nat.{◌-◌, ◌*◌}
+use Prim.Native.Nat.{◌*◌}
 use lib.ListN.{length}
-use Rattle.grid.specs.Domain.{lines}
 use Rattle.grid.proofs.Shapes.{wide_product}
 use Rattle.tables.specs.Tables.{tables}
 use Rattle.resume.proofs.CursorLaws.{reach_here, reach_most, spot_fits, spot_in, spotted_cell, spotted_global}

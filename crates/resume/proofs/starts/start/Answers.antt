@@ -1,7 +1,7 @@
 -- `resume::starts::start` meets its contract. Assumes nothing.
 use native.Mathlib.Omega.{arith}
 use mathlib.Core.Path.{ap, ◌∙◌}
-use Prim.Native.Nat.{◌-◌, ◌*◌}
+use Prim.Native.Nat.{◌*◌}
 use lib.ListN.{length}
 use Rattle.grid.specs.Domain.{lines}
 use Rattle.grid.proofs.Shapes.{wide_product}

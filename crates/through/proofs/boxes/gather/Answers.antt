@@ -1,5 +1,4 @@
 -- `through::boxes::gather` meets its contract. The invariant: the boxes of the entries before u stand there. Assumes nothing.
-use Prim.Native.Nat.{◌-◌}
 use borrow.Author.Rules.{rules}
 use Rattle.through.proofs.BoxTurns.{gather_start, gather_asks, gather_room, gather_more, gather_end, last_room, gathered}
 use Rattle.through.proofs.boxes.gather.Goals as goal

@@ -1,6 +1,5 @@
 -- `through::boxes::gather_flat` meets its contract. The invariant: the boxes of the entries before u stand there. Assumes nothing.
 use native.Mathlib.Omega.{arith}
-use Prim.Native.Nat.{◌-◌}
 use borrow.Author.Rules.{rules}
 use lib.ListN.{length-set}
 use Rattle.through.proofs.BoxTurns.{flat_start, flat_end, flat_asks, flat_room, flat_more}

@@ -1,6 +1,5 @@
 -- `through::cells::check_lent` meets its contract. Assumes nothing.
 use mathlib.Core.Path.{sym, ◌∙◌}
-use Prim.Native.Nat.{◌-◌}
 use Rattle.through.proofs.RunLaws.{lent_outputs, lent_lengths, lent_count}
 use Rattle.through.proofs.cells.check_lent.Goals as goal
 

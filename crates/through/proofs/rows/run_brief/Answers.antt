@@ -1,6 +1,5 @@
 -- `through::rows::run_brief` meets its contract. The invariant: the rows before i are done. Assumes nothing.
 use native.Mathlib.Omega.{arith}
-use Prim.Native.Nat.{◌-◌}
 use borrow.Author.Rules.{rules}
 use Rattle.through.proofs.BriefTurns.{brief_gathers, brief_start, brief_first_long, brief_second_long, brief_end, brief_box, brief_few_part, brief_small, brief_turn_part}
 use Rattle.through.proofs.rows.run_brief.Goals as goal

@@ -1,6 +1,5 @@
 -- `through::rows::run_cells` meets its contract. The invariant: what was left at the start is what was made and what is left now. Assumes nothing.
 use native.Mathlib.Omega.{arith}
-use Prim.Native.Nat.{◌-◌}
 use Rattle.listed.proofs.CellLaws.{next_passed}
 use Rattle.through.proofs.CellTurns.{cells_run, cells_list, cells_small, cells_full, cells_turn, cells_passed, cells_over, cells_kept, cells_first_kept, cells_second_kept, cells_first_long, cells_second_long}
 use Rattle.through.proofs.rows.run_cells.Goals as goal

@@ -1,6 +1,5 @@
 -- `through::rows::run_list` meets its contract. The invariant: what was left at the start is what was made and what is left now. Assumes nothing.
 use native.Mathlib.Omega.{arith}
-use Prim.Native.Nat.{◌-◌}
 use Rattle.listed.proofs.ListLaws.{row_at_is, row_at_past}
 use Rattle.through.proofs.RowTurns.{list_run, list_first_long, list_second_long, list_full, list_over, list_part, list_turn, list_less, list_small}
 use Rattle.through.proofs.BriefTurns.{brief_says, brief_asks, brief_ran, brief_scratch}

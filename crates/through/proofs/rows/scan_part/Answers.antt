@@ -1,6 +1,5 @@
 -- `through::rows::scan_part` meets its contract. Assumes nothing.
 use native.Mathlib.Omega.{arith}
-use Prim.Native.Nat.{◌-◌}
 use Rattle.through.proofs.RowTurns.{part_inside, part_scan_part, part_is_part, part_same_part}
 use Rattle.through.proofs.rows.scan_part.Goals as goal
 

@@ -1,5 +1,4 @@
 -- `through::scan::mark` meets its contract. The invariant: the bytes before u are the answers. Assumes nothing.
-use Prim.Native.Nat.{◌-◌}
 use Rattle.through.proofs.ScanTurns.{mark_start, mark_more, mark_end}
 use Rattle.through.proofs.scan.mark.Goals as goal
 

@@ -1,7 +1,6 @@
 -- `through::scan::put_some` meets its contract. The invariant: the entries before u are done. Assumes nothing.
 use native.Mathlib.Omega.{arith}
 use mathlib.Core.Path.{refl}
-use Prim.Native.Nat.{◌-◌}
 use Rattle.through.proofs.ScanTurns.{put_start, put_more, put_end, put_bit, put_in_first}
 use Rattle.through.proofs.scan.put_some.Goals as goal
 

@@ -1,5 +1,4 @@
 -- `through::scan::put_whole` meets its contract. The invariant: the entries before u are done, where all bytes are 1. Assumes nothing.
-use Prim.Native.Nat.{◌-◌}
 use Rattle.through.proofs.ScanTurns.{fill_start, fill_more, fill_end}
 use Rattle.through.proofs.scan.put_whole.Goals as goal
 

@@ -1,7 +1,7 @@
 -- `through::scan::scan_few` meets its contract. The invariant: the entries before u are done. Assumes nothing.
 use native.Mathlib.Omega.{arith}
 use mathlib.Core.Path.{ap, ◌∙◌}
-use Prim.Native.Nat.{◌-◌, ◌≤◌}
+use Prim.Native.Nat.{◌≤◌}
 use borrow.Author.Rules.{rules}
 use Rattle.listed.specs.Bytes.{byte_of}
 use Rattle.grid.specs.Boxes.{overlaps}

@@ -1,6 +1,5 @@
 -- `through::scan::whole` meets its contract. The invariant: where all that were seen are 1, the bytes before u are. Assumes nothing.
 use mathlib.Core.Path.{sym}
-use Prim.Native.Nat.{◌-◌}
 use mathlib.Core.Bool.{true≢false}
 use Rattle.through.proofs.ScanTurns.{whole_start, whole_more, whole_end}
 use Rattle.through.proofs.scan.whole.Goals as goal

@@ -4,9 +4,9 @@
 #![tactic(auto)]
 
 use input::Input;
-use std::fs::{Files, OpenFile, OpenOptions};
+use std::fs::{File, Files, OpenOptions};
 use std::io::{Cursor, Write};
-use std::{fs, io, str};
+use std::{io, str};
 
 // Says on standard error what failed, and why in the system's words. Where standard error takes no line, there is no place to say so.
 fn fail<R: Eprint>(rt: &R, what: &str, error: io::Error) {
@@ -27,19 +27,17 @@ fn before<'a>(text: &'a str, mark: &str) -> &'a str {
 }
 
 // All bytes to a new file, which is closed. What failed last is told.
-fn fill<F: Write + OpenFile + Drop>(mut file: F, bytes: &[u8]) -> io::Result<()> {
+fn fill(mut file: File, bytes: &[u8]) -> io::Result<()> {
     let written = file.write_all(bytes);
     let stored = file.sync_all();
     stored.and(written)
 }
 
 // Puts the file in place. A file that stands at the name beside is another run's, and is left alone.
-fn put_file<R: Files + Eprint>(rt: &R, bytes: &[u8]) -> bool {
-    let made = OpenOptions::new()
-        .write(true)
-        .create_new(true)
-        .open(rt, "clean.wkb.new");
-    let file = match made {
+fn put_file(rt: &HostRuntime, bytes: &[u8]) -> bool {
+    let mut how = OpenOptions::new();
+    how.write(true).create_new(true);
+    let file = match rt.open_file(&how, "clean.wkb.new") {
         Ok(file) => file,
         Err(e) => {
             fail(rt, "morelturret: clean.wkb.new can't be made", e);
@@ -48,12 +46,12 @@ fn put_file<R: Files + Eprint>(rt: &R, bytes: &[u8]) -> bool {
     };
     if let Err(e) = fill(file, bytes) {
         fail(rt, "morelturret: clean.wkb.new can't be written", e);
-        let _ = fs::remove_file(rt, "clean.wkb.new");
+        let _ = rt.remove_file("clean.wkb.new");
         return false;
     }
-    if let Err(e) = fs::rename(rt, "clean.wkb.new", "clean.wkb") {
+    if let Err(e) = rt.rename("clean.wkb.new", "clean.wkb") {
         fail(rt, "morelturret: clean.wkb can't be put in place", e);
-        let _ = fs::remove_file(rt, "clean.wkb.new");
+        let _ = rt.remove_file("clean.wkb.new");
         return false;
     }
     true
@@ -66,7 +64,7 @@ fn print<R: Print + Eprint>(rt: &R, text: &[u8]) {
 }
 
 // A file of 0 bytes is none.
-fn keep<R: Files + Eprint>(rt: &R, file: &[u8]) -> bool {
+fn keep(rt: &HostRuntime, file: &[u8]) -> bool {
     if file.len() == 0 {
         return true;
     }
@@ -74,14 +72,14 @@ fn keep<R: Files + Eprint>(rt: &R, file: &[u8]) -> bool {
 }
 
 // The file, and the text once it is in place.
-fn deliver<R: Files + Print + Eprint>(rt: &R, file: &[u8], text: &[u8]) {
+fn deliver(rt: &HostRuntime, file: &[u8], text: &[u8]) {
     if keep(rt, file) {
         print(rt, text);
     }
 }
 
 // Cleans the bytes of the input. Every text has room (`text_fits` of `clean_bytes`).
-fn respond<R: Files + Print + Eprint>(rt: &R, bytes: &[u8]) {
+fn respond(rt: &HostRuntime, bytes: &[u8]) {
     let mut file = [0u8; 65545];
     let mut text = [0u8; 201000];
     let ends = clean_bytes::clean_bytes(bytes, &mut file, &mut text);
@@ -91,8 +89,7 @@ fn respond<R: Files + Print + Eprint>(rt: &R, bytes: &[u8]) {
 // An input of more than 65,536 bytes is refused by its 65,537th: the rest is not read.
 fn main(rt: HostRuntime) {
     let mut bytes = [0u8; 65537];
-    let mut reader = rt.reader();
-    let read = input::read_input(&mut reader, &mut bytes);
+    let read = input::read_input(&mut rt.stdin(), &mut bytes);
     match read {
         Input::Bytes(n) => respond(&rt, &bytes[..n]),
         Input::Failed => {

@@ -10,7 +10,7 @@ use std::env::Env;
 use walk::Mode;
 
 // The first letter of an argument; 0 where there is none. Of a word that is longer than the room, the front is there.
-fn letter<R: Env>(rt: &R, i: usize) -> u8 {
+fn letter(rt: &HostRuntime, i: usize) -> u8 {
     let mut word = [0u8; 16];
     let _ = rt.arg(i, &mut word);
     word[0]
@@ -49,8 +49,7 @@ fn main(rt: HostRuntime) {
         mode: mode_of(letter(&rt, 2)),
     };
     let mut bytes = [0u8; 16394];
-    let mut reader = rt.reader();
-    let read = input::read_input(&mut reader, &mut bytes);
+    let read = input::read_input(&mut rt.stdin(), &mut bytes);
     match read {
         Input::Bytes(n) => print(&rt, &bytes[..n], plan),
         Input::Failed => {

@@ -7,6 +7,7 @@ use walk::Mode;
 
 fn main(rt: HostRuntime) {
     program::run(
+        &mut rt.stdin(),
         &rt,
         Plan {
             sizing: Sizing::Square,

@@ -1,7 +1,9 @@
 // The whole of an input, read into a buffer.
 #![tactic(auto)]
 
-ghost use Rattle.input.specs.Whole.{IsPrefixLen, Within};
+ghost use Rattle.std.specs.Prelude.{take};
+ghost use Rattle.std.specs.Io.KnownBytes.{Consumes};
+ghost use Rattle.input.specs.Whole.{IsPrefixLen, Within, Brings};
 
 use std::io::Read;
 
@@ -14,7 +16,8 @@ pub enum Input {
 
 // Reads until the bytes are full or the input ends.
 pub fn read_input<R: Read>(reader: &mut R, bytes: &mut [u8]) -> Input
-    ensures { Within result bytes.new }
+    ensures within { Within result bytes.new }
+    ensures brings { Brings (R.remaining reader.old) (R.remaining reader.new) result bytes.new }
 {
     let mut done = 0;
     while done < bytes.len() {
@@ -29,7 +32,8 @@ pub fn read_input<R: Read>(reader: &mut R, bytes: &mut [u8]) -> Input
 
 // The same, where a read that fails ends the input: answers how many bytes came before.
 pub fn read_full<R: Read>(reader: &mut R, bytes: &mut [u8]) -> usize
-    ensures { IsPrefixLen result bytes.new }
+    ensures within { IsPrefixLen result bytes.new }
+    ensures brings { Consumes (R.remaining reader.old) (R.remaining reader.new) (take result bytes.new) }
 {
     let mut done = 0;
     while done < bytes.len() {

@@ -1,11 +1,12 @@
-// What the programs do: one LineString in well-known binary from standard input; what document 01 says of it in a plan, to standard output.
+// What the programs do: one LineString in well-known binary from standard input, which the caller hands as a reader; what document 01 says of it in a
+// plan, to standard output.
 // A read or a write that fails is said on standard error, and so is the value of a refusal. A report is whole if its last line is that of the visit, or a
 // refusal.
 #![tactic(auto)]
 
 use build::Plan;
 use input::Input;
-use std::io;
+use std::io::Read;
 
 // Says on standard error the value of the refusal that is due, if one is. It reads and builds for itself: the report has no place for a value.
 // Where standard error takes no line, there is no place to say so.
@@ -33,10 +34,9 @@ fn respond<R: Print + Eprint>(rt: &R, bytes: &[u8], plan: Plan) {
 
 // A valid input has at most 16,393 bytes. One byte more is enough to refuse a longer one at the right byte: that is the first of a field among
 // the first 9 bytes, or what follows the last of at most 1,024 points (`first_bytes` of `chain`). The rest is not read.
-pub fn run<R: io::Input + Print + Eprint>(rt: &R, plan: Plan) {
+pub fn run<I: Read, R: Print + Eprint>(reader: &mut I, rt: &R, plan: Plan) {
     let mut bytes = [0u8; 16394];
-    let mut reader = rt.reader();
-    let read = input::read_input(&mut reader, &mut bytes);
+    let read = input::read_input(reader, &mut bytes);
     match read {
         Input::Bytes(n) => respond(rt, &bytes[..n], plan),
         Input::Failed => {

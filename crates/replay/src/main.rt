@@ -81,8 +81,7 @@ fn room_for_words() -> [u64; 196608]
 // A file that fills all the room may go on, and is not compared.
 fn main(rt: HostRuntime) {
     let mut bytes = room_for_bytes();
-    let mut reader = rt.reader();
-    let n = input::read_full(&mut reader, &mut bytes);
+    let n = input::read_full(&mut rt.stdin(), &mut bytes);
     if n == 1572864 {
         let _ = println!(rt; "too long");
         return;

@@ -5,13 +5,13 @@ use Rattle.clean_bytes.proofs.Fitting.{bytes_within, text_within}
 use Rattle.chain_clean.proofs.respond.Goals as goal
 
 pub slice_bounds-file-end : goal.slice_bounds-file-end
-slice_bounds-file-end g c = bytes_within c.clean_bytes-ends.ensures
+slice_bounds-file-end c = bytes_within c.clean_bytes-ends.ensures
 
 pub slice_bounds-deliver-end : goal.slice_bounds-deliver-end
-slice_bounds-deliver-end g c = sym (length-take-le _ _ (bytes_within c.clean_bytes-ends.ensures))
+slice_bounds-deliver-end c = sym (length-take-le _ _ (bytes_within c.clean_bytes-ends.ensures))
 
 pub slice_bounds-text-end : goal.slice_bounds-text-end
-slice_bounds-text-end g c = text_within c.clean_bytes-ends.ensures
+slice_bounds-text-end c = text_within c.clean_bytes-ends.ensures
 
 pub slice_bounds-deliver-end-2 : goal.slice_bounds-deliver-end-2
-slice_bounds-deliver-end-2 g c = sym (length-take-le _ _ (text_within c.clean_bytes-ends.ensures))
+slice_bounds-deliver-end-2 c = sym (length-take-le _ _ (text_within c.clean_bytes-ends.ensures))

@@ -1,6 +1,6 @@
 -- What the functions of a scan ask and promise, whatever decides which two lines are handed out: over a decision `chosen` on two line numbers, and
 -- N lines. A scan over other slices than this crate's cites these, with their laws. Definitions only.
-use Rattle.std.specs.Prelude.{ℕ, zero, suc, ◌+◌, ◌*◌, ◌≤◌, ◌<◌, ◌^◌, ◌≡◌, Bool, not, ◌&&◌, List, [], ◌∷◌, length, get_or, take, set, replicate}
+use Rattle.std.specs.Prelude.{ℕ, suc, ◌+◌, ◌*◌, ◌≤◌, ◌<◌, ◌^◌, ◌≡◌, Bool, not, ◌&&◌, List, [], ◌∷◌, length, get_or, take, set, replicate}
 use Rattle.slices.specs.Lists.{Below}
 use Rattle.refusals.specs.declared.Check.TheVariants.{Fine}
 use Rattle.grid.specs.declared.Grid.{Grid}

@@ -1,25 +1,24 @@
 -- On tables that fit, from the cursor of a bookmark, the tests that are left are those that are left at the bookmark; so `next` makes, hands out and
 -- answers what a batch does, and cursor and bookmark stay in step. Assumes nothing.
 use mathlib.Core.Path.{◌≡◌, refl, sym, ap, subst, ◌∙◌}
-use mathlib.Core.Bool.{Bool, true, false, cond, ◌&&◌}
-use mathlib.Core.List.{List, [], ◌∷◌, ◌++◌, append_assoc, append-nil}
-use Prim.Native.Nat.{ℕ, zero, suc, ◌+◌, ◌-◌, ◌*◌, ◌≤◌, ◌<◌, ◌^◌, min}
-use native.Mathlib.Nat.{sub-zero, add_comm}
+use mathlib.Core.Bool.{Bool, true, false}
+use mathlib.Core.List.{List, [], ◌∷◌, ◌++◌}
+use Prim.Native.Nat.{ℕ, zero, suc, ◌+◌, ◌-◌, ◌*◌, ◌≤◌, ◌<◌}
+use native.Mathlib.Nat.{sub-zero}
 use native.Mathlib.Decide.{dec_lt}
 use native.Mathlib.Omega.{arith}
 use lib.ListN.{length, get_or, take, drop, length-append, drop_of_length-le}
-use lib.Seq.{drop-append-le, drop-cons, length-take-le, get_or-take, take-take, drop-drop, slice}
-use lib.Dec.{ltb, leb}
+use lib.Seq.{drop-append-le, length-take-le, get_or-take, take-take, drop-drop}
 use borrow.Author.Tests.{lt-ltb, le-ltb, le-leb}
 use Rattle.slices.specs.Lists.{elem}
-use Rattle.tables.specs.Tables.{Tables, cells, list_in, globals_of}
-use Rattle.tables.specs.Fit.{TablesFit, Increasing, increases}
+use Rattle.tables.specs.Tables.{Tables, cells, list_in}
+use Rattle.tables.specs.Fit.{TablesFit}
 use Rattle.tables.proofs.Facts.{says_increases, all_within}
 use Rattle.seek.specs.declared.Place.{Place}
-use Rattle.seek.specs.declared.Place.TheVariants.{Cell, Global}
+use Rattle.seek.specs.declared.Place.TheVariants.{Global}
 use Rattle.seek.specs.Tests.{Pair, pair, with_each, pairs, place_of, cell_tests, others, global_tests, tests_of}
 use Rattle.seek.specs.Cursors.{rest_in, globals_rest}
-use Rattle.seek.proofs.Clauses.{drop_past, with_nil, with_cons, length_with, drop_with, pairs_nil, pairs_cons, cells_zero, cells_suc, globals_zero, globals_suc, grest_suc, others_zero, others_in, others_out, left_suc}
+use Rattle.seek.proofs.Clauses.{drop_past, with_cons, length_with, drop_with, pairs_nil, pairs_cons, cells_zero, cells_suc, globals_zero, globals_suc, grest_suc, others_zero, others_in, others_out}
 use Rattle.refusals.specs.declared.Check.{Check}
 use Rattle.refusals.specs.declared.Check.TheVariants.{Fine, Refused}
 use Rattle.refusals.specs.Refusals.{unless, and_then, Answer, gives, ◌then◌}
@@ -35,9 +34,8 @@ use Rattle.listed.specs.Lists.{list_if, list_by, list_from, tests_of_cells, cell
 use Rattle.through.specs.Runs.{outputs_lines_check}
 use Rattle.resume.specs.Answers.{next_tests, NextIs}
 use Rattle.resume.specs.declared.NextAnswer.{NextAnswer}
-use Rattle.resume.specs.declared.Cursor.{Cursor}
 use Rattle.resume.specs.AsTheyAre.{cells_looked_at, cells_to_look, list_as, globals_by, globals_as}
-use Rattle.resume.specs.Cursors.{cursor, globals_from, left_from, spot_of, cursor_of}
+use Rattle.resume.specs.Cursors.{cursor, globals_from, left_from, cursor_of}
 use Rattle.resume_laws.specs.Words.{cursor_at}
 use Rattle.listed.proofs.ListLaws.{from_later}
 use Rattle.listed.proofs.CellLaws.{of_zero, of_suc, from_at, from_done}

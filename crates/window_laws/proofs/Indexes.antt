@@ -8,7 +8,7 @@ use native.Mathlib.Nat.{mul-le-mul_left, mul-le-mul_right, le_of_mul-le-mul_righ
 use native.Mathlib.Omega.{arith}
 use lib.Dec.{T, lit<}
 use lib.Pow.{pow_pos, pow_mono}
-use lib.Ieee.{Float, nan, inf, fin, Format, prec, low, up, down, size, round, div}
+use lib.Ieee.{Float, nan, inf, fin, Format, prec, low, down, size, round, div}
 use lib.Ieee.Digits.{size-lt}
 use lib.Ieee.Exact.{HasValue}
 use lib.Ieee.Fits.{down_pos}

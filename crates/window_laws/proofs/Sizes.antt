@@ -9,7 +9,7 @@ use borrow.Author.Tests.{le-leb}
 use lib.Dec.{T}
 use lib.ListN.{length}
 use lib.Ieee.{binary64, fits}
-use Rattle.refusals.specs.Refusals.{and_then, Answer, gives, ◌then◌, ◌into◌}
+use Rattle.refusals.specs.Refusals.{and_then, Answer, gives, ◌into◌}
 use Rattle.refusals.proofs.Answers.{then_passed, into_passed}
 use Rattle.grid.specs.declared.Grid.{Grid}
 use Rattle.grid.specs.Domain.{Lines, count, scratch_check, lines_check}

@@ -1,5 +1,4 @@
 -- `short_lists::scan` meets its contract. Assumes nothing.
-use Prim.Native.Nat.{◌-◌}
 use mathlib.Core.Path.{sym, ◌∙◌}
 use Rattle.short_lists.proofs.Tries.{fits_room, rows_fit, rows_none, tried_begin, tried_done, tried_row, tried_next}
 use Rattle.short_lists.proofs.scan.Goals as goal

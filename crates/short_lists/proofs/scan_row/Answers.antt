@@ -1,5 +1,4 @@
 -- `short_lists::scan_row` meets its contract. Assumes nothing.
-use Prim.Native.Nat.{◌-◌}
 use native.Mathlib.Omega.{arith}
 use Rattle.short_lists.proofs.Tries.{row_begin, row_done, row_fits, row_yes, row_over}
 use Rattle.short_lists.proofs.scan_row.Goals as goal

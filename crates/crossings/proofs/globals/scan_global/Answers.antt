@@ -1,6 +1,5 @@
 -- `crossings::globals::scan_global` meets its contract. Assumes nothing.
 use mathlib.Core.Path.{◌∙◌}
-use Prim.Native.Nat.{◌-◌}
 use native.Mathlib.Omega.{arith}
 use Rattle.crossings.proofs.RowLaws.{row_first, row_held, held_other}
 use Rattle.first_tests.proofs.Runs.{global_in, runs_begin, stop_here, stop_inside, stop_small, stop_fits, stop_last, run_scan, runs_next, runs_done}

@@ -1,5 +1,4 @@
 -- `crossings::rows::scan_list` meets its contract. Assumes nothing.
-use Prim.Native.Nat.{◌-◌}
 use native.Mathlib.Omega.{arith}
 use Rattle.crossings.proofs.RowLaws.{held_other}
 use Rattle.first_tests.proofs.Scans.{list_done, list_fits}

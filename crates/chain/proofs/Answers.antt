@@ -10,8 +10,7 @@ use Rattle.refusals.specs.Refusals.{Answer, refused, gives, answer_by, left_in}
 use Rattle.refusals.proofs.Answers.{then_passed}
 use Rattle.grid.specs.declared.Grid.{Grid}
 use Rattle.grid.specs.Domain.{Lines}
-use Rattle.tables.specs.Lists.{items_of, offsets_of}
-use Rattle.fill.specs.OnGrid.{list_on, globals_on, total}
+use Rattle.fill.specs.OnGrid.{globals_on, total}
 use Rattle.build.specs.declared.Plan.{Plan}
 use Rattle.build.specs.Build.{end_of, built_on, answer_of, BuildIs}
 use Rattle.build.specs.declared.Standing.{Standing}

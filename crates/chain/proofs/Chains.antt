@@ -1,10 +1,10 @@
 -- Points and their lines, and what is printed for what the reader found. Assumes nothing.
-use mathlib.Core.Path.{◌≡◌, refl, sym, ap, ◌∙◌}
-use mathlib.Core.List.{List, [], ◌∷◌, ◌++◌, map}
-use Prim.Native.Nat.{ℕ, zero, suc, ◌+◌, ◌-◌, ◌≤◌, ◌<◌}
+use mathlib.Core.Path.{◌≡◌, refl, ap, ◌∙◌}
+use mathlib.Core.List.{List, map}
+use Prim.Native.Nat.{ℕ, ◌-◌, ◌≤◌}
 use native.Mathlib.Omega.{arith}
 use lib.Ieee.{Float, binary64, of_bits}
-use lib.ListN.{length, take, drop, replicate, length-append, length-map, length-replicate}
+use lib.ListN.{length, take, drop, replicate, length-append, length-map}
 use lib.Seq.{take_at}
 use Rattle.refusals.specs.declared.Refusal.{Refusal}
 use Rattle.refusals.specs.Refusals.{unless, Answer, refused, gives, ◌then◌, answer_by, left_in, zero_beyond}
@@ -15,7 +15,6 @@ use Rattle.wkb.specs.declared.Read.{Read}
 use Rattle.wkb.specs.declared.Read.TheVariants.{Points, Refused}
 use Rattle.wkb.proofs.Chains.{start_parts, end_parts}
 use Rattle.build.specs.declared.Plan.{Plan}
-use Rattle.report.specs.Lines.{refused_line}
 use Rattle.chain.specs.Printed.{chain_of, printed_lines, refused_text, printed_points, printed}
 
 -- ---- lines as parts of the points

@@ -1,25 +1,22 @@
 -- How long a text can be: 281,000 bytes hold every one. At most 4,095 cells with at most 4,096 items and 64 globals are shown. Assumes nothing.
-use mathlib.Core.Path.{◌≡◌, refl, sym, ap, ◌∙◌}
-use mathlib.Core.Bool.{Bool, true, false}
-use mathlib.Core.List.{List, [], ◌∷◌, ◌++◌}
-use Prim.Native.Nat.{ℕ, zero, suc, ◌+◌, ◌-◌, ◌*◌, ◌/◌, ◌%◌, ◌≤◌, ◌<◌}
+use mathlib.Core.Path.{◌≡◌, refl}
+use mathlib.Core.List.{List}
+use Prim.Native.Nat.{ℕ, zero, suc, ◌+◌, ◌-◌, ◌*◌, ◌/◌, ◌%◌, ◌≤◌}
 use native.Mathlib.Omega.{arith}
-use borrow.Author.Tests.{leb-true}
-use lib.Dec.{leb}
 use lib.Ieee.{binary64, to_bits}
-use lib.ListN.{length, get_or, take, length-append, length-take, length-replicate}
+use lib.ListN.{length, get_or, length-append, length-take, length-replicate}
 use lib.Seq.{length-slice}
 use Rattle.refusals.specs.Refusals.{Answer, refused, gives, answer_by, zero_beyond}
 use Rattle.refusals.proofs.Answers.{then_passed}
 use Rattle.grid.specs.declared.Grid.{Grid}
-use Rattle.grid.specs.Domain.{Lines, count, scratch_check, lines_check}
-use Rattle.tables.specs.Lists.{start, items_of, offsets_of}
+use Rattle.grid.specs.Domain.{Lines}
+use Rattle.tables.specs.Lists.{start, items_of}
 use Rattle.fill.specs.OnGrid as on
 use Rattle.fill.specs.OnGrid.{total}
 use Rattle.build.specs.declared.Plan.{Plan}
 use Rattle.build.specs.Build.{end_of}
 use Rattle.build.proofs.Settled.{Made, made_says}
-use Rattle.tables.specs.Tables.{Tables, cells, list_of, globals_of, beside}
+use Rattle.tables.specs.Tables.{Tables, cells, list_of, globals_of}
 use Rattle.tables.specs.Fit.{TablesFit}
 use Rattle.tables.proofs.Facts.{all_within}
 use Rattle.tables.proofs.Laws.{length_concat}
@@ -29,7 +26,6 @@ use Rattle.visit.specs.Batches.{overlapping}
 use Rattle.seek.proofs.Standing.{stands}
 use Rattle.wkb.specs.Bytes.{Point}
 use Rattle.wkb.specs.Reading.{found}
-use Rattle.report.specs.Lines.{grid_line, cell_line, global_line, visit_line, refused_line}
 use Rattle.report.proofs.Sizes.{grid_size, cell_size, global_size, visit_size, refused_size}
 use Rattle.chain.specs.Printed.{cell_lines, report_of, all_tests, printed_tables, tables_on, printed_on, printed_lines, refused_text, printed_points, printed}
 

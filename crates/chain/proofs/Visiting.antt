@@ -1,11 +1,11 @@
 -- The laws of a full visit that is made in batches. Assumes nothing.
-use mathlib.Core.Path.{◌≡◌, refl, sym, ap, ◌∙◌, subst}
+use mathlib.Core.Path.{◌≡◌, refl, sym, ap, ◌∙◌}
 use mathlib.Core.Bool.{Bool, true, false}
 use mathlib.Core.List.{List, [], ◌∷◌, ◌++◌}
 use Prim.Native.Nat.{ℕ, zero, suc, ◌+◌, ◌-◌, ◌≤◌, ◌<◌}
 use native.Mathlib.Omega.{arith}
 use borrow.Author.Tests.{eq-eqb}
-use lib.ListN.{length, drop, length-append, length-drop, drop_of_length-le}
+use lib.ListN.{length, drop, length-append, length-drop}
 use lib.Seq.{drop-drop}
 use Rattle.refusals.specs.declared.Refusal.{Refusal}
 use Rattle.refusals.specs.declared.Check.{Check}
@@ -24,7 +24,6 @@ use Rattle.visit.specs.Batches.{made, room_after, keep_if, overlapping, handed}
 use Rattle.seek.specs.Bookmarks.{visit_check, tests_from}
 use Rattle.visit.specs.Entries.{outputs_check, tally_of, batch_tests, batch_of, batch_answer, BatchIs}
 use Rattle.seek.proofs.FindLaws.{book_in}
-use Rattle.chain.specs.declared.Visited.{Visited}
 use Rattle.chain.specs.declared.Visited.TheVariants as visited
 use Rattle.chain.specs.Printed.{all_tests}
 use Rattle.chain.specs.Inside.{batch_from, full_visit}

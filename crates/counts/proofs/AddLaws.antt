@@ -4,25 +4,25 @@
 --     associates                both groupings give the same table, or both are refused
 --     one-sum                   the promise settles the answer and every entry
 -- Commutative and associative it is for tables of any lengths and entries. Assumes nothing.
-use mathlib.Core.Path.{◌≡◌, refl, sym, ap, ap₂, ◌∙◌, fun_ext}
-use mathlib.Core.Bool.{Bool, true, false}
+use mathlib.Core.Path.{◌≡◌, refl, sym, ap, ◌∙◌, fun_ext}
+use mathlib.Core.Bool.{false}
 use mathlib.Core.List.{List}
-use Prim.Native.Nat.{ℕ, zero, suc, ◌+◌, ◌-◌, ◌≤◌, ◌<◌, ◌^◌}
+use Prim.Native.Nat.{ℕ, ◌+◌, ◌-◌, ◌≤◌, ◌<◌}
 use native.Mathlib.Nat.{add_comm, add_assoc}
 use native.Mathlib.Decide.{ℕ_discrete}
 use native.Mathlib.Omega.{arith}
 use borrow.Author.Tests.{le-leb, lt-leb, leb-true, eqb-true, eq-eqb, ne_eqb}
 use lib.Dec.{leb, eqb}
-use lib.ListN.{length, get_or, set, replicate, length-set, length-replicate}
+use lib.ListN.{length, get_or, set, length-set, length-replicate}
 use lib.Seq.{get_or-set_same, get_or-set_other, ext_get_or, take-length}
 use Rattle.slices.proofs.Clearing.{zeros_at}
 use Rattle.refusals.specs.declared.Refusal.{Refusal}
 use Rattle.refusals.specs.declared.Check.{Check}
 use Rattle.refusals.specs.declared.Check.TheVariants.{Fine, Refused}
-use Rattle.refusals.specs.Refusals.{refusal, unless, and_then, each_from, Answer, refused, gives, ◌then◌, ◌into◌, clears, left_by, left_in}
-use Rattle.refusals.proofs.Checks.{unless_fine, and_then_left, and_then_right, and_then_fine, and_then_refused, each_good, each_bad, each_over, each_says, each_fine}
-use Rattle.refusals.proofs.Answers.{then_fine, then_refused, then_passed, into_passed, apart}
-use Rattle.refusals.proofs.Leaving.{Clearing, clearing_unless, clearing_then, clearing_each, left_same}
+use Rattle.refusals.specs.Refusals.{refusal, unless, and_then, each_from, Answer, refused, gives, ◌then◌, ◌into◌, clears, left_in}
+use Rattle.refusals.proofs.Checks.{unless_fine, and_then_left, and_then_right, each_good, each_bad, each_over, each_says, each_fine}
+use Rattle.refusals.proofs.Answers.{then_passed, into_passed, apart}
+use Rattle.refusals.proofs.Leaving.{Clearing, clearing_each, left_same}
 use Rattle.tables.specs.Lists.{tabulate}
 use Rattle.tables.proofs.Laws.{take_tabulate, length_tabulate, get_d_tabulate}
 use Rattle.counts.specs.Adding.{sum_at, sums_check, add_check, added, add_of, SumIs, SmallCounts, zeros, Agree}

@@ -2,17 +2,16 @@
 --     agreed-fits               it is fit, in either sizing, for every number of lines that 64 bits can say
 --     agreed-first              from the bounds and the number of some lines it is the first grid that a build of them tries
 -- Assumes nothing.
-use mathlib.Core.Path.{◌≡◌, sym, ap, ◌∙◌, subst}
-use mathlib.Core.Bool.{Bool, true, cond, ◌&&◌}
+use mathlib.Core.Path.{◌≡◌, sym, ap, subst}
+use mathlib.Core.Bool.{true, ◌&&◌}
 use mathlib.Core.List.{List}
-use Prim.Native.Nat.{ℕ, zero, suc, ◌-◌, ◌≤◌, ◌<◌, ◌^◌}
+use Prim.Native.Nat.{ℕ, zero, suc, ◌≤◌, ◌<◌, ◌^◌}
 use native.Mathlib.Omega.{arith}
 use lib.Dec.{T}
-use lib.Ieee.{Float, nan, inf, fin, binary64, sub, lt, le}
+use lib.Ieee.{Float, nan, inf, fin, binary64, sub, le}
 use lib.ListN.{get_or}
 use Rattle.numbers.specs.Order.{least_of, greatest_of}
 use Rattle.numbers.proofs.FloatOrder.{number, float_le_trans, not_under, le_number}
-use Rattle.grid.specs.declared.Grid.{Grid}
 use Rattle.grid.specs.declared.Segment.{Segment}
 use Rattle.grid.specs.Domain.{Lines, count, segment_by, coordinate, point, segment, fit}
 use Rattle.grid.proofs.Bools.{and_left, and_right}
@@ -22,7 +21,7 @@ use Rattle.sizing.specs.declared.Sizing.{Sizing}
 use Rattle.sizing.specs.declared.Extent.{Extent}
 use Rattle.sizing.specs.Bounds.{lowest, highest, reach, whole, extent_of}
 use Rattle.sizing.specs.Size.{first_size}
-use Rattle.sizing.specs.Counts.{grid_of, empty_grid}
+use Rattle.sizing.specs.Counts.{grid_of}
 use Rattle.numbers.proofs.Extremes.{least_one, greatest_one, least_under, greatest_over, no_nan}
 use Rattle.sizing.proofs.Reach.{Lie, coordinate_says, Spans, difference, lowest_below, highest_above}
 use Rattle.sizing.proofs.FitLaws.{Within, first_tried, empty_fits, whole_count, lie_x, lie_y}

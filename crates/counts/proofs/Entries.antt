@@ -1,8 +1,8 @@
 -- The entries: from what `fill` answers to the promises of `count` and `tables_on`, and from the checks to that of `agreed_grid`. Assumes nothing.
 use mathlib.Core.Path.{◌≡◌, refl, sym, ap, ◌∙◌}
-use mathlib.Core.Bool.{Bool, true, false, cond}
+use mathlib.Core.Bool.{false, cond}
 use mathlib.Core.List.{List}
-use Prim.Native.Nat.{ℕ, zero, suc, ◌+◌, ◌≤◌, ◌<◌, ◌^◌}
+use Prim.Native.Nat.{ℕ, ◌≤◌, ◌<◌, ◌^◌}
 use native.Mathlib.Omega.{arith}
 use lib.ListN.{length, get_or}
 use Rattle.refusals.specs.declared.Refusal.{Refusal}
@@ -21,11 +21,10 @@ use Rattle.fill.specs.declared.Count.TheVariants as counting
 use Rattle.fill.specs.declared.Filled.{Filled}
 use Rattle.fill.specs.OnGrid.{grid_cells, cells_on, list_on, globals_on, total, counts_on}
 use Rattle.fill.specs.Checks.{counting_check, space_check}
-use Rattle.fill.specs.Fill.{count_of, CountIs, more_than, Filling, crowded, made, filling_of, filled_of, written_in, FillIs}
+use Rattle.fill.specs.Fill.{count_of, CountIs, more_than, crowded, made, filling_of, filled_of, written_in, FillIs}
 use Rattle.fill.proofs.Lines.{total_small}
 use Rattle.fill.proofs.Sums.{above_never}
 use Rattle.counts.specs.declared.Counted.TheVariants as counted
-use Rattle.counts.specs.declared.Tabled.{Tabled}
 use Rattle.counts.specs.declared.GridAnswer.TheVariants as agreed
 use Rattle.counts.specs.OnGrid.{CountingIs, tabled_by, tables_room_check, tables_of, TablesAre}
 use Rattle.counts.specs.Agreed.{bounds_of, agreed_on, agreed_of}

@@ -7,7 +7,7 @@
 use mathlib.Core.Path.{◌≡◌, refl, sym, ap, ap₂, ◌∙◌, fun_ext}
 use mathlib.Core.Bool.{Bool, true, false}
 use mathlib.Core.List.{List, [], ◌∷◌}
-use Prim.Native.Nat.{ℕ, zero, suc, ◌+◌, ◌-◌, ◌*◌, ◌≤◌, ◌<◌}
+use Prim.Native.Nat.{ℕ, zero, suc, ◌+◌, ◌*◌, ◌≤◌, ◌<◌}
 use native.Mathlib.Nat.{add-mul, one-mul}
 use native.Mathlib.Decide.{dec_lt, ℕ_discrete}
 use native.Mathlib.Omega.{arith}
@@ -17,20 +17,18 @@ use lib.Ieee.{Float, nan}
 use lib.ListN.{length, get_or, length-append}
 use lib.Seq.{ext_get_or}
 use Rattle.slices.specs.Lists.{elem}
-use Rattle.refusals.specs.declared.Check.{Check}
-use Rattle.refusals.specs.declared.Check.TheVariants.{Fine}
-use Rattle.refusals.specs.Refusals.{Answer, gives, ◌then◌, ◌into◌}
+use Rattle.refusals.specs.Refusals.{gives, ◌into◌}
 use Rattle.refusals.proofs.Answers.{then_passed, then_fine, into_passed}
 use Rattle.grid.specs.declared.Grid.{Grid}
 use Rattle.grid.specs.Domain.{Lines, count, segment_at, Alike, line_fits, fit}
 use Rattle.walk.specs.declared.Mode.{Mode}
 use Rattle.tables.specs.Lists.{long, local, only, lines_at, global_lines, sum}
-use Rattle.tables.proofs.Laws.{sum_same, sum_most, lines_few, length_tabulate, sum_add}
-use Rattle.fill.specs.OnGrid.{grid_cells, walk_on, completes, visited, cells_on, list_on, globals_on, total, counts_on, one_if}
+use Rattle.tables.proofs.Laws.{sum_same, lines_few, sum_add}
+use Rattle.fill.specs.OnGrid.{grid_cells, walk_on, completes, cells_on, list_on, globals_on, total, counts_on, one_if}
 use Rattle.fill.specs.Checks.{counting_check}
-use Rattle.counts.specs.Adding.{add_of, added, sum_at, Agree}
+use Rattle.counts.specs.Adding.{add_of, added, Agree}
 use Rattle.counts.specs.Sharing.{entries, taken, Benches, bench, both, times_counted, times_on, Shared, table_of, table_by, globals_on_all, listed_by}
-use Rattle.counts.proofs.AddLaws.{sum_at_lem, Adds, adds_gives, length_added, get_d_added, agree_by}
+use Rattle.counts.proofs.AddLaws.{sum_at_lem, adds_gives, length_added, get_d_added, agree_by}
 use Rattle.counts.proofs.Passing.{Passes, fine_passes, passes_fine, table_with, length_table, table_in, table_out, counts_with}
 
 -- ---- sums over the lines of benches

@@ -7,7 +7,7 @@
 -- Assumes nothing.
 use mathlib.Core.Path.{◌≡◌, refl, sym, ap, ◌∙◌}
 use mathlib.Core.List.{List, ◌++◌}
-use Prim.Native.Nat.{ℕ, suc, ◌+◌, ◌-◌, ◌≤◌, ◌<◌}
+use Prim.Native.Nat.{ℕ, suc, ◌-◌, ◌≤◌, ◌<◌}
 use native.Mathlib.Omega.{arith}
 use borrow.Author.Tests.{leb-true, le-leb}
 use lib.Dec.{leb}
@@ -19,11 +19,10 @@ use Rattle.refusals.specs.Refusals.{unless, and_then, Answer, gives, ◌then◌,
 use Rattle.refusals.proofs.Checks.{unless_fine, and_then_left, and_then_right}
 use Rattle.refusals.proofs.Answers.{then_passed}
 use Rattle.grid.specs.declared.Grid.{Grid}
-use Rattle.grid.specs.Domain.{Lines, count, Alike, scratch_check, lines_check}
+use Rattle.grid.specs.Domain.{Lines, count, scratch_check, lines_check}
 use Rattle.walk.specs.declared.Mode.{Mode}
 use Rattle.tables.specs.Tables.{tables, list_in}
-use Rattle.tables.specs.Lists.{sum, start, items_of, offsets_of}
-use Rattle.tables.specs.InsidePasses.{Table}
+use Rattle.tables.specs.Lists.{sum, items_of, offsets_of}
 use Rattle.tables.specs.Stands.{Stands}
 use Rattle.tables.proofs.Laws.{sum_same, table_made, table_offset, length_offsets, length_items}
 use Rattle.tables.proofs.Standing.{Laid, laid_stands}
@@ -40,7 +39,7 @@ use Rattle.counts.specs.declared.Counted.{Counted}
 use Rattle.counts.specs.declared.Tabled.{Tabled}
 use Rattle.counts.specs.declared.Tabled.TheVariants as tabled
 use Rattle.counts.specs.OnGrid.{CountingIs, tables_room_check, tables_of, TablesAre}
-use Rattle.counts.specs.Sharing.{Benches, Shared, table_of, table_by}
+use Rattle.counts.specs.Sharing.{Benches, Shared, table_by}
 use Rattle.counts.proofs.Passing.{Passes, fine_passes, passes_fine, table_in}
 use Rattle.counts.proofs.Sharings.{shared_counts}
 

@@ -1,6 +1,5 @@
 -- `counts::cell_count` meets its contract. Assumes nothing.
 use mathlib.Core.Path.{refl}
-use Prim.Native.Nat.{◌-◌}
 use native.Mathlib.Omega.{arith}
 use Rattle.grid.proofs.Shapes.{wide_product}
 use Rattle.counts.proofs.cell_count.Goals as goal

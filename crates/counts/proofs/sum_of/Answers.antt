@@ -1,5 +1,4 @@
 -- `counts::sum_of` meets its contract. Assumes nothing.
-use Prim.Native.Nat.{◌-◌}
 use native.Mathlib.Omega.{arith}
 use Rattle.counts.proofs.Lists.{summing_none, summing_fits, summing_more, summing_done}
 use Rattle.counts.proofs.sum_of.Goals as goal

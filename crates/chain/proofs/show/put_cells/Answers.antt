@@ -1,6 +1,5 @@
 -- `chain::show::put_cells` meets its contract. The invariant: the lines of the cells before `cell` are put. Assumes nothing.
 use mathlib.Core.Path.{refl, ◌∙◌}
-use Prim.Native.Nat.{◌-◌}
 use native.Mathlib.Omega.{arith}
 use Rattle.chain.proofs.Showing.{cells_none, cells_more, cells_all}
 use Rattle.chain.proofs.show.put_cells.Goals as goal

@@ -1,5 +1,4 @@
 -- `chain::whole::visit` meets its contract. The invariant: so many tests were made, and the overlaps among them counted. Assumes nothing.
-use Prim.Native.Nat.{◌-◌}
 use native.Mathlib.Omega.{arith}
 use Rattle.chain.proofs.Visiting.{visiting_none, visiting_few, visiting_more, visiting_less, visit_refused, visit_tally, visit_counted}
 use Rattle.chain.proofs.whole.visit.Goals as goal

@@ -1,5 +1,4 @@
 -- `counts::adding::add_all` meets its contract. Assumes nothing.
-use Prim.Native.Nat.{◌-◌}
 use lib.ListN.{length-set}
 use native.Mathlib.Omega.{arith}
 use Rattle.counts.proofs.AddLaws.{writing_none, writing_sum, writing_more, writing_done}

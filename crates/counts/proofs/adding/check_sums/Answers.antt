@@ -1,5 +1,4 @@
 -- `counts::adding::check_sums` meets its contract. Assumes nothing.
-use Prim.Native.Nat.{◌-◌}
 use native.Mathlib.Omega.{arith}
 use Rattle.counts.proofs.AddLaws.{searching_none, searching_more, searching_bad, searching_over}
 use Rattle.counts.proofs.adding.check_sums.Goals as goal

@@ -1,5 +1,4 @@
 -- `once::boxes::gather` meets its contract. The invariant: the boxes of the entries before u stand there. Assumes nothing.
-use Prim.Native.Nat.{◌-◌}
 use Rattle.once.proofs.Boxed.{gather_begin, gather_line, gather_room, gather_more, gather_end}
 use Rattle.once.proofs.boxes.gather.Goals as goal
 

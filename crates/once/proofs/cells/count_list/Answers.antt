@@ -1,5 +1,4 @@
 -- `once::cells::count_list` meets its contract. Assumes nothing.
-use Prim.Native.Nat.{◌-◌}
 use native.Mathlib.Omega.{arith}
 use Rattle.fill.proofs.Visits.{counting_none, counting_read, counting_cell, counting_fits, counting_more, counting_done}
 use Rattle.once.proofs.cells.count_list.Goals as goal

@@ -1,6 +1,5 @@
 -- `once::cells::scan_cells` meets its contract. Assumes nothing.
 use mathlib.Core.Path.{refl, ◌∙◌}
-use Prim.Native.Nat.{◌-◌}
 use native.Mathlib.Omega.{arith}
 use Rattle.first_tests.proofs.Lists.{cells_begin, cells_done, cell_rows, cell_counts, cells_next}
 use Rattle.once.proofs.cells.scan_cells.Goals as goal

@@ -1,5 +1,5 @@
 -- `once::cells::scan_rows` meets its contract. Assumes nothing.
-use Prim.Native.Nat.{◌+◌, ◌-◌}
+use Prim.Native.Nat.{◌+◌}
 use native.Mathlib.Omega.{arith}
 use Rattle.first_tests.proofs.Lists.{part_all, row_line, rows_done}
 use Rattle.first_tests.proofs.Passing.{marks_begin, mark_fits, marked_row, marks_next}

@@ -1,6 +1,5 @@
 -- `once::globals::scan_global` meets its contract. Assumes nothing.
 use mathlib.Core.Path.{◌∙◌}
-use Prim.Native.Nat.{◌-◌}
 use native.Mathlib.Omega.{arith}
 use Rattle.once.proofs.Boxed.{row_first, row_held, line_asks, held_other}
 use Rattle.first_tests.proofs.Runs.{global_line, global_in, runs_begin, stop_here, stop_inside, stop_small, stop_fits, stop_last, run_scan, runs_next, runs_done}

@@ -1,5 +1,4 @@
 -- `once::globals::scan_globals` meets its contract. Assumes nothing.
-use Prim.Native.Nat.{◌-◌}
 use Rattle.first_tests.proofs.Runs.{globals_begin, globals_done, global_asks, globals_next}
 use Rattle.once.proofs.globals.scan_globals.Goals as goal
 

@@ -1,5 +1,4 @@
 -- `once::rows::scan_lines` meets its contract. Assumes nothing.
-use Prim.Native.Nat.{◌-◌}
 use Rattle.first_tests.proofs.Passing.{marked_none}
 use Rattle.once.proofs.Boxed.{held_other}
 use Rattle.first_tests.proofs.Scans.{lines_begin, lines_done, lines_pair, lines_fits, lines_yes, lines_no}

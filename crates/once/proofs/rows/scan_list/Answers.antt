@@ -1,5 +1,4 @@
 -- `once::rows::scan_list` meets its contract. Assumes nothing.
-use Prim.Native.Nat.{◌-◌}
 use native.Mathlib.Omega.{arith}
 use Rattle.once.proofs.Boxed.{held_other}
 use Rattle.first_tests.proofs.Scans.{list_done, list_fits}

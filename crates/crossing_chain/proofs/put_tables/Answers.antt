@@ -7,7 +7,7 @@ use Rattle.crossing_chain.proofs.put_tables.Goals as goal
 pub put_crossings-requires : goal.put_crossings-requires
 put_crossings-requires c =
     let p = listed_pairs c.list_crossings-listed.ensures c.in-Pairs.is in
-    (p.in_first, p.in_second)
+    record { first_lent = p.in_first; second_lent = p.in_second }
 
 pub returns-in-Refused : goal.returns-in-Refused
 unfolding crossings_of_tables crossings_in

@@ -8,7 +8,8 @@ pub truncating_f64_to_i64-cut-requires : goal.truncating_f64_to_i64-cut-requires
 unfolding of_bits neg
 truncating_f64_to_i64-cut-requires c =
     let near : Within c.args.v = within c.args.v c.if-v.true c.if-v-2.true in
-    cut_asks _ near
+    let asks = cut_asks _ near in
+    record { lower_bound = asks.0; upper_bound = asks.1 }
 
 pub overflow_cast-result : goal.overflow_cast-result
 unfolding of_bits neg

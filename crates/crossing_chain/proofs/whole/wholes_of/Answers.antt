@@ -13,7 +13,7 @@ bounds-to-i c = let l = c.loop-i in omega (arith, c.requires)
 pub loop-i-preserved : goal.loop-i-preserved
 loop-i-preserved c =
     let l = c.loop-i in (
-      ap (λ (t : List ℤ). set t l.i (to_z w32 (of_z w32 c.whole_of.result))) l.invariant.0 ∙ store_more _ _ l.i _ (omega arith) (omega (arith, c.requires)) (to_z-of_z {w = w32} (record { sfits = c.whole_of.type-inv }) ∙ c.whole_of.ensures),
+      ap (λ (t : List ℤ). set t l.i (to_z w32 (of_z w32 c.whole_of.result))) l.invariant.0 ∙ store_more _ _ l.i _ (omega arith) (omega (arith, c.requires)) (to_z-of_z {w = w32} (record { sfits = c.whole_of.type_inv }) ∙ c.whole_of.ensures),
       omega arith,
       simp length-set l.invariant.2,
     )

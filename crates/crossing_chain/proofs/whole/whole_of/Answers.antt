@@ -15,18 +15,18 @@ pub overflow_cast-result : goal.overflow_cast-result
 unfolding of_bits neg
 overflow_cast-result c =
     let near : Within c.args.v = within c.args.v c.if-v.true c.if-v-2.true in
-    let cut_back : to_z w64 (of_z w64 c.truncating_f64_to_i64-cut.result) ≡ to_signed 63 c.args.v = 
-        let e = c.truncating_f64_to_i64-cut.ensures in
-        ap (λ (z : ℤ). to_z w64 (of_z w64 z)) e ∙ to_z-of_z (cut_fits _ near).1 in
+    let cut_back : to_z w64 (of_z w64 c.truncating_f64_to_i64-cut.result) ≡ to_signed 63 c.args.v =
+    let e = c.truncating_f64_to_i64-cut.ensures in
+    ap (λ (z : ℤ). to_z w64 (of_z w64 z)) e ∙ to_z-of_z (cut_fits _ near).1 in
     rw cut_back (cut_fits _ near).0
 
 pub returns-then-nearest_i64_to_f64-v : goal.returns-then-nearest_i64_to_f64-v
 unfolding of_bits neg
 returns-then-nearest_i64_to_f64-v c =
     let near : Within c.args.v = within c.args.v c.if-v.true c.if-v-2.true in
-    let cut_back : to_z w64 (of_z w64 c.truncating_f64_to_i64-cut.result) ≡ to_signed 63 c.args.v = 
-        let e = c.truncating_f64_to_i64-cut.ensures in
-        ap (λ (z : ℤ). to_z w64 (of_z w64 z)) e ∙ to_z-of_z (cut_fits _ near).1 in
+    let cut_back : to_z w64 (of_z w64 c.truncating_f64_to_i64-cut.result) ≡ to_signed 63 c.args.v =
+    let e = c.truncating_f64_to_i64-cut.ensures in
+    ap (λ (z : ℤ). to_z w64 (of_z w64 z)) e ∙ to_z-of_z (cut_fits _ near).1 in
     let same : c.nearest_i64_to_f64.result ≡ of_int binary64 (to_signed 63 c.args.v) = c.nearest_i64_to_f64.ensures ∙ ap (of_int binary64) cut_back in
     ap (λ (z : ℤ). to_z w32 (of_z w32 z)) cut_back ∙ to_z-of_z (cut_fits _ near).0
     ∙ cut_whole _ near (ap (λ (y : Float). eq y c.args.v) (sym same) ∙ c.if-nearest_i64_to_f64-v.true)
@@ -35,9 +35,9 @@ pub returns-else-nearest_i64_to_f64-v : goal.returns-else-nearest_i64_to_f64-v
 unfolding of_bits neg
 returns-else-nearest_i64_to_f64-v c =
     let near : Within c.args.v = within c.args.v c.if-v.true c.if-v-2.true in
-    let cut_back : to_z w64 (of_z w64 c.truncating_f64_to_i64-cut.result) ≡ to_signed 63 c.args.v = 
-        let e = c.truncating_f64_to_i64-cut.ensures in
-        ap (λ (z : ℤ). to_z w64 (of_z w64 z)) e ∙ to_z-of_z (cut_fits _ near).1 in
+    let cut_back : to_z w64 (of_z w64 c.truncating_f64_to_i64-cut.result) ≡ to_signed 63 c.args.v =
+    let e = c.truncating_f64_to_i64-cut.ensures in
+    ap (λ (z : ℤ). to_z w64 (of_z w64 z)) e ∙ to_z-of_z (cut_fits _ near).1 in
     let same : c.nearest_i64_to_f64.result ≡ of_int binary64 (to_signed 63 c.args.v) = c.nearest_i64_to_f64.ensures ∙ ap (of_int binary64) cut_back in
     cut_none _ near (ap (λ (y : Float). eq y c.args.v) (sym same) ∙ c.if-nearest_i64_to_f64-v.false)
 

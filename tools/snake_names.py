@@ -228,4 +228,5 @@ def main():
             open(p, "w", encoding="utf-8").write(new)
 
 
-main()
+if __name__ == "__main__":
+    main()

@@ -32,9 +32,11 @@ fi
 package=$built/package
 mkdir -p "$package"
 cmp -s compare/Cargo.toml "$package/Cargo.toml" || cp compare/Cargo.toml "$package/Cargo.toml"
-ln -sfn "$PWD/compare/build.rs" "$package/build.rs"
-ln -sfn "$PWD/compare/src" "$package/src"
-ln -sfn "$PWD/bindings/rust" "$package/morelturret"
+# Copies and no links: `rt ci` takes no link in a checkout.
+rm -rf "$package/src" "$package/morelturret" "$package/build.rs"
+cp -p compare/build.rs "$package/build.rs"
+cp -rp compare/src "$package/src"
+cp -rp bindings/rust "$package/morelturret"
 MORELTURRET_RUST_SRC=$(cd "$rust_source" && pwd) cargo build --quiet --release --offline --manifest-path "$package/Cargo.toml" --target-dir "$built" \
     --config 'source.crates-io.replace-with="debian"' --config "source.debian.directory=\"$registry\""
 programs=$built/release

@@ -1,4 +1,5 @@
 -- The checks in their order, case by case. Assumes nothing.
+use Rattle.std.specs.Prelude.{Ok, Err}
 use mathlib.Core.Path.{◌≡◌, sym, ap, ◌∙◌}
 use mathlib.Core.Bool.{Bool, ◌&&◌}
 use Prim.Native.Nat.{ℕ}
@@ -6,9 +7,7 @@ use borrow.Author.Tests.{leb-true, ltb-true}
 use lib.Dec.{leb, ltb}
 use lib.ListN.{length}
 use Rattle.refusals.specs.declared.Refusal.{Refusal}
-use Rattle.refusals.specs.declared.Check.{Check}
-use Rattle.refusals.specs.declared.Check.TheVariants.{Fine, Refused}
-use Rattle.refusals.specs.Refusals.{unless}
+use Rattle.refusals.specs.Refusals.{Check, unless}
 use Rattle.refusals.proofs.Checks.{unless_fine, and_then_refused, and_then_fine, and_then_left, and_then_right}
 use Rattle.grid.specs.declared.Grid.{Grid}
 use Rattle.grid.specs.declared.Segment.{Segment}
@@ -23,41 +22,41 @@ use mathlib.Core.List.{List}
 
 -- ---- 5, then 6
 
-module _ (total items found globals : ℕ) {b : Bool} {k : Check} (test : b ≡ (leb total items && leb total 4294967295)) (check : k ≡ unless b 5 total) where
-  fives : k ≡ unless (leb total items && leb total 4294967295) 5 total
-  fives = check ∙ ap (λ (x : Bool). unless x 5 total) test
+module _ (total items found globals : ℕ) {b : Bool} (test : b ≡ (leb total items && leb total 4294967295)) where
+  fives : {k : Check} → k ≡ unless b 5 total → unless (leb total items && leb total 4294967295) 5 total ≡ k
+  fives e = sym (e ∙ ap (λ (x : Bool). unless x 5 total) test)
 
-  pub room_items : {r : Refusal} → k ≡ Refused r → Refused r ≡ space_by total items found globals
+  pub room_items : {r : Refusal} → Err r ≡ unless b 5 total → Err r ≡ space_by total items found globals
   unfolding space_by
-  room_items {r} e = sym (and_then_refused _ _ r (sym fives ∙ e))
+  room_items {r} e = sym (and_then_refused _ _ r (fives e))
 
-  pub room_globals : {q : Check} → k ≡ Fine → q ≡ unless (leb found globals) 6 found → q ≡ space_by total items found globals
+  pub room_globals : {q : Check} → Ok tt ≡ unless b 5 total → q ≡ unless (leb found globals) 6 found → q ≡ space_by total items found globals
   unfolding space_by
-  room_globals e h = h ∙ sym (and_then_fine _ _ (sym fives ∙ e))
+  room_globals e h = h ∙ sym (and_then_fine _ _ (fives e))
 
 -- ---- 3, 2, 1, 8, 10
 
 module _ (g : Grid) (line : Segment) (t : Tables) (scratch : ℕ) where
-  pub ask_scratch : (r : Refusal) → scratch_check scratch ≡ Refused r → Refused r ≡ ask_check g line t scratch
+  pub ask_scratch : (r : Refusal) → scratch_check scratch ≡ Err r → Err r ≡ ask_check g line t scratch
   unfolding ask_check
   ask_scratch r e = sym (and_then_refused _ _ r e)
 
-  module _ (a : scratch_check scratch ≡ Fine) where
-    pub ask_many : (r : Refusal) → below_check t.lines ≡ Refused r → Refused r ≡ ask_check g line t scratch
+  module _ (a : scratch_check scratch ≡ Ok tt) where
+    pub ask_many : (r : Refusal) → below_check t.lines ≡ Err r → Err r ≡ ask_check g line t scratch
     unfolding ask_check
     ask_many r e = sym (and_then_fine _ _ a ∙ and_then_refused _ _ r e)
 
-    module _ (b : below_check t.lines ≡ Fine) where
-      pub ask_line : (r : Refusal) → segment_check line ≡ Refused r → Refused r ≡ ask_check g line t scratch
+    module _ (b : below_check t.lines ≡ Ok tt) where
+      pub ask_line : (r : Refusal) → segment_check line ≡ Err r → Err r ≡ ask_check g line t scratch
       unfolding ask_check
       ask_line r e = sym (and_then_fine _ _ a ∙ and_then_fine _ _ b ∙ and_then_refused _ _ r e)
 
-      module _ (d : segment_check line ≡ Fine) where
-        pub ask_grid : (r : Refusal) → cells_check g ≡ Refused r → Refused r ≡ ask_check g line t scratch
+      module _ (d : segment_check line ≡ Ok tt) where
+        pub ask_grid : (r : Refusal) → cells_check g ≡ Err r → Err r ≡ ask_check g line t scratch
         unfolding ask_check
         ask_grid r e = sym (and_then_fine _ _ a ∙ and_then_fine _ _ b ∙ and_then_fine _ _ d ∙ and_then_refused _ _ r e)
 
-        pub ask_tables : cells_check g ≡ Fine → tables_check t ≡ ask_check g line t scratch
+        pub ask_tables : cells_check g ≡ Ok tt → tables_check t ≡ ask_check g line t scratch
         unfolding ask_check
         ask_tables e = sym (and_then_fine _ _ a ∙ and_then_fine _ _ b ∙ and_then_fine _ _ d ∙ and_then_fine _ _ e)
 
@@ -70,7 +69,7 @@ unfolding cells_check
 cells_are g h e = h ∙ ap (λ (x : Bool). unless x 8 0) e
 
 -- what they find
-pub asked : {g : Grid} {line : Segment} {t : Tables} {s : List ℕ} → ask_check g line t (length s) ≡ Fine → Placeable g line t s
+pub asked : {g : Grid} {line : Segment} {t : Tables} {s : List ℕ} → ask_check g line t (length s) ≡ Ok tt → Placeable g line t s
 unfolding ask_check scratch_check below_check segment_check cells_check
 asked {g} {line} {t} {s} h =
     let h₁ = and_then_right _ _ h in

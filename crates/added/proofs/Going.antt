@@ -1,4 +1,5 @@
 -- The lists that the line goes to, by its walk; and the globals with it. Assumes nothing.
+use Rattle.std.specs.Prelude.{Ok, Err, Result}
 use mathlib.Core.Path.{◌≡◌, refl, ap, ◌∙◌}
 use mathlib.Core.Bool.{Bool, true, false}
 use mathlib.Core.List.{List, [], ◌∷◌, ◌++◌, append-nil}
@@ -34,7 +35,7 @@ record Found (o : Outcome) (all : Bool) (s : List ℕ) (k : ℕ) : Type 0 where
   size : k ≡ length cells
   at_front : take k s ≡ cells
 
-found_says : (o : Outcome) (all : Bool) (was s : List ℕ) (k : ℕ) → walk.Walked all o was (reached.Found k) s → Found o all s k
+found_says : (o : Outcome) (all : Bool) (was s : List ℕ) (k : ℕ) → walk.Walked all o was (Ok (reached.Found k)) s → Found o all s k
 unfolding walk.reached_of answer_by
 found_says (refused why) all was s k h = let z : ◌≡◌ {A = ℕ} 0 1 = cc h.answer in absurd (omega arith)
 found_says (gives xs) true was s k h = let z : ◌≡◌ {A = ℕ} 0 1 = cc h.answer in absurd (omega arith)
@@ -47,13 +48,13 @@ record All (o : Outcome) (all : Bool) : Type 0 where
   is : o ≡ gives cells
   every : all ≡ true
 
-all_says : (o : Outcome) (all : Bool) (was s : List ℕ) → walk.Walked all o was reached.Everywhere s → All o all
+all_says : (o : Outcome) (all : Bool) (was s : List ℕ) → walk.Walked all o was (Ok reached.Everywhere) s → All o all
 unfolding walk.reached_of answer_by
 all_says (refused why) all was s h = let z : ◌≡◌ {A = ℕ} 0 1 = cc h.answer in absurd (omega arith)
 all_says (gives xs) true was s h = record { cells = xs; is = refl; every = refl }
 all_says (gives xs) false was s h = let z : ◌≡◌ {A = ℕ} 0 1 = cc h.answer in absurd (omega arith)
 
-over_says : (o : Outcome) (all : Bool) (was s : List ℕ) (q : Refusal) → walk.Walked all o was (reached.Refused q) s → (o ≡ refused q) × (s ≡ left_by 0 q was)
+over_says : (o : Outcome) (all : Bool) (was s : List ℕ) (q : Refusal) → walk.Walked all o was (Err q) s → (o ≡ refused q) × (s ≡ left_by 0 q was)
 unfolding walk.reached_of answer_by
 over_says (refused why) all was s q h = let e : why ≡ q = cc h.answer in (rw e, rw (← e) h.left)
 over_says (gives xs) true was s q h = let z : ◌≡◌ {A = ℕ} 0 1 = cc h.answer in absurd (omega arith)
@@ -76,7 +77,7 @@ went_global xs e l n =
     let k = long_is xs l in
     record { visited = xs; is = e; size = rw k; few = omega arith; within = omega arith; at_front = rw k; kind = rw k; same = n }
 
-module _ (mode : Mode) (g : Grid) (line : Segment) {s : List ℕ} (w : SegmentWalkable g line s) (r : Reached) {s' : List ℕ}
+module _ (mode : Mode) (g : Grid) (line : Segment) {s : List ℕ} (w : SegmentWalkable g line s) (r : Result Reached Refusal) {s' : List ℕ}
     (h : walk.Walked (walk.everywhere_in mode g line) (walk.reach_of mode (length s) g line) s r s') where
   abbrev o : Outcome
   o = walk.segment_of mode g line
@@ -84,7 +85,7 @@ module _ (mode : Mode) (g : Grid) (line : Segment) {s : List ℕ} (w : SegmentWa
   inner : walk.Walked (walk.everywhere_in mode g line) o s r s'
   inner = rw (reach_is mode g line (length s) w.space w.obeys w.fits) at h
 
-  pub goes_listed : (k : ℕ) → r ≡ reached.Found k → k ≤ 2048 → Went o s s' k 0
+  pub goes_listed : (k : ℕ) → r ≡ Ok (reached.Found k) → k ≤ 2048 → Went o s s' k 0
   unfolding listing
   goes_listed k e l =
       let f = found_says o _ s s' k (rw e at inner) in
@@ -100,18 +101,18 @@ module _ (mode : Mode) (g : Grid) (line : Segment) {s : List ℕ} (w : SegmentWa
         same = inner.size;
       }
 
-  pub goes_global : (k : ℕ) → r ≡ reached.Found k → 2048 < k → Went o s s' 0 1
+  pub goes_global : (k : ℕ) → r ≡ Ok (reached.Found k) → 2048 < k → Went o s s' 0 1
   goes_global k e l =
       let f = found_says o _ s s' k (rw e at inner) in
       went_global f.cells f.is (omega (arith, f.size)) inner.size
 
-  pub goes_everywhere : r ≡ reached.Everywhere → Went o s s' 0 1
+  pub goes_everywhere : r ≡ Ok reached.Everywhere → Went o s s' 0 1
   goes_everywhere e =
       let f = all_says o _ s s' (rw e at inner) in
       let v = (segment_visits mode g line w.fits f.cells f.is).all f.every in
       went_global f.cells f.is (omega (arith, v.0, v.1)) inner.size
 
-  pub goes_over : (q : Refusal) → r ≡ reached.Refused q → (o ≡ refused (refusal 7 0)) × (s' ≡ replicate (length s) 0)
+  pub goes_over : (q : Refusal) → r ≡ Err q → (o ≡ refused (refusal 7 0)) × (s' ≡ replicate (length s) 0)
   goes_over q e =
       let f = over_says o _ s s' q (rw e at inner) in
       let z : q ≡ refusal 7 0 = segment_refused mode g line q f.0 in

@@ -1,11 +1,12 @@
--- Parts of lists, and the two loops that move a part: entries moved up with a number before them, and entries that grow. Assumes nothing.
+-- Parts of lists, entries moved up with a number before them, and the loop of entries that grow. Assumes nothing.
 use mathlib.Core.Path.{◌≡◌, refl, sym, ap, ◌∙◌}
 use mathlib.Core.List.{List, [], ◌∷◌, ◌++◌, append_assoc}
 use Prim.Native.Nat.{ℕ, suc, ◌+◌, ◌-◌, ◌≤◌, ◌<◌, ◌^◌}
 use native.Mathlib.Numerals.{add-one}
 use native.Mathlib.Omega.{arith}
-use lib.ListN.{length, get_or, take, drop, set, length-append, length-set, take-append-drop, get_or-append}
-use lib.Seq.{slice, slice_empty, slice-cons, length-slice, length-take-le, take-suc, take-take, drop-append-le, drop-cons, set_at, get_or_at, get_or-take}
+use lib.ListN.{length, get_or, take, drop, set, length-append, length-set, take-append-drop}
+use lib.Seq.{paste, slice, slice_empty, length-slice, length-take-le, take-suc, take-take, drop-append-le, drop-cons, set_at, get_or_at}
+use Rattle.std.proofs.lemmas.List.{drop-take}
 use Rattle.added.specs.Inside.{gap_of, more, raised_part, Raisable}
 
 -- ---- parts
@@ -28,52 +29,16 @@ put_last xs rest m v h =
 
 -- ---- entries moved up
 
-pub record Opening (xs : List ℕ) (from to before : ℕ) (ys : List ℕ) (i : ℕ) : Type 0 where
-  pub low : from ≤ i
-  pub high : i ≤ to
-  pub fits : to + before < length xs
-  pub len : length ys ≡ length xs
-  pub is : ys ≡ take (suc (i + before)) xs ++ (slice i to xs ++ drop (suc (to + before)) xs)
-
-pub opening_none : {xs : List ℕ} {from to before : ℕ} → (from ≤ to) × (to + before < length xs) → Opening xs from to before xs to
-opening_none {xs} {from} {to} {before} h =
-    record {
-      low = h.0;
-      high = omega arith;
-      fits = h.1;
-      len = refl;
-      is = sym (rw (slice_empty to xs) (take-append-drop (suc (to + before)) xs));
-    }
-
-module _ {xs : List ℕ} {from to before : ℕ} {ys : List ℕ} {i : ℕ} (o : Opening xs from to before ys i) where
-  pub opening_more : from < i → Opening xs from to before (set ys (i + before) (get_or ys (i - 1) 0)) (i - 1)
-  opening_more l =
-      let p : i ≡ suc (i - 1) = omega arith in
-      let q : suc ((i - 1) + before) ≡ i + before = omega arith in
-      let rest : List ℕ = slice i to xs ++ drop (suc (to + before)) xs in
-      let k : i + before < length xs = omega (arith, o.high, o.fits) in
-      let n : length (take (suc (i + before)) xs) ≡ suc (i + before) = length-take-le (suc (i + before)) xs k in
-      let v : get_or ys (i - 1) 0 ≡ get_or xs (i - 1) 0 =
-      ap (λ (z : List ℕ). get_or z (i - 1) 0) o.is ∙ get_or-append (take (suc (i + before)) xs) rest 0 (i - 1) (omega arith) ∙ get_or-take (suc (i + before)) xs (i - 1) 0 (omega arith) in
-      let c : slice (i - 1) to xs ≡ get_or xs (i - 1) 0 ∷ slice i to xs = slice-cons (i - 1) to xs 0 (omega (arith, o.high)) (omega (arith, o.fits)) ∙ ap (λ (k : ℕ). get_or xs (i - 1) 0 ∷ slice k to xs) (sym p) in
-      record {
-        low = omega arith;
-        high = omega (arith, o.high);
-        fits = o.fits;
-        len = length-set ys (i + before) (get_or ys (i - 1) 0) ∙ o.len;
-        is =
-            ap (λ (z : List ℕ). set z (i + before) (get_or ys (i - 1) 0)) o.is
-            ∙ put_last xs rest (i + before) (get_or ys (i - 1) 0) k
-            ∙ rw (v, q, c);
-      }
-
-  pub opening_done : (n : ℕ) → i ≤ from → set ys (from + before) n ≡ gap_of from to before n xs
-  unfolding gap_of
-  opening_done n l =
-      let e : i ≡ from = omega (arith, o.low) in
-      let d : ys ≡ take (suc (from + before)) xs ++ (slice from to xs ++ drop (suc (to + before)) xs) = rw e at o.is in
-      ap (λ (z : List ℕ). set z (from + before) n) d
-      ∙ put_last xs (slice from to xs ++ drop (suc (to + before)) xs) (from + before) n (omega (arith, o.high, o.fits))
+-- the entries from `from` to `to` moved up as one part, and the number before them
+pub gap_opened : (xs : List ℕ) (from to before : ℕ) → (from ≤ to) × (to + before < length xs) → (n : ℕ)
+    → set (paste xs (from + before + 1) (drop from xs) (to - from)) (from + before) n ≡ gap_of from to before n xs
+unfolding gap_of
+gap_opened xs from to before h n =
+    let l = h.0 in
+    let p : from + (to - from) ≡ to = omega arith in
+    let m : take (to - from) (drop from xs) ≡ slice from to xs = sym (rw p at (drop-take from (to - from) xs)) in
+    let q : suc (from + before) + (to - from) ≡ suc (to + before) = omega arith in
+    rw (add-one (from + before), m, q, append_assoc) (put_last xs (slice from to xs ++ drop (suc (to + before)) xs) (from + before) n (omega (arith, h.1)))
 
 -- ---- entries that grow
 

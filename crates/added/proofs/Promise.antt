@@ -1,4 +1,5 @@
 -- From what the private functions leave to the promise of the entries. Assumes nothing.
+use Rattle.std.specs.Prelude.{Ok, Err, Result}
 use mathlib.Core.Path.{◌≡◌, refl, sym, ap, ◌∙◌}
 use mathlib.Core.Bool.{Bool, true, false, ◌&&◌}
 use mathlib.Core.List.{List, []}
@@ -11,9 +12,7 @@ use lib.Seq.{length-take-le}
 use Rattle.slices.specs.Slices.{cleared_from}
 use Rattle.slices.specs.Lists.{Below, Rising}
 use Rattle.refusals.specs.declared.Refusal.{Refusal}
-use Rattle.refusals.specs.declared.Check.{Check}
-use Rattle.refusals.specs.declared.Check.TheVariants.{Fine, Refused}
-use Rattle.refusals.specs.Refusals.{refusal, Answer, refused, gives, ◌then◌, ◌into◌, answer_by, left_by, left_in, zero_beyond}
+use Rattle.refusals.specs.Refusals.{Check, refusal, Answer, refused, gives, ◌then◌, ◌into◌, answer_by, left_by, left_in, zero_beyond}
 use Rattle.refusals.proofs.Checks.{unless_fine, and_then_left, and_then_right}
 use Rattle.refusals.proofs.Answers.{then_refused, then_fine}
 use Rattle.refusals.proofs.Leaving.{left_zero, left_same, Clearing, clearing_unless, clearing_then, clears_then, clears_gives, in_alike, numbers_clear, numbers_below, numbers_above}
@@ -26,10 +25,9 @@ use Rattle.walk.specs.declared.Mode.{Mode}
 use Rattle.walk.specs.Segment.{segment_of}
 use Rattle.walk.proofs.Visits.{segment_visits}
 use Rattle.tables.specs.Tables.{Tables, tables, cells}
-use Rattle.tables.specs.Lists.{long, only, start, items_of, offsets_of}
+use Rattle.tables.specs.Lists.{long, only, items_of, offsets_of}
 use Rattle.tables.specs.Fit.{tables_check}
 use Rattle.added.specs.declared.Added.{Added}
-use Rattle.added.specs.declared.Added.TheVariants as added
 use Rattle.added.specs.Added.{
   listing,
   list_with,
@@ -54,11 +52,11 @@ use Rattle.added.proofs.Laid.{totalled}
 -- ---- the promise, by how the call ends
 
 module _ (t : Tables) (s : List ℕ) (left : List ℕ → List ℕ) {a : Answer (List ℕ)} where
-  pub is_refused : {r : Refusal} {z : List ℕ} → a ≡ refused r → z ≡ left_by 0 r s → AddIs t a s left (added.Refused r) t.offsets t.items t.globals z
+  pub is_refused : {r : Refusal} {z : List ℕ} → a ≡ refused r → z ≡ left_by 0 r s → AddIs t a s left (Err r) t.offsets t.items t.globals z
   unfolding kept_in answer_by left_in
   is_refused e h = rw e (record { answer = refl; offsets_are = refl; items_are = refl; globals_are = refl; scratch_is = h })
 
-  pub is_made : (visited : List ℕ) {r : Added} {o xs gs z : List ℕ} → a ≡ gives visited → r ≡ added_of t visited
+  pub is_made : (visited : List ℕ) {r : Result Added Refusal} {o xs gs z : List ℕ} → a ≡ gives visited → r ≡ added_of t visited
       → o ≡ offsets_of (list_with t visited) (cells t) (length t.offsets)
       → xs ≡ items_of (list_with t visited) (cells t) (length t.items)
       → gs ≡ zero_beyond 0 (length t.globals) (globals_with t visited)
@@ -130,13 +128,13 @@ module _ {t : Tables} {s : List ℕ} {k m : ℕ} (w : Puttable t s k m) where
 
   module _ {q : Check} (a : q ≡ room) where
     -- 5 and 6
-    pub put_refused : {r : Refusal} {z : List ℕ} → q ≡ Refused r → z ≡ replicate (length s) 0 → AddIs t (space_with_check t v then gives v) s (front s) (added.Refused r) t.offsets t.items t.globals z
+    pub put_refused : {r : Refusal} {z : List ℕ} → q ≡ Err r → z ≡ replicate (length s) 0 → AddIs t (space_with_check t v then gives v) s (front s) (Err r) t.offsets t.items t.globals z
     put_refused {r} b h =
-        let d : space_with_check t v ≡ Refused r = sym space_is ∙ sym a ∙ b in
+        let d : space_with_check t v ≡ Err r = sym space_is ∙ sym a ∙ b in
         is_refused t s (front s) (then_refused (space_with_check t v) (gives v) r d) (h ∙ sym (left_zero 0 r s (space_clears.says r d)))
 
-    module _ (b : q ≡ Fine) where
-      fine : room ≡ Fine
+    module _ (b : q ≡ Ok tt) where
+      fine : room ≡ Ok tt
       fine = sym a ∙ b
 
       room_passed : (leb (get_or t.offsets (cells t) 0 + k) (length t.items) && leb (get_or t.offsets (cells t) 0 + k) 4294967295) ≡ true
@@ -169,10 +167,10 @@ module _ {t : Tables} {s : List ℕ} {k m : ℕ} (w : Puttable t s k m) where
 
       -- the line in its lists
       pub put_made : {o' xs' gs' z : List ℕ} → Inserted t.lines (take k s) (cells t) t.offsets t.items o' xs' → gs' ≡ globals_left t.lines m t.global_count t.globals → z ≡ cleared_from k s
-          → AddIs t (space_with_check t v then gives v) s (front s) (added.Tables k (get_or t.offsets (cells t) 0 + k) (t.global_count + m)) o' xs' gs' z
+          → AddIs t (space_with_check t v then gives v) s (front s) (Ok (record { cells = k; items = (get_or t.offsets (cells t) 0 + k); globals = (t.global_count + m) })) o' xs' gs' z
       unfolding list_with globals_with globals_left added_of front zero_beyond cleared_from
       put_made {o'} {xs'} i h c =
-          let d : space_with_check t v ≡ Fine = sym space_is ∙ fine in
+          let d : space_with_check t v ≡ Ok tt = sym space_is ∙ fine in
           let j : Inserted t.lines (listing v) (cells t) t.offsets t.items o' xs' = rw w.at_front at i in
           is_made t s (front s) v (then_fine (space_with_check t v) (gives v) d)
           (rw (← w.size, total_is, found_is))
@@ -202,7 +200,7 @@ module _ (mode : Mode) {g : Grid} {line : Segment} {n : ℕ} {o xs gs : List ℕ
         lines_few = p.few;
       }
 
-  pub place_put : {r : Added} {o' xs' gs' z : List ℕ}
+  pub place_put : {r : Result Added Refusal} {o' xs' gs' z : List ℕ}
       → ((h : Puttable (tables g n o xs gs count) s₁ k m) → AddIs (tables g n o xs gs count) (space_with_check (tables g n o xs gs count) h.visited then gives h.visited) s₁ (front s₁) r o' xs' gs' z)
       → AddIs (tables g n o xs gs count) (room_for mode g line (tables g n o xs gs count)) s (front s) r o' xs' gs' z
   unfolding room_for ◌into◌ front place_asks
@@ -213,7 +211,7 @@ module _ (mode : Mode) {g : Grid} {line : Segment} {n : ℕ} {o xs gs : List ℕ
 
 -- 7
 pub place_over : (mode : Mode) (g : Grid) (line : Segment) (t : Tables) (s : List ℕ) {s₁ : List ℕ} → (segment_of mode g line ≡ refused (refusal 7 0)) × (s₁ ≡ replicate (length s) 0)
-    → AddIs t (room_for mode g line t) s (front s) (added.Refused (refusal 7 0)) t.offsets t.items t.globals s₁
+    → AddIs t (room_for mode g line t) s (front s) (Err (refusal 7 0)) t.offsets t.items t.globals s₁
 unfolding room_for ◌into◌
 place_over mode g line t s h =
     is_refused t s (front s) (rw h.0) (h.1 ∙ sym (left_zero 0 (refusal 7 0) s (numbers_clear 7 (omega arith) (omega arith))))
@@ -232,46 +230,37 @@ edge_spares : (g : Grid) (line : Segment) → Clearing false (edge_check g line)
 unfolding edge_check
 edge_spares g line = clearing_unless _ 14 0 (numbers_above 14 (omega arith))
 
-module _ (mode : Mode) (g : Grid) (line : Segment) (t : Tables) (s : List ℕ) {q : Check} (a : q ≡ ask_check g line t (length s)) where
-  pub list_asked : {r : Refusal} → q ≡ Refused r → AddIs t (add_end mode g line t (length s)) s (front s) (added.Refused r) t.offsets t.items t.globals s
+module _ (mode : Mode) (g : Grid) (line : Segment) (t : Tables) (s : List ℕ) where
+  pub list_asked : {r : Refusal} → ask_check g line t (length s) ≡ Err r → AddIs t (add_end mode g line t (length s)) s (front s) (Err r) t.offsets t.items t.globals s
   unfolding add_end
-  list_asked {r} b =
-      let d : ask_check g line t (length s) ≡ Refused r = sym a ∙ b in
-      is_refused t s (front s) (then_refused (ask_check g line t (length s)) (edge_check g line then room_for mode g line t) r d)
-      (sym (left_same 0 r s ((ask_spares g line t (length s)).says r d)))
+  list_asked {r} e =
+      is_refused t s (front s) (then_refused (ask_check g line t (length s)) (edge_check g line then room_for mode g line t) r e)
+      (sym (left_same 0 r s ((ask_spares g line t (length s)).says r e)))
 
-  module _ (b : q ≡ Fine) where
+  module _ (a : ask_check g line t (length s) ≡ Ok tt) where
     past_asked : add_end mode g line t (length s) ≡ (edge_check g line then room_for mode g line t)
     unfolding add_end
-    past_asked = then_fine (ask_check g line t (length s)) (edge_check g line then room_for mode g line t) (sym a ∙ b)
+    past_asked = then_fine (ask_check g line t (length s)) (edge_check g line then room_for mode g line t) a
 
-    pub list_edge : {x : Check} {r : Refusal} → x ≡ edge_check g line → x ≡ Refused r → AddIs t (add_end mode g line t (length s)) s (front s) (added.Refused r) t.offsets t.items t.globals s
-    list_edge {r = r} c d =
-        let u : edge_check g line ≡ Refused r = sym c ∙ d in
-        is_refused t s (front s) (past_asked ∙ then_refused (edge_check g line) (room_for mode g line t) r u) (sym (left_same 0 r s ((edge_spares g line).says r u)))
+    pub list_edge : {r : Refusal} → edge_check g line ≡ Err r → AddIs t (add_end mode g line t (length s)) s (front s) (Err r) t.offsets t.items t.globals s
+    list_edge {r} e =
+        is_refused t s (front s) (past_asked ∙ then_refused (edge_check g line) (room_for mode g line t) r e) (sym (left_same 0 r s ((edge_spares g line).says r e)))
 
-    pub list_placed : {x : Check} {r : Added} {o xs gs z : List ℕ} → x ≡ edge_check g line → x ≡ Fine → AddIs t (room_for mode g line t) s (front s) r o xs gs z
+    pub list_placed : {r : Result Added Refusal} {o xs gs z : List ℕ} → edge_check g line ≡ Ok tt → AddIs t (room_for mode g line t) s (front s) r o xs gs z
         → AddIs t (add_end mode g line t (length s)) s (front s) r o xs gs z
-    list_placed c d h = rw (past_asked ∙ then_fine (edge_check g line) (room_for mode g line t) (sym c ∙ d)) h
+    list_placed e h = rw (past_asked ∙ then_fine (edge_check g line) (room_for mode g line t) e) h
 
 -- ---- the scratch cleared
 
-pub cleared_refused : {t : Tables} {a : Answer (List ℕ)} {s : List ℕ} {r : Refusal} {q : Added} {o xs gs z : List ℕ} → AddIs t a s (front s) q o xs gs z → q ≡ added.Refused r
-    → AddIs t a s (cleared s) (added.Refused r) o xs gs z
+pub cleared_refused : {t : Tables} {a : Answer (List ℕ)} {s : List ℕ} {r : Refusal} {o xs gs z : List ℕ} → AddIs t a s (front s) (Err r) o xs gs z → AddIs t a s (cleared s) (Err r) o xs gs z
 unfolding answer_by added_of left_in
-cleared_refused {t} {a} {s} {r} {q} {o} {xs} {gs} {z} h e = go a (rw e at h)
-  where
-    go : (a : Answer (List ℕ)) → AddIs t a s (front s) (added.Refused r) o xs gs z → AddIs t a s (cleared s) (added.Refused r) o xs gs z
-    go (refused why) k =
-        record { answer = k.answer; offsets_are = k.offsets_are; items_are = k.items_are; globals_are = k.globals_are; scratch_is = k.scratch_is }
-    go (gives v) k = let x : ◌≡◌ {A = ℕ} 0 1 = cc k.answer in absurd (omega arith)
+cleared_refused {a = refused why} k =
+    record { answer = k.answer; offsets_are = k.offsets_are; items_are = k.items_are; globals_are = k.globals_are; scratch_is = k.scratch_is }
+cleared_refused {a = gives v} k = let x : ◌≡◌ {A = ℕ} 0 1 = cc k.answer in absurd (omega arith)
 
-pub cleared_made : {t : Tables} {a : Answer (List ℕ)} {s : List ℕ} {i j l : ℕ} {q : Added} {o xs gs y z : List ℕ} → AddIs t a s (front s) q o xs gs y → q ≡ added.Tables i j l
-    → length y ≡ length s → z ≡ replicate (length y) 0 → AddIs t a s (cleared s) (added.Tables i j l) o xs gs z
+pub cleared_made : {t : Tables} {a : Answer (List ℕ)} {s : List ℕ} {d : Added} {o xs gs y z : List ℕ} → AddIs t a s (front s) (Ok d) o xs gs y → length y ≡ length s → z ≡ replicate (length y) 0
+    → AddIs t a s (cleared s) (Ok d) o xs gs z
 unfolding answer_by left_in cleared
-cleared_made {t} {a} {s} {i} {j} {l} {q} {o} {xs} {gs} {y} {z} h e m c = go a (rw e at h)
-  where
-    go : (a : Answer (List ℕ)) → AddIs t a s (front s) (added.Tables i j l) o xs gs y → AddIs t a s (cleared s) (added.Tables i j l) o xs gs z
-    go (refused why) k = let x : ◌≡◌ {A = ℕ} 0 1 = cc k.answer in absurd (omega arith)
-    go (gives v) k =
-        record { answer = k.answer; offsets_are = k.offsets_are; items_are = k.items_are; globals_are = k.globals_are; scratch_is = c ∙ ap (λ (n : ℕ). replicate {A = ℕ} n 0) m }
+cleared_made {a = refused why} k m c = let x : ◌≡◌ {A = ℕ} 0 1 = cc k.answer in absurd (omega arith)
+cleared_made {a = gives v} k m c =
+    record { answer = k.answer; offsets_are = k.offsets_are; items_are = k.items_are; globals_are = k.globals_are; scratch_is = c ∙ ap (λ (n : ℕ). replicate {A = ℕ} n 0) m }

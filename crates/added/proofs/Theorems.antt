@@ -1,5 +1,7 @@
 -- What follows from the promise of the entries alone: it settles everything; and a line that is added to standing tables leaves standing tables, of one line
 -- more. Assumes nothing.
+use Rattle.std.specs.Prelude.{Ok, Result}
+use Rattle.refusals.specs.declared.Refusal.{Refusal}
 use mathlib.Core.Path.{◌≡◌, refl, sym, ap, ◌∙◌}
 use mathlib.Core.List.{List}
 use Prim.Native.Nat.{ℕ, zero, suc, ◌*◌, ◌≤◌, ◌<◌}
@@ -22,14 +24,13 @@ use Rattle.tables.specs.Stands.{Stands}
 use Rattle.tables.proofs.Laws.{sum_same, table_made, length_offsets, length_items}
 use Rattle.tables.proofs.Standing.{laid_stands}
 use Rattle.added.specs.declared.Added.{Added}
-use Rattle.added.specs.declared.Added.TheVariants as added
 use Rattle.added.specs.Added.{listing, list_with, globals_with, total_with, edge_check, ask_check, space_with_check, room_for, add_end, added_of, kept_in, AddIs}
 use Rattle.added.specs.Inside.{Placeable}
 use Rattle.added.proofs.Asking.{asked}
 
 -- ---- the promise settles everything
 
-pub record Identical (r r₁ : Added) (o o₁ t t₁ gs gs₁ s s₁ : List ℕ) : Type 0 where
+pub record Identical (r r₁ : Result Added Refusal) (o o₁ t t₁ gs gs₁ s s₁ : List ℕ) : Type 0 where
   pub answer : r ≡ r₁
   pub offsets : o ≡ o₁
   pub items : t ≡ t₁
@@ -37,7 +38,7 @@ pub record Identical (r r₁ : Added) (o o₁ t t₁ gs gs₁ s s₁ : List ℕ)
   pub scratch : s ≡ s₁
 
 -- any two outcomes that it admits are identical
-pub one_outcome : {t : Tables} {a : Answer (List ℕ)} {s : List ℕ} {left : List ℕ → List ℕ} {r r₁ : Added} {o o₁ xs xs₁ gs gs₁ z z₁ : List ℕ}
+pub one_outcome : {t : Tables} {a : Answer (List ℕ)} {s : List ℕ} {left : List ℕ → List ℕ} {r r₁ : Result Added Refusal} {o o₁ xs xs₁ gs gs₁ z z₁ : List ℕ}
     → AddIs t a s left r o xs gs z → AddIs t a s left r₁ o₁ xs₁ gs₁ z₁ → Identical r r₁ o o₁ xs xs₁ gs gs₁ z z₁
 one_outcome h k =
     record {
@@ -70,17 +71,18 @@ record Given (t : Tables) (a : Answer (List ℕ)) (found : ℕ) (o xs gs : List 
   items_are : xs ≡ items_of (list_with t visited) (cells t) (length t.items)
   globals_are : gs ≡ zero_beyond 0 (length t.globals) (globals_with t visited)
 
-given_by : {t : Tables} (a : Answer (List ℕ)) {s : List ℕ} {left : List ℕ → List ℕ} {i j l : ℕ} {o xs gs z : List ℕ} → AddIs t a s left (added.Tables i j l) o xs gs z → Given t a l o xs gs
+given_by : {t : Tables} (a : Answer (List ℕ)) {s : List ℕ} {left : List ℕ → List ℕ} {i j l : ℕ} {o xs gs z : List ℕ} → AddIs t a s left (Ok (record { cells = i; items = j; globals = l })) o xs gs z → Given t a l o xs gs
 unfolding answer_by added_of kept_in
 given_by (refused why) h = let x : ◌≡◌ {A = ℕ} 0 1 = cc h.answer in absurd (omega arith)
-given_by (gives v) h =
-    record { visited = v; is = refl; found_is = cc h.answer; offsets_are = h.offsets_are; items_are = h.items_are; globals_are = h.globals_are }
+given_by {t} (gives v) {i = i} {j = j} {l = l} h =
+    let e : record { cells = i; items = j; globals = l } ≡ record { cells = length (listing v); items = total_with t v; globals = length (globals_with t v) } = cc h.answer in
+    record { visited = v; is = refl; found_is = ap (λ (d : Added). d.globals) e; offsets_are = h.offsets_are; items_are = h.items_are; globals_are = h.globals_are }
 
-pub success : (mode : Mode) (g : Grid) (line : Segment) {t : Tables} {s : List ℕ} {left : List ℕ → List ℕ} {r : Added} {i j l : ℕ} {o xs gs z : List ℕ}
-    → AddIs t (add_end mode g line t (length s)) s left r o xs gs z → r ≡ added.Tables i j l → Success mode g line t s l o xs gs
+pub success : (mode : Mode) (g : Grid) (line : Segment) {t : Tables} {s : List ℕ} {left : List ℕ → List ℕ} {r : Result Added Refusal} {i j l : ℕ} {o xs gs z : List ℕ}
+    → AddIs t (add_end mode g line t (length s)) s left r o xs gs z → r ≡ Ok (record { cells = i; items = j; globals = l }) → Success mode g line t s l o xs gs
 unfolding add_end room_for space_with_check
 success mode g line {t} {s} {left} {r} {i} {j} {l} {o} {xs} {gs} {z} h ok =
-    let k : AddIs t (add_end mode g line t (length s)) s left (added.Tables i j l) o xs gs z = rw ok at h in
+    let k : AddIs t (add_end mode g line t (length s)) s left (Ok (record { cells = i; items = j; globals = l })) o xs gs z = rw ok at h in
     let f = given_by (add_end mode g line t (length s)) k in
     let p = then_passed (ask_check g line t (length s)) (edge_check g line then room_for mode g line t) f.is in
     let q = then_passed (edge_check g line) (room_for mode g line t) p.1 in

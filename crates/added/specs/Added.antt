@@ -1,10 +1,10 @@
 -- Document 02, 11: a line, numbered n, is added to the standing tables of n lines at their standing grid: what the tables hold then, what is refused,
 -- and what is left in each lent slice. Definitions only.
-use Rattle.std.specs.Prelude.{◌≡◌, Bool, ◌&&◌, List, ◌++◌, ℕ, leb, ltb, Float, length, replicate}
+use Rattle.refusals.specs.declared.Refusal.{Refusal}
+use Rattle.std.specs.Prelude.{Ok, Err, Result, ◌≡◌, Bool, ◌&&◌, List, ◌++◌, ℕ, leb, ltb, Float, length, replicate}
 use Rattle.std.specs.Float.Ieee.{le}
 use Rattle.slices.specs.Lists.{elem}
-use Rattle.refusals.specs.declared.Check.{Check}
-use Rattle.refusals.specs.Refusals.{unless, and_then, Answer, gives, ◌then◌, ◌into◌, answer_by, left_in, zero_beyond}
+use Rattle.refusals.specs.Refusals.{Check, unless, and_then, Answer, gives, ◌then◌, ◌into◌, answer_by, left_in, zero_beyond}
 use Rattle.grid.specs.declared.Grid.{Grid}
 use Rattle.grid.specs.declared.Axis.{Axis}
 use Rattle.grid.specs.declared.Segment.{Segment}
@@ -16,7 +16,6 @@ use Rattle.tables.specs.Tables.{Tables, cells, list_of, globals_of}
 use Rattle.tables.specs.Lists.{long, none_if, only, start, items_of, offsets_of}
 use Rattle.tables.specs.Fit.{tables_check}
 use Rattle.added.specs.declared.Added.{Added}
-use Rattle.added.specs.declared.Added.TheVariants as added
 
 -- ---- what the tables hold then
 
@@ -82,8 +81,8 @@ add_end mode g line t scratch = ask_check g line t scratch then edge_check g lin
 -- ---- what is answered, and what is left
 
 -- how many cells list the line, and how many items and global lines there are now
-unfoldable pub added_of : Tables → List ℕ → Added
-added_of t visited = added.Tables (length (listing visited)) (total_with t visited) (length (globals_with t visited))
+unfoldable pub added_of : Tables → List ℕ → Result Added Refusal
+added_of t visited = Ok (record { cells = length (listing visited); items = total_with t visited; globals = length (globals_with t visited) })
 
 -- no refusal changes the tables: what a part of them holds that held `was`
 unfoldable pub kept_in : List ℕ → Answer (List ℕ) → (List ℕ → List ℕ) → List ℕ
@@ -97,8 +96,8 @@ unfoldable pub front : List ℕ → List ℕ → List ℕ
 front was visited = zero_beyond 0 (length was) (listing visited)
 
 -- The promise: the answer, the tables with the line in its lists and zero beyond them, and the scratch, which 5, 6 and 7 leave zero.
-pub record AddIs (t : Tables) (end : Answer (List ℕ)) (scratch : List ℕ) (left : List ℕ → List ℕ) (r : Added) (offsets' items' globals' scratch' : List ℕ) : Type 0 where
-  pub answer : r ≡ answer_by added.Refused (added_of t) end
+pub record AddIs (t : Tables) (end : Answer (List ℕ)) (scratch : List ℕ) (left : List ℕ → List ℕ) (r : Result Added Refusal) (offsets' items' globals' scratch' : List ℕ) : Type 0 where
+  pub answer : r ≡ answer_by Err (added_of t) end
   pub offsets_are : offsets' ≡ kept_in t.offsets end (λ visited. offsets_of (list_with t visited) (cells t) (length t.offsets))
   pub items_are : items' ≡ kept_in t.items end (λ visited. items_of (list_with t visited) (cells t) (length t.items))
   pub globals_are : globals' ≡ kept_in t.globals end (λ visited. zero_beyond 0 (length t.globals) (globals_with t visited))

@@ -1,9 +1,9 @@
 -- What the private functions ask and promise: how items and offsets are moved in place, by the visited cells from the last to the first. Definitions only.
-use Rattle.std.specs.Prelude.{◌≡◌, true, ◌&&◌, List, [], ◌∷◌, ◌++◌, ℕ, suc, ◌+◌, ◌≤◌, ◌<◌, ◌^◌, leb, length, get_or, take, drop, replicate}
+use Rattle.refusals.specs.declared.Refusal.{Refusal}
+use Rattle.std.specs.Prelude.{Some, None, Result, Option, ◌≡◌, true, ◌&&◌, List, [], ◌∷◌, ◌++◌, ℕ, suc, ◌+◌, ◌≤◌, ◌<◌, ◌^◌, leb, length, get_or, take, drop, replicate}
 use Rattle.std.proofs.Math.Seq.{slice}
 use Rattle.slices.specs.Lists.{elem, Below, Rising}
-use Rattle.refusals.specs.declared.Check.{Check}
-use Rattle.refusals.specs.Refusals.{refusal, unless, and_then, refused, gives, ◌then◌, zero_beyond}
+use Rattle.refusals.specs.Refusals.{Check, refusal, unless, and_then, refused, gives, ◌then◌, zero_beyond}
 use Rattle.grid.specs.declared.Grid.{Grid}
 use Rattle.grid.specs.declared.Segment.{Segment}
 use Rattle.grid.specs.Domain.{segment, fit}
@@ -13,7 +13,6 @@ use Rattle.tables.specs.Lists.{long, only, items_of, offsets_of}
 use Rattle.tables.specs.Fit.{ListsFit, TablesFit}
 use Rattle.added.specs.declared.Added.{Added}
 use Rattle.added.specs.declared.Goes.{Goes}
-use Rattle.added.specs.declared.Goes.TheVariants.{To, Over}
 use Rattle.added.specs.Added.{listing, space_with_check, front, AddIs}
 
 -- ---- the items
@@ -105,9 +104,9 @@ pub record Went (o : Outcome) (was s : List ℕ) (k m : ℕ) : Type 0 where
   pub kind : m ≡ length (only (long visited) 0)
   pub same : length s ≡ length was
 
-abbrev pub GoesAs : Outcome → List ℕ → List ℕ → Goes → Type 0
-GoesAs o was s (To k m) = Went o was s k m
-GoesAs o was s Over = (o ≡ refused (refusal 7 0)) × (s ≡ replicate (length was) 0)
+abbrev pub GoesAs : Outcome → List ℕ → List ℕ → Option Goes → Type 0
+GoesAs o was s (Some goes) = Went o was s goes.cells goes.globals
+GoesAs o was s None = (o ≡ refused (refusal 7 0)) × (s ≡ replicate (length was) 0)
 
 -- tables of so many cells and items, and room for the number in the lists of the visited cells
 pub record Insertable (visited : List ℕ) (cells total : ℕ) (offsets items : List ℕ) : Type 0 where
@@ -153,7 +152,7 @@ pub record Puttable (t : Tables) (s : List ℕ) (k m : ℕ) : Type 0 where
   pub lines_few : t.lines < 65536
 
 -- 5 and 6, or the line in its lists: for whatever visited cells the front of the scratch lists
-abbrev pub PutIs : Tables → List ℕ → ℕ → ℕ → Added → List ℕ → List ℕ → List ℕ → List ℕ → Type 0
+abbrev pub PutIs : Tables → List ℕ → ℕ → ℕ → Result Added Refusal → List ℕ → List ℕ → List ℕ → List ℕ → Type 0
 PutIs t s k m r offsets' items' globals' s' =
     (h : Puttable t s k m) → AddIs t (space_with_check t h.visited then gives h.visited) s (front s) r offsets' items' globals' s'
 

@@ -6,7 +6,7 @@ ghost use Rattle.added.specs.Added.{inside_on, point_inside, line_inside, edge_c
 ghost use Rattle.added.specs.Inside.{space_by};
 
 use grid::{Axis, Grid, Segment};
-use refusals::{Check, refuse_unless};
+use refusals::{Refusal, refuse_unless};
 
 // From the least coordinate of an axis to the greatest, both included.
 fn is_on(axis: Axis, v: f64) -> bool
@@ -29,7 +29,7 @@ fn is_inside(grid: Grid, line: Segment) -> bool
 }
 
 // 14: an end of the line is off the grid.
-pub(crate) fn check_edge(grid: Grid, line: Segment) -> Check
+pub(crate) fn check_edge(grid: Grid, line: Segment) -> Result<(), Refusal>
     ensures { result ≡ edge_check grid line }
 {
     refuse_unless(is_inside(grid, line), 14, 0)
@@ -51,25 +51,13 @@ pub(crate) fn check_asked(
     globals: &[u32],
     global_count: usize,
     scratch: usize,
-) -> Check
+) -> Result<(), Refusal>
     ensures { result ≡ ask_check grid line (tables grid n offsets.now items.now globals.now global_count) scratch }
 {
-    let room = grid::checks::check_scratch(scratch);
-    if let Check::Refused(r) = room {
-        return Check::Refused(r);
-    }
-    let few = refuse_unless(n < 65536, 2, n as u64);
-    if let Check::Refused(r) = few {
-        return Check::Refused(r);
-    }
-    let coordinates = grid::checks::check_segment(line);
-    if let Check::Refused(r) = coordinates {
-        return Check::Refused(r);
-    }
-    let shape = refuse_unless(has_cells(grid), 8, 0);
-    if let Check::Refused(r) = shape {
-        return Check::Refused(r);
-    }
+    grid::checks::check_scratch(scratch)?;
+    refuse_unless(n < 65536, 2, n as u64)?;
+    grid::checks::check_segment(line)?;
+    refuse_unless(has_cells(grid), 8, 0)?;
     refuse_unless(
         tables::is_fit(grid, n, offsets, items, globals, global_count),
         10,
@@ -85,12 +73,14 @@ fn is_room(total: usize, items: usize) -> bool
 }
 
 // 5, then 6, by the numbers that there will be and the lengths of the slices.
-pub(crate) fn check_room(total: usize, items: usize, found: usize, globals: usize) -> Check
+pub(crate) fn check_room(
+    total: usize,
+    items: usize,
+    found: usize,
+    globals: usize,
+) -> Result<(), Refusal>
     ensures { result ≡ space_by total items found globals }
 {
-    let lists = refuse_unless(is_room(total, items), 5, total as u64);
-    if let Check::Refused(r) = lists {
-        return Check::Refused(r);
-    }
+    refuse_unless(is_room(total, items), 5, total as u64)?;
     refuse_unless(found <= globals, 6, found as u64)
 }

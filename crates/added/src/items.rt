@@ -7,11 +7,7 @@ fn open_gap(items: &mut [u32], from: usize, to: usize, before: usize, n: u32)
     requires { (from ≤ to) × (to + before < length items.old) }
     ensures { items.new ≡ gap_of from to before n items.old }
 {
-    let mut i = to;
-    while from < i {
-        items[i + before] = items[i - 1];
-        i -= 1;
-    }
+    items.copy_within(from..to, from + before + 1);
     items[from + before] = n;
 }
 
@@ -27,9 +23,7 @@ pub(crate) fn spread_items(
     ensures { items.new ≡ spread_of n offsets.now total items.old visited.now }
 {
     let mut end = total;
-    let mut j = visited.len();
-    while 0 < j {
-        j -= 1;
+    for j in (0..visited.len()).rev() {
         let from = offsets[visited[j] as usize + 1] as usize;
         open_gap(items, from, end, j, n);
         end = from;

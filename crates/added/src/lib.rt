@@ -14,25 +14,22 @@ ghost use Rattle.added.specs.Added.{AddIs, add_end, front, cleared};
 use crate::checks::{check_asked, check_edge};
 use crate::placing::place;
 use grid::{Grid, Segment};
-use refusals::{Check, Refusal};
+use refusals::Refusal;
 use walk::Mode;
 
-// How many cells list the line, which are none where it is global, and how many items and global lines the tables now have; or the refusal that is due.
+// How many cells list the line, which are none where it is global, and how many items and global lines the tables now have.
 #[derive(Clone, Copy)]
-pub enum Added {
-    Tables {
-        cells: usize,
-        items: usize,
-        globals: usize,
-    },
-    Refused(Refusal),
+pub struct Added {
+    pub cells: usize,
+    pub items: usize,
+    pub globals: usize,
 }
 
-// In how many lists of cells, and of global lines, the line goes; or that its walk was cut off.
+// In how many lists of cells, and of global lines, the line goes.
 #[derive(Clone, Copy)]
-pub(crate) enum Goes {
-    To { cells: usize, globals: usize },
-    Over,
+pub(crate) struct Goes {
+    pub cells: usize,
+    pub globals: usize,
 }
 
 // Adds the line, and leaves the cells that list it at the front of the scratch, increasing, and zero beyond them: for a caller that keeps more than the
@@ -47,12 +44,12 @@ pub fn list_line(
     globals: &mut [u32],
     global_count: usize,
     scratch: &mut [u32],
-) -> Added
+) -> Result<Added, Refusal>
     ensures { let t = tables grid n offsets.old items.old globals.old global_count in
         let s = scratch.old in
         AddIs t (add_end mode grid line t (length s)) s (front s) result offsets.new items.new globals.new scratch.new }
 {
-    let asked = check_asked(
+    check_asked(
         grid,
         line,
         n,
@@ -61,14 +58,8 @@ pub fn list_line(
         globals,
         global_count,
         scratch.len(),
-    );
-    if let Check::Refused(r) = asked {
-        return Added::Refused(r);
-    }
-    let edge = check_edge(grid, line);
-    if let Check::Refused(r) = edge {
-        return Added::Refused(r);
-    }
+    )?;
+    check_edge(grid, line)?;
     place(
         mode,
         grid,
@@ -94,7 +85,7 @@ pub fn add_line(
     globals: &mut [u32],
     global_count: usize,
     scratch: &mut [u32],
-) -> Added
+) -> Result<Added, Refusal>
     ensures { let t = tables grid n offsets.old items.old globals.old global_count in
         let s = scratch.old in
         AddIs t (add_end mode grid line t (length s)) s (cleared s) result offsets.new items.new globals.new scratch.new }
@@ -109,20 +100,7 @@ pub fn add_line(
         globals,
         global_count,
         scratch,
-    );
-    match added {
-        Added::Refused(r) => Added::Refused(r),
-        Added::Tables {
-            cells,
-            items: total,
-            globals: found,
-        } => {
-            slices::clear(scratch);
-            Added::Tables {
-                cells,
-                items: total,
-                globals: found,
-            }
-        },
-    }
+    )?;
+    slices::clear(scratch);
+    Ok(added)
 }

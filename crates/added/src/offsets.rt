@@ -7,10 +7,8 @@ fn raise(offsets: &mut [u32], from: usize, to: usize, by: u32)
     requires { Raisable from to by offsets.old }
     ensures { offsets.new ≡ raised_part from to by offsets.old }
 {
-    let mut i = from;
-    while i < to {
+    for i in from..to {
         offsets[i] += by;
-        i += 1;
     }
 }
 
@@ -20,11 +18,9 @@ pub(crate) fn raise_offsets(visited: &[u32], offsets: &mut [u32], end: usize)
     ensures { offsets.new ≡ lifted_of offsets.old end visited.now }
 {
     let mut to = end;
-    let mut j = visited.len();
-    while 0 < j {
-        let from = visited[j - 1] as usize + 1;
-        raise(offsets, from, to, j as u32);
+    for j in (0..visited.len()).rev() {
+        let from = visited[j] as usize + 1;
+        raise(offsets, from, to, (j + 1) as u32);
         to = from;
-        j -= 1;
     }
 }

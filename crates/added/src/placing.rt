@@ -10,33 +10,36 @@ use crate::items::spread_items;
 use crate::offsets::raise_offsets;
 use crate::{Added, Goes};
 use grid::{Grid, Segment};
-use refusals::{Check, Refusal};
+use refusals::Refusal;
 use walk::{Mode, Reached};
 
-// The walk of the line. A line of more than 2,048 cells goes to the globals, and so does one that is everywhere, whose cells are not listed.
-fn goes_to(mode: Mode, grid: Grid, line: Segment, scratch: &mut [u32]) -> Goes
+// Where the line goes by its walk, or nothing if the walk was cut off. A line of more than 2,048 cells goes to the globals, and so does one that is
+// everywhere, whose cells are not listed.
+fn goes_to(mode: Mode, grid: Grid, line: Segment, scratch: &mut [u32]) -> Option<Goes>
     requires { SegmentWalkable grid line scratch.old }
     ensures { GoesAs (segment_of mode grid line) scratch.old scratch.new result }
 {
     let walked = walk::segment_cells(mode, grid, line, scratch);
-    match walked {
+    let Ok(reached) = walked else {
+        return None;
+    };
+    match reached {
         Reached::Found(k) => {
             if 2048 < k {
-                return Goes::To {
+                return Some(Goes {
                     cells: 0,
                     globals: 1,
-                };
+                });
             }
-            Goes::To {
+            Some(Goes {
                 cells: k,
                 globals: 0,
-            }
+            })
         },
-        Reached::Everywhere => Goes::To {
+        Reached::Everywhere => Some(Goes {
             cells: 0,
             globals: 1,
-        },
-        Reached::Refused(_) => Goes::Over,
+        }),
     }
 }
 
@@ -82,7 +85,7 @@ fn put_in(
     globals: &mut [u32],
     global_count: usize,
     scratch: &mut [u32],
-) -> Added
+) -> Result<Added, Refusal>
     requires { let t = tables grid n offsets.old items.old globals.old global_count in Puttable t scratch.old cells more }
     ensures { let t = tables grid n offsets.old items.old globals.old global_count in
         let s = scratch.old in
@@ -93,18 +96,18 @@ fn put_in(
     let grown = total + cells;
     let found = global_count + more;
     let room = check_room(grown, items.len(), found, globals.len());
-    if let Check::Refused(r) = room {
+    if let Err(r) = room {
         slices::clear(scratch);
-        return Added::Refused(r);
+        return Err(r);
     }
     insert(n as u32, &scratch[..cells], end, total, offsets, items);
     list_global(n as u32, more, global_count, globals);
     slices::clear_from(scratch, cells);
-    Added::Tables {
+    Ok(Added {
         cells,
         items: grown,
         globals: found,
-    }
+    })
 }
 
 // 7, 5 and 6, which leave the tables as they were; else the line in its lists. The cells that list it are left at the front of the scratch.
@@ -118,7 +121,7 @@ pub(crate) fn place(
     globals: &mut [u32],
     global_count: usize,
     scratch: &mut [u32],
-) -> Added
+) -> Result<Added, Refusal>
     requires { let t = tables grid n offsets.old items.old globals.old global_count in Placeable grid line t scratch.old }
     ensures { let t = tables grid n offsets.old items.old globals.old global_count in
         let s = scratch.old in
@@ -126,14 +129,16 @@ pub(crate) fn place(
 {
     let goes = goes_to(mode, grid, line, scratch);
     match goes {
-        Goes::Over => Added::Refused(Refusal {
+        None => Err(Refusal {
             number: 7,
             value: 0,
         }),
-        Goes::To {
-            cells,
-            globals: more,
-        } => put_in(
+        Some(
+            Goes {
+                cells,
+                globals: more,
+            },
+        ) => put_in(
             grid,
             n,
             cells,

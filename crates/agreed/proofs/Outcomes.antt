@@ -3,7 +3,7 @@ use Prim.Native.Nat.{ℕ, ◌+◌}
 use mathlib.Core.Path.{◌≡◌, refl, sym, ap, ◌∙◌}
 use mathlib.Core.List.{List, [], ◌∷◌}
 use lib.ListN.{length}
-use Rattle.records.specs.Files.{Record, records_of, word_total}
+use Rattle.records.specs.Files.{Record, word_total}
 use Rattle.agreed.specs.Agreed.{Agreeing, none, more, other, Tallied, AgreeTo, end, apart, past}
 use Rattle.agreed.specs.declared.Tally.{Tally}
 

@@ -1,7 +1,7 @@
 -- Laws of the records of a file, one after another: those that agree so far, and how the rest goes on. Assumes nothing.
-use Prim.Native.Nat.{ℕ, ◌+◌, ◌-◌, ◌≤◌, ◌<◌}
+use Prim.Native.Nat.{ℕ, ◌+◌, ◌-◌, ◌≤◌}
 use native.Mathlib.Omega.{arith}
-use mathlib.Core.Path.{◌≡◌, refl, sym, subst, ap, ◌∙◌}
+use mathlib.Core.Path.{◌≡◌, refl, sym, subst, ◌∙◌}
 use mathlib.Core.Bool.{Bool, true, false, cond}
 use mathlib.Core.Logic.{◌≢◌}
 use mathlib.Core.List.{List, [], ◌∷◌, ◌++◌, append-nil}
@@ -11,7 +11,6 @@ use Rattle.records.specs.Files.{Record, records_of, word_total, size_of}
 use Rattle.records.proofs.Rows.{size_parts, next_record, last_record}
 use Rattle.agreed.specs.Agreed.{Agrees, Agreeing, none, more, other, Tallied, AgreeTo, end, apart, past}
 use Rattle.agreed.specs.Inside.{Tells}
-use Rattle.agreed.specs.declared.Tally.{Tally}
 
 -- the records up to a place are looked at
 pub record Tallying (w : List ℕ) (k records words at : ℕ) : Type 0 where

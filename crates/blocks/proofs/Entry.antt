@@ -1,4 +1,5 @@
 -- The entries case by case: their checks in their order, and what each answers and leaves. Assumes nothing.
+use Rattle.std.specs.Prelude.{Ok, Err}
 use mathlib.Core.Path.{◌≡◌, refl, sym, ap, ◌∙◌}
 use mathlib.Core.Bool.{false, ◌&&◌}
 use mathlib.Core.List.{List}
@@ -8,10 +9,7 @@ use borrow.Author.Tests.{leb-true, ltb-true}
 use lib.Dec.{leb, ltb}
 use lib.ListN.{length, replicate, length-replicate, take-append-drop}
 use Rattle.refusals.specs.declared.Refusal.{Refusal}
-use Rattle.refusals.specs.declared.Check.{Check}
-use Rattle.refusals.specs.declared.Check.TheVariants.{Fine}
-use Rattle.refusals.specs.declared.Check.TheVariants as check
-use Rattle.refusals.specs.Refusals.{and_then, Answer, gives, ◌then◌, answer_by, clears, left_in, zero_beyond}
+use Rattle.refusals.specs.Refusals.{Check, and_then, Answer, gives, ◌then◌, answer_by, clears, left_in, zero_beyond}
 use Rattle.refusals.proofs.Checks.{unless_fine, and_then_left, and_then_right}
 use Rattle.refusals.proofs.Answers.{then_refused, then_fine, then_and_then}
 use Rattle.refusals.proofs.Leaving.{left_same, Clearing, clearing_unless, clearing_then}
@@ -24,8 +22,6 @@ use Rattle.tables.specs.Fit.{tables_check, standing_check}
 use Rattle.tables.proofs.Laws.{take_tabulate, drop_zeros, length_tabulate}
 use Rattle.tables.proofs.Checking.{standing_says}
 use Rattle.blocks.specs.declared.Block.{Block}
-use Rattle.blocks.specs.declared.Made.TheVariants as made
-use Rattle.blocks.specs.declared.Count.TheVariants as count
 use Rattle.blocks.specs.Blocks.{along, blocks, said, block_totals, summary_check, make_end, make_answer, MakeIs}
 use Rattle.blocks.specs.Query.{items_in, block_check, count_end, count_answer}
 use Rattle.blocks.specs.Inside.{Fills, Told, BlocksFilled, BlocksAsk}
@@ -54,13 +50,13 @@ module _ (g : Grid) (t : Tables) (was : List ℕ) where
       clearing_then (clearing_unless _ 3 0 refl)
       (clearing_then (clearing_unless _ 2 t.lines refl) (clearing_then (grid_spares g) (clearing_unless _ 10 0 refl)))
 
-  pub make_refused : (r : Refusal) → make_checks g t (length was) ≡ check.Refused r → MakeIs g t was (made.Refused r) was
+  pub make_refused : (r : Refusal) → make_checks g t (length was) ≡ Err r → MakeIs g t was (Err r) was
   unfolding make_answer answer_by left_in
   make_refused r e =
       let d = end_is ∙ then_refused _ _ r e in
       record { answer = rw d; left = rw d (sym (left_same 0 r was (checks_spare.says r e))) }
 
-  module _ (f : make_checks g t (length was) ≡ Fine) where
+  module _ (f : make_checks g t (length was) ≡ Ok tt) where
     room_says : blocks g ≤ length was
     unfolding summary_check
     room_says = leb-true (blocks g) (length was) (unless_fine (leb (blocks g) (length was)) 3 0 (and_then_left _ _ f))
@@ -83,12 +79,12 @@ module _ (g : Grid) (t : Tables) (was : List ℕ) where
         )
 
     pub make_done : (zeros : List ℕ) → zeros ≡ replicate {A = ℕ} (length was) 0 → (now : List ℕ) → BlocksFilled g.cols t.offsets (g.rows * g.cols) zeros now
-        → (n : ℕ) → n ≡ blocks g → MakeIs g t was (made.Blocks n) now
+        → (n : ℕ) → n ≡ blocks g → MakeIs g t was (Ok n) now
     unfolding make_answer answer_by left_in zero_beyond block_totals blocks
     make_done zeros z now h n e =
         let d = end_is ∙ then_fine _ _ f in
         record {
-          answer = rw d (ap made.Blocks (e ∙ sym (length_numbers g t.offsets)));
+          answer = rw d (ap Ok (e ∙ sym (length_numbers g t.offsets)));
           left = rw d written;
         }
       where
@@ -118,7 +114,7 @@ record There (g : Grid) (b : Block) : Type 0 where
   pub row : b.row < along g.rows
   pub col : b.col < along g.cols
 
-there_says : (g : Grid) (b : Block) → block_check g b ≡ Fine → There g b
+there_says : (g : Grid) (b : Block) → block_check g b ≡ Ok tt → There g b
 unfolding block_check
 there_says g b h =
     let p = ltb b.row (along g.rows) in
@@ -137,11 +133,11 @@ module _ (g : Grid) (s : List ℕ) (low high : Block) where
       ∙ ap (λ (a : Answer ℕ). summary_check g (length s) then a) (then_and_then _ _ _
       ∙ ap (λ (a : Answer ℕ). grid_check g then a) (then_and_then _ _ _)))
 
-  pub query_refused : (r : Refusal) → query_checks g (length s) low high ≡ check.Refused r → count.Refused r ≡ count_answer g s low high
+  pub query_refused : (r : Refusal) → query_checks g (length s) low high ≡ Err r → Err r ≡ count_answer g s low high
   unfolding count_answer answer_by
-  query_refused r e = sym (ap (answer_by count.Refused count.Items) (query_is ∙ then_refused _ _ r e))
+  query_refused r e = sym (ap (answer_by Err Ok) (query_is ∙ then_refused _ _ r e))
 
-  module _ (f : query_checks g (length s) low high ≡ Fine) where
+  module _ (f : query_checks g (length s) low high ≡ Ok tt) where
     pub query_asks : BlocksAsk (along g.cols) (along g.rows) s low high
     unfolding summary_check grid_check blocks
     query_asks =
@@ -158,6 +154,6 @@ module _ (g : Grid) (s : List ℕ) (low high : Block) where
           «high-col» = q.col;
         }
 
-    pub query_done : (n : ℕ) → n ≡ items_in g s low high → count.Items n ≡ count_answer g s low high
+    pub query_done : (n : ℕ) → n ≡ items_in g s low high → Ok n ≡ count_answer g s low high
     unfolding count_answer answer_by
-    query_done n e = ap count.Items e ∙ sym (ap (answer_by count.Refused count.Items) (query_is ∙ then_fine _ _ f))
+    query_done n e = ap Ok e ∙ sym (ap (answer_by Err Ok) (query_is ∙ then_fine _ _ f))

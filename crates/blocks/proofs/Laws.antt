@@ -7,6 +7,8 @@
 --     one-summary               the promise settles the answer and every entry
 -- That a fit grid has at most 4,148 blocks is `few_blocks` in `Places.antt`; that the sums of a query cannot overflow, `along_fits` in `Rectangles.antt`.
 -- Assumes nothing.
+use Rattle.std.specs.Prelude.{Ok, Err, Result}
+use Rattle.refusals.specs.declared.Refusal.{Refusal}
 use mathlib.Core.Path.{◌≡◌, refl, sym, ap, ap₂, ◌∙◌}
 use mathlib.Core.Bool.{Bool, true, false, cond}
 use mathlib.Core.Logic.{◌⊎◌, ⊎_elim}
@@ -28,8 +30,6 @@ use Rattle.tables.specs.Lists.{sum, tabulate}
 use Rattle.tables.proofs.Laws.{sum_same, length_tabulate, sum_add, get_d_tabulate, sum_zero}
 use Rattle.tables.proofs.Facts.{all_within}
 use Rattle.blocks.specs.declared.Block.{Block}
-use Rattle.blocks.specs.declared.Made.{Made}
-use Rattle.blocks.specs.declared.Made.TheVariants as made
 use Rattle.blocks.specs.Blocks.{along, blocks, block_of, told, said_below, said, block_totals, Own, make_end, make_answer, MakeIs}
 use Rattle.blocks.specs.Query.{within, inside, added_below, items_in}
 use Rattle.blocks.proofs.Places.{block_there, block_row, block_col}
@@ -150,12 +150,12 @@ numbers_own g offsets len =
 
 module _ {g : Grid} {t : Tables} {was : List ℕ} where
   -- EACH NUMBER OF A SUMMARY THAT WAS MADE IS WHAT THE OFFSETS SAY
-  pub made_own : {n : ℕ} {now : List ℕ} → MakeIs g t was (made.Blocks n) now → Own g t.offsets now
+  pub made_own : {n : ℕ} {now : List ℕ} → MakeIs g t was (Ok n) now → Own g t.offsets now
   unfolding make_answer answer_by left_in make_end
   made_own {n} {now} h = go (make_end g t (length was)) refl
     where
       go : (a : Answer (List ℕ)) → make_end g t (length was) ≡ a → Own g t.offsets now
-      go (refused r) e = let z : made.Blocks n ≡ made.Refused r = rw e at h.answer in absurd (let y : ◌≡◌ {A = ℕ} 0 1 = cc in omega arith)
+      go (refused r) e = let z : Ok n ≡ Err r = rw e at h.answer in absurd (let y : ◌≡◌ {A = ℕ} 0 1 = cc in omega arith)
       go (gives ns) e =
           let p = (then_passed _ _ (then_passed _ _ e).1).1 in
           let q : now ≡ zero_beyond 0 (length was) ns = rw e at h.left in
@@ -163,5 +163,5 @@ module _ {g : Grid} {t : Tables} {was : List ℕ} where
           rw (q, m) (numbers_own g t.offsets (length was))
 
   -- the promise settles the answer and every entry
-  pub one_summary : {r r₁ : Made} {now now₁ : List ℕ} → MakeIs g t was r now → MakeIs g t was r₁ now₁ → (r ≡ r₁) × (now ≡ now₁)
+  pub one_summary : {r r₁ : Result ℕ Refusal} {now now₁ : List ℕ} → MakeIs g t was r now → MakeIs g t was r₁ now₁ → (r ≡ r₁) × (now ≡ now₁)
   one_summary h k = (h.answer ∙ sym k.answer, h.left ∙ sym k.left)

@@ -1,15 +1,13 @@
 -- Document 02, 12: "Keep a summary beside the tables: for each block of 16 by 16 cells, edge blocks smaller, the number of items in it." Blocks are
 -- numbered in row order, as cells are. Definitions only.
-use Rattle.std.specs.Prelude.{◌≡◌, Bool, cond, ◌&&◌, List, ℕ, suc, ◌+◌, ◌-◌, ◌*◌, ◌/◌, ◌%◌, ◌<◌, leb, eqb, length, get_or}
-use Rattle.refusals.specs.declared.Check.{Check}
-use Rattle.refusals.specs.Refusals.{unless, Answer, gives, ◌then◌, answer_by, left_in, zero_beyond}
+use Rattle.refusals.specs.declared.Refusal.{Refusal}
+use Rattle.std.specs.Prelude.{Ok, Err, Result, ◌≡◌, Bool, cond, ◌&&◌, List, ℕ, suc, ◌+◌, ◌-◌, ◌*◌, ◌/◌, ◌%◌, ◌<◌, leb, eqb, length, get_or}
+use Rattle.refusals.specs.Refusals.{Check, unless, Answer, gives, ◌then◌, answer_by, left_in, zero_beyond}
 use Rattle.grid.specs.declared.Grid.{Grid}
 use Rattle.grid.specs.Domain.{fit}
 use Rattle.tables.specs.Tables.{Tables}
 use Rattle.tables.specs.Fit.{every, standing_check}
 use Rattle.tables.specs.Lists.{sum, tabulate}
-use Rattle.blocks.specs.declared.Made.{Made}
-use Rattle.blocks.specs.declared.Made.TheVariants.{Blocks, Refused}
 
 -- ---- blocks
 
@@ -71,10 +69,10 @@ unfoldable pub make_end : Grid → Tables → ℕ → Answer (List ℕ)
 make_end g t len = summary_check g len then standing_check g t then gives (block_totals g t.offsets)
 
 -- how many blocks there are, or the refusal that is due
-unfoldable pub make_answer : Answer (List ℕ) → Made
-make_answer end = answer_by Refused (λ ns. Blocks (length ns)) end
+unfoldable pub make_answer : Answer (List ℕ) → Result ℕ Refusal
+make_answer end = answer_by Err (λ ns. Ok (length ns)) end
 
 -- The promise: the answer, and what the summary holds: a number for each block and zero beyond them, or what a refusal leaves.
-pub record MakeIs (g : Grid) (t : Tables) (was : List ℕ) (r : Made) (now : List ℕ) : Type 0 where
+pub record MakeIs (g : Grid) (t : Tables) (was : List ℕ) (r : Result ℕ Refusal) (now : List ℕ) : Type 0 where
   pub answer : r ≡ make_answer (make_end g t (length was))
   pub left : now ≡ left_in 0 was (make_end g t (length was)) (λ ns. zero_beyond 0 (length was) ns)

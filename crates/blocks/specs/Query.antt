@@ -1,14 +1,12 @@
 -- Document 02, 12: "A query, from grid and summary alone, adds the numbers over a rectangle of whole blocks, both corners included; corners out of order
 -- give 0." Definitions only.
-use Rattle.std.specs.Prelude.{Bool, cond, ◌&&◌, List, ℕ, ◌/◌, ◌%◌, leb, ltb, length, get_or}
-use Rattle.refusals.specs.declared.Check.{Check}
-use Rattle.refusals.specs.Refusals.{unless, Answer, gives, ◌then◌, answer_by}
+use Rattle.refusals.specs.declared.Refusal.{Refusal}
+use Rattle.std.specs.Prelude.{Ok, Err, Result, Bool, cond, ◌&&◌, List, ℕ, ◌/◌, ◌%◌, leb, ltb, length, get_or}
+use Rattle.refusals.specs.Refusals.{Check, unless, Answer, gives, ◌then◌, answer_by}
 use Rattle.grid.specs.declared.Grid.{Grid}
 use Rattle.grid.specs.Domain.{grid_check}
 use Rattle.tables.specs.Lists.{sum}
 use Rattle.blocks.specs.declared.Block.{Block}
-use Rattle.blocks.specs.declared.Count.{Count}
-use Rattle.blocks.specs.declared.Count.TheVariants.{Items, Refused}
 use Rattle.blocks.specs.Blocks.{along, blocks, summary_check}
 
 abbrev pub within : ℕ → ℕ → ℕ → Bool
@@ -39,5 +37,5 @@ count_end g summary low high =
     then block_check g high
     then gives (items_in g summary low high)
 
-unfoldable pub count_answer : Grid → List ℕ → Block → Block → Count
-count_answer g summary low high = answer_by Refused Items (count_end g summary low high)
+unfoldable pub count_answer : Grid → List ℕ → Block → Block → Result ℕ Refusal
+count_answer g summary low high = answer_by Err Ok (count_end g summary low high)

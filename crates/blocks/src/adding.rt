@@ -19,11 +19,9 @@ fn add_part(summary: &[u32], from: usize, below: usize, so_far: u64) -> u64
     requires { BlockPartAsks summary.now from below so_far }
     ensures { BlockPartIs summary.now from below so_far result }
 {
-    let mut block = from;
     let mut sum = so_far;
-    while block < below {
+    for block in from..below {
         sum = sum + number(summary[block]);
-        block += 1;
     }
     sum
 }
@@ -34,12 +32,10 @@ pub(crate) fn add_rectangle(grid: Grid, summary: &[u32], low: Block, high: Block
     ensures { result ≡ items_in grid summary.now low high }
 {
     let width = blocks_along(grid.cols);
-    let mut row = wide(low.row);
     let mut sum = 0;
-    while row <= wide(high.row) {
+    for row in wide(low.row)..=wide(high.row) {
         let at = row * width;
         sum = add_part(summary, at + wide(low.col), at + wide(high.col) + 1, sum);
-        row += 1;
     }
     sum
 }

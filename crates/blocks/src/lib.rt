@@ -16,7 +16,7 @@ ghost use Rattle.blocks.specs.Blocks.{along, blocks, summary_check, MakeIs};
 ghost use Rattle.blocks.specs.Query.{block_check, count_answer};
 
 use grid::Grid;
-use refusals::{Check, Refusal};
+use refusals::Refusal;
 use slices::wide;
 
 // A block by its row and its column of blocks.
@@ -24,20 +24,6 @@ use slices::wide;
 pub struct Block {
     pub row: u32,
     pub col: u32,
-}
-
-// How many blocks the summary has, or the refusal that is due.
-#[derive(Clone, Copy)]
-pub enum Made {
-    Blocks(usize),
-    Refused(Refusal),
-}
-
-// How many items there are, or the refusal that is due.
-#[derive(Clone, Copy)]
-pub enum Count {
-    Items(u64),
-    Refused(Refusal),
 }
 
 // How many blocks lie along n cells.
@@ -55,7 +41,7 @@ pub fn block_count(grid: Grid) -> usize
 }
 
 // 3: a summary shorter than the blocks.
-pub fn check_summary(grid: Grid, len: usize) -> Check
+pub fn check_summary(grid: Grid, len: usize) -> Result<(), Refusal>
     ensures { result ≡ summary_check grid len }
 {
     refusals::refuse_unless(block_count(grid) <= len, 3, 0)
@@ -70,14 +56,11 @@ fn check_make(
     globals: &[u32],
     global_count: usize,
     len: usize,
-) -> Check
+) -> Result<(), Refusal>
     ensures { let t = tables grid lines offsets.now items.now globals.now global_count in
         result ≡ and_then (summary_check grid len) (standing_check grid t) }
 {
-    let room = check_summary(grid, len);
-    if let Check::Refused(r) = room {
-        return Check::Refused(r);
-    }
+    check_summary(grid, len)?;
     tables::check_tables(grid, lines, offsets, items, globals, global_count)
 }
 
@@ -90,11 +73,11 @@ pub fn make(
     globals: &[u32],
     global_count: usize,
     summary: &mut [u32],
-) -> Made
+) -> Result<usize, Refusal>
     ensures { let t = tables grid lines offsets.now items.now globals.now global_count in
         MakeIs grid t summary.old result summary.new }
 {
-    let check = check_make(
+    check_make(
         lines,
         grid,
         offsets,
@@ -102,13 +85,10 @@ pub fn make(
         globals,
         global_count,
         summary.len(),
-    );
-    if let Check::Refused(r) = check {
-        return Made::Refused(r);
-    }
+    )?;
     slices::clear(summary);
     making::add_rows(grid, offsets, summary);
-    Made::Blocks(block_count(grid))
+    Ok(block_count(grid))
 }
 
 fn is_block(grid: Grid, block: Block) -> bool
@@ -118,39 +98,27 @@ fn is_block(grid: Grid, block: Block) -> bool
 }
 
 // 9: a block beyond the end, with its row of blocks.
-fn check_block(grid: Grid, block: Block) -> Check
+fn check_block(grid: Grid, block: Block) -> Result<(), Refusal>
     ensures { result ≡ block_check grid block }
 {
     refusals::refuse_unless(is_block(grid, block), 9, block.row as u64)
 }
 
 // Refusals 3, 8 and 9, in that order, and 9 of the lower corner first.
-fn check_query(grid: Grid, len: usize, low: Block, high: Block) -> Check
+fn check_query(grid: Grid, len: usize, low: Block, high: Block) -> Result<(), Refusal>
     ensures { result ≡ and_then (summary_check grid len) (and_then (grid_check grid) (and_then (block_check grid low) (block_check grid high))) }
 {
-    let room = check_summary(grid, len);
-    if let Check::Refused(r) = room {
-        return Check::Refused(r);
-    }
-    let shape = grid::checks::check_grid(grid);
-    if let Check::Refused(r) = shape {
-        return Check::Refused(r);
-    }
-    let lower = check_block(grid, low);
-    if let Check::Refused(r) = lower {
-        return Check::Refused(r);
-    }
+    check_summary(grid, len)?;
+    grid::checks::check_grid(grid)?;
+    check_block(grid, low)?;
     check_block(grid, high)
 }
 
 // The numbers of a rectangle of whole blocks added up, from its lower corner to its upper, both included. Corners out of order give 0. Any
 // summary may be handed in: the sum fits 64 bits. Refuses by 3, 8 and 9.
-pub fn items_in(grid: Grid, summary: &[u32], low: Block, high: Block) -> Count
+pub fn items_in(grid: Grid, summary: &[u32], low: Block, high: Block) -> Result<u64, Refusal>
     ensures { result ≡ count_answer grid summary.now low high }
 {
-    let check = check_query(grid, summary.len(), low, high);
-    if let Check::Refused(r) = check {
-        return Count::Refused(r);
-    }
-    Count::Items(adding::add_rectangle(grid, summary, low, high))
+    check_query(grid, summary.len(), low, high)?;
+    Ok(adding::add_rectangle(grid, summary, low, high))
 }

@@ -33,9 +33,7 @@ pub(crate) fn add_rows(grid: Grid, offsets: &[u32], summary: &mut [u32])
     let cols = wide(grid.cols);
     let rows = wide(grid.rows);
     let width = blocks_along(grid.cols);
-    let mut row = 0;
-    while row < rows {
+    for row in 0..rows {
         add_row(offsets, cols, row * cols, row / 16 * width, summary);
-        row += 1;
     }
 }

@@ -12,12 +12,10 @@ fn never_fall(offsets: &[u32], cells: usize) -> bool
     requires { cells < length offsets.now }
     ensures { let o = offsets.now in result ≡ every cells (λ c. leb (get_or o c 0) (get_or o (suc c) 0)) }
 {
-    let mut c = 0;
-    while c < cells {
+    for c in 0..cells {
         if offsets[c + 1] < offsets[c] {
             return false;
         }
-        c += 1;
     }
     true
 }
@@ -37,12 +35,10 @@ fn are_same(numbers: &[u32], summary: &[u32], n: usize) -> bool
     requires { (n ≤ length numbers.now) × (n ≤ length summary.now) }
     ensures { result ≡ every n (λ b. eqb (get_or summary.now b 0) (get_or numbers.now b 0)) }
 {
-    let mut b = 0;
-    while b < n {
+    for b in 0..n {
         if summary[b] != numbers[b] {
             return false;
         }
-        b += 1;
     }
     true
 }

@@ -1,5 +1,6 @@
 -- The order of the refusals. 10 is due where the tables misfit, and where the summary and the offsets disagree, with one value: so whether the summary is
 -- that of the offsets may be asked before the tables are checked. Assumes nothing.
+use Rattle.std.specs.Prelude.{Ok, Err}
 use mathlib.Core.Path.{◌≡◌, refl, sym, ap, ◌∙◌}
 use mathlib.Core.Bool.{Bool, true, false, ◌&&◌}
 use mathlib.Core.List.{List}
@@ -9,9 +10,7 @@ use borrow.Author.Tests.{leb-true}
 use lib.Dec.{leb, ltb}
 use lib.ListN.{length}
 use Rattle.refusals.specs.declared.Refusal.{Refusal}
-use Rattle.refusals.specs.declared.Check.{Check}
-use Rattle.refusals.specs.declared.Check.TheVariants.{Fine, Refused}
-use Rattle.refusals.specs.Refusals.{refusal, unless, and_then, Answer, refused, ◌then◌}
+use Rattle.refusals.specs.Refusals.{Check, refusal, unless, and_then, Answer, refused, ◌then◌}
 use Rattle.refusals.proofs.Checks.{unless_fine, and_then_left, and_then_right}
 use Rattle.refusals.proofs.Answers.{then_fine, then_refused}
 use Rattle.refusals.proofs.Leaving.{Clearing, clearing_unless, clearing_then, numbers_below, numbers_above}
@@ -34,25 +33,25 @@ use Rattle.blocks_added.specs.Inside.{first_check}
 
 -- U, which is asked first, refuses as what follows C does
 in_order_lem : (A S B L C U T O : Check) (rest : Answer (List ℕ)) (r : Refusal)
-    → (A ≡ Fine → C ≡ Fine → (q : Refusal) → U ≡ Refused q → (T then O then rest) ≡ refused q)
-    → and_then A (and_then S (and_then B (and_then L (and_then C U)))) ≡ Refused r
+    → (A ≡ Ok tt → C ≡ Ok tt → (q : Refusal) → U ≡ Err q → (T then O then rest) ≡ refused q)
+    → and_then A (and_then S (and_then B (and_then L (and_then C U)))) ≡ Err r
     → (A then and_then S (and_then B (and_then L (and_then C T))) then O then rest) ≡ refused r
 unfolding and_then ◌then◌
-in_order_lem (Refused a) S B L C U T O rest r link e = cc
-in_order_lem Fine (Refused a) B L C U T O rest r link e = cc
-in_order_lem Fine Fine (Refused a) L C U T O rest r link e = cc
-in_order_lem Fine Fine Fine (Refused a) C U T O rest r link e = cc
-in_order_lem Fine Fine Fine Fine (Refused a) U T O rest r link e = cc
-in_order_lem Fine Fine Fine Fine Fine (Refused a) T O rest r link e = link refl refl a refl ∙ cc
-in_order_lem Fine Fine Fine Fine Fine Fine T O rest r link e = let x : ◌≡◌ {A = ℕ} 0 1 = cc in absurd (omega arith)
+in_order_lem (Err a) S B L C U T O rest r link e = cc
+in_order_lem (Ok _) (Err a) B L C U T O rest r link e = cc
+in_order_lem (Ok _) (Ok _) (Err a) L C U T O rest r link e = cc
+in_order_lem (Ok _) (Ok _) (Ok _) (Err a) C U T O rest r link e = cc
+in_order_lem (Ok _) (Ok _) (Ok _) (Ok _) (Err a) U T O rest r link e = cc
+in_order_lem (Ok _) (Ok _) (Ok _) (Ok _) (Ok _) (Err a) T O rest r link e = link refl refl a refl ∙ cc
+in_order_lem (Ok _) (Ok _) (Ok _) (Ok _) (Ok _) (Ok _) T O rest r link e = let x : ◌≡◌ {A = ℕ} 0 1 = cc in absurd (omega arith)
 
 -- a check that passes where the one before it does
-passed_over : (A O : Check) (rest : Answer (List ℕ)) → (A ≡ Fine → O ≡ Fine) → (A then O then rest) ≡ (A then rest)
+passed_over : (A O : Check) (rest : Answer (List ℕ)) → (A ≡ Ok tt → O ≡ Ok tt) → (A then O then rest) ≡ (A then rest)
 unfolding ◌then◌
-passed_over (Refused a) O rest h = refl
-passed_over Fine O rest h = then_fine O rest (h refl)
+passed_over (Err a) O rest h = refl
+passed_over (Ok _) O rest h = then_fine O rest (h refl)
 
-refused_as : (b : Bool) (n v : ℕ) {q : Refusal} → unless b n v ≡ Refused q → refusal n v ≡ q
+refused_as : (b : Bool) (n v : ℕ) {q : Refusal} → unless b n v ≡ Err q → refusal n v ≡ q
 unfolding unless
 refused_as true n v e = let x : ◌≡◌ {A = ℕ} 0 1 = cc in absurd (omega arith)
 refused_as false n v e = cc
@@ -66,11 +65,11 @@ module _ (mode : Mode) (g : Grid) (line : Segment) (n : ℕ) (o xs gs : List ℕ
   rest : Answer (List ℕ)
   rest = edge_check g line then room_for mode g line t
 
-  pub room_says : summary_check g (length kept) ≡ Fine → blocks g ≤ length kept
+  pub room_says : summary_check g (length kept) ≡ Ok tt → blocks g ≤ length kept
   unfolding summary_check
   room_says e = leb-true (blocks g) (length kept) (unless_fine (leb (blocks g) (length kept)) 3 0 e)
 
-  link : summary_check g (length kept) ≡ Fine → cells_check g ≡ Fine → (q : Refusal) → unless (summary_of g o kept) 10 0 ≡ Refused q
+  link : summary_check g (length kept) ≡ Ok tt → cells_check g ≡ Ok tt → (q : Refusal) → unless (summary_of g o kept) 10 0 ≡ Err q
       → (tables_check t then own_check g o kept then edge_check g line then room_for mode g line t) ≡ refused q
   unfolding cells_check tables_check own_check
   link a c q u = go (tables_fit t) refl
@@ -82,7 +81,7 @@ module _ (mode : Mode) (g : Grid) (line : Segment) (n : ℕ) (o xs gs : List ℕ
           let d = fit_summary g n o xs gs found kept f (fit_facts t e) (room_says a) in
           then_fine (unless (tables_fit t) 10 0) _ (rw e (unfold unless in refl)) ∙ then_refused (unless (own g o kept) 10 0) _ q (rw d at u)
 
-  pub first_refused : (r : Refusal) → first_check g line n o kept (length s) ≡ Refused r → beside_end mode g line t kept (length s) ≡ refused r
+  pub first_refused : (r : Refusal) → first_check g line n o kept (length s) ≡ Err r → beside_end mode g line t kept (length s) ≡ refused r
   unfolding first_check beside_end ask_check
   first_refused r e =
       in_order_lem (summary_check g (length kept)) (scratch_check (length s)) (below_check n) (segment_check line) (cells_check g) (unless (summary_of g o kept) 10 0) (tables_check t) (own_check g o kept)
@@ -97,7 +96,7 @@ module _ (mode : Mode) (g : Grid) (line : Segment) (n : ℕ) (o xs gs : List ℕ
       (clearing_then (clearing_unless _ 1 0 (numbers_below 1 (omega arith)))
       (clearing_then (clearing_unless _ 8 0 (numbers_above 8 (omega arith))) (clearing_unless _ 10 0 (numbers_above 10 (omega arith)))))))
 
-  module _ (f : first_check g line n o kept (length s) ≡ Fine) where
+  module _ (f : first_check g line n o kept (length s) ≡ Ok tt) where
     pub first_room : blocks g ≤ length kept
     unfolding first_check
     first_room = room_says (and_then_left _ _ f)
@@ -107,7 +106,7 @@ module _ (mode : Mode) (g : Grid) (line : Segment) (n : ℕ) (o xs gs : List ℕ
     summary_fine = unless_fine (summary_of g o kept) 10 0 (and_then_right _ _ (and_then_right _ _ (and_then_right _ _ (and_then_right _ _ (and_then_right _ _ f)))))
 
     -- where the tables fit, the summary is their own
-    pub first_own : ask_check g line t (length s) ≡ Fine → own g o kept ≡ true
+    pub first_own : ask_check g line t (length s) ≡ Ok tt → own g o kept ≡ true
     first_own a =
         let p = asked {g = g} {line = line} {t = t} {s = s} a in
         sym (fit_summary g n o xs gs found kept p.walkable.fits p.tables_fit_lem first_room) ∙ summary_fine

@@ -2,7 +2,8 @@
 --     one-outcome               the promise settles the answer and every entry
 --     kept-own                  after a line was added the summary is the new tables' own
 -- Assumes nothing.
-use mathlib.Core.Path.{◌≡◌, refl, sym, ◌∙◌}
+use Rattle.std.specs.Prelude.{Ok, Err, Result}
+use mathlib.Core.Path.{◌≡◌, refl, sym, ap, ◌∙◌}
 use mathlib.Core.Bool.{◌&&◌}
 use mathlib.Core.List.{List}
 use Prim.Native.Nat.{ℕ, ◌-◌, ◌*◌, ◌≤◌, ◌<◌}
@@ -14,7 +15,6 @@ use lib.Seq.{take-append_seam}
 use Rattle.slices.specs.Slices.{cleared_from}
 use Rattle.slices.specs.Lists.{Below, Rising}
 use Rattle.refusals.specs.declared.Refusal.{Refusal}
-use Rattle.refusals.specs.declared.Check.TheVariants.{Fine, Refused}
 use Rattle.refusals.specs.Refusals.{Answer, refused, gives, ◌then◌, answer_by, left_in, zero_beyond}
 use Rattle.refusals.proofs.Checks.{unless_fine, and_then_left, and_then_right}
 use Rattle.refusals.proofs.Answers.{then_passed, into_passed}
@@ -32,8 +32,7 @@ use Rattle.blocks.specs.Blocks.{blocks, block_totals, Own}
 use Rattle.blocks.proofs.Owns.{own_says}
 use Rattle.blocks.proofs.Laws.{numbers_own}
 use Rattle.added.specs.declared.Added.{Added}
-use Rattle.added.specs.declared.Added.TheVariants as added
-use Rattle.added.specs.Added.{listing, total_with, cells_check, edge_check, ask_check, space_with_check, room_for, add_end, added_of, kept_in, cleared, front, AddIs}
+use Rattle.added.specs.Added.{listing, globals_with, total_with, cells_check, edge_check, ask_check, space_with_check, room_for, add_end, added_of, kept_in, cleared, front, AddIs}
 use Rattle.added.proofs.Asking.{asked}
 use Rattle.added.proofs.Promise.{is_refused, cleared_refused, cleared_made}
 use Rattle.blocks_added.specs.Beside.{beside_end, offsets_with, BesideIs}
@@ -49,7 +48,7 @@ module _ (mode : Mode) (g : Grid) (line : Segment) (n : ℕ) (o xs gs : List ℕ
   end = add_end mode g line t (length s)
 
   -- 3, 2, 1, 8, and 10 of the summary
-  pub kept_refused : (r : Refusal) → first_check g line n o kept (length s) ≡ Refused r → BesideIs mode g line t kept s (added.Refused r) o xs gs kept s
+  pub kept_refused : (r : Refusal) → first_check g line n o kept (length s) ≡ Err r → BesideIs mode g line t kept s (Err r) o xs gs kept s
   unfolding kept_in answer_by
   kept_refused r e =
       let d = first_refused mode g line n o xs gs found kept s r e in
@@ -58,22 +57,21 @@ module _ (mode : Mode) (g : Grid) (line : Segment) (n : ℕ) (o xs gs : List ℕ
         summary_is = rw d;
       }
 
-  module _ (f : first_check g line n o kept (length s) ≡ Fine) where
+  module _ (f : first_check g line n o kept (length s) ≡ Ok tt) where
     alike : beside_end mode g line t kept (length s) ≡ end
     alike = ends_alike mode g line n o xs gs found kept s f
 
-    stays : {r : Refusal} {o' xs' gs' z : List ℕ} (puts : List ℕ → List ℕ) (a : Answer (List ℕ)) → AddIs t a s (front s) (added.Refused r) o' xs' gs' z → kept ≡ kept_in kept a puts
+    stays : {r : Refusal} {o' xs' gs' z : List ℕ} (puts : List ℕ → List ℕ) (a : Answer (List ℕ)) → AddIs t a s (front s) (Err r) o' xs' gs' z → kept ≡ kept_in kept a puts
     unfolding kept_in answer_by added_of
     stays puts (refused why) k = refl
     stays puts (gives v) k = let x : ◌≡◌ {A = ℕ} 0 1 = cc k.answer in absurd (omega arith)
 
     -- 10 of the tables, 14, 7, 5, 6
-    pub list_refused : {q : Added} {r : Refusal} {o' xs' gs' z : List ℕ} → AddIs t end s (front s) q o' xs' gs' z → q ≡ added.Refused r
-        → BesideIs mode g line t kept s (added.Refused r) o' xs' gs' kept z
-    list_refused h e =
+    pub list_refused : {r : Refusal} {o' xs' gs' z : List ℕ} → AddIs t end s (front s) (Err r) o' xs' gs' z → BesideIs mode g line t kept s (Err r) o' xs' gs' kept z
+    list_refused h =
         record {
-          tables_are = rw alike (cleared_refused h e);
-          summary_is = rw alike (stays (λ visited. zero_beyond 0 (length kept) (block_totals g (offsets_with t visited))) end (rw e at h));
+          tables_are = rw alike (cleared_refused h);
+          summary_is = rw alike (stays (λ visited. zero_beyond 0 (length kept) (block_totals g (offsets_with t visited))) end h);
         }
 
     -- ---- the line is in its lists, and the cells that list it are at the front of the scratch y
@@ -99,20 +97,21 @@ module _ (mode : Mode) (g : Grid) (line : Segment) (n : ℕ) (o xs gs : List ℕ
     unfolding zero_beyond
     front_within i v y e h = rw (h, e, length-append) (omega arith)
 
-    some_cells : ask_check g line t (length s) ≡ Fine → 0 < g.cols
+    some_cells : ask_check g line t (length s) ≡ Ok tt → 0 < g.cols
     unfolding ask_check cells_check
     some_cells a =
         ltb-true 0 g.cols
         (and_right (fit g) (ltb 0 g.cols) (unless_fine (fit g && ltb 0 g.cols) 8 0 (and_then_left _ _ (and_then_right _ _ (and_then_right _ _ (and_then_right _ _ a))))))
 
-    pub went : {q : Added} {i j l : ℕ} {o' xs' gs' y : List ℕ} → AddIs t end s (front s) q o' xs' gs' y → q ≡ added.Tables i j l → Went i y
+    pub went : {i j l : ℕ} {o' xs' gs' y : List ℕ} → AddIs t end s (front s) (Ok (record { cells = i; items = j; globals = l })) o' xs' gs' y → Went i y
     unfolding answer_by added_of left_in front add_end room_for space_with_check
-    went {q} {i} {j} {l} {o'} {xs'} {gs'} {y} h e = go end refl (rw e at h)
+    went {i} {j} {l} {o'} {xs'} {gs'} {y} h = go end refl h
       where
-        go : (a : Answer (List ℕ)) → end ≡ a → AddIs t a s (front s) (added.Tables i j l) o' xs' gs' y → Went i y
+        go : (a : Answer (List ℕ)) → end ≡ a → AddIs t a s (front s) (Ok (record { cells = i; items = j; globals = l })) o' xs' gs' y → Went i y
         go (refused why) d k = let x : ◌≡◌ {A = ℕ} 0 1 = cc k.answer in absurd (omega arith)
         go (gives v) d k =
-            let size : i ≡ length (listing v) = cc k.answer in
+            let made : ◌≡◌ {A = Added} (record { cells = i; items = j; globals = l }) (record { cells = length (listing v); items = total_with t v; globals = length (globals_with t v) }) = cc k.answer in
+            let size : i ≡ length (listing v) = ap (λ (x : Added). x.cells) made in
             let p = then_passed (ask_check g line t (length s)) (edge_check g line then room_for mode g line t) d in
             let u = then_passed (edge_check g line) (room_for mode g line t) p.1 in
             let a = asked {g = g} {line = line} {t = t} {s = s} p.0 in
@@ -147,19 +146,19 @@ module _ (mode : Mode) (g : Grid) (line : Segment) (n : ℕ) (o xs gs : List ℕ
           grown g n o xs gs found w.tables_fit_lem w.visited w.order w.below kept w.own (first_room mode g line n o xs gs found kept s f) mid (rw w.at_front at h) m e now c
 
       -- the line in its lists, and in its blocks
-      pub list_made : {q : Added} {j l : ℕ} {o' xs' gs' z mid now : List ℕ} → AddIs t end s (front s) q o' xs' gs' y → q ≡ added.Tables i j l → length y ≡ length s
+      pub list_made : {j l : ℕ} {o' xs' gs' z mid now : List ℕ} → AddIs t end s (front s) (Ok (record { cells = i; items = j; globals = l })) o' xs' gs' y → length y ≡ length s
           → Raised g.cols (take i y) kept mid → (m : ℕ) → m ≡ blocks g → now ≡ cleared_from m mid → z ≡ replicate (length y) 0
-          → BesideIs mode g line t kept s (added.Tables i j l) o' xs' gs' now z
+          → BesideIs mode g line t kept s (Ok (record { cells = i; items = j; globals = l })) o' xs' gs' now z
       unfolding kept_in answer_by
-      list_made h e same raised m b c d =
+      list_made h same raised m b c d =
           record {
-            tables_are = rw alike (cleared_made h e same d);
+            tables_are = rw alike (cleared_made h same d);
             summary_is = rw (alike ∙ w.is) (went_grown raised m b c);
           }
 
 -- ---- the promise
 
-pub record Identical (r r₁ : Added) (o o₁ xs xs₁ gs gs₁ kept kept₁ s s₁ : List ℕ) : Type 0 where
+pub record Identical (r r₁ : Result Added Refusal) (o o₁ xs xs₁ gs gs₁ kept kept₁ s s₁ : List ℕ) : Type 0 where
   pub answer : r ≡ r₁
   pub offsets : o ≡ o₁
   pub items : xs ≡ xs₁
@@ -168,7 +167,7 @@ pub record Identical (r r₁ : Added) (o o₁ xs xs₁ gs gs₁ kept kept₁ s s
   pub scratch : s ≡ s₁
 
 -- any two outcomes that it admits are identical
-pub one_outcome : {mode : Mode} {g : Grid} {line : Segment} {t : Tables} {kept s : List ℕ} {r r₁ : Added} {o o₁ xs xs₁ gs gs₁ k k₁ z z₁ : List ℕ}
+pub one_outcome : {mode : Mode} {g : Grid} {line : Segment} {t : Tables} {kept s : List ℕ} {r r₁ : Result Added Refusal} {o o₁ xs xs₁ gs gs₁ k k₁ z z₁ : List ℕ}
     → BesideIs mode g line t kept s r o xs gs k z → BesideIs mode g line t kept s r₁ o₁ xs₁ gs₁ k₁ z₁ → Identical r r₁ o o₁ xs xs₁ gs gs₁ k k₁ z z₁
 one_outcome h k =
     record {
@@ -181,10 +180,10 @@ one_outcome h k =
     }
 
 -- AFTER A LINE WAS ADDED EACH NUMBER IS WHAT THE NEW OFFSETS SAY
-pub kept_own : {mode : Mode} {g : Grid} {line : Segment} {t : Tables} {kept s : List ℕ} {i j l : ℕ} {o xs gs k z : List ℕ} → BesideIs mode g line t kept s (added.Tables i j l) o xs gs k z → Own g o k
+pub kept_own : {mode : Mode} {g : Grid} {line : Segment} {t : Tables} {kept s : List ℕ} {i j l : ℕ} {o xs gs k z : List ℕ} → BesideIs mode g line t kept s (Ok (record { cells = i; items = j; globals = l })) o xs gs k z → Own g o k
 unfolding kept_in answer_by added_of
 kept_own {mode} {g} {line} {t} {kept} {s} {i} {j} {l} {o} {xs} {gs} {k} {z} h = go (beside_end mode g line t kept (length s)) h.tables_are h.summary_is
   where
-    go : (a : Answer (List ℕ)) → AddIs t a s (cleared s) (added.Tables i j l) o xs gs z → k ≡ kept_in kept a (λ visited. zero_beyond 0 (length kept) (block_totals g (offsets_with t visited))) → Own g o k
+    go : (a : Answer (List ℕ)) → AddIs t a s (cleared s) (Ok (record { cells = i; items = j; globals = l })) o xs gs z → k ≡ kept_in kept a (λ visited. zero_beyond 0 (length kept) (block_totals g (offsets_with t visited))) → Own g o k
     go (refused why) a b = let x : ◌≡◌ {A = ℕ} 0 1 = cc a.answer in absurd (omega arith)
     go (gives v) a b = rw (b, a.offsets_are) (numbers_own g (offsets_with t v) (length kept))

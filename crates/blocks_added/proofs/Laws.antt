@@ -2,6 +2,7 @@
 --     as_added                  the tables are as document 02, 11 has them: the call without a summary ends alike
 --     blocks-stay               a block that holds no cell which the line visits keeps its number
 -- That each number is then what the new offsets say is `kept_own` in `Kept.antt`. Assumes nothing.
+use Rattle.std.specs.Prelude.{Ok}
 use mathlib.Core.Path.{◌≡◌, refl, sym, ap, ◌∙◌}
 use mathlib.Core.Bool.{Bool, true, false, true≢false}
 use mathlib.Core.List.{List}
@@ -9,7 +10,6 @@ use Prim.Native.Nat.{ℕ, ◌*◌, ◌<◌}
 use native.Mathlib.Omega.{arith}
 use lib.ListN.{length, get_or}
 use Rattle.slices.specs.Lists.{elem}
-use Rattle.refusals.specs.declared.Check.TheVariants.{Fine}
 use Rattle.refusals.specs.Refusals.{Answer, refused, gives, ◌then◌, answer_by}
 use Rattle.refusals.proofs.Checks.{unless_fine}
 use Rattle.refusals.proofs.Answers.{then_fine, then_passed, into_passed}
@@ -22,7 +22,6 @@ use Rattle.tables.specs.Tables.{Tables, tables}
 use Rattle.tables.specs.Lists.{long, none_if}
 use Rattle.blocks.specs.Blocks.{blocks, block_of, said, own, summary_check}
 use Rattle.blocks.proofs.Owns.{own_says}
-use Rattle.added.specs.declared.Added.TheVariants as added
 use Rattle.added.specs.Added.{listing, edge_check, ask_check, space_with_check, room_for, add_end, added_of, kept_in, cleared, AddIs}
 use Rattle.added.proofs.Asking.{asked}
 use Rattle.blocks_added.specs.Beside.{own_check, beside_end, BesideIs}
@@ -39,8 +38,8 @@ listed_visited c xs h = go (long xs) h
 
 -- a line that is added with its summary: the checks that it passed, and the cells that it visits
 record Passed (mode : Mode) (g : Grid) (line : Segment) (t : Tables) (kept s v : List ℕ) : Type 0 where
-  asks : ask_check g line t (length s) ≡ Fine
-  own_is : own_check g t.offsets kept ≡ Fine
+  asks : ask_check g line t (length s) ≡ Ok tt
+  own_is : own_check g t.offsets kept ≡ Ok tt
   walked : segment_of mode g line ≡ gives v
   ends : add_end mode g line t (length s) ≡ gives v
 
@@ -58,19 +57,19 @@ passed mode g line t kept s v e =
     record { asks = b.0; own_is = c.0; walked = rw same at m; ends = then_fine (ask_check g line t (length s)) _ b.0 ∙ c.1 })
 
 module _ {mode : Mode} {g : Grid} {line : Segment} {t : Tables} {kept s : List ℕ} {i j l : ℕ} {o xs gs k z : List ℕ}
-    (h : BesideIs mode g line t kept s (added.Tables i j l) o xs gs k z) where
+    (h : BesideIs mode g line t kept s (Ok (record { cells = i; items = j; globals = l })) o xs gs k z) where
   -- THE TABLES ARE AS WITHOUT A SUMMARY
-  pub as_added : AddIs t (add_end mode g line t (length s)) s (cleared s) (added.Tables i j l) o xs gs z
+  pub as_added : AddIs t (add_end mode g line t (length s)) s (cleared s) (Ok (record { cells = i; items = j; globals = l })) o xs gs z
   unfolding answer_by added_of
   as_added = go (beside_end mode g line t kept (length s)) refl h.tables_are
     where
-      go : (a : Answer (List ℕ)) → beside_end mode g line t kept (length s) ≡ a → AddIs t a s (cleared s) (added.Tables i j l) o xs gs z
-          → AddIs t (add_end mode g line t (length s)) s (cleared s) (added.Tables i j l) o xs gs z
+      go : (a : Answer (List ℕ)) → beside_end mode g line t kept (length s) ≡ a → AddIs t a s (cleared s) (Ok (record { cells = i; items = j; globals = l })) o xs gs z
+          → AddIs t (add_end mode g line t (length s)) s (cleared s) (Ok (record { cells = i; items = j; globals = l })) o xs gs z
       go (refused why) e a = let x : ◌≡◌ {A = ℕ} 0 1 = cc a.answer in absurd (omega arith)
       go (gives v) e a = rw (passed mode g line t kept s v e).ends a
 
 module _ {mode : Mode} {g : Grid} {line : Segment} {n : ℕ} {o₀ xs₀ gs₀ : List ℕ} {found : ℕ} {kept s : List ℕ} {i j l : ℕ} {o xs gs k z : List ℕ}
-    (h : BesideIs mode g line (tables g n o₀ xs₀ gs₀ found) kept s (added.Tables i j l) o xs gs k z) where
+    (h : BesideIs mode g line (tables g n o₀ xs₀ gs₀ found) kept s (Ok (record { cells = i; items = j; globals = l })) o xs gs k z) where
   -- ONLY BLOCKS THAT HOLD CELLS WHICH THE LINE VISITS CHANGE
   pub blocks_stay : (visited : List ℕ) → segment_of mode g line ≡ gives visited → (b : ℕ) → b < blocks g
       → ((c : ℕ) → elem c visited ≡ true → block_of g.cols c ≡ b → ⊥) → get_or k b 0 ≡ get_or kept b 0
@@ -78,7 +77,7 @@ module _ {mode : Mode} {g : Grid} {line : Segment} {n : ℕ} {o₀ xs₀ gs₀ :
   blocks_stay visited w b inside apart = go (beside_end mode g line (tables g n o₀ xs₀ gs₀ found) kept (length s)) refl h.tables_are
     where
       go : (a : Answer (List ℕ)) → beside_end mode g line (tables g n o₀ xs₀ gs₀ found) kept (length s) ≡ a
-          → AddIs (tables g n o₀ xs₀ gs₀ found) a s (cleared s) (added.Tables i j l) o xs gs z → get_or k b 0 ≡ get_or kept b 0
+          → AddIs (tables g n o₀ xs₀ gs₀ found) a s (cleared s) (Ok (record { cells = i; items = j; globals = l })) o xs gs z → get_or k b 0 ≡ get_or kept b 0
       go (refused why) e a = let x : ◌≡◌ {A = ℕ} 0 1 = cc a.answer in absurd (omega arith)
       go (gives v) e a =
           let p = passed mode g line (tables g n o₀ xs₀ gs₀ found) kept s v e in

@@ -1,8 +1,8 @@
 -- Document 02, 12: "an added line changes only blocks holding cells it visits. At every moment each number equals what the offsets say". The line is added
 -- as document 02, 11 has it, and the summary is then that of the new offsets. Definitions only.
-use Rattle.std.specs.Prelude.{◌≡◌, List, ℕ, length}
-use Rattle.refusals.specs.declared.Check.{Check}
-use Rattle.refusals.specs.Refusals.{unless, Answer, ◌then◌, zero_beyond}
+use Rattle.refusals.specs.declared.Refusal.{Refusal}
+use Rattle.std.specs.Prelude.{Result, ◌≡◌, List, ℕ, length}
+use Rattle.refusals.specs.Refusals.{Check, unless, Answer, ◌then◌, zero_beyond}
 use Rattle.grid.specs.declared.Grid.{Grid}
 use Rattle.grid.specs.declared.Segment.{Segment}
 use Rattle.walk.specs.declared.Mode.{Mode}
@@ -31,6 +31,6 @@ offsets_with t visited = offsets_of (list_with t visited) (cells t) (length t.of
 
 -- The promise: the answer, the tables and the scratch as change 11 has them, and the summary of the new offsets, with zero beyond the blocks. No refusal
 -- changes it.
-pub record BesideIs (mode : Mode) (g : Grid) (line : Segment) (t : Tables) (summary scratch : List ℕ) (r : Added) (offsets' items' globals' summary' scratch' : List ℕ) : Type 0 where
+pub record BesideIs (mode : Mode) (g : Grid) (line : Segment) (t : Tables) (summary scratch : List ℕ) (r : Result Added Refusal) (offsets' items' globals' summary' scratch' : List ℕ) : Type 0 where
   pub tables_are : AddIs t (beside_end mode g line t summary (length scratch)) scratch (cleared scratch) r offsets' items' globals' scratch'
   pub summary_is : summary' ≡ kept_in summary (beside_end mode g line t summary (length scratch)) (λ visited. zero_beyond 0 (length summary) (block_totals g (offsets_with t visited)))

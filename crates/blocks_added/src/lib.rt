@@ -12,7 +12,7 @@ ghost use Rattle.blocks_added.specs.Inside.{first_check};
 
 use added::Added;
 use grid::{Grid, Segment};
-use refusals::{Check, refuse_unless};
+use refusals::{Refusal, refuse_unless};
 use walk::Mode;
 
 fn has_cells(grid: Grid) -> bool
@@ -32,29 +32,14 @@ fn check_first(
     offsets: &[u32],
     summary: &[u32],
     scratch: usize,
-) -> Check
+) -> Result<(), Refusal>
     ensures { result ≡ first_check grid line n offsets.now summary.now scratch }
 {
-    let room = blocks::check_summary(grid, summary.len());
-    if let Check::Refused(r) = room {
-        return Check::Refused(r);
-    }
-    let space = grid::checks::check_scratch(scratch);
-    if let Check::Refused(r) = space {
-        return Check::Refused(r);
-    }
-    let few = refuse_unless(n < 65536, 2, n as u64);
-    if let Check::Refused(r) = few {
-        return Check::Refused(r);
-    }
-    let coordinates = grid::checks::check_segment(line);
-    if let Check::Refused(r) = coordinates {
-        return Check::Refused(r);
-    }
-    let shape = refuse_unless(has_cells(grid), 8, 0);
-    if let Check::Refused(r) = shape {
-        return Check::Refused(r);
-    }
+    blocks::check_summary(grid, summary.len())?;
+    grid::checks::check_scratch(scratch)?;
+    refuse_unless(n < 65536, 2, n as u64)?;
+    grid::checks::check_segment(line)?;
+    refuse_unless(has_cells(grid), 8, 0)?;
     refuse_unless(blocks::owning::is_summary(grid, offsets, summary), 10, 0)
 }
 
@@ -71,16 +56,13 @@ pub fn add_line(
     global_count: usize,
     summary: &mut [u32],
     scratch: &mut [u32],
-) -> Added
+) -> Result<Added, Refusal>
     ensures { let t = tables grid n offsets.old items.old globals.old global_count in
         let kept = summary.old in
         let s = scratch.old in
         BesideIs mode grid line t kept s result offsets.new items.new globals.new summary.new scratch.new }
 {
-    let first = check_first(grid, line, n, offsets, summary, scratch.len());
-    if let Check::Refused(r) = first {
-        return Added::Refused(r);
-    }
+    check_first(grid, line, n, offsets, summary, scratch.len())?;
     let added = added::list_line(
         mode,
         grid,
@@ -91,22 +73,9 @@ pub fn add_line(
         globals,
         global_count,
         scratch,
-    );
-    match added {
-        Added::Refused(r) => Added::Refused(r),
-        Added::Tables {
-            cells,
-            items: total,
-            globals: found,
-        } => {
-            raising::raise(grid, &scratch[..cells], summary);
-            slices::clear_from(summary, blocks::block_count(grid));
-            slices::clear(scratch);
-            Added::Tables {
-                cells,
-                items: total,
-                globals: found,
-            }
-        },
-    }
+    )?;
+    raising::raise(grid, &scratch[..added.cells], summary);
+    slices::clear_from(summary, blocks::block_count(grid));
+    slices::clear(scratch);
+    Ok(added)
 }

@@ -19,10 +19,8 @@ pub(crate) fn raise(grid: Grid, cells: &[u32], summary: &mut [u32])
     requires { RaiseAsks grid.cols cells.now summary.old }
     ensures { Raised grid.cols cells.now summary.old summary.new }
 {
-    let mut k = 0;
-    while k < cells.len() {
-        let block = block_of(grid.cols, cells[k]);
-        summary[block] = summary[block] + 1;
-        k += 1;
+    for &cell in cells {
+        let block = block_of(grid.cols, cell);
+        summary[block] += 1;
     }
 }

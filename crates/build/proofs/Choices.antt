@@ -1,4 +1,7 @@
 -- One grid tried, and the choice that goes on from it. Assumes nothing.
+use Rattle.std.specs.Prelude.{Ok, Err, Some, None, Result, Option}
+use Rattle.refusals.specs.Refusals.{Check, unless, and_then, Answer, refused, gives, ◌then◌, ◌into◌, answer_by, left_in, zero_beyond}
+use Rattle.build.specs.declared.Standing.{Standing}
 use mathlib.Core.Path.{◌≡◌, refl, sym, ap, ◌∙◌, subst}
 use mathlib.Core.Bool.{Bool, true, false, cond, ◌&&◌}
 use mathlib.Core.List.{List}
@@ -9,9 +12,6 @@ use borrow.Author.Tests.{le-leb, lt-leb, lt-ltb, le-ltb, ltb-true}
 use lib.Dec.{ltb}
 use lib.ListN.{length, replicate}
 use Rattle.refusals.specs.declared.Refusal.{Refusal}
-use Rattle.refusals.specs.declared.Check.{Check}
-use Rattle.refusals.specs.declared.Check.TheVariants.{Fine, Refused}
-use Rattle.refusals.specs.Refusals.{unless, and_then, Answer, refused, gives, ◌then◌, ◌into◌, answer_by, left_in, zero_beyond}
 use Rattle.refusals.proofs.Checks.{and_then_right}
 use Rattle.refusals.proofs.Leaving.{Clears, clears_gives, clears_then, clears_if, clears_into, in_alike}
 use Rattle.grid.specs.declared.Grid.{Grid}
@@ -35,11 +35,7 @@ use Rattle.fill.specs.Fill as filling
 use Rattle.fill.specs.Inside.{local_on}
 use Rattle.fill.proofs.Leaves.{tried_clears, space_clears}
 use Rattle.fill.proofs.Sums.{above_never}
-use Rattle.build.specs.declared.Built.{Built}
-use Rattle.build.specs.declared.Built.TheVariants as built
-use Rattle.build.specs.declared.Attempt.{Attempt}
 use Rattle.build.specs.declared.Plan.{Plan}
-use Rattle.build.specs.declared.Attempt.TheVariants as attempt
 use Rattle.build.specs.Choice.{crowded, chosen, chosen_first, chosen_none, choice}
 use Rattle.build.specs.Build.{room_on, end_of, built_on, answer_of, BuildIs}
 use Rattle.build.specs.Inside.{most_on, attempt_by, lent_of, AttemptAsks, end_from, Halved, AttemptIs}
@@ -48,27 +44,27 @@ use Rattle.build.specs.Inside.{most_on, attempt_by, lent_of, AttemptAsks, end_fr
 
 then_then : (a b c : Check) → and_then a (and_then b c) ≡ and_then (and_then a b) c
 unfolding and_then
-then_then Fine b c = refl
-then_then (Refused r) b c = refl
+then_then (Ok _) b c = refl
+then_then (Err r) b c = refl
 
 module _ (mode : Mode) (g : Grid) (ls : Lines) (offsets scratch : ℕ) where
   counting_is : counting_check mode g ls offsets scratch ≡ and_then (and_then (lent_of ls scratch) (grid_check g)) (tried_check mode g ls offsets)
   unfolding counting_check on_grid_check
   counting_is = ap (λ (k : Check). and_then k (tried_check mode g ls offsets)) (then_then (scratch_check scratch) (lines_check ls) (grid_check g))
 
-  counting_lent : (r : Refusal) → lent_of ls scratch ≡ Refused r → counting_check mode g ls offsets scratch ≡ Refused r
+  counting_lent : (r : Refusal) → lent_of ls scratch ≡ Err r → counting_check mode g ls offsets scratch ≡ Err r
   unfolding and_then
   counting_lent r h = counting_is ∙ rw h
 
-  counting_tried : lent_of ls scratch ≡ Fine → fit g ≡ true → counting_check mode g ls offsets scratch ≡ tried_check mode g ls offsets
+  counting_tried : lent_of ls scratch ≡ Ok tt → fit g ≡ true → counting_check mode g ls offsets scratch ≡ tried_check mode g ls offsets
   unfolding and_then grid_check unless
   counting_tried h f = counting_is ∙ rw (h, f)
 
 -- ---- how the tables of a grid end
 
-module _ {mode : Mode} {ls : Lines} {g : Grid} {o t gs s : List ℕ} {w : Filled} {o' t' gs' s' : List ℕ} where
+module _ {mode : Mode} {ls : Lines} {g : Grid} {o t gs s : List ℕ} {w : Result Filled Refusal} {o' t' gs' s' : List ℕ} where
   ends_refused : (r : Refusal) → FillIs mode g ls o t gs s w o' t' gs' s' (refused r)
-      → (attempt_by g w ≡ attempt.Ended (built.Refused r)) × BuildIs mode ls o t gs s (built.Refused r) o' t' gs' s' (refused r)
+      → (attempt_by g w ≡ Some (Err r)) × BuildIs mode ls o t gs s (Err r) o' t' gs' s' (refused r)
   unfolding answer_by left_in answer_of
   ends_refused r k = (
     ap (attempt_by g) k.answer,
@@ -82,7 +78,7 @@ module _ {mode : Mode} {ls : Lines} {g : Grid} {o t gs s : List ℕ} {w : Filled
   )
 
   ends_made : FillIs mode g ls o t gs s w o' t' gs' s' (gives made)
-      → (attempt_by g w ≡ attempt.Ended (built_on mode ls g)) × BuildIs mode ls o t gs s (built_on mode ls g) o' t' gs' s' (gives g)
+      → (attempt_by g w ≡ Some (built_on mode ls g)) × BuildIs mode ls o t gs s (built_on mode ls g) o' t' gs' s' (gives g)
   unfolding answer_by left_in filled_of written_in answer_of built_on
   ends_made k = (
     ap (attempt_by g) k.answer,
@@ -100,53 +96,53 @@ abbrev end_on : Mode → Lines → Grid → Answer Grid → ℕ → ℕ → ℕ 
 end_on mode ls g next offsets items globals scratch = lent_of ls scratch then ((tried_check mode g ls offsets then next) into room_on mode ls items globals)
 
 -- what a grid tried comes to: the end of the build, or a crowded cell
-data Tried (mode : Mode) (ls : Lines) (g : Grid) (most : ℕ) (next : Answer Grid) (o t gs s : List ℕ) (w : Filled) (o' t' gs' s' : List ℕ) : Type 0 where
-  ended : (b : Built) → attempt_by g w ≡ attempt.Ended b → BuildIs mode ls o t gs s b o' t' gs' s' (end_on mode ls g next (length o) (length t) (length gs) (length s))
+data Tried (mode : Mode) (ls : Lines) (g : Grid) (most : ℕ) (next : Answer Grid) (o t gs s : List ℕ) (w : Result Filled Refusal) (o' t' gs' s' : List ℕ) : Type 0 where
+  ended : (b : Result Standing Refusal) → attempt_by g w ≡ Some b → BuildIs mode ls o t gs s b o' t' gs' s' (end_on mode ls g next (length o) (length t) (length gs) (length s))
       → Tried mode ls g most next o t gs s w o' t' gs' s'
-  halved : attempt_by g w ≡ attempt.Halve → lent_of ls (length s) ≡ Fine → tried_check mode g ls (length o) ≡ Fine → more_than most (λ c. length (list_on mode g ls c)) (grid_cells g) ≡ true
+  halved : attempt_by g w ≡ None → lent_of ls (length s) ≡ Ok tt → tried_check mode g ls (length o) ≡ Ok tt → more_than most (λ c. length (list_on mode g ls c)) (grid_cells g) ≡ true
       → Tried mode ls g most next o t gs s w o' t' gs' s'
 
-module _ (mode : Mode) (ls : Lines) (g : Grid) (most : ℕ) (next : Answer Grid) {o t gs s : List ℕ} {w : Filled} {o' t' gs' s' : List ℕ}
+module _ (mode : Mode) (ls : Lines) (g : Grid) (most : ℕ) (next : Answer Grid) {o t gs s : List ℕ} {w : Result Filled Refusal} {o' t' gs' s' : List ℕ}
     (k : FillIs mode g ls o t gs s w o' t' gs' s' (filling_of mode g ls most (length o) (length t) (length gs) (length s)))
-    (fits : lent_of ls (length s) ≡ Fine → fit g ≡ true)
-    (stop : lent_of ls (length s) ≡ Fine → more_than most (λ c. length (list_on mode g ls c)) (grid_cells g) ≡ false → next ≡ gives g) where
+    (fits : lent_of ls (length s) ≡ Ok tt → fit g ≡ true)
+    (stop : lent_of ls (length s) ≡ Ok tt → more_than most (λ c. length (list_on mode g ls c)) (grid_cells g) ≡ false → next ≡ gives g) where
   abbrev Comes : Type 0
   Comes = Tried mode ls g most next o t gs s w o' t' gs' s'
 
-  module _ (lent : lent_of ls (length s) ≡ Fine) (tried : tried_check mode g ls (length o) ≡ Fine) where
-    counting : counting_check mode g ls (length o) (length s) ≡ Fine
+  module _ (lent : lent_of ls (length s) ≡ Ok tt) (tried : tried_check mode g ls (length o) ≡ Ok tt) where
+    counting : counting_check mode g ls (length o) (length s) ≡ Ok tt
     counting = counting_tried mode g ls (length o) (length s) lent (fits lent) ∙ tried
 
     on_space : (c : Check) → space_check mode g ls (length t) (length gs) ≡ c → more_than most (λ c. length (list_on mode g ls c)) (grid_cells g) ≡ false → Comes
     unfolding filling_of ◌then◌ ◌into◌ room_on
-    on_space (Refused r) q b = let e = ends_refused r (rw (counting, b, q) at k) in ended (built.Refused r) e.0 (rw (lent, tried, stop lent b, q) e.1)
-    on_space Fine q b = let e = ends_made (rw (counting, b, q) at k) in ended (built_on mode ls g) e.0 (rw (lent, tried, stop lent b, q) e.1)
+    on_space (Err r) q b = let e = ends_refused r (rw (counting, b, q) at k) in ended (Err r) e.0 (rw (lent, tried, stop lent b, q) e.1)
+    on_space (Ok _) q b = let e = ends_made (rw (counting, b, q) at k) in ended (built_on mode ls g) e.0 (rw (lent, tried, stop lent b, q) e.1)
 
     on_crowd : (b : Bool) → more_than most (λ c. length (list_on mode g ls c)) (grid_cells g) ≡ b → Comes
     unfolding filling_of ◌then◌ answer_by filled_of
     on_crowd true b = halved (let f : FillIs mode g ls o t gs s w o' t' gs' s' (gives filling.crowded) = rw (counting, b) at k in ap (attempt_by g) f.answer) lent tried b
     on_crowd false b = on_space (space_check mode g ls (length t) (length gs)) refl b
 
-  on_tried : (c : Check) → lent_of ls (length s) ≡ Fine → tried_check mode g ls (length o) ≡ c → Comes
+  on_tried : (c : Check) → lent_of ls (length s) ≡ Ok tt → tried_check mode g ls (length o) ≡ c → Comes
   unfolding filling_of ◌then◌ ◌into◌
-  on_tried (Refused r) h q =
+  on_tried (Err r) h q =
       let e = ends_refused r (rw (counting_tried mode g ls (length o) (length s) h (fits h), q) at k) in
-      ended (built.Refused r) e.0 (rw (h, q) e.1)
-  on_tried Fine h q = on_crowd h q (more_than most (λ c. length (list_on mode g ls c)) (grid_cells g)) refl
+      ended (Err r) e.0 (rw (h, q) e.1)
+  on_tried (Ok _) h q = on_crowd h q (more_than most (λ c. length (list_on mode g ls c)) (grid_cells g)) refl
 
   on_lent : (c : Check) → lent_of ls (length s) ≡ c → Comes
   unfolding filling_of ◌then◌
-  on_lent (Refused r) h =
+  on_lent (Err r) h =
       let e = ends_refused r (rw (counting_lent mode g ls (length o) (length s) r h) at k) in
-      ended (built.Refused r) e.0 (rw h e.1)
-  on_lent Fine h = on_tried (tried_check mode g ls (length o)) h refl
+      ended (Err r) e.0 (rw h e.1)
+  on_lent (Ok _) h = on_tried (tried_check mode g ls (length o)) h refl
 
   comes : Comes
   comes = on_lent (lent_of ls (length s)) refl
 
 -- ---- the limit: no cell lists more than all lines
 
-lists_most : (mode : Mode) (g : Grid) (ls : Lines) (scratch : ℕ) → lent_of ls scratch ≡ Fine → more_than 65536 (λ c. length (list_on mode g ls c)) (grid_cells g) ≡ false
+lists_most : (mode : Mode) (g : Grid) (ls : Lines) (scratch : ℕ) → lent_of ls scratch ≡ Ok tt → more_than 65536 (λ c. length (list_on mode g ls c)) (grid_cells g) ≡ false
 unfolding list_on
 lists_most mode g ls scratch h =
     let f : LinesFit ls = lines_fine ls (and_then_right (scratch_check scratch) (lines_check ls) h) in
@@ -180,7 +176,7 @@ module _ (mode : Mode) (e : Extent) (size : Size) (ls : Lines) (offsets scratch 
   chosen_is zero = refl
   chosen_is (suc left) = refl
 
-  module _ (lent : lent_of ls scratch ≡ Fine) where
+  module _ (lent : lent_of ls scratch ≡ Ok tt) where
     limit : (b : Bool) → (more_than 65536 (λ c. length (list_on mode (grid_of e size) ls c)) (grid_cells (grid_of e size)) ≡ true) → b ≡ false
     limit b h = let z : ◌≡◌ {A = Bool} true false = sym h ∙ lists_most mode (grid_of e size) ls scratch lent in let y : ◌≡◌ {A = ℕ} 0 1 = cc in absurd (omega arith)
 
@@ -199,7 +195,7 @@ module _ (mode : Mode) (e : Extent) (size : Size) (ls : Lines) (offsets scratch 
         go false q = rw (q, and_false (more_than 500 (λ c. length (list_on mode (grid_of e size) ls c)) (grid_cells (grid_of e size))))
 
     -- some cell above it: the choice goes on from half the size
-    next_halves : (left : ℕ) → tried_check mode (grid_of e size) ls offsets ≡ Fine → more_than (most_on (grid_of e size) left) (λ c. length (list_on mode (grid_of e size) ls c)) (grid_cells (grid_of e size)) ≡ true → Halved mode left e size ls offsets scratch
+    next_halves : (left : ℕ) → tried_check mode (grid_of e size) ls offsets ≡ Ok tt → more_than (most_on (grid_of e size) left) (λ c. length (list_on mode (grid_of e size) ls c)) (grid_cells (grid_of e size)) ≡ true → Halved mode left e size ls offsets scratch
     unfolding next crowded ◌then◌
     next_halves zero t h = let z : ◌≡◌ {A = Bool} true false = limit true h in let y : ◌≡◌ {A = ℕ} 0 1 = cc in absurd (omega arith)
     next_halves (suc left) t h = go (ltb (grid_cells (grid_of e size) * 4) 1000000) refl
@@ -217,15 +213,15 @@ module _ (mode : Mode) (e : Extent) (size : Size) (ls : Lines) (offsets scratch 
 
 -- ---- one size tried
 
-module _ (mode : Mode) (left : ℕ) (e : Extent) (size : Size) {ls : Lines} {o t gs s : List ℕ} {w : Filled} {o' t' gs' s' : List ℕ} where
-  attempt_comes : {r : Attempt} → Tried mode ls (grid_of e size) (most_on (grid_of e size) left) (next mode e size ls (length o) (length s) left) o t gs s w o' t' gs' s' → r ≡ attempt_by (grid_of e size) w
+module _ (mode : Mode) (left : ℕ) (e : Extent) (size : Size) {ls : Lines} {o t gs s : List ℕ} {w : Result Filled Refusal} {o' t' gs' s' : List ℕ} where
+  attempt_comes : {r : (Option (Result Standing Refusal))} → Tried mode ls (grid_of e size) (most_on (grid_of e size) left) (next mode e size ls (length o) (length s) left) o t gs s w o' t' gs' s' → r ≡ attempt_by (grid_of e size) w
       → AttemptIs mode left e size ls o t gs s o' t' gs' s' r
   attempt_comes {r} (ended b q h) p =
-      subst (λ (r : Attempt). AttemptIs mode left e size ls o t gs s o' t' gs' s' r) (sym (p ∙ q)) (rw (chosen_is mode e size ls (length o) (length s) left) h)
+      subst (λ (r : (Option (Result Standing Refusal))). AttemptIs mode left e size ls o t gs s o' t' gs' s' r) (sym (p ∙ q)) (rw (chosen_is mode e size ls (length o) (length s) left) h)
   attempt_comes {r} (halved q lent tried b) p =
-      subst (λ (r : Attempt). AttemptIs mode left e size ls o t gs s o' t' gs' s' r) (sym (p ∙ q)) (next_halves mode e size ls (length o) (length s) lent left tried b)
+      subst (λ (r : (Option (Result Standing Refusal))). AttemptIs mode left e size ls o t gs s o' t' gs' s' r) (sym (p ∙ q)) (next_halves mode e size ls (length o) (length s) lent left tried b)
 
-  pub attempt_is : {g : Grid} {most : ℕ} {r : Attempt} → AttemptAsks ls e size s → g ≡ grid_of e size → most ≡ most_on g left → FillIs mode g ls o t gs s w o' t' gs' s' (filling_of mode g ls most (length o) (length t) (length gs) (length s))
+  pub attempt_is : {g : Grid} {most : ℕ} {r : (Option (Result Standing Refusal))} → AttemptAsks ls e size s → g ≡ grid_of e size → most ≡ most_on g left → FillIs mode g ls o t gs s w o' t' gs' s' (filling_of mode g ls most (length o) (length t) (length gs) (length s))
       → r ≡ attempt_by g w → AttemptIs mode left e size ls o t gs s o' t' gs' s' r
   attempt_is a is m k p =
       attempt_comes
@@ -252,7 +248,7 @@ room_clears mode ls items globals g = clears_then (space_clears mode g ls items 
 
 pub record Choosing (mode : Mode) (ls : Lines) (o₀ t₀ gs₀ s₀ : List ℕ) (e : Extent) (size₀ : Size) (o t gs s : List ℕ) (size : Size) (left : ℕ) : Type 0 where
   pub is : end_from mode 2 e size₀ ls (length o₀) (length t₀) (length gs₀) (length s₀) ≡ end_from mode left e size ls (length o₀) (length t₀) (length gs₀) (length s₀)
-  pub fits : lent_of ls (length s₀) ≡ Fine → AllFit left e size
+  pub fits : lent_of ls (length s₀) ≡ Ok tt → AllFit left e size
   pub len : length o ≡ length o₀
   pub len_items : length t ≡ length t₀
   pub len_globals : length gs ≡ length gs₀
@@ -292,7 +288,7 @@ module _ {mode : Mode} {ls : Lines} {o₀ t₀ gs₀ s₀ : List ℕ} {e : Exten
       → Choosing mode ls o₀ t₀ gs₀ s₀ e size₀ o' t' gs' s' half (left - 1)
   unfolding ◌then◌
   choosing_next {o'} {t'} {gs'} {s'} h z a b c d =
-      let lent : lent_of ls (length s₀) ≡ Fine = rw k.len_scratch at h.lent in
+      let lent : lent_of ls (length s₀) ≡ Ok tt = rw k.len_scratch at h.lent in
       let again : chosen mode left e size ls (length o₀) ≡ chosen mode (left - 1) e (half_of size) ls (length o₀) = rw k.len at h.next in
       let E = end_from mode 2 e size₀ ls (length o₀) (length t₀) (length gs₀) (length s₀) in
       let by : E ≡ (chosen mode left e size ls (length o₀) into room_on mode ls (length t₀) (length gs₀)) = k.is ∙ rw lent in
@@ -310,7 +306,7 @@ module _ {mode : Mode} {ls : Lines} {o₀ t₀ gs₀ s₀ : List ℕ} {e : Exten
         scratch = λ on. in_alike 0 E s₀ s' on clear (d ∙ k.len_scratch);
       }
 
-  pub choosing_done : {b : Built} {o' t' gs' s' : List ℕ} {E : Answer Grid} → BuildIs mode ls o t gs s b o' t' gs' s' (end_from mode left e size ls (length o) (length t) (length gs) (length s))
+  pub choosing_done : {b : Result Standing Refusal} {o' t' gs' s' : List ℕ} {E : Answer Grid} → BuildIs mode ls o t gs s b o' t' gs' s' (end_from mode left e size ls (length o) (length t) (length gs) (length s))
       → end_from mode 2 e size₀ ls (length o₀) (length t₀) (length gs₀) (length s₀) ≡ E → BuildIs mode ls o₀ t₀ gs₀ s₀ b o' t' gs' s' E
   choosing_done {b} {o'} {t'} {gs'} {s'} h end =
       let q : end_from mode left e size ls (length o) (length t) (length gs) (length s) ≡ end_from mode 2 e size₀ ls (length o₀) (length t₀) (length gs₀) (length s₀) =
@@ -327,32 +323,32 @@ module _ {mode : Mode} {ls : Lines} {o₀ t₀ gs₀ s₀ : List ℕ} {e : Exten
 
 -- ---- no lines
 
-module _ (plan : Plan) {ls : Lines} (none : count ls ≡ 0) {g : Grid} (is : g ≡ empty_grid) {o t gs s : List ℕ} {w : Filled} {o' t' gs' s' : List ℕ}
-    (k : FillIs plan.mode g ls o t gs s w o' t' gs' s' (filling_of plan.mode g ls 65536 (length o) (length t) (length gs) (length s))) {r : Attempt} (p : r ≡ attempt_by g w) where
+module _ (plan : Plan) {ls : Lines} (none : count ls ≡ 0) {g : Grid} (is : g ≡ empty_grid) {o t gs s : List ℕ} {w : Result Filled Refusal} {o' t' gs' s' : List ℕ}
+    (k : FillIs plan.mode g ls o t gs s w o' t' gs' s' (filling_of plan.mode g ls 65536 (length o) (length t) (length gs) (length s))) {r : (Option (Result Standing Refusal))} (p : r ≡ attempt_by g w) where
   none_comes : Tried plan.mode ls empty_grid 65536 (gives empty_grid) o t gs s w o' t' gs' s'
   none_comes = comes plan.mode ls empty_grid 65536 (gives empty_grid) (rw is at k) (λ _. empty_fits) (λ _ _. refl)
 
-  pub none_ends : (b : Built) → r ≡ attempt.Ended b → BuildIs plan.mode ls o t gs s b o' t' gs' s' (end_of plan ls (length o) (length t) (length gs) (length s))
+  pub none_ends : (b : Result Standing Refusal) → r ≡ Some b → BuildIs plan.mode ls o t gs s b o' t' gs' s' (end_of plan ls (length o) (length t) (length gs) (length s))
   unfolding end_of choice chosen_none
   none_ends b q = go none_comes
     where
       go : Tried plan.mode ls empty_grid 65536 (gives empty_grid) o t gs s w o' t' gs' s' → BuildIs plan.mode ls o t gs s b o' t' gs' s' (end_of plan ls (length o) (length t) (length gs) (length s))
       go (ended d e h) =
           let l : count ls < 1 = omega arith in
-          let x : attempt.Ended b ≡ attempt.Ended d = sym q ∙ (rw is at p) ∙ e in
+          let x : Some b ≡ Some d = sym q ∙ (rw is at p) ∙ e in
           let y : d ≡ b = cc in
           rw (lt-leb 1 (count ls) l, ← y) h
       go (halved e lent tried h) =
-          let x : attempt.Ended b ≡ attempt.Halve = sym q ∙ (rw is at p) ∙ e in
+          let x : Some b ≡ None = sym q ∙ (rw is at p) ∙ e in
           let y : ◌≡◌ {A = ℕ} 0 1 = cc in
           absurd (omega arith)
 
-  pub none_halves : r ≡ attempt.Halve → ⊥
+  pub none_halves : r ≡ None → ⊥
   none_halves q = go none_comes
     where
       go : Tried plan.mode ls empty_grid 65536 (gives empty_grid) o t gs s w o' t' gs' s' → ⊥
       go (ended d e h) =
-          let x : attempt.Halve ≡ attempt.Ended d = sym q ∙ (rw is at p) ∙ e in
+          let x : None ≡ Some d = sym q ∙ (rw is at p) ∙ e in
           let y : ◌≡◌ {A = ℕ} 0 1 = cc in
           omega arith
       go (halved e lent tried h) =

@@ -1,12 +1,12 @@
 -- What an end on a grid says: the lines passed the checks, the grid that was settled on is fit, every walk on it ends, and each slice has room.
 -- Assumes nothing.
+use Rattle.std.specs.Prelude.{Ok}
 use mathlib.Core.Path.{◌≡◌, refl}
 use mathlib.Core.Bool.{Bool, true, false, cond}
 use Prim.Native.Nat.{ℕ, zero, suc, ◌+◌, ◌*◌, ◌≤◌, ◌<◌}
 use borrow.Author.Tests.{le-leb, leb-true, ltb-true}
 use lib.Dec.{leb, ltb}
 use lib.ListN.{length}
-use Rattle.refusals.specs.declared.Check.TheVariants.{Fine}
 use Rattle.refusals.specs.Refusals.{and_then, Answer, gives, ◌into◌}
 use Rattle.refusals.proofs.Checks.{unless_fine, and_then_left, and_then_right}
 use Rattle.refusals.proofs.Answers.{then_passed, into_passed}
@@ -38,9 +38,9 @@ if_settled P false x y g some none h = none h
 -- the grid is fit, and neither 4 nor 7 applies to it
 pub record SettledOn (mode : Mode) (g : Grid) (ls : Lines) (room : ℕ) : Type 0 where
   pub fits : fit g ≡ true
-  pub tried : tried_check mode g ls room ≡ Fine
+  pub tried : tried_check mode g ls room ≡ Ok tt
 
-settled_here : (mode : Mode) (f g : Grid) (ls : Lines) (room : ℕ) → fit f ≡ true → tried_check mode f ls room ≡ Fine → ◌≡◌ {A = Answer Grid} (gives f) (gives g) → SettledOn mode g ls room
+settled_here : (mode : Mode) (f g : Grid) (ls : Lines) (room : ℕ) → fit f ≡ true → tried_check mode f ls room ≡ Ok tt → ◌≡◌ {A = Answer Grid} (gives f) (gives g) → SettledOn mode g ls room
 settled_here mode f g ls room a b h = let e : f ≡ g = cc in record { fits = rw e at a; tried = rw e at b }
 
 pub crowded_few : (mode : Mode) (g : Grid) (ls : Lines) → crowded mode g ls ≡ true → grid_cells g * 4 < 1000000
@@ -92,16 +92,16 @@ choice_some plan ls room g f N h =
 
 -- ---- an end on a grid
 
-turns_say : (mode : Mode) (g : Grid) (ls : Lines) (room : ℕ) → tried_check mode g ls room ≡ Fine → turns_check mode g ls ≡ Fine
+turns_say : (mode : Mode) (g : Grid) (ls : Lines) (room : ℕ) → tried_check mode g ls room ≡ Ok tt → turns_check mode g ls ≡ Ok tt
 unfolding tried_check
 turns_say mode g ls room h = and_then_right (room_check g room) (turns_check mode g ls) h
 
-room_says : (mode : Mode) (g : Grid) (ls : Lines) (room : ℕ) → tried_check mode g ls room ≡ Fine → grid_cells g + 1 ≤ room
+room_says : (mode : Mode) (g : Grid) (ls : Lines) (room : ℕ) → tried_check mode g ls room ≡ Ok tt → grid_cells g + 1 ≤ room
 unfolding tried_check room_check
 room_says mode g ls room h =
     leb-true (grid_cells g + 1) room (unless_fine (leb (grid_cells g + 1) room) 4 (grid_cells g + 1) (and_then_left (room_check g room) (turns_check mode g ls) h))
 
-module _ (mode : Mode) (g : Grid) (ls : Lines) (items globals : ℕ) (h : space_check mode g ls items globals ≡ Fine) where
+module _ (mode : Mode) (g : Grid) (ls : Lines) (items globals : ℕ) (h : space_check mode g ls items globals ≡ Ok tt) where
   space_items : total mode g ls ≤ items
   unfolding space_check
   space_items = leb-true (total mode g ls) items (unless_fine (leb (total mode g ls) items) 5 (total mode g ls) (and_then_left _ _ h))
@@ -116,7 +116,7 @@ pub record Made (mode : Mode) (ls : Lines) (offsets items globals : ℕ) (g : Gr
   pub lines_fit : LinesFit ls
   pub fits : fit g ≡ true
   pub some : 1 ≤ count ls → 1 ≤ g.cols
-  pub turns : turns_check mode g ls ≡ Fine
+  pub turns : turns_check mode g ls ≡ Ok tt
   pub room : grid_cells g + 1 ≤ offsets
   pub space : total mode g ls ≤ items
   pub listed : length (globals_on mode g ls) ≤ globals

@@ -1,5 +1,7 @@
 -- What follows from the promise of the entry alone, for whoever calls it: what a successful build leaves stands, on a fit grid, for the walks
 -- of its lines, which all end; and the promise settles everything. Assumes nothing.
+use Rattle.std.specs.Prelude.{Ok, Result}
+use Rattle.refusals.specs.declared.Refusal.{Refusal}
 use mathlib.Core.Path.{◌≡◌, refl, sym, ap, ◌∙◌}
 use mathlib.Core.Bool.{true}
 use mathlib.Core.List.{List, ◌++◌}
@@ -7,7 +9,6 @@ use Prim.Native.Nat.{ℕ, suc, ◌-◌, ◌≤◌, ◌<◌}
 use native.Mathlib.Omega.{arith}
 use lib.ListN.{length, replicate}
 use Rattle.slices.proofs.Clearing.{length_filled}
-use Rattle.refusals.specs.declared.Check.TheVariants.{Fine}
 use Rattle.refusals.specs.Refusals.{and_then, Answer, refused, gives, ◌into◌, answer_by, left_in, zero_beyond}
 use Rattle.refusals.proofs.Checks.{each_says, and_then_right}
 use Rattle.refusals.proofs.Answers.{then_passed}
@@ -21,8 +22,6 @@ use Rattle.tables.specs.Stands.{Stands}
 use Rattle.tables.proofs.Laws.{sum_same, table_made, length_offsets, length_items}
 use Rattle.tables.proofs.Standing.{Laid, laid_stands}
 use Rattle.build.specs.declared.Standing.{Standing}
-use Rattle.build.specs.declared.Built.{Built}
-use Rattle.build.specs.declared.Built.TheVariants as built
 use Rattle.fill.specs.OnGrid.{grid_cells, walk_on, completes, visited, cells_on, list_on, globals_on, total}
 use Rattle.fill.specs.Checks.{turns_check}
 use Rattle.fill.proofs.Walks.{cells_walk}
@@ -34,14 +33,14 @@ use Rattle.build.proofs.Settled.{Made, made_says}
 -- ---- the promise settles everything
 
 -- "any two outcomes it admits are proved identical"
-pub record Identical (r r₁ : Built) (o o₁ t t₁ gs gs₁ s s₁ : List ℕ) : Type 0 where
+pub record Identical (r r₁ : Result Standing Refusal) (o o₁ t t₁ gs gs₁ s s₁ : List ℕ) : Type 0 where
   pub answer : r ≡ r₁
   pub offsets : o ≡ o₁
   pub items : t ≡ t₁
   pub globals : gs ≡ gs₁
   pub scratch : s ≡ s₁
 
-pub one_outcome : {mode : Mode} {ls : Lines} {o t gs s : List ℕ} {r r₁ : Built} {o' o₁ t' t₁ gs' gs₁ s' s₁ : List ℕ} {e : Answer Grid}
+pub one_outcome : {mode : Mode} {ls : Lines} {o t gs s : List ℕ} {r r₁ : Result Standing Refusal} {o' o₁ t' t₁ gs' gs₁ s' s₁ : List ℕ} {e : Answer Grid}
     → BuildIs mode ls o t gs s r o' t' gs' s' e → BuildIs mode ls o t gs s r₁ o₁ t₁ gs₁ s₁ e → Identical r r₁ o' o₁ t' t₁ gs' gs₁ s' s₁
 one_outcome h k =
     record {
@@ -55,12 +54,12 @@ one_outcome h k =
 -- ---- a successful build: the answer is tables
 
 record Success (mode : Mode) (ls : Lines) (st : Standing) (o t gs : List ℕ) : Type 0 where
-  passed : lines_check ls ≡ Fine
-  turns : turns_check mode st.grid ls ≡ Fine
+  passed : lines_check ls ≡ Ok tt
+  turns : turns_check mode st.grid ls ≡ Ok tt
   items_are : st.items ≡ total mode st.grid ls
   laid : Laid (cells_on mode st.grid ls) (count ls) st.grid o t gs st.globals
 
-pub answer_made : (mode : Mode) (e : Answer Grid) (ls : Lines) (st : Standing) → answer_of mode e ls ≡ built.Tables st
+pub answer_made : (mode : Mode) (e : Answer Grid) (ls : Lines) (st : Standing) → answer_of mode e ls ≡ Ok st
     → (e ≡ gives st.grid) × (st.items ≡ total mode st.grid ls) × (st.globals ≡ length (globals_on mode st.grid ls))
 unfolding answer_of answer_by built_on
 answer_made mode (refused r) ls st h = let z : ◌≡◌ {A = ℕ} 0 1 = cc in absurd (omega arith)
@@ -73,14 +72,14 @@ left_made : (e : Answer Grid) (g : Grid) (was : List ℕ) (on : Grid → List �
 unfolding left_in
 left_made e g was on h = rw h
 
-made_passed : (plan : Plan) (ls : Lines) (offsets items globals scratch : ℕ) (g : Grid) → end_of plan ls offsets items globals scratch ≡ gives g → lines_check ls ≡ Fine
+made_passed : (plan : Plan) (ls : Lines) (offsets items globals scratch : ℕ) (g : Grid) → end_of plan ls offsets items globals scratch ≡ gives g → lines_check ls ≡ Ok tt
 unfolding end_of
 made_passed plan ls offsets items globals scratch g h =
     and_then_right (scratch_check scratch) (lines_check ls)
     (then_passed (and_then (scratch_check scratch) (lines_check ls)) (choice plan ls offsets into room_on plan.mode ls items globals) h).0
 
-success : (plan : Plan) {ls : Lines} {o t gs s : List ℕ} {r : Built} {o' t' gs' s' : List ℕ} {st : Standing}
-    → BuildIs plan.mode ls o t gs s r o' t' gs' s' (end_of plan ls (length o) (length t) (length gs) (length s)) → r ≡ built.Tables st → Success plan.mode ls st o' t' gs'
+success : (plan : Plan) {ls : Lines} {o t gs s : List ℕ} {r : Result Standing Refusal} {o' t' gs' s' : List ℕ} {st : Standing}
+    → BuildIs plan.mode ls o t gs s r o' t' gs' s' (end_of plan ls (length o) (length t) (length gs) (length s)) → r ≡ Ok st → Success plan.mode ls st o' t' gs'
 unfolding total list_on globals_on zero_beyond
 success plan {ls} {o} {t} {gs} {s} {r} {o'} {t'} {gs'} {s'} {st} h ok =
     let g : Grid = st.grid in
@@ -118,7 +117,7 @@ ended_found (gives xs) h = refl
 
 -- ---- THE THEOREMS
 
-module _ (plan : Plan) {ls : Lines} {o t gs s : List ℕ} {r : Built} {o' t' gs' s' : List ℕ} {st : Standing} (h : BuildIs plan.mode ls o t gs s r o' t' gs' s' (end_of plan ls (length o) (length t) (length gs) (length s))) (ok : r ≡ built.Tables st) where
+module _ (plan : Plan) {ls : Lines} {o t gs s : List ℕ} {r : Result Standing Refusal} {o' t' gs' s' : List ℕ} {st : Standing} (h : BuildIs plan.mode ls o t gs s r o' t' gs' s' (end_of plan ls (length o) (length t) (length gs) (length s))) (ok : r ≡ Ok st) where
   -- WHAT A BUILD LEAVES STANDS, on its final grid, for the walks of its lines
   pub build_stands : Stands (cells_on plan.mode st.grid ls) (count ls) st.grid (tables st.grid (count ls) o' t' gs' st.globals)
   build_stands = laid_stands (success plan h ok).laid
@@ -138,7 +137,7 @@ module _ (plan : Plan) {ls : Lines} {o t gs s : List ℕ} {r : Built} {o' t' gs'
       (m.fits, m.some)
 
   -- the lines passed the checks 3, 2 and 1
-  pub lines_passed : lines_check ls ≡ Fine
+  pub lines_passed : lines_check ls ≡ Ok tt
   lines_passed = (success plan h ok).passed
 
   -- "invented .. item counts": the number of items is the sum of the lengths of the lists

@@ -1,12 +1,12 @@
 -- Document 01, "The build": what the entry answers, and what it leaves in each lent slice. Definitions only.
-use Rattle.std.specs.Prelude.{◌≡◌, List, ℕ, length, replicate}
+use Rattle.std.specs.Prelude.{◌≡◌, List, ℕ, length, replicate, Result, Ok, Err}
+use Rattle.refusals.specs.declared.Refusal.{Refusal}
+use Rattle.build.specs.declared.Standing.{Standing}
 use Rattle.refusals.specs.Refusals.{Answer, gives, and_then, ◌then◌, ◌into◌, answer_by, left_in, zero_beyond}
 use Rattle.grid.specs.declared.Grid.{Grid}
 use Rattle.grid.specs.Domain.{Lines, scratch_check, lines_check}
 use Rattle.walk.specs.declared.Mode.{Mode}
 use Rattle.tables.specs.Lists.{items_of, offsets_of}
-use Rattle.build.specs.declared.Built.{Built}
-use Rattle.build.specs.declared.Built.TheVariants as built
 use Rattle.fill.specs.OnGrid.{grid_cells, list_on, globals_on, total}
 use Rattle.fill.specs.Checks.{space_check}
 use Rattle.build.specs.declared.Plan.{Plan}
@@ -21,15 +21,15 @@ unfoldable pub end_of : Plan → Lines → ℕ → ℕ → ℕ → ℕ → Answe
 end_of plan ls offsets items globals scratch = and_then (scratch_check scratch) (lines_check ls) then (choice plan ls offsets into room_on plan.mode ls items globals)
 
 -- tables on a grid: with the number of items and of globals
-unfoldable pub built_on : Mode → Lines → Grid → Built
-built_on mode ls g = built.Tables (record { grid = g; items = total mode g ls; globals = length (globals_on mode g ls) })
+unfoldable pub built_on : Mode → Lines → Grid → Result Standing Refusal
+built_on mode ls g = Ok (record { grid = g; items = total mode g ls; globals = length (globals_on mode g ls) })
 
 -- the answer
-unfoldable pub answer_of : Mode → Answer Grid → Lines → Built
-answer_of mode e ls = answer_by built.Refused (built_on mode ls) e
+unfoldable pub answer_of : Mode → Answer Grid → Lines → Result Standing Refusal
+answer_of mode e ls = answer_by Err (built_on mode ls) e
 
 -- the entry's promise, in the mode of its plan
-pub record BuildIs (mode : Mode) (ls : Lines) (offsets items globals scratch : List ℕ) (r : Built) (offsets' items' globals' scratch' : List ℕ) (e : Answer Grid) : Type 0 where
+pub record BuildIs (mode : Mode) (ls : Lines) (offsets items globals scratch : List ℕ) (r : Result Standing Refusal) (offsets' items' globals' scratch' : List ℕ) (e : Answer Grid) : Type 0 where
   pub answer : r ≡ answer_of mode e ls
   pub cell_offsets : offsets' ≡ left_in 0 offsets e (λ g. offsets_of (list_on mode g ls) (grid_cells g) (length offsets))
   pub cell_items : items' ≡ left_in 0 items e (λ g. items_of (list_on mode g ls) (grid_cells g) (length items))

@@ -4,7 +4,7 @@ ghost use Rattle.grid.specs.Domain.{lines, count};
 ghost use Rattle.build.specs.Build.{end_of, BuildIs};
 ghost use Rattle.build.specs.Inside.{most_on, attempt_by, AttemptAsks, AttemptIs};
 
-use crate::{Attempt, Built, Plan, Standing};
+use crate::{Plan, Standing};
 use fill::Filled;
 use grid::Grid;
 use refusals::Refusal;
@@ -26,22 +26,22 @@ fn most_on(grid: Grid, left: u32) -> u32
     65536
 }
 
-// What the answer of `fill` on a grid leads to.
-fn lead(grid: Grid, filled: Filled) -> Attempt
+// What the answer of `fill` on a grid leads to: the end of the build, or, where some cell is crowded, none yet.
+fn lead(grid: Grid, filled: Result<Filled, Refusal>) -> Option<Result<Standing, Refusal>>
     ensures { result ≡ attempt_by grid filled }
 {
     match filled {
-        Filled::Tables { items, globals } => Attempt::Ended(Built::Tables(Standing {
+        Ok(Filled::Tables { items, globals }) => Some(Ok(Standing {
             grid,
             items,
             globals,
         })),
-        Filled::Crowded => Attempt::Halve,
-        Filled::Refused(r) => Attempt::Ended(Built::Refused(r)),
+        Ok(Filled::Crowded) => None,
+        Err(r) => Some(Err(r)),
     }
 }
 
-// One size tried, with so many halvings left.
+// One size tried, with so many halvings left: the end of the build, or none, and the size is halved.
 fn attempt_size(
     mode: Mode,
     start_x: &[f64],
@@ -55,7 +55,7 @@ fn attempt_size(
     items: &mut [u32],
     globals: &mut [u32],
     scratch: &mut [u32],
-) -> Attempt
+) -> Option<Result<Standing, Refusal>>
     requires { let ls = lines start_x.now start_y.now end_x.now end_y.now in
         AttemptAsks ls extent size scratch.old }
     ensures { let ls = lines start_x.now start_y.now end_x.now end_y.now in
@@ -84,7 +84,7 @@ pub(crate) fn build_some(
     items: &mut [u32],
     globals: &mut [u32],
     scratch: &mut [u32],
-) -> Built
+) -> Result<Standing, Refusal>
     requires { let ls = lines start_x.now start_y.now end_x.now end_y.now in
         (count ls ≡ 0 → ⊥) }
     ensures { let ls = lines start_x.now start_y.now end_x.now end_y.now in
@@ -105,7 +105,7 @@ pub(crate) fn build_some(
             mode, start_x, start_y, end_x, end_y, extent, size, left, offsets, items, globals,
             scratch,
         );
-        if let Attempt::Ended(built) = tried {
+        if let Some(built) = tried {
             return built;
         }
         size = sizing::half_of(size);
@@ -124,7 +124,7 @@ pub(crate) fn build_none(
     items: &mut [u32],
     globals: &mut [u32],
     scratch: &mut [u32],
-) -> Built
+) -> Result<Standing, Refusal>
     requires { let ls = lines start_x.now start_y.now end_x.now end_y.now in
         count ls ≡ 0 }
     ensures { let ls = lines start_x.now start_y.now end_x.now end_y.now in
@@ -143,8 +143,8 @@ pub(crate) fn build_none(
     );
     let tried = lead(grid, filled);
     match tried {
-        Attempt::Ended(built) => built,
-        Attempt::Halve => Built::Refused(Refusal {
+        Some(built) => built,
+        None => Err(Refusal {
             number: 8,
             value: 0,
         }),

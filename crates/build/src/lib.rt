@@ -28,19 +28,6 @@ pub struct Standing {
     pub globals: usize,
 }
 
-#[derive(Clone, Copy)]
-pub enum Built {
-    Tables(Standing),
-    Refused(Refusal),
-}
-
-// What one grid tried leads to: the end of the build, or the next halving.
-#[derive(Clone, Copy)]
-enum Attempt {
-    Ended(Built),
-    Halve,
-}
-
 // Bins the lines into a grid that fits them. `cell_offsets[c] .. cell_offsets[c + 1]` is the range in `cell_items` of the lines that visit cell c;
 // lines that visit more than 2,048 cells go to `global_lines` instead. `fill` checks what is lent: sizes of lines that do not pass go nowhere.
 pub fn build(
@@ -53,7 +40,7 @@ pub fn build(
     cell_items: &mut [u32],
     global_lines: &mut [u32],
     scratch: &mut [u32],
-) -> Built
+) -> Result<Standing, Refusal>
     ensures { let ls = lines start_x.now start_y.now end_x.now end_y.now in
         let o = cell_offsets.old in
         let t = cell_items.old in

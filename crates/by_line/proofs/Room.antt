@@ -1,4 +1,5 @@
 -- The lists by line have no more entries than the items of tables that fit, and what their checks say. Assumes nothing.
+use Rattle.std.specs.Prelude.{Ok, Err}
 use mathlib.Core.Path.{◌≡◌, refl, sym, ◌∙◌}
 use mathlib.Core.Bool.{Bool, true, false, ◌||◌}
 use mathlib.Core.List.{List, [], ◌∷◌, ◌++◌}
@@ -13,7 +14,6 @@ use lib.Seq.{length-slice}
 use Rattle.slices.specs.Lists.{elem, Below, Rising}
 use Rattle.slices.proofs.Distinct.{not_elem}
 use Rattle.refusals.specs.declared.Refusal.{Refusal}
-use Rattle.refusals.specs.declared.Check.TheVariants.{Fine, Refused}
 use Rattle.refusals.specs.Refusals.{unless, refused, gives, answer_by, clears, left_in}
 use Rattle.refusals.proofs.Checks.{unless_fine, and_then_left, and_then_right}
 use Rattle.refusals.proofs.Answers.{then_refused, then_fine}
@@ -29,7 +29,6 @@ use Rattle.tables.specs.InsideFit.{CellsFit}
 use Rattle.tables.proofs.Facts.{check_facts}
 use Rattle.tables.proofs.Parts.{fit_cells}
 use Rattle.tables.proofs.Laws.{sum_same, sum_add}
-use Rattle.by_line.specs.declared.ByLine.TheVariants as answer
 use Rattle.by_line.specs.ByLine.{cells_listing, lists_room_check, by_line, ByLineIs}
 use Rattle.by_line.specs.Inside.{MakeAsks, Made}
 
@@ -109,7 +108,7 @@ module _ (lines items starts listing : ℕ) where
   unfolding lists_room_check
   room_listing h = rw (lt-ltb lines starts h)
 
-  pub room_says : lists_room_check lines items starts listing ≡ Fine → (lines < starts) × (items ≤ listing)
+  pub room_says : lists_room_check lines items starts listing ≡ Ok tt → (lines < starts) × (items ≤ listing)
   unfolding lists_room_check
   room_says h =
       let b = unless_fine _ 3 0 h in
@@ -130,7 +129,7 @@ pub record Passed (g : Grid) (t : Tables) : Type 0 where
   pub shape : Fit g
   pub fits : TablesFit t
 
-pub passed : (g : Grid) (t : Tables) → standing_check g t ≡ Fine → Passed g t
+pub passed : (g : Grid) (t : Tables) → standing_check g t ≡ Ok tt → Passed g t
 unfolding standing_check count_check grid_check
 passed g t h =
     let a = and_then_left _ _ h in
@@ -158,22 +157,22 @@ module _ (g : Grid) (n : ℕ) (offsets items globals : List ℕ) (k : ℕ) (star
   t = tables g n offsets items globals k
 
   module _ (r : Refusal) where
-    refused_is : Clearing false (Refused r) → by_line g t starts listing ≡ refused r → ByLineIs g t starts listing (answer.Refused r) starts listing
+    refused_is : Clearing false (Err r) → by_line g t starts listing ≡ refused r → ByLineIs g t starts listing (Err r) starts listing
     unfolding answer_by left_in
     refused_is s e =
         let q = s.says r refl in
         record { answers = rw e; starts_are = rw e (sym (left_same 0 r starts q)); listing_is = rw e (sym (left_same 0 r listing q)) }
 
-    pub by_line_room : lists_room_check n (length items) (length starts) (length listing) ≡ Refused r → ByLineIs g t starts listing (answer.Refused r) starts listing
+    pub by_line_room : lists_room_check n (length items) (length starts) (length listing) ≡ Err r → ByLineIs g t starts listing (Err r) starts listing
     unfolding by_line
     by_line_room e = refused_is (rw e at (room_spares n (length items) (length starts) (length listing))) (then_refused _ _ r e)
 
-    pub by_line_tables : lists_room_check n (length items) (length starts) (length listing) ≡ Fine → standing_check g t ≡ Refused r
-        → ByLineIs g t starts listing (answer.Refused r) starts listing
+    pub by_line_tables : lists_room_check n (length items) (length starts) (length listing) ≡ Ok tt → standing_check g t ≡ Err r
+        → ByLineIs g t starts listing (Err r) starts listing
     unfolding by_line
     by_line_tables f e = refused_is (rw e at (standing_spares g t)) (then_fine _ _ f ∙ then_refused _ _ r e)
 
-  module _ (f : lists_room_check n (length items) (length starts) (length listing) ≡ Fine) (h : standing_check g t ≡ Fine) where
+  module _ (f : lists_room_check n (length items) (length starts) (length listing) ≡ Ok tt) (h : standing_check g t ≡ Ok tt) where
     pub by_line_cells : g.rows * g.cols < 2 ^ 32
     by_line_cells = omega (arith, (passed g t h).shape.counts.cells)
 
@@ -193,7 +192,7 @@ module _ (g : Grid) (n : ℕ) (offsets items globals : List ℕ) (k : ℕ) (star
         }
 
     pub by_line_made : {r : ℕ} {starts' listing' : List ℕ} → r ≡ get_or offsets (g.rows * g.cols) 0 → Made (g.rows * g.cols) n offsets items starts listing starts' listing'
-        → ByLineIs g t starts listing (answer.Listed r) starts' listing'
+        → ByLineIs g t starts listing (Ok r) starts' listing'
     unfolding by_line answer_by left_in
     by_line_made q w =
         let e : by_line g t starts listing ≡ gives (start (cells_listing t) n) = then_fine _ _ f ∙ then_fine _ _ h in

@@ -1,13 +1,11 @@
 -- The lists by line of standing tables: for each line the cells that list it, increasing. Definitions only.
-use Rattle.std.specs.Prelude.{ℕ, ◌≡◌, ◌&&◌, List, leb, ltb, length}
-use Rattle.refusals.specs.declared.Check.{Check}
-use Rattle.refusals.specs.Refusals.{unless, Answer, gives, ◌then◌, answer_by, left_in}
+use Rattle.std.specs.Prelude.{ℕ, ◌≡◌, ◌&&◌, List, leb, ltb, length, Result, Ok, Err}
+use Rattle.refusals.specs.declared.Refusal.{Refusal}
+use Rattle.refusals.specs.Refusals.{Check, unless, Answer, gives, ◌then◌, answer_by, left_in}
 use Rattle.grid.specs.declared.Grid.{Grid}
 use Rattle.tables.specs.Tables.{Tables, cells, list_of}
 use Rattle.tables.specs.Fit.{standing_check}
 use Rattle.tables.specs.Lists.{lines_at, start, items_of, offsets_of}
-use Rattle.by_line.specs.declared.ByLine.{ByLine}
-use Rattle.by_line.specs.declared.ByLine.TheVariants as answer
 
 -- the cells below c whose lists have a line, increasing
 abbrev pub cells_before : Tables → ℕ → ℕ → List ℕ
@@ -27,7 +25,7 @@ by_line g t starts listing =
     lists_room_check t.lines (length t.items) (length starts) (length listing) then standing_check g t then gives (start (cells_listing t) t.lines)
 
 -- the answer r, and the two slices before and after: where the list of each line begins, and the lists one after another
-pub record ByLineIs (g : Grid) (t : Tables) (starts listing : List ℕ) (r : ByLine) (starts' listing' : List ℕ) : Type 0 where
-  pub answers : r ≡ answer_by answer.Refused answer.Listed (by_line g t starts listing)
+pub record ByLineIs (g : Grid) (t : Tables) (starts listing : List ℕ) (r : Result ℕ Refusal) (starts' listing' : List ℕ) : Type 0 where
+  pub answers : r ≡ answer_by Err Ok (by_line g t starts listing)
   pub starts_are : starts' ≡ left_in 0 starts (by_line g t starts listing) (λ total. offsets_of (cells_listing t) t.lines (length starts))
   pub listing_is : listing' ≡ left_in 0 listing (by_line g t starts listing) (λ total. items_of (cells_listing t) t.lines (length listing))

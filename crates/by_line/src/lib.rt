@@ -8,22 +8,15 @@ ghost use Rattle.by_line.specs.ByLine.{lists_room_check, ByLineIs};
 ghost use Rattle.by_line.specs.Inside.{MakeAsks, Made};
 
 use grid::Grid;
-use refusals::{Check, Refusal};
+use refusals::Refusal;
 
 pub mod first;
 pub mod marks;
 mod passes;
 mod sums;
 
-// How many cells the lists have in all, or a refusal.
-#[derive(Clone, Copy)]
-pub enum ByLine {
-    Listed(u64),
-    Refused(Refusal),
-}
-
 // Refusal 3: an entry of the starts for each line and one more, and as many entries as there are items.
-fn check_room(lines: usize, items: usize, starts: usize, listing: usize) -> Check
+fn check_room(lines: usize, items: usize, starts: usize, listing: usize) -> Result<(), Refusal>
     ensures { result ≡ lists_room_check lines items starts listing }
 {
     if starts <= lines {
@@ -52,7 +45,7 @@ fn make(
     sums::shift_back(starts, lines);
 }
 
-// Refusals 3, 2, 8 and 10, in that order; else the lists, with zero beyond.
+// Refusals 3, 2, 8 and 10, in that order; else the lists, with zero beyond, and how many cells they have in all.
 pub fn lists_by_line(
     lines: usize,
     grid: Grid,
@@ -62,20 +55,14 @@ pub fn lists_by_line(
     global_count: usize,
     starts: &mut [u32],
     listing: &mut [u32],
-) -> ByLine
+) -> Result<u64, Refusal>
     ensures { let t = tables grid lines offsets.now items.now globals.now global_count in
         ByLineIs grid t starts.old listing.old result starts.new listing.new }
 {
-    let room = check_room(lines, items.len(), starts.len(), listing.len());
-    if let Check::Refused(r) = room {
-        return ByLine::Refused(r);
-    }
-    let fit = tables::check_tables(grid, lines, offsets, items, globals, global_count);
-    if let Check::Refused(r) = fit {
-        return ByLine::Refused(r);
-    }
+    check_room(lines, items.len(), starts.len(), listing.len())?;
+    tables::check_tables(grid, lines, offsets, items, globals, global_count)?;
     let cells = (grid.rows as usize) * (grid.cols as usize);
     let total = offsets[cells];
     make(cells, lines, offsets, items, starts, listing);
-    ByLine::Listed(total as u64)
+    Ok(total as u64)
 }

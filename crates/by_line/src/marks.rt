@@ -29,9 +29,7 @@ fn mark(line: u32, before: u32, low: u32, starts: &[u32], listing: &[u32], count
 {
     let cells = first::front(line, starts, listing, counts);
     let mut m = 0;
-    let mut i = cells.len();
-    while 0 < i {
-        i = i - 1;
+    for i in (0..cells.len()).rev() {
         let cell = cells[i];
         m = m | bit_of(cell, before, low);
         if cell <= low {
@@ -69,10 +67,8 @@ pub fn mark_list(
     }
     let before = back(cell, 1);
     let low = back(back(cell, cols), 8);
-    let mut j = 0;
-    while j < list.len() {
+    for j in 0..list.len() {
         marks[j] = mark(list[j], before, low, starts, listing, counts);
-        j = j + 1;
     }
     1
 }

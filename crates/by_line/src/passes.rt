@@ -22,11 +22,8 @@ fn count_list(list: &[u32], counts: &mut [u32])
     ensures { let s = list.now in
         ((h : CanCount counts.old s (length s)) → Counted (lines_at h.W (h.i + 1)) counts.new) }
 {
-    let mut j = 0;
-    while j < list.len() {
-        let line = list[j] as usize;
-        counts[line] += 1;
-        j += 1;
+    for &line in list {
+        counts[line as usize] += 1;
     }
 }
 
@@ -41,10 +38,8 @@ pub(crate) fn count_all(
     requires { ListCountAsks cells lines offsets.now items.now counts.old }
     ensures { Counted (lines_at (list_in offsets.now items.now) cells) counts.new }
 {
-    let mut cell = 0;
-    while cell < cells {
+    for cell in 0..cells {
         count_list(list_of(offsets, items, cell), counts);
-        cell += 1;
     }
 }
 
@@ -55,13 +50,11 @@ fn place_list(cell: usize, list: &[u32], starts: &mut [u32], listing: &mut [u32]
         ((h : asks) → Placed (lines_at h.W h.lines) h.cells (lines_at h.W (cell + 1)) starts.new listing.new) }
 {
     let number = cell as u32;
-    let mut j = 0;
-    while j < list.len() {
-        let line = list[j] as usize;
-        let at = starts[line];
+    for &line in list {
+        let i = line as usize;
+        let at = starts[i];
         listing[at as usize] = number;
-        starts[line] = at + 1;
-        j += 1;
+        starts[i] = at + 1;
     }
 }
 
@@ -78,9 +71,7 @@ pub(crate) fn place_all(
     ensures { let w = list_in offsets.now items.now in
         Placed (lines_at w cells) lines (lines_at w cells) starts.new listing.new }
 {
-    let mut cell = 0;
-    while cell < cells {
+    for cell in 0..cells {
         place_list(cell, list_of(offsets, items, cell), starts, listing);
-        cell += 1;
     }
 }

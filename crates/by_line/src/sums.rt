@@ -9,12 +9,10 @@ pub(crate) fn running_sums(starts: &mut [u32], lines: usize) -> u32
     ensures { Summed starts.old starts.new lines result }
 {
     let mut total: u32 = 0;
-    let mut i = 0;
-    while i < lines {
+    for i in 0..lines {
         let count = starts[i];
         starts[i] = total;
         total += count;
-        i += 1;
     }
     starts[lines] = total;
     total
@@ -25,10 +23,8 @@ pub(crate) fn shift_back(starts: &mut [u32], lines: usize)
     requires { lines < length starts.old }
     ensures { ShiftedBack starts.old starts.new lines }
 {
-    let mut i = lines;
-    while 0 < i {
-        starts[i] = starts[i - 1];
-        i -= 1;
+    for i in (0..lines).rev() {
+        starts[i + 1] = starts[i];
     }
     starts[0] = 0;
 }

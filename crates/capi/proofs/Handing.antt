@@ -1,11 +1,11 @@
 -- From what an entry answers to the promise of an exported function. Assumes nothing.
+use Rattle.std.specs.Prelude.{Ok, Err}
+use Rattle.refusals.specs.Refusals.{Check}
 use Prim.Native.Nat.{ℕ, ◌+◌, ◌≤◌, ◌<◌}
 use mathlib.Core.Path.{◌≡◌, refl, sym, ap, ◌∙◌}
 use mathlib.Core.List.{List, []}
 use lib.ListN.{length}
 use borrow.Author.Tests.{le-leb, lt-leb}
-use Rattle.refusals.specs.declared.Check.{Check}
-use Rattle.refusals.specs.declared.Check.TheVariants.{Fine, Refused}
 use Rattle.seek.proofs.PlaceLaws.{given, part_some, part_whole}
 use Rattle.grid.specs.Words.{grid_words}
 use Rattle.replies.specs.Replies.{Reply, Replies}
@@ -49,15 +49,15 @@ module _ (last number n : ℕ) where
 
 -- ---- a list by its place: `list` is what was returned for it, and xs the list at the place. Where a list ends counts only where it is given.
 
-pub part_ends : (check : Check) (from to to₁ : ℕ) → (check ≡ Fine → to ≡ to₁) → of_part check from to ≡ of_part check from to₁
+pub part_ends : (check : Check) (from to to₁ : ℕ) → (check ≡ Ok tt → to ≡ to₁) → of_part check from to ≡ of_part check from to₁
 unfolding of_part
-part_ends Fine from to to₁ h = rw (h refl)
-part_ends (Refused r) from to to₁ h = refl
+part_ends (Ok _) from to to₁ h = rw (h refl)
+part_ends (Err r) from to to₁ h = refl
 
 module _ (check : Check) (from : ℕ) (xs list : List ℕ) (e : list ≡ given check xs) where
   pub list_part : of_part check from (from + length list) ≡ of_part check from (from + length xs)
   list_part = part_ends check from _ _ (λ f. rw (part_whole check xs list e f))
 
   -- one that has lines was not refused
-  pub list_some : 0 < length list → of_part Fine from (from + length list) ≡ of_part check from (from + length xs)
+  pub list_some : 0 < length list → of_part (Ok tt) from (from + length list) ≡ of_part check from (from + length xs)
   list_some h = ap (λ (k : Check). of_part k from (from + length list)) (sym (part_some check xs list e h)) ∙ list_part

@@ -13,7 +13,6 @@ ghost use Rattle.capi.specs.Lent.{BatchReplies};
 use crate::FEW;
 use grid::Grid;
 use grid::words::{WORDS, grid_by};
-use refusals::Check;
 use replies::SHORT;
 use seek::Place;
 
@@ -54,7 +53,7 @@ fn listed<'a>(
     let list = seek::lists::list_at(lines, grid, offsets, items, globals, global_count, place);
     let len = list.len() as u64;
     if 0 < len {
-        return replies::part(Check::Fine, from, len, out);
+        return replies::part(Ok(()), from, len, out);
     }
     replies::part(
         seek::lists::list_check(lines, grid, offsets, items, globals, global_count, place),

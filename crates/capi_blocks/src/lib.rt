@@ -9,30 +9,21 @@ ghost use Rattle.blocks.specs.Query.{count_answer};
 ghost use Rattle.replies.specs.Replies.{Replies};
 ghost use Rattle.replies.specs.Answers.{of_cells};
 ghost use Rattle.capi.specs.Few.{unless_few};
-ghost use Rattle.capi_blocks.specs.Lent.{block_by, of_made, of_count, MakeReplies};
+ghost use Rattle.capi_blocks.specs.Lent.{block_by, of_count, MakeReplies};
 
-use blocks::{Block, Count, Made};
+use blocks::Block;
 use capi::FEW;
 use grid::words::{WORDS, grid_by};
+use refusals::Refusal;
 use replies::SHORT;
-use walk::Cells;
 
-// Blocks and items are answered as cells are: how many, or the refusal.
-fn made(answer: Made) -> Cells
-    ensures { of_cells result ≡ of_made answer }
-{
-    match answer {
-        Made::Blocks(n) => Cells::Found(n),
-        Made::Refused(r) => Cells::Refused(r),
-    }
-}
-
-fn counted(answer: Count) -> Cells
+// Items are answered as cells are: how many, or the refusal.
+fn counted(answer: Result<u64, Refusal>) -> Result<usize, Refusal>
     ensures { of_cells result ≡ of_count answer }
 {
     match answer {
-        Count::Items(n) => Cells::Found(n as usize),
-        Count::Refused(r) => Cells::Refused(r),
+        Ok(n) => Ok(n as usize),
+        Err(r) => Err(r),
     }
 }
 
@@ -60,7 +51,7 @@ pub extern "C" fn mt_block_counts(
         return FEW;
     }
     replies::cells(
-        made(blocks::make(
+        blocks::make(
             lines,
             grid_by(grid),
             offsets,
@@ -68,7 +59,7 @@ pub extern "C" fn mt_block_counts(
             globals,
             global_count as usize,
             summary,
-        )),
+        ),
         out,
     )
 }

@@ -16,25 +16,28 @@ use capi::FEW;
 use capi::naming::{LAST_MODE, NO_MODE, mode_by};
 use grid::Segment;
 use grid::words::{WORDS, grid_by};
+use refusals::Refusal;
 use replies::SHORT;
 
 // The new numbers of items and of globals, and how many cells list the line; or the refusal.
-fn added_line(answer: Added, out: &mut [u64]) -> u32
+fn added_line(answer: Result<Added, Refusal>, out: &mut [u64]) -> u32
     requires { 3 ≤ length out.old }
     ensures { Replies 3 (of_added answer) out.old result out.new }
 {
     match answer {
-        Added::Tables {
-            cells,
-            items,
-            globals,
-        } => {
+        Ok(
+            Added {
+                cells,
+                items,
+                globals,
+            },
+        ) => {
             out[0] = items as u64;
             out[1] = globals as u64;
             out[2] = cells as u64;
             0
         },
-        Added::Refused(r) => {
+        Err(r) => {
             out[0] = r.value;
             r.number
         },

@@ -8,7 +8,7 @@ ghost use Rattle.clean.specs.Calls.{outputs};
 ghost use Rattle.capi_clean.specs.Lent.{of_cleaned, CleanReplies};
 
 use clean::Cleaned;
-use refusals::Check;
+use refusals::Refusal;
 use replies::SHORT;
 
 // Two numbers.
@@ -22,13 +22,13 @@ fn counts(points: usize, members: usize, out: &mut [u64]) -> u32
 }
 
 // The number of points and of pieces that are kept.
-fn kept(answer: Cleaned, out: &mut [u64]) -> u32
+fn kept(answer: Result<Cleaned, Refusal>, out: &mut [u64]) -> u32
     requires { 2 ≤ length out.old }
     ensures { Replies 2 (of_cleaned answer) out.old result out.new }
 {
     match answer {
-        Cleaned::Kept { points, members } => counts(points, members, out),
-        Cleaned::Refused(r) => replies::checked(Check::Refused(r), out),
+        Ok(Cleaned { points, members }) => counts(points, members, out),
+        Err(r) => replies::checked(Err(r), out),
     }
 }
 

@@ -1,25 +1,22 @@
 -- Document 01's number and values for each case of each entry's answer. Definitions only.
-use Rattle.std.specs.Prelude.{[], ◌∷◌}
+use Rattle.std.specs.Prelude.{Ok, Err, Result, [], ◌∷◌}
+use Rattle.refusals.specs.declared.Refusal.{Refusal}
 use Rattle.std.specs.Float.{binary64}
 use Rattle.std.specs.Float.Ieee.{to_bits}
 use Rattle.grid.specs.declared.Grid.{Grid}
 use Rattle.counts.specs.declared.Counted.{Counted}
-use Rattle.counts.specs.declared.Counted.TheVariants as counted
 use Rattle.counts.specs.declared.Tabled.{Tabled}
-use Rattle.counts.specs.declared.Tabled.TheVariants as tabled
-use Rattle.counts.specs.declared.GridAnswer.{GridAnswer}
-use Rattle.counts.specs.declared.GridAnswer.TheVariants as agreed
 use Rattle.replies.specs.Replies.{Reply, success, refusing}
 
 -- the count: the sum of all counts, and the number of global lines; the counts are in their slice
-unfoldable pub of_counted : Counted → Reply
-of_counted (counted.Of listed globals) = success (listed ∷ globals ∷ [])
-of_counted (counted.Refused r) = refusing r
+unfoldable pub of_counted : Result Counted Refusal → Reply
+of_counted (Ok n) = success (n.listed ∷ n.globals ∷ [])
+of_counted (Err r) = refusing r
 
 -- tables on a grid: the number of items and of globals; the tables are in their slices
-unfoldable pub of_tabled : Tabled → Reply
-of_tabled (tabled.Tables items globals) = success (items ∷ globals ∷ [])
-of_tabled (tabled.Refused r) = refusing r
+unfoldable pub of_tabled : Result Tabled Refusal → Reply
+of_tabled (Ok n) = success (n.items ∷ n.globals ∷ [])
+of_tabled (Err r) = refusing r
 
 -- a grid, by the words that every function takes it by
 unfoldable pub of_grid : Grid → Reply
@@ -33,6 +30,6 @@ of_grid g =
     ∷ g.rows
     ∷ [])
 
-unfoldable pub of_grid_answer : GridAnswer → Reply
-of_grid_answer (agreed.On g) = of_grid g
-of_grid_answer (agreed.Refused r) = refusing r
+unfoldable pub of_grid_answer : Result Grid Refusal → Reply
+of_grid_answer (Ok g) = of_grid g
+of_grid_answer (Err r) = refusing r

@@ -3,10 +3,10 @@ ghost use Rattle.std.specs.Prelude.{◌≤◌, [], ◌∷◌, length};
 ghost use Rattle.replies.specs.Replies.{success, Replies};
 ghost use Rattle.capi_counts.specs.Answers.{of_grid, of_counted, of_tabled, of_grid_answer};
 
-use counts::{Counted, GridAnswer, Tabled};
+use counts::{Counted, Tabled};
 use grid::Grid;
 use numbers::bits::to_bits;
-use refusals::Check;
+use refusals::Refusal;
 
 // Two numbers.
 fn two(a: usize, b: usize, out: &mut [u64]) -> u32
@@ -32,32 +32,32 @@ fn gridded(grid: Grid, out: &mut [u64]) -> u32
     0
 }
 
-pub(crate) fn counted(answer: Counted, out: &mut [u64]) -> u32
+pub(crate) fn counted(answer: Result<Counted, Refusal>, out: &mut [u64]) -> u32
     requires { 2 ≤ length out.old }
     ensures { Replies 2 (of_counted answer) out.old result out.new }
 {
     match answer {
-        Counted::Of { listed, globals } => two(listed, globals, out),
-        Counted::Refused(r) => replies::checked(Check::Refused(r), out),
+        Ok(Counted { listed, globals }) => two(listed, globals, out),
+        Err(r) => replies::checked(Err(r), out),
     }
 }
 
-pub(crate) fn tabled(answer: Tabled, out: &mut [u64]) -> u32
+pub(crate) fn tabled(answer: Result<Tabled, Refusal>, out: &mut [u64]) -> u32
     requires { 2 ≤ length out.old }
     ensures { Replies 2 (of_tabled answer) out.old result out.new }
 {
     match answer {
-        Tabled::Tables { items, globals } => two(items, globals, out),
-        Tabled::Refused(r) => replies::checked(Check::Refused(r), out),
+        Ok(Tabled { items, globals }) => two(items, globals, out),
+        Err(r) => replies::checked(Err(r), out),
     }
 }
 
-pub(crate) fn agreed(answer: GridAnswer, out: &mut [u64]) -> u32
+pub(crate) fn agreed(answer: Result<Grid, Refusal>, out: &mut [u64]) -> u32
     requires { 6 ≤ length out.old }
     ensures { Replies 6 (of_grid_answer answer) out.old result out.new }
 {
     match answer {
-        GridAnswer::On(grid) => gridded(grid, out),
-        GridAnswer::Refused(r) => replies::checked(Check::Refused(r), out),
+        Ok(grid) => gridded(grid, out),
+        Err(r) => replies::checked(Err(r), out),
     }
 }

@@ -11,20 +11,19 @@ ghost use Rattle.samples.specs.Samples.{samples};
 ghost use Rattle.crossings.specs.Crossings.{beside_samples, crossings_by};
 
 use grid::words::{WORDS, grid_by};
-use lent::OnceAnswer;
+use refusals::Refusal;
 use replies::SHORT;
-use walk::Cells;
 
 // The number of a function that is handed too few words to say a grid.
 const FEW: u32 = 101;
 
 // Pairs are answered as cells are: how many, or the refusal.
-fn counted(answer: OnceAnswer) -> Cells
+fn counted(answer: Result<u64, Refusal>) -> Result<usize, Refusal>
     ensures { of_cells result ≡ of_once answer }
 {
     match answer {
-        OnceAnswer::Pairs(n) => Cells::Found(n as usize),
-        OnceAnswer::Refused(r) => Cells::Refused(r),
+        Ok(n) => Ok(n as usize),
+        Err(r) => Err(r),
     }
 }
 

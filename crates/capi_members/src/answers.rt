@@ -3,8 +3,7 @@ ghost use Rattle.std.specs.Prelude.{◌≤◌, [], ◌∷◌, length};
 ghost use Rattle.replies.specs.Replies.{success, Replies};
 ghost use Rattle.capi_members.specs.Answers.{of_multi_read, of_written, of_lined};
 
-use members::{Lined, Written};
-use refusals::Check;
+use refusals::Refusal;
 use wkb::MultiRead;
 
 // One number.
@@ -27,34 +26,34 @@ fn counts(m: usize, n: usize, out: &mut [u64]) -> u32
 }
 
 // The number of points and the number of members.
-pub(crate) fn multi_read(answer: MultiRead, out: &mut [u64]) -> u32
+pub(crate) fn multi_read(answer: Result<MultiRead, Refusal>, out: &mut [u64]) -> u32
     requires { 2 ≤ length out.old }
     ensures { Replies 2 (of_multi_read answer) out.old result out.new }
 {
     match answer {
-        MultiRead::Members { points, members } => counts(points, members, out),
-        MultiRead::Refused(r) => replies::checked(Check::Refused(r), out),
+        Ok(MultiRead { points, members }) => counts(points, members, out),
+        Err(r) => replies::checked(Err(r), out),
     }
 }
 
 // The number of bytes.
-pub(crate) fn written(answer: Written, out: &mut [u64]) -> u32
+pub(crate) fn written(answer: Result<usize, Refusal>, out: &mut [u64]) -> u32
     requires { 1 ≤ length out.old }
     ensures { Replies 1 (of_written answer) out.old result out.new }
 {
     match answer {
-        Written::Bytes(n) => count(n, out),
-        Written::Refused(r) => replies::checked(Check::Refused(r), out),
+        Ok(n) => count(n, out),
+        Err(r) => replies::checked(Err(r), out),
     }
 }
 
 // The number of lines.
-pub(crate) fn lined(answer: Lined, out: &mut [u64]) -> u32
+pub(crate) fn lined(answer: Result<usize, Refusal>, out: &mut [u64]) -> u32
     requires { 1 ≤ length out.old }
     ensures { Replies 1 (of_lined answer) out.old result out.new }
 {
     match answer {
-        Lined::Lines(n) => count(n, out),
-        Lined::Refused(r) => replies::checked(Check::Refused(r), out),
+        Ok(n) => count(n, out),
+        Err(r) => replies::checked(Err(r), out),
     }
 }

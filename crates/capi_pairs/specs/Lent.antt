@@ -1,24 +1,21 @@
 -- The promises of exported functions that are lent slices to write beside `out`. Where `out` has the words of a result and the words say a grid,
 -- the entry is called, and its own promise holds of those slices; else they stay as they were. Definitions only.
-use Rattle.std.specs.Prelude.{ℕ, ◌≤◌, ◌<◌, ◌≡◌, List, length}
+use Rattle.std.specs.Prelude.{Ok, Err, Result, ℕ, ◌≤◌, ◌<◌, ◌≡◌, List, length}
+use Rattle.refusals.specs.declared.Refusal.{Refusal}
 use Rattle.refusals.specs.Refusals.{Answer, answer_by}
 use Rattle.grid.specs.declared.Grid.{Grid}
 use Rattle.grid.specs.Words.{grid_words}
 use Rattle.tables.specs.Tables.{Tables}
-use Rattle.by_line.specs.declared.ByLine.{ByLine}
-use Rattle.by_line.specs.declared.ByLine.TheVariants as listed
 use Rattle.by_line.specs.ByLine.{by_line, ByLineIs}
 use Rattle.seek.specs.Tests.{Pair}
-use Rattle.lent.specs.declared.OnceAnswer.{OnceAnswer}
-use Rattle.lent.specs.declared.OnceAnswer.TheVariants as once
 use Rattle.first_tests.specs.Firsts.{PairsAre}
 use Rattle.replies.specs.Replies.{Replies}
 use Rattle.capi.specs.Few.{unless_few}
 use Rattle.capi_pairs.specs.Answers.{of_by_line, of_once}
 
 -- what the entry answers
-abbrev pub by_line_answer : Grid → Tables → List ℕ → List ℕ → ByLine
-by_line_answer g t starts listing = answer_by listed.Refused listed.Listed (by_line g t starts listing)
+abbrev pub by_line_answer : Grid → Tables → List ℕ → List ℕ → Result ℕ Refusal
+by_line_answer g t starts listing = answer_by Err Ok (by_line g t starts listing)
 
 -- lists by line, on the grid g that words say
 pub record ByLineReplies (words : List ℕ) (g : Grid) (t : Tables) (starts listing out : List ℕ) (r : ℕ) (starts' listing' out' : List ℕ) : Type 0 where
@@ -28,8 +25,8 @@ pub record ByLineReplies (words : List ℕ) (g : Grid) (t : Tables) (starts list
   pub few : length words < grid_words → (starts' ≡ starts) × (listing' ≡ listing)
 
 -- what the entry answers to what a visit comes to that hands out each pair once
-abbrev pub once_answer : Answer (List Pair) → OnceAnswer
-once_answer end = answer_by once.Refused (λ ps. once.Pairs (length ps)) end
+abbrev pub once_answer : Answer (List Pair) → Result ℕ Refusal
+once_answer end = answer_by Err (λ ps. Ok (length ps)) end
 
 -- the five slices after a call are as they were before it
 pub record SameFive (first second starts listing counts first' second' starts' listing' counts' : List ℕ) : Type 0 where

@@ -4,9 +4,7 @@ ghost use Rattle.replies.specs.Replies.{success, refusing};
 ghost use Rattle.replies.specs.Inside.{Handed};
 ghost use Rattle.capi_pairs.specs.Answers.{of_cost, of_by_line, of_once};
 
-use by_line::ByLine;
-use cost::CostAnswer;
-use lent::OnceAnswer;
+use cost::Cost;
 use refusals::Refusal;
 
 fn refused(why: Refusal, out: &mut [u64]) -> u32
@@ -34,32 +32,32 @@ fn two(a: u64, b: u64, out: &mut [u64]) -> u32
     0
 }
 
-pub(crate) fn cost(answer: CostAnswer, out: &mut [u64]) -> u32
+pub(crate) fn cost(answer: Result<Cost, Refusal>, out: &mut [u64]) -> u32
     requires { 2 ≤ length out.old }
     ensures { Handed (of_cost answer) out.old result out.new }
 {
     match answer {
-        CostAnswer::Costs(c) => two(c.tests, c.longest, out),
-        CostAnswer::Refused(r) => refused(r, out),
+        Ok(c) => two(c.tests, c.longest, out),
+        Err(r) => refused(r, out),
     }
 }
 
-pub(crate) fn by_line(answer: ByLine, out: &mut [u64]) -> u32
+pub(crate) fn by_line(answer: Result<u64, Refusal>, out: &mut [u64]) -> u32
     requires { 1 ≤ length out.old }
     ensures { Handed (of_by_line answer) out.old result out.new }
 {
     match answer {
-        ByLine::Listed(n) => one(n, out),
-        ByLine::Refused(r) => refused(r, out),
+        Ok(n) => one(n, out),
+        Err(r) => refused(r, out),
     }
 }
 
-pub(crate) fn pairs_once(answer: OnceAnswer, out: &mut [u64]) -> u32
+pub(crate) fn pairs_once(answer: Result<u64, Refusal>, out: &mut [u64]) -> u32
     requires { 1 ≤ length out.old }
     ensures { Handed (of_once answer) out.old result out.new }
 {
     match answer {
-        OnceAnswer::Pairs(n) => one(n, out),
-        OnceAnswer::Refused(r) => refused(r, out),
+        Ok(n) => one(n, out),
+        Err(r) => refused(r, out),
     }
 }

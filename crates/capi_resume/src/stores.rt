@@ -5,7 +5,7 @@ ghost use Rattle.replies.specs.Inside.{Handed};
 ghost use Rattle.capi_resume.specs.Answers.{of_start, of_next};
 
 use refusals::Refusal;
-use resume::{NextAnswer, StartAnswer};
+use resume::{Cursor, Went};
 
 fn refused(why: Refusal, out: &mut [u64]) -> u32
     requires { 1 ≤ length out.old }
@@ -37,22 +37,22 @@ fn five(a: u64, b: u64, c: u64, d: u64, e: u64, out: &mut [u64]) -> u32
     0
 }
 
-pub(crate) fn started(answer: StartAnswer, out: &mut [u64]) -> u32
+pub(crate) fn started(answer: Result<Cursor, Refusal>, out: &mut [u64]) -> u32
     requires { 3 ≤ length out.old }
     ensures { Handed (of_start answer) out.old result out.new }
 {
     match answer {
-        StartAnswer::At(c) => three(c.place as u64, c.i as u64, c.j as u64, out),
-        StartAnswer::Refused(r) => refused(r, out),
+        Ok(c) => three(c.place as u64, c.i as u64, c.j as u64, out),
+        Err(r) => refused(r, out),
     }
 }
 
-pub(crate) fn went(answer: NextAnswer, out: &mut [u64]) -> u32
+pub(crate) fn went(answer: Result<Went, Refusal>, out: &mut [u64]) -> u32
     requires { 5 ≤ length out.old }
     ensures { Handed (of_next answer) out.old result out.new }
 {
     match answer {
-        NextAnswer::Went(w) => five(
+        Ok(w) => five(
             w.tests,
             w.overlaps,
             w.cursor.place as u64,
@@ -60,6 +60,6 @@ pub(crate) fn went(answer: NextAnswer, out: &mut [u64]) -> u32
             w.cursor.j as u64,
             out,
         ),
-        NextAnswer::Refused(r) => refused(r, out),
+        Err(r) => refused(r, out),
     }
 }

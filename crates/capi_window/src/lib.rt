@@ -2,31 +2,18 @@
 // of the lent `out`. Where `out` has no word, the number is 100; next, where a grid has fewer than six words, 101. Both change nothing.
 #![tactic(auto)]
 
-ghost use Rattle.std.specs.Prelude.{◌≡◌};
 ghost use Rattle.grid.specs.Domain.{lines};
 ghost use Rattle.grid.specs.Words.{grid_by};
 ghost use Rattle.tables.specs.Tables.{beside};
-ghost use Rattle.replies.specs.Answers.{of_cells};
-ghost use Rattle.capi_window.specs.Lent.{corners, of_listing, WindowReplies};
+ghost use Rattle.capi_window.specs.Lent.{corners, WindowReplies};
 
 use grid::Box;
 use grid::words::{WORDS, grid_by};
+use refusals::Refusal;
 use replies::SHORT;
-use walk::Cells;
-use window::Listing;
 
 // The number of a function that is handed too few words to say a grid.
 const FEW: u32 = 101;
-
-// Lines are answered as cells are: how many, or the refusal.
-fn counted(answer: Listing) -> Cells
-    ensures { of_cells result ≡ of_listing answer }
-{
-    match answer {
-        Listing::Listed(n) => Cells::Found(n),
-        Listing::Refused(r) => Cells::Refused(r),
-    }
-}
 
 // Out: how many lines may enter the window, which goes from its lower corner to its upper. They stand in `found`, and zero beyond them.
 #[unsafe(no_mangle)]
@@ -66,7 +53,7 @@ pub extern "C" fn mt_window(
         max_y: high_y,
     };
     replies::cells(
-        counted(window::lines_in(
+        window::lines_in(
             start_x,
             start_y,
             end_x,
@@ -78,7 +65,7 @@ pub extern "C" fn mt_window(
             global_count as usize,
             window,
             found,
-        )),
+        ),
         out,
     )
 }

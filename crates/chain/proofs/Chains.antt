@@ -1,4 +1,5 @@
 -- Points and their lines, and what is printed for what the reader found. Assumes nothing.
+use Rattle.std.specs.Prelude.{Ok, Err, Result}
 use mathlib.Core.Path.{◌≡◌, refl, ap, ◌∙◌}
 use mathlib.Core.List.{List, map}
 use Prim.Native.Nat.{ℕ, ◌-◌, ◌≤◌}
@@ -11,8 +12,6 @@ use Rattle.refusals.specs.Refusals.{unless, Answer, refused, gives, ◌then◌, 
 use Rattle.grid.specs.Domain.{Lines, lines}
 use Rattle.wkb.specs.Bytes.{Point, LineString}
 use Rattle.wkb.specs.Reading.{outcome, found, slices_check, read_of, points_left, nought, ReadAs}
-use Rattle.wkb.specs.declared.Read.{Read}
-use Rattle.wkb.specs.declared.Read.TheVariants.{Points, Refused}
 use Rattle.wkb.proofs.Chains.{start_parts, end_parts}
 use Rattle.build.specs.declared.Plan.{Plan}
 use Rattle.chain.specs.Printed.{chain_of, printed_lines, refused_text, printed_points, printed}
@@ -68,14 +67,14 @@ unfolding printed printed_points
 printed_by plan bs = refl
 
 module _ (bs : List ℕ) (x₀ y₀ x y : List Float) (lx : length x₀ ≡ 1024) (ly : length y₀ ≡ 1024) where
-  read_is : {r : Read} → ReadAs bs x₀ y₀ r x y → outcome (length x₀) (length y₀) bs ≡ found bs
+  read_is : {r : Result ℕ Refusal} → ReadAs bs x₀ y₀ r x y → outcome (length x₀) (length y₀) bs ≡ found bs
   read_is a = rw (lx, ly) (found_is bs)
 
-  pub points_read : (n : ℕ) → ReadAs bs x₀ y₀ (Points n) x y → PointsRead bs n x y
+  pub points_read : (n : ℕ) → ReadAs bs x₀ y₀ (Ok n) x y → PointsRead bs n x y
   unfolding read_of answer_by
   points_read n a = go (found bs) refl (a.answer ∙ ap read_of (read_is a)) (a.in_x ∙ ap (λ (f : Answer (List Point)). points_left (λ p. p.x) f x₀) (read_is a)) (a.in_y ∙ ap (λ (f : Answer (List Point)). points_left (λ p. p.y) f y₀) (read_is a)) a.only
     where
-      go : (f : Answer (List Point)) → found bs ≡ f → Points n ≡ read_of f → x ≡ points_left (λ p. p.x) f x₀ → y ≡ points_left (λ p. p.y) f y₀ → ((ps : List Point) → found bs ≡ gives ps → LineString bs ps) → PointsRead bs n x y
+      go : (f : Answer (List Point)) → found bs ≡ f → Ok n ≡ read_of f → x ≡ points_left (λ p. p.x) f x₀ → y ≡ points_left (λ p. p.y) f y₀ → ((ps : List Point) → found bs ≡ gives ps → LineString bs ps) → PointsRead bs n x y
       go (refused q) e r ex ey only = absurd (let z : ◌≡◌ {A = ℕ} 0 1 = cc in omega arith)
       go (gives ps) e r ex ey only =
           let n_is : n ≡ length ps = cc in
@@ -88,10 +87,10 @@ module _ (bs : List ℕ) (x₀ y₀ x y : List Float) (lx : length x₀ ≡ 1024
                 λ ofRefusal of_lines. rw (ex, ey, n_is, left_points (λ p. p.x) ps x₀, left_points (λ p. p.y) ps y₀) (said_points bs ofRefusal (λ qs. of_lines (lines_of qs)) ps e);
           }
 
-  pub refused_read : (q : Refusal) → ReadAs bs x₀ y₀ (Refused q) x y → {A : Type 0} (ofRefusal : Refusal → A) (of_points : List Point → A) → ofRefusal q ≡ answer_by ofRefusal of_points (found bs)
+  pub refused_read : (q : Refusal) → ReadAs bs x₀ y₀ (Err q) x y → {A : Type 0} (ofRefusal : Refusal → A) (of_points : List Point → A) → ofRefusal q ≡ answer_by ofRefusal of_points (found bs)
   unfolding read_of answer_by
   refused_read q a ofRefusal of_points = go (found bs) refl (a.answer ∙ ap read_of (read_is a))
     where
-      go : (f : Answer (List Point)) → found bs ≡ f → Refused q ≡ read_of f → ofRefusal q ≡ answer_by ofRefusal of_points (found bs)
+      go : (f : Answer (List Point)) → found bs ≡ f → Err q ≡ read_of f → ofRefusal q ≡ answer_by ofRefusal of_points (found bs)
       go (gives ps) e r = absurd (let z : ◌≡◌ {A = ℕ} 0 1 = cc in omega arith)
       go (refused p) e r = let w : q ≡ p = cc in rw w (said_refused bs ofRefusal of_points p e)

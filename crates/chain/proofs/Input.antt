@@ -1,5 +1,6 @@
 -- The first 16,394 bytes of an input decide what is found in it. A LineString has at most 16,393 bytes; a longer input is refused at one of the
 -- three fields of its first 9 bytes, or at what follows the last of at most 1,024 points, which is within the first 16,394. Assumes nothing.
+use Rattle.refusals.specs.Refusals.{Check}
 use mathlib.Core.Path.{◌≡◌, refl, sym, ap, ◌∙◌}
 use mathlib.Core.Bool.{Bool, true, false, ◌&&◌}
 use mathlib.Core.List.{List, [], ◌∷◌}
@@ -10,7 +11,6 @@ use borrow.Author.Tests.{le-leb, leb-true}
 use lib.Dec.{leb, eqb}
 use lib.ListN.{length, get_or, take, drop}
 use lib.Seq.{take_all, take-take, get_or-take, length-take-le}
-use Rattle.refusals.specs.declared.Check.{Check}
 use Rattle.refusals.specs.Refusals.{refusal, unless, and_then, Answer, refused, gives, ◌then◌}
 use Rattle.refusals.proofs.Answers.{then_and_then, then_fine, then_refused}
 use Rattle.grid.proofs.Bools.{and_right}

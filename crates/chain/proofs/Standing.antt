@@ -1,8 +1,8 @@
 -- Tables that a visit takes can be shown. Assumes nothing.
+use Rattle.std.specs.Prelude.{Ok}
 use mathlib.Core.Path.{◌≡◌}
 use Prim.Native.Nat.{◌≤◌}
 use native.Mathlib.Omega.{arith}
-use Rattle.refusals.specs.declared.Check.TheVariants.{Fine}
 use Rattle.grid.specs.declared.Grid.{Grid}
 use Rattle.grid.specs.Domain.{Lines}
 use Rattle.tables.specs.Tables.{Tables, cells}
@@ -11,7 +11,7 @@ use Rattle.seek.specs.Bookmarks.{visit_check}
 use Rattle.seek.proofs.Standing.{stands, cells_few}
 use Rattle.chain.specs.Inside.{ShowAsks}
 
-module _ (ls : Lines) (g : Grid) (t : Tables) (fine : visit_check ls g t ≡ Fine) where
+module _ (ls : Lines) (g : Grid) (t : Tables) (fine : visit_check ls g t ≡ Ok tt) where
   pub shown : t.cols ≡ g.cols → t.rows ≡ g.rows → ShowAsks t
   shown ec er =
       let s = stands ls g t fine in

@@ -1,4 +1,6 @@
 -- The laws of a full visit that is made in batches. Assumes nothing.
+use Rattle.std.specs.Prelude.{Ok, Err, Result}
+use Rattle.refusals.specs.Refusals.{Check}
 use mathlib.Core.Path.{◌≡◌, refl, sym, ap, ◌∙◌}
 use mathlib.Core.Bool.{Bool, true, false}
 use mathlib.Core.List.{List, [], ◌∷◌, ◌++◌}
@@ -8,23 +10,18 @@ use borrow.Author.Tests.{eq-eqb}
 use lib.ListN.{length, drop, length-append, length-drop}
 use lib.Seq.{drop-drop}
 use Rattle.refusals.specs.declared.Refusal.{Refusal}
-use Rattle.refusals.specs.declared.Check.{Check}
-use Rattle.refusals.specs.declared.Check.TheVariants.{Fine, Refused}
 use Rattle.refusals.specs.Refusals.{unless, Answer, gives, ◌then◌, answer_by}
 use Rattle.refusals.proofs.Answers.{then_fine, refused_by, past}
 use Rattle.grid.specs.declared.Grid.{Grid}
 use Rattle.grid.specs.Domain.{Lines}
 use Rattle.tables.specs.Tables.{Tables}
 use Rattle.visit.specs.declared.Tally.{Tally}
-use Rattle.visit.specs.declared.BatchAnswer.{BatchAnswer}
-use Rattle.visit.specs.declared.BatchAnswer.TheVariants as batch
 use Rattle.seek.specs.Tests.{Pair, tests_of}
 use Rattle.visit.specs.Overlap.{overlap}
 use Rattle.visit.specs.Batches.{made, room_after, keep_if, overlapping, handed}
 use Rattle.seek.specs.Bookmarks.{visit_check, tests_from}
 use Rattle.visit.specs.Entries.{outputs_check, tally_of, batch_tests, batch_of, batch_answer, BatchIs}
 use Rattle.seek.proofs.FindLaws.{book_in}
-use Rattle.chain.specs.declared.Visited.TheVariants as visited
 use Rattle.chain.specs.Printed.{all_tests}
 use Rattle.chain.specs.Inside.{batch_from, full_visit}
 
@@ -156,7 +153,7 @@ module _ (ls : Lines) (t : Tables) (b o : ℕ) (a : Tally) (is : a ≡ tally_of 
 -- ---- what a batch answers
 
 -- outputs of one length are not refused
-pub batch_is : {ls : Lines} {g : Grid} {t : Tables} {b : ℕ} {fs ss fs' ss' : List ℕ} {r : BatchAnswer} → BatchIs ls g t b fs ss fs' ss' r → length fs ≡ 1024 → length ss ≡ 1024 → r ≡ batch_from ls g t b
+pub batch_is : {ls : Lines} {g : Grid} {t : Tables} {b : ℕ} {fs ss fs' ss' : List ℕ} {r : Result Tally Refusal} → BatchIs ls g t b fs ss fs' ss' r → length fs ≡ 1024 → length ss ≡ 1024 → r ≡ batch_from ls g t b
 unfolding batch_answer batch_tests outputs_check unless ◌then◌
 batch_is {ls} {g} {t} {b} {fs} {ss} i e f = i.answers ∙ rw (eq-eqb (length fs) (length ss) (e ∙ sym f), e)
 
@@ -169,37 +166,37 @@ module _ (ls : Lines) (g : Grid) (t : Tables) (b : ℕ) (h : b ≤ length (tests
   unfolding tests_from left
   from_is = ap (λ (o : Answer (List Pair)). visit_check ls g t then o) (then_fine _ _ (book_in t b h))
 
-  by_check : (k : Check) (x : BatchAnswer) → visit_check ls g t ≡ k → x ≡ batch_from ls g t b → x ≡ batch_of ls b 1024 (k then left)
+  by_check : (k : Check) (x : Result Tally Refusal) → visit_check ls g t ≡ k → x ≡ batch_from ls g t b → x ≡ batch_of ls b 1024 (k then left)
   by_check k x c e = e ∙ ap (batch_of ls b 1024) (from_is ∙ ap (λ (q : Check). q then left) c)
 
-  pub done_says : (x : BatchAnswer) (a : Tally) → x ≡ batch_from ls g t b → x ≡ batch.Done a → (visit_check ls g t ≡ Fine) × (a ≡ tally_of ls (drop b (tests_of t)) b 1024)
+  pub done_says : (x : Result Tally Refusal) (a : Tally) → x ≡ batch_from ls g t b → x ≡ Ok a → (visit_check ls g t ≡ Ok tt) × (a ≡ tally_of ls (drop b (tests_of t)) b 1024)
   unfolding batch_of answer_by left ◌then◌
   done_says x a is e = go (visit_check ls g t) refl
     where
-      go : (k : Check) → visit_check ls g t ≡ k → (visit_check ls g t ≡ Fine) × (a ≡ tally_of ls (drop b (tests_of t)) b 1024)
-      go Fine c = (c, let d = sym e ∙ by_check Fine x c is in cc)
-      go (Refused r) c = absurd (let d = sym e ∙ by_check (Refused r) x c is in let z : ◌≡◌ {A = ℕ} 0 1 = cc in omega arith)
+      go : (k : Check) → visit_check ls g t ≡ k → (visit_check ls g t ≡ Ok tt) × (a ≡ tally_of ls (drop b (tests_of t)) b 1024)
+      go (Ok _) c = (c, let d = sym e ∙ by_check (Ok tt) x c is in cc)
+      go (Err r) c = absurd (let d = sym e ∙ by_check (Err r) x c is in let z : ◌≡◌ {A = ℕ} 0 1 = cc in omega arith)
 
-  pub refused_says : (x : BatchAnswer) (r : Refusal) → x ≡ batch_from ls g t b → x ≡ batch.Refused r → visit_check ls g t ≡ Refused r
+  pub refused_says : (x : Result Tally Refusal) (r : Refusal) → x ≡ batch_from ls g t b → x ≡ Err r → visit_check ls g t ≡ Err r
   unfolding batch_of answer_by left ◌then◌
   refused_says x r is e = go (visit_check ls g t) refl
     where
-      go : (k : Check) → visit_check ls g t ≡ k → visit_check ls g t ≡ Refused r
-      go Fine c = absurd (let d = sym e ∙ by_check Fine x c is in let z : ◌≡◌ {A = ℕ} 0 1 = cc in omega arith)
-      go (Refused q) c = let d = sym e ∙ by_check (Refused q) x c is in let s : q ≡ r = cc in c ∙ ap Refused s
+      go : (k : Check) → visit_check ls g t ≡ k → visit_check ls g t ≡ Err r
+      go (Ok _) c = absurd (let d = sym e ∙ by_check (Ok tt) x c is in let z : ◌≡◌ {A = ℕ} 0 1 = cc in omega arith)
+      go (Err q) c = let d = sym e ∙ by_check (Err q) x c is in let s : q ≡ r = cc in c ∙ ap Err s
 
 -- ---- the answer
 
-module _ (ls : Lines) (g : Grid) (t : Tables) (b o : ℕ) (x : BatchAnswer) (is : x ≡ batch_from ls g t b) (v : Visiting ls t b o) where
-  pub visit_refused : (r : Refusal) → x ≡ batch.Refused r → visited.Refused r ≡ full_visit ls g t
+module _ (ls : Lines) (g : Grid) (t : Tables) (b o : ℕ) (x : Result Tally Refusal) (is : x ≡ batch_from ls g t b) (v : Visiting ls t b o) where
+  pub visit_refused : (r : Refusal) → x ≡ Err r → Err r ≡ full_visit ls g t
   unfolding full_visit all_tests
   visit_refused r e = refused_by _ _ _ _ r (refused_says ls g t b v.at_most x r is e)
 
-  module _ (a : Tally) (e : x ≡ batch.Done a) where
+  module _ (a : Tally) (e : x ≡ Ok a) where
     pub visit_tally : a ≡ tally_of ls (drop b (tests_of t)) b 1024
     visit_tally = (done_says ls g t b v.at_most x a is e).1
 
-    pub visit_counted : a.tests ≡ 0 → visited.Counted b o ≡ full_visit ls g t
+    pub visit_counted : a.tests ≡ 0 → Ok (record { tests = b; overlaps = o }) ≡ full_visit ls g t
     unfolding full_visit all_tests answer_by
     visit_counted z =
         let q = visiting_end ls t b o a visit_tally v z in

@@ -7,19 +7,18 @@ ghost use Rattle.tables.specs.Tables.{beside};
 ghost use Rattle.report.specs.Pages.{page, Puts, Prints};
 ghost use Rattle.chain.specs.Printed.{printed_tables, printed_lines, chain_of, printed};
 
-use build::{Built, Plan};
+use build::Plan;
 use grid::Grid;
 use refusals::Refusal;
-use wkb::Read;
 
 mod show;
 mod whole;
 
-// A full visit: all tests and those of them that overlap, or why there was none.
+// A full visit: all tests, and those of them that overlap.
 #[derive(Clone, Copy)]
-enum Visited {
-    Counted { tests: u64, overlaps: u64 },
-    Refused(Refusal),
+struct Visited {
+    tests: u64,
+    overlaps: u64,
 }
 
 // The report of standing tables, with the counts of a full visit.
@@ -52,8 +51,8 @@ fn put_tables(
         global_count,
     );
     match visited {
-        Visited::Refused(r) => report::refused_line(r.number, out, 0),
-        Visited::Counted { tests, overlaps } => show::put_report(
+        Err(r) => report::refused_line(r.number, out, 0),
+        Ok(Visited { tests, overlaps }) => show::put_report(
             grid,
             start_x.len(),
             offsets,
@@ -97,8 +96,8 @@ fn put_lines(
         &mut scratch,
     );
     match built {
-        Built::Refused(r) => report::refused_line(r.number, out, 0),
-        Built::Tables(s) => put_tables(
+        Err(r) => report::refused_line(r.number, out, 0),
+        Ok(s) => put_tables(
             start_x, start_y, end_x, end_y, s.grid, s.items, &offsets, &items, &globals, s.globals,
             out,
         ),
@@ -122,8 +121,8 @@ fn put_chain(bytes: &[u8], plan: Plan, out: &mut [u8]) -> usize
     let mut y = [0.0f64; 1024];
     let read = wkb::read_line_string(bytes, &mut x, &mut y);
     match read {
-        Read::Refused(r) => report::refused_line(r.number, out, 0),
-        Read::Points(n) => put_points(&x, &y, n, plan, out),
+        Err(r) => report::refused_line(r.number, out, 0),
+        Ok(n) => put_points(&x, &y, n, plan, out),
     }
 }
 

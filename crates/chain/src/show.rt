@@ -48,8 +48,7 @@ fn put_cells(
 {
     let cells = grid.rows * grid.cols;
     let mut at = at;
-    let mut cell = 0;
-    while cell < cells {
+    for cell in 0..cells {
         at = put_cell(
             grid,
             lines,
@@ -61,7 +60,6 @@ fn put_cells(
             out,
             at,
         );
-        cell += 1;
     }
     at
 }

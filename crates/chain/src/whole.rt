@@ -6,7 +6,8 @@ ghost use Rattle.chain.specs.Inside.{batch_from, full_visit};
 
 use crate::Visited;
 use grid::Grid;
-use visit::BatchAnswer;
+use refusals::Refusal;
+use visit::Tally;
 
 // One batch. What it hands out is not wanted here.
 fn batch_from(
@@ -20,7 +21,7 @@ fn batch_from(
     globals: &[u32],
     global_count: usize,
     bookmark: u64,
-) -> BatchAnswer
+) -> Result<Tally, Refusal>
     ensures { let ls = lines start_x.now start_y.now end_x.now end_y.now in
         let t = beside ls grid offsets.now items.now globals.now global_count in
         result ≡ batch_from ls grid t bookmark }
@@ -54,7 +55,7 @@ pub(crate) fn visit(
     items: &[u32],
     globals: &[u32],
     global_count: usize,
-) -> Visited
+) -> Result<Visited, Refusal>
     ensures { let ls = lines start_x.now start_y.now end_x.now end_y.now in
         let t = beside ls grid offsets.now items.now globals.now global_count in
         result ≡ full_visit ls grid t }
@@ -62,7 +63,7 @@ pub(crate) fn visit(
     let mut tests = 0;
     let mut overlaps = 0;
     loop {
-        let answer = batch_from(
+        let t = batch_from(
             start_x,
             start_y,
             end_x,
@@ -73,16 +74,11 @@ pub(crate) fn visit(
             globals,
             global_count,
             tests,
-        );
-        match answer {
-            BatchAnswer::Refused(r) => return Visited::Refused(r),
-            BatchAnswer::Done(t) => {
-                if t.tests == 0 {
-                    return Visited::Counted { tests, overlaps };
-                }
-                tests = t.bookmark;
-                overlaps += t.overlaps;
-            },
+        )?;
+        if t.tests == 0 {
+            return Ok(Visited { tests, overlaps });
         }
+        tests = t.bookmark;
+        overlaps += t.overlaps;
     }
 }

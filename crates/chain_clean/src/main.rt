@@ -3,7 +3,6 @@
 // What fails is said on standard error, and then nothing is printed; but where the print itself fails, the file is there.
 #![tactic(auto)]
 
-use input::Input;
 use std::fs::{File, Files, OpenOptions};
 use std::io::{Cursor, Write};
 use std::{io, str};
@@ -91,8 +90,8 @@ fn main(rt: HostRuntime) {
     let mut bytes = [0u8; 65537];
     let read = input::read_input(&mut rt.stdin(), &mut bytes);
     match read {
-        Input::Bytes(n) => respond(&rt, &bytes[..n]),
-        Input::Failed => {
+        Some(n) => respond(&rt, &bytes[..n]),
+        None => {
             let _ = eprintln!(rt; "morelturret: standard input can't be read");
         }
     }

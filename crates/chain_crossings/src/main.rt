@@ -4,7 +4,6 @@
 #![tactic(auto)]
 
 use build::Plan;
-use input::Input;
 use sizing::Sizing;
 use std::env::Env;
 use walk::Mode;
@@ -51,8 +50,8 @@ fn main(rt: HostRuntime) {
     let mut bytes = [0u8; 16394];
     let read = input::read_input(&mut rt.stdin(), &mut bytes);
     match read {
-        Input::Bytes(n) => print(&rt, &bytes[..n], plan),
-        Input::Failed => {
+        Some(n) => print(&rt, &bytes[..n], plan),
+        None => {
             let _ = eprintln!(rt; "morelturret: standard input can't be read");
         }
     }

@@ -1,9 +1,11 @@
 -- Cleaning what was kept (document 02, 10: "Cleaning cleaned data changes nothing"), from the promises of two calls alone. Assumes nothing.
+use Rattle.std.specs.Prelude.{Ok, Result}
 use mathlib.Core.Path.{◌≡◌, refl, sym, ap, ◌∙◌, subst}
 use mathlib.Core.List.{List, map, flatten}
 use Prim.Native.Nat.{ℕ}
 use native.Mathlib.Omega.{arith}
 use lib.ListN.{length, take, replicate, length-map}
+use Rattle.refusals.specs.declared.Refusal.{Refusal}
 use Rattle.refusals.specs.Refusals.{Answer, refused, gives, answer_by, left_in, zero_beyond}
 use Rattle.refusals.proofs.Answers.{then_passed}
 use Rattle.wkb.specs.Bytes.{Point}
@@ -12,8 +14,8 @@ use Rattle.members.specs.Held.{points_of, chains_of, held_check}
 use Rattle.members.proofs.Held.{points_back, chains_back}
 use Rattle.members.proofs.RoundTrips.{start}
 use Rattle.clean.specs.Cleaning.{cleaned, reasons, kept}
+use Rattle.clean.specs.declared.Cleaned.{Cleaned}
 use Rattle.clean.specs.Calls.{Outputs, kept_room_check, cleaning, cleaned_of, holds, kept_axis, kept_lengths, outputs_left, CleanedAs}
-use Rattle.clean.specs.declared.Cleaned.TheVariants.{Kept}
 use Rattle.clean.proofs.Rules.{cleaned_again}
 
 -- what a success says: its members, and what is left of them
@@ -33,21 +35,25 @@ found x y ns o pss e =
     let b = then_passed (kept_room_check (length x) o) _ a.1 in
     sym (gives_same b.1)
 
-kept_points : {n m k l : ℕ} → Kept n m ≡ Kept k l → n ≡ k
-kept_points e = cc
+-- an answer is of one number of points and one of pieces
+same_kept : {r s : Cleaned} → ◌≡◌ {A = Result Cleaned Refusal} (Ok r) (Ok s) → r ≡ s
+same_kept e = cc
 
-kept_pieces : {n m k l : ℕ} → Kept n m ≡ Kept k l → m ≡ l
-kept_pieces e = cc
+kept_points : {r s : Cleaned} → ◌≡◌ {A = Result Cleaned Refusal} (Ok r) (Ok s) → r.points ≡ s.points
+kept_points e = ap (λ (r : Cleaned). r.points) (same_kept e)
 
-pub gave : {x y ns : List ℕ} {o : Outputs} {n m : ℕ} {o' : Outputs} → CleanedAs x y ns o (Kept n m) o' → Gave x y ns o n m o'
+kept_pieces : {r s : Cleaned} → ◌≡◌ {A = Result Cleaned Refusal} (Ok r) (Ok s) → r.members ≡ s.members
+kept_pieces e = ap (λ (r : Cleaned). r.members) (same_kept e)
+
+pub gave : {x y ns : List ℕ} {o : Outputs} {n m : ℕ} {o' : Outputs} → CleanedAs x y ns o (Ok (record { points = n; members = m })) o' → Gave x y ns o n m o'
 unfolding cleaned_of outputs_left holds answer_by left_in kept_axis kept_lengths
 gave {x} {y} {ns} {o} {n} {m} {o'} c = go (cleaning x y ns o) refl c.answer c.left
   where
-    go : (a : Answer (List (List Point))) → cleaning x y ns o ≡ a → Kept n m ≡ cleaned_of a → o' ≡ outputs_left a o → Gave x y ns o n m o'
+    go : (a : Answer (List (List Point))) → cleaning x y ns o ≡ a → Ok (record { points = n; members = m }) ≡ cleaned_of a → o' ≡ outputs_left a o → Gave x y ns o n m o'
     go (refused r) e f g = absurd (let z : ◌≡◌ {A = ℕ} 0 1 = cc in omega arith)
     go (gives pss) e f g =
         let z : pss ≡ chains_of ns (points_of x y) = found x y ns o pss e in
-        let f' = subst (λ (q : List (List Point)). Kept n m ≡ cleaned_of (gives q)) z f in
+        let f' = subst (λ (q : List (List Point)). Ok (record { points = n; members = m }) ≡ cleaned_of (gives q)) z f in
         let g' = subst (λ (q : List (List Point)). o' ≡ outputs_left (gives q) o) z g in
         record {
           points = kept_points f';
@@ -59,8 +65,8 @@ gave {x} {y} {ns} {o} {n} {m} {o'} c = go (cleaning x y ns o) refl c.answer c.le
         }
 
 -- THE KEPT POINTS AND LENGTHS OF A CALL, CLEANED BY ANOTHER: as many are kept, and the slices hold the same, with no reason but `kept`
-pub again : {x y ns : List ℕ} {o o' p p' : Outputs} {n m k l : ℕ} → CleanedAs x y ns o (Kept n m) o'
-    → CleanedAs (take n o'.x) (take n o'.y) (take m o'.lengths) p (Kept k l) p'
+pub again : {x y ns : List ℕ} {o o' p p' : Outputs} {n m k l : ℕ} → CleanedAs x y ns o (Ok (record { points = n; members = m })) o'
+    → CleanedAs (take n o'.x) (take n o'.y) (take m o'.lengths) p (Ok (record { points = k; members = l })) p'
     → (k ≡ n) × (l ≡ m) × (p'.x ≡ zero_beyond 0 (length p.x) (take n o'.x)) × (p'.y ≡ zero_beyond 0 (length p.y) (take n o'.y))
     × (p'.lengths ≡ zero_beyond 0 (length p.lengths) (take m o'.lengths)) × (p'.reasons ≡ zero_beyond 0 (length p.reasons) (replicate n kept))
 again {x} {y} {ns} {o} {o'} {p} {p'} {n} {m} {k} {l} c d =

@@ -1,4 +1,5 @@
 -- The promise of the call from its parts: after a refusal, and after members were cleaned. Assumes nothing.
+use Rattle.std.specs.Prelude.{Ok, Err}
 use mathlib.Core.Path.{◌≡◌, refl, sym, ap, ◌∙◌}
 use mathlib.Core.Bool.{false, ◌&&◌}
 use mathlib.Core.List.{List, map, flatten}
@@ -8,7 +9,6 @@ use lib.Dec.{leb, eqb}
 use lib.ListN.{length, length-map, replicate}
 use borrow.Author.Tests.{leb-true, eqb-true}
 use Rattle.refusals.specs.declared.Refusal.{Refusal}
-use Rattle.refusals.specs.declared.Check.TheVariants as check
 use Rattle.refusals.specs.Refusals.{refused, gives, answer_by, clears, left_in, zero_beyond}
 use Rattle.refusals.proofs.Checks.{unless_fine}
 use Rattle.refusals.proofs.Answers.{then_refused, then_fine}
@@ -20,7 +20,6 @@ use Rattle.members.proofs.Held.{Held, held_says, length_points_of, map_x, map_y,
 use Rattle.clean.specs.Cleaning.{cleaned, reasons, kept_values}
 use Rattle.clean.specs.Calls.{Outputs, outputs, kept_room_check, cleaning, cleaned_of, holds, kept_axis, kept_lengths, outputs_left, CleanedAs}
 use Rattle.clean.specs.Inside.{CleanRoom, MarkedAll, PutKept}
-use Rattle.clean.specs.declared.Cleaned.TheVariants.{Kept, Refused}
 use Rattle.clean.proofs.Rules.{length_reasons, kept_beyond, kept_map, kept_are}
 
 -- ---- the checks
@@ -32,7 +31,7 @@ pub record Lent (n : ℕ) (o : Outputs) : Type 0 where
   pub halves : n / 2 ≤ length o.lengths
   pub marks : n ≤ length o.reasons
 
-pub lent_says : (n : ℕ) (o : Outputs) → kept_room_check n o ≡ check.Fine → Lent n o
+pub lent_says : (n : ℕ) (o : Outputs) → kept_room_check n o ≡ (Ok tt) → Lent n o
 unfolding kept_room_check
 lent_says n o h =
     let a = and_says (eqb (length o.x) (length o.y)) _ (unless_fine _ _ _ h) in
@@ -45,19 +44,19 @@ room_of l = record { marks = l.marks; halves = l.halves; twice = omega arith }
 
 module _ (x y ns : List ℕ) (o : Outputs) where
   -- refusal 3 changes nothing
-  same : (r : Refusal) → cleaning x y ns o ≡ refused r → clears r.number ≡ false → CleanedAs x y ns o (Refused r) o
+  same : (r : Refusal) → cleaning x y ns o ≡ refused r → clears r.number ≡ false → CleanedAs x y ns o (Err r) o
   unfolding cleaned_of outputs_left holds answer_by left_in
   same r e k = record {
     answer = rw e;
     left = rw (e, left_same 0 r o.x k, left_same 0 r o.y k, left_same 0 r o.lengths k, left_same 0 r o.reasons k);
   }
 
-  pub clean_held : (r : Refusal) → held_check (length x) (length y) ns ≡ check.Refused r → CleanedAs x y ns o (Refused r) o
+  pub clean_held : (r : Refusal) → held_check (length x) (length y) ns ≡ Err r → CleanedAs x y ns o (Err r) o
   unfolding cleaning held_check clears
   clean_held r e = same r (then_refused _ _ r e) ((clearing_unless (eqb (length x) (length y) && (leb (length ns) 4294967295 && (all_lengths ns && eqb (sum_of ns) (length x)))) 3 0 refl).says r e)
 
-  module _ (h : held_check (length x) (length y) ns ≡ check.Fine) where
-    pub clean_lent : (r : Refusal) → kept_room_check (length x) o ≡ check.Refused r → CleanedAs x y ns o (Refused r) o
+  module _ (h : held_check (length x) (length y) ns ≡ (Ok tt)) where
+    pub clean_lent : (r : Refusal) → kept_room_check (length x) o ≡ Err r → CleanedAs x y ns o (Err r) o
     unfolding cleaning kept_room_check clears
     clean_lent r e =
         same r (then_fine _ _ h ∙ then_refused _ _ r e)
@@ -81,8 +80,8 @@ module _ (x y ns : List ℕ) (o : Outputs) where
           ∙ kept_map f (reasons pss) (flatten pss)
           ∙ ap (map f) (kept_are pss)
 
-    pub clean_all : {kx ky kl rs : List ℕ} {n k m : ℕ} → kept_room_check (length x) o ≡ check.Fine → MarkedAll (chains_of ns (points_of x y)) o.reasons o.lengths m rs kl
-        → PutKept rs x o.x n kx → PutKept rs y o.y k ky → CleanedAs x y ns o (Kept n m) (outputs kx ky kl rs)
+    pub clean_all : {kx ky kl rs : List ℕ} {n k m : ℕ} → kept_room_check (length x) o ≡ (Ok tt) → MarkedAll (chains_of ns (points_of x y)) o.reasons o.lengths m rs kl
+        → PutKept rs x o.x n kx → PutKept rs y o.y k ky → CleanedAs x y ns o (Ok (record { points = n; members = m })) (outputs kx ky kl rs)
     unfolding cleaning cleaned_of outputs_left holds answer_by left_in kept_axis kept_lengths
     clean_all {kx} {ky} {kl} {rs} {n} {k} {m} l d p q =
         let pss = chains_of ns (points_of x y) in

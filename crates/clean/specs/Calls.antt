@@ -1,13 +1,13 @@
 -- The call over lent slices: what it checks, answers and leaves. Definitions only.
-use Rattle.std.specs.Prelude.{ℕ, ◌/◌, ◌≡◌, ◌&&◌, leb, eqb, length}
+use Rattle.std.specs.Prelude.{Ok, Err, Result, ℕ, ◌/◌, ◌≡◌, ◌&&◌, leb, eqb, length}
+use Rattle.refusals.specs.declared.Refusal.{Refusal}
+use Rattle.refusals.specs.Refusals.{Check}
 use mathlib.Core.List.{List, map, flatten}
-use Rattle.refusals.specs.declared.Check.{Check}
 use Rattle.refusals.specs.Refusals.{unless, Answer, gives, ◌then◌, answer_by, left_in, zero_beyond}
 use Rattle.wkb.specs.Bytes.{Point}
 use Rattle.members.specs.Held.{points_of, chains_of, held_check}
 use Rattle.clean.specs.Cleaning.{cleaned, reasons as Cleaning·reasons}
 use Rattle.clean.specs.declared.Cleaned.{Cleaned}
-use Rattle.clean.specs.declared.Cleaned.TheVariants.{Kept, Refused}
 
 -- the four slices that the call is lent to write
 pub record Outputs : Type 0 where
@@ -29,8 +29,8 @@ unfoldable pub cleaning : List ℕ → List ℕ → List ℕ → Outputs → Ans
 cleaning x y lengths o = held_check (length x) (length y) lengths then kept_room_check (length x) o then gives (chains_of lengths (points_of x y))
 
 -- the answer: how many points and pieces are kept, or the refusal
-unfoldable pub cleaned_of : Answer (List (List Point)) → Cleaned
-cleaned_of a = answer_by Refused (λ pss. Kept (length (flatten (cleaned pss))) (length (cleaned pss))) a
+unfoldable pub cleaned_of : Answer (List (List Point)) → Result Cleaned Refusal
+cleaned_of a = answer_by Err (λ pss. Ok (record { points = (length (flatten (cleaned pss))); members = (length (cleaned pss)) })) a
 
 -- what a slice holds then: what it is to hold of the members, and zero beyond
 unfoldable pub holds : (List (List Point) → List ℕ) → Answer (List (List Point)) → List ℕ → List ℕ
@@ -50,6 +50,6 @@ outputs_left a o =
     outputs (holds (kept_axis (λ p. p.x)) a o.x) (holds (kept_axis (λ p. p.y)) a o.y) (holds kept_lengths a o.lengths) (holds Cleaning·reasons a o.reasons)
 
 -- The promise: the answer, and what the four slices hold then.
-pub record CleanedAs (x y lengths : List ℕ) (o : Outputs) (r : Cleaned) (o' : Outputs) : Type 0 where
+pub record CleanedAs (x y lengths : List ℕ) (o : Outputs) (r : Result Cleaned Refusal) (o' : Outputs) : Type 0 where
   pub answer : r ≡ cleaned_of (cleaning x y lengths o)
   pub left : o' ≡ outputs_left (cleaning x y lengths o) o

@@ -9,13 +9,13 @@ mod values;
 ghost use Rattle.std.specs.Prelude.{◌≡◌, ◌&&◌, ◌/◌, leb, eqb};
 ghost use Rattle.clean.specs.Calls.{outputs, kept_room_check, CleanedAs};
 
-use refusals::{Check, Refusal};
+use refusals::Refusal;
 
-// What cleaning answers: how many points and pieces it kept, or why it cleaned nothing.
+// How many points and pieces cleaning kept.
 #[derive(Clone, Copy)]
-pub enum Cleaned {
-    Kept { points: usize, members: usize },
-    Refused(Refusal),
+pub struct Cleaned {
+    pub points: usize,
+    pub members: usize,
 }
 
 // The outputs have room for all that n points may ask for.
@@ -26,7 +26,13 @@ fn has_room(n: usize, x: usize, y: usize, lengths: usize, reasons: usize) -> boo
 }
 
 // 3: outputs that are short, or whose points differ in length.
-fn check_outputs(n: usize, x: &[u64], y: &[u64], lengths: &[u32], reasons: &[u32]) -> Check
+fn check_outputs(
+    n: usize,
+    x: &[u64],
+    y: &[u64],
+    lengths: &[u32],
+    reasons: &[u32],
+) -> Result<(), Refusal>
     ensures { result ≡ kept_room_check n (outputs x.now y.now lengths.now reasons.now) }
 {
     refusals::refuse_unless(
@@ -46,21 +52,15 @@ pub fn clean(
     kept_y: &mut [u64],
     kept_lengths: &mut [u32],
     reasons: &mut [u32],
-) -> Cleaned
+) -> Result<Cleaned, Refusal>
     ensures { let o = outputs kept_x.old kept_y.old kept_lengths.old reasons.old in
         let o' = outputs kept_x.new kept_y.new kept_lengths.new reasons.new in
         CleanedAs x.now y.now lengths.now o result o' }
 {
-    let held = members::check_held(x.len(), y.len(), lengths);
-    if let Check::Refused(r) = held {
-        return Cleaned::Refused(r);
-    }
-    let room = check_outputs(x.len(), kept_x, kept_y, kept_lengths, reasons);
-    if let Check::Refused(r) = room {
-        return Cleaned::Refused(r);
-    }
+    members::check_held(x.len(), y.len(), lengths)?;
+    check_outputs(x.len(), kept_x, kept_y, kept_lengths, reasons)?;
     let members = marks::mark_members(x, y, lengths, reasons, kept_lengths);
     let points = values::put_kept(x, reasons, kept_x);
     values::put_kept(y, reasons, kept_y);
-    Cleaned::Kept { points, members }
+    Ok(Cleaned { points, members })
 }

@@ -1,6 +1,5 @@
 // The reason of each point, and the number of points of each piece that is kept.
-ghost use Rattle.std.specs.Prelude.{◌≡◌, cond, ◌+◌, ◌-◌, ◌≤◌, ◌<◌, length};
-ghost use Rattle.refusals.specs.declared.Check.TheVariants.{Fine};
+ghost use Rattle.std.specs.Prelude.{◌≡◌, cond, ◌+◌, ◌-◌, ◌≤◌, ◌<◌, length, Ok};
 ghost use Rattle.members.specs.Held.{points_of, chains_of, held_check};
 ghost use Rattle.clean.specs.Cleaning.{kept_of, cleaned_member, piece_reasons, member_reasons, kept, repeat};
 ghost use Rattle.clean.specs.Inside.{part, Part, ReasonsMarked, CleanRoom, Did, MarkedAll};
@@ -35,13 +34,11 @@ fn mark_repeats(x: &[u64], y: &[u64], from: usize, to: usize, reasons: &mut [u32
 {
     let mut last = from;
     let mut count = 1;
-    let mut i = from + 1;
-    while i < to {
+    for i in from + 1..to {
         let again = points::is_same(x, y, last, i);
         reasons[i] = reason_of(again);
         last = last_of(again, last, i);
         count = count + one_unless(again);
-        i += 1;
     }
     count
 }
@@ -109,18 +106,16 @@ pub(crate) fn mark_members(
     reasons: &mut [u32],
     kept_lengths: &mut [u32],
 ) -> usize
-    requires { (held_check (length x.now) (length y.now) lengths.now ≡ Fine) × CleanRoom x.now reasons.old kept_lengths.old 0 0 }
+    requires { (held_check (length x.now) (length y.now) lengths.now ≡ (Ok tt)) × CleanRoom x.now reasons.old kept_lengths.old 0 0 }
     ensures { let pss = chains_of lengths.now (points_of x.now y.now) in
         MarkedAll pss reasons.old kept_lengths.old result reasons.new kept_lengths.new }
 {
     let mut at = 0;
     let mut from = 0;
-    let mut k = 0;
-    while k < lengths.len() {
-        let n = wide(lengths[k]);
+    for &length in lengths {
+        let n = wide(length);
         at = mark_member(x, y, from, from + n, reasons, kept_lengths, at);
         from = from + n;
-        k += 1;
     }
     slices::clear_from(reasons, from);
     slices::clear_from(kept_lengths, at);

@@ -26,11 +26,8 @@ pub(crate) fn piece_end(x: &[u64], y: &[u64], from: usize, end: usize) -> usize
     requires { Part x.now y.now from end }
     ensures { PieceEnds x.now y.now from end result }
 {
-    let mut i = from;
-    while i < end {
-        if is_good(x, y, i) {
-            i += 1;
-        } else {
+    for i in from..end {
+        if !is_good(x, y, i) {
             return i;
         }
     }

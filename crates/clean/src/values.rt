@@ -19,11 +19,8 @@ fn put_if(reason: u32, value: u64, kept: &mut [u64], at: usize) -> usize
 fn clear_from(s: &mut [u64], from: usize)
     ensures { s.new ≡ take from s.old ++ replicate (length s.old - from) 0 }
 {
-    let mut i = from;
-    while i < s.len() {
-        s[i] = 0;
-        i += 1;
-    }
+    let a = slices::least(s.len(), from);
+    s[a..].fill(0);
 }
 
 // The values whose reason says that they are kept; zero beyond. Answers how many.
@@ -32,10 +29,8 @@ pub(crate) fn put_kept(values: &[u64], reasons: &[u32], kept: &mut [u64]) -> usi
     ensures { PutKept reasons.now values.now kept.old result kept.new }
 {
     let mut at = 0;
-    let mut i = 0;
-    while i < values.len() {
+    for i in 0..values.len() {
         at = put_if(reasons[i], values[i], kept, at);
-        i += 1;
     }
     clear_from(kept, at);
     at

@@ -1,4 +1,5 @@
 -- What is cleaned and written of members in so few bytes. Assumes nothing.
+use Rattle.std.specs.Prelude.{Ok, Err, Result}
 use mathlib.Core.Path.{◌≡◌, refl, sym, ap, ◌∙◌, subst}
 use mathlib.Core.Bool.{true}
 use mathlib.Core.List.{List, [], ◌∷◌, ◌++◌, map, flatten}
@@ -7,7 +8,6 @@ use native.Mathlib.Omega.{arith}
 use lib.ListN.{length, take, drop, replicate}
 use borrow.Author.Tests.{le-leb, lt-leb}
 use Rattle.refusals.specs.declared.Refusal.{Refusal}
-use Rattle.refusals.specs.declared.Check.TheVariants as check
 use Rattle.refusals.specs.Refusals.{refusal, unless, and_then, Answer, refused, gives, ◌then◌, answer_by, clears, left_by, left_in, zero_beyond}
 use Rattle.refusals.proofs.Leaving.{left_same, left_zero}
 use Rattle.report.specs.Pages.{page, Puts}
@@ -16,19 +16,15 @@ use Rattle.report.proofs.Written.{end_within, prints}
 use Rattle.wkb.specs.Bytes.{Point, multi_bytes}
 use Rattle.grid.specs.Domain.{count_check}
 use Rattle.wkb.specs.declared.MultiRead.{MultiRead}
-use Rattle.wkb.specs.declared.MultiRead.TheVariants as multi
 use Rattle.wkb.specs.Multi.{starts_of, found_multi, MultiReadAs}
 use Rattle.wkb.proofs.Chains.{Some, length_starts}
 use Rattle.members.specs.Held.{points_of, chains_of, all_lengths, sum_of}
 use Rattle.members.specs.Writing.{fit_check, bytes_in, written, written_of, bytes_left, WrittenAs}
-use Rattle.members.specs.declared.Written.{Written}
-use Rattle.members.specs.declared.Written.TheVariants as written
 use Rattle.members.proofs.Held.{Held, held_says, held_fine, all_first, length_points_of, flatten_chains, lengths_chains, length_chains_of}
 use Rattle.members.proofs.Putting.{length_multi}
 use Rattle.clean.specs.Cleaning.{cleaned, member_reasons, reasons}
 use Rattle.clean.specs.Calls.{Outputs, kept_room_check, cleaning, cleaned_of, CleanedAs}
 use Rattle.clean.specs.declared.Cleaned.{Cleaned}
-use Rattle.clean.specs.declared.Cleaned.TheVariants.{Kept, Refused}
 use Rattle.clean.proofs.Rules.{AllClean, length_reasons, cleaned_clean}
 use Rattle.clean.proofs.Again.{Gave, gave}
 use Rattle.clean_bytes.specs.declared.Ends.{Ends}
@@ -47,7 +43,7 @@ refuses l n = record { bytes = n.none; file = l; text = n.text }
 
 -- ---- the writer
 
-module _ {x y ns b₀ b₁ : List ℕ} {r : Written} (w : WrittenAs x y ns b₀ r b₁) (f : Fits x y ns b₀) where
+module _ {x y ns b₀ b₁ : List ℕ} {r : Result ℕ Refusal} (w : WrittenAs x y ns b₀ r b₁) (f : Fits x y ns b₀) where
   abbrev bs : List ℕ
   bs = multi_bytes (chains_of ns (points_of x y))
 
@@ -55,19 +51,19 @@ module _ {x y ns b₀ b₁ : List ℕ} {r : Written} (w : WrittenAs x y ns b₀ 
   unfolding written bytes_in fit_check unless ◌then◌
   is = rw (f.held, f.few, le-leb (length bs) (length b₀) f.room)
 
-  pub not_refused : {A : Type 0} {q : Refusal} → r ≡ written.Refused q → A
+  pub not_refused : {A : Type 0} {q : Refusal} → r ≡ Err q → A
   unfolding written_of answer_by
   not_refused {A} {q} e =
-      let d : written.Refused q ≡ written_of (gives bs) = sym e ∙ w.answer ∙ ap written_of is in
+      let d : Err q ≡ written_of (gives bs) = sym e ∙ w.answer ∙ ap written_of is in
       absurd (let z : ◌≡◌ {A = ℕ} 0 1 = cc in omega arith)
 
-  bytes_count : {m n : ℕ} → written.Bytes m ≡ written.Bytes n → m ≡ n
+  bytes_count : {m n : ℕ} → ◌≡◌ {A = Result ℕ Refusal} (Ok m) (Ok n) → m ≡ n
   bytes_count e = cc
 
-  pub wrote : {n : ℕ} → r ≡ written.Bytes n → WroteText (chains_of ns (points_of x y)) b₀ n b₁
+  pub wrote : {n : ℕ} → r ≡ Ok n → WroteText (chains_of ns (points_of x y)) b₀ n b₁
   unfolding written_of answer_by bytes_left left_in
   wrote {n} e =
-      let d : written.Bytes n ≡ written.Bytes (length bs) = sym e ∙ w.answer ∙ ap written_of is in
+      let d : Ok n ≡ Ok (length bs) = sym e ∙ w.answer ∙ ap written_of is in
       record { count = bytes_count d; is = w.in_bytes ∙ ap (λ (a : Answer (List ℕ)). bytes_left a b₀) is }
 
 -- ---- what is kept
@@ -140,16 +136,16 @@ module _ {x y ns file : List ℕ} (a : BytesAsk x y ns file) where
         let b = a.few in
         rw (a.held, ex, ey, el, er, le-leb (length x) 4096 (omega arith), le-leb (length x / 2) 2048 (omega arith))
 
-  pub always_cleans : {A : Type 0} {q : Refusal} {r : Cleaned} {o o' : Outputs} → CleanedAs x y ns o r o' → r ≡ Refused q → length o.x ≡ 4096 → length o.y ≡ 4096 → length o.lengths ≡ 2048 → length o.reasons ≡ 4096 → A
+  pub always_cleans : {A : Type 0} {q : Refusal} {r : Result Cleaned Refusal} {o o' : Outputs} → CleanedAs x y ns o r o' → r ≡ Err q → length o.x ≡ 4096 → length o.y ≡ 4096 → length o.lengths ≡ 2048 → length o.reasons ≡ 4096 → A
   unfolding cleaned_of answer_by
   always_cleans {A} {q} {r} {o} c e ex ey el er =
-      let d : Refused q ≡ cleaned_of (gives chains) = sym e ∙ c.answer ∙ ap cleaned_of (gives_all o ex ey el er) in
+      let d : Err q ≡ cleaned_of (gives chains) = sym e ∙ c.answer ∙ ap cleaned_of (gives_all o ex ey el er) in
       absurd (let z : ◌≡◌ {A = ℕ} 0 1 = cc in omega arith)
 
   -- what stands in them
-  module _ {o o' : Outputs} {r : Cleaned} {n m : ℕ} (c : CleanedAs x y ns o r o') (e : r ≡ Kept n m) where
+  module _ {o o' : Outputs} {r : Result Cleaned Refusal} {n m : ℕ} (c : CleanedAs x y ns o r o') (e : r ≡ Ok (record { points = n; members = m })) where
     told : Gave x y ns o n m o'
-    told = gave (subst (λ (q : Cleaned). CleanedAs x y ns o q o') e c)
+    told = gave (subst (λ (q : Result Cleaned Refusal). CleanedAs x y ns o q o') e c)
 
     pub kept_load : Loaded (cleaned chains) o'.x o'.y o'.lengths n m
     kept_load = loaded (cleaned chains) o'.x o'.y o'.lengths n m (length o.x) (length o.y) (length o.lengths) told.points told.pieces told.in_x told.in_y told.in_lengths
@@ -163,7 +159,7 @@ module _ {x y ns file : List ℕ} (a : BytesAsk x y ns file) where
         let same = sym (chains_are kept_load) in
         record {
           held = held_fine (held kept_load f);
-          few = subst (λ (q : List (List Point)). count_check (length (starts_of q)) ≡ check.Fine) same (few_lines (cleaned chains) (clean_some (cleaned chains) (cleaned_clean chains)) (omega arith));
+          few = subst (λ (q : List (List Point)). count_check (length (starts_of q)) ≡ (Ok tt)) same (few_lines (cleaned chains) (clean_some (cleaned chains) (cleaned_clean chains)) (omega arith));
           room = subst (λ (q : List (List Point)). length (multi_bytes q) ≤ length file) same (omega arith);
         }
 
@@ -182,13 +178,13 @@ module _ {x y ns file : List ℕ} (a : BytesAsk x y ns file) where
 
 -- ---- the reader's answers, cleaned
 
-module _ {bs x₀ y₀ l₀ x₁ y₁ l₁ : List ℕ} {r : MultiRead} (a : MultiReadAs bs x₀ y₀ l₀ r x₁ y₁ l₁) (ex : length x₀ ≡ 4096) (ey : length y₀ ≡ 4096) (el : length l₀ ≡ 4096) (h : length bs ≤ 65545) where
-  pub unread_refused : {q : Refusal} {f t t₁ : List ℕ} {e : Ends} → r ≡ multi.Refused q → NoFile q.number t e t₁ → PutsAs (found_multi bs) f t e f t₁
+module _ {bs x₀ y₀ l₀ x₁ y₁ l₁ : List ℕ} {r : Result MultiRead Refusal} (a : MultiReadAs bs x₀ y₀ l₀ r x₁ y₁ l₁) (ex : length x₀ ≡ 4096) (ey : length y₀ ≡ 4096) (el : length l₀ ≡ 4096) (h : length bs ≤ 65545) where
+  pub unread_refused : {q : Refusal} {f t t₁ : List ℕ} {e : Ends} → r ≡ Err q → NoFile q.number t e t₁ → PutsAs (found_multi bs) f t e f t₁
   unread_refused {q} {f} {t} {t₁} {e} d n =
       let u = unread a ex ey el h d in
       subst (λ (o : Answer (List (List Point))). PutsAs o f t e f t₁) (sym u) (refuses (sym (left_same 0 q f (none_clears bs u))) n)
 
-  pub read_cleaned : {p m : ℕ} {f f₁ t t₁ : List ℕ} {e : Ends} → r ≡ multi.Members p m → PutsAs (gives (chains_of (take m l₁) (points_of (take p x₁) (take p y₁)))) f t e f₁ t₁ → PutsAs (found_multi bs) f t e f₁ t₁
+  pub read_cleaned : {p m : ℕ} {f f₁ t t₁ : List ℕ} {e : Ends} → r ≡ Ok (record { points = p; members = m }) → PutsAs (gives (chains_of (take m l₁) (points_of (take p x₁) (take p y₁)))) f t e f₁ t₁ → PutsAs (found_multi bs) f t e f₁ t₁
   read_cleaned {p} {m} {f} {f₁} {t} {t₁} {e} d n =
       let q = members_read a ex ey el h d in
       subst (λ (o : Answer (List (List Point))). PutsAs o f t e f₁ t₁) (ap gives (chains_are q.load) ∙ sym q.is) n

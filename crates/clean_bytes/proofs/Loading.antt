@@ -1,4 +1,5 @@
 -- What a call of the reader of members says of its answer and its buffers, and what cleaning asks of them. Assumes nothing.
+use Rattle.std.specs.Prelude.{Ok, Err, Result}
 use mathlib.Core.Path.{◌≡◌, refl, sym, ap, ◌∙◌}
 use mathlib.Core.List.{List, map, flatten}
 use Prim.Native.Nat.{ℕ, ◌+◌, ◌-◌, ◌≤◌}
@@ -7,12 +8,11 @@ use lib.ListN.{length, take, length-append, length-map, length-replicate}
 use Rattle.refusals.specs.declared.Refusal.{Refusal}
 use Rattle.refusals.specs.Refusals.{Answer, refused, gives, answer_by, left_in, zero_beyond}
 use Rattle.wkb.specs.declared.MultiRead.{MultiRead}
-use Rattle.wkb.specs.declared.MultiRead.TheVariants.{Members, Refused}
 use Rattle.wkb.specs.Bytes.{Point}
 use Rattle.wkb.specs.Multi.{found_multi, multi_outcome, multi_read_of, axis_left, lengths_left, MultiReadAs}
 use Rattle.members.specs.Held.{points_of, chains_of}
 use Rattle.members.proofs.Held.{Held, held_fine, points_back, chains_back, sum_back}
-use Rattle.members.proofs.RoundTrips.{start}
+use Rattle.members.proofs.RoundTrips.{start, members_points, members_count}
 use Rattle.clean_bytes.specs.Inside.{Parts, BytesAsk}
 use Rattle.clean_bytes.proofs.Reading.{Few, few_of, all_read}
 
@@ -75,17 +75,17 @@ module _ {pss : List (List Point)} {x y l : List ℕ} {points members : ℕ} (d 
 
 -- ---- the reader's answer
 
-module _ {bs x₀ y₀ l₀ x₁ y₁ l₁ : List ℕ} {r : MultiRead} (a : MultiReadAs bs x₀ y₀ l₀ r x₁ y₁ l₁) (ex : length x₀ ≡ 4096) (ey : length y₀ ≡ 4096) (el : length l₀ ≡ 4096) (h : length bs ≤ 65545) where
+module _ {bs x₀ y₀ l₀ x₁ y₁ l₁ : List ℕ} {r : Result MultiRead Refusal} (a : MultiReadAs bs x₀ y₀ l₀ r x₁ y₁ l₁) (ex : length x₀ ≡ 4096) (ey : length y₀ ≡ 4096) (el : length l₀ ≡ 4096) (h : length bs ≤ 65545) where
   all : multi_outcome (length x₀) (length y₀) (length l₀) bs ≡ found_multi bs
   all = rw (ex, ey, el) (all_read a.only h)
 
-  pub unread : {q : Refusal} → r ≡ Refused q → found_multi bs ≡ refused q
+  pub unread : {q : Refusal} → r ≡ Err q → found_multi bs ≡ refused q
   unfolding multi_read_of answer_by
   unread {q} e = go (found_multi bs) refl
     where
       go : (f : Answer (List (List Point))) → found_multi bs ≡ f → f ≡ refused q
-      go (refused s) g = let d : Refused q ≡ Refused s = sym e ∙ a.answer ∙ ap multi_read_of (all ∙ g) in let z : s ≡ q = cc in ap refused z
-      go (gives pss) g = let d : Refused q ≡ multi_read_of (gives pss) = sym e ∙ a.answer ∙ ap multi_read_of (all ∙ g) in absurd (let z : ◌≡◌ {A = ℕ} 0 1 = cc in omega arith)
+      go (refused s) g = let d : Err q ≡ Err s = sym e ∙ a.answer ∙ ap multi_read_of (all ∙ g) in let z : s ≡ q = cc in ap refused z
+      go (gives pss) g = let d : Err q ≡ multi_read_of (gives pss) = sym e ∙ a.answer ∙ ap multi_read_of (all ∙ g) in absurd (let z : ◌≡◌ {A = ℕ} 0 1 = cc in omega arith)
 
   pub record Members_read (p m : ℕ) : Type 0 where
     pub pss : List (List Point)
@@ -93,25 +93,20 @@ module _ {bs x₀ y₀ l₀ x₁ y₁ l₁ : List ℕ} {r : MultiRead} (a : Mult
     pub few : Few pss
     pub load : Loaded pss x₁ y₁ l₁ p m
 
-  points_are : {p q m n : ℕ} → Members p m ≡ Members q n → p ≡ q
-  points_are e = cc
-
-  members_are : {p q m n : ℕ} → Members p m ≡ Members q n → m ≡ n
-  members_are e = cc
-
-  pub members_read : {p m : ℕ} → r ≡ Members p m → Members_read p m
+  pub members_read : {p m : ℕ} → r ≡ Ok (record { points = p; members = m }) → Members_read p m
   unfolding multi_read_of answer_by axis_left lengths_left left_in
   members_read {p} {m} e = go (found_multi bs) refl
     where
       go : (f : Answer (List (List Point))) → found_multi bs ≡ f → Members_read p m
-      go (refused s) g = let d : Members p m ≡ multi_read_of (refused s) = sym e ∙ a.answer ∙ ap multi_read_of (all ∙ g) in absurd (let z : ◌≡◌ {A = ℕ} 0 1 = cc in omega arith)
+      go (refused s) g = let d : Ok (record { points = p; members = m }) ≡ multi_read_of (refused s) = sym e ∙ a.answer ∙ ap multi_read_of (all ∙ g) in absurd (let z : ◌≡◌ {A = ℕ} 0 1 = cc in omega arith)
       go (gives pss) g =
-          let d : Members p m ≡ Members (length (flatten pss)) (length pss) = sym e ∙ a.answer ∙ ap multi_read_of (all ∙ g) in
+          let d : ◌≡◌ {A = Result MultiRead Refusal} (Ok (record { points = p; members = m })) (Ok (record { points = length (flatten pss); members = length pss })) =
+          sym e ∙ a.answer ∙ ap multi_read_of (all ∙ g) in
           record {
             pss = pss;
             is = g;
             few = few_of (a.only pss g) h;
-            load = loaded pss x₁ y₁ l₁ p m (length x₀) (length y₀) (length l₀) (points_are d) (members_are d)
+            load = loaded pss x₁ y₁ l₁ p m (length x₀) (length y₀) (length l₀) (members_points d) (members_count d)
                 (a.in_x ∙ ap (λ (o : Answer (List (List Point))). axis_left (λ q. q.x) o x₀) (all ∙ g))
                 (a.in_y ∙ ap (λ (o : Answer (List (List Point))). axis_left (λ q. q.y) o y₀) (all ∙ g))
                 (a.in_lengths ∙ ap (λ (o : Answer (List (List Point))). lengths_left o l₀) (all ∙ g));

@@ -1,32 +1,29 @@
 -- What the readers find in the bytes of an input: a LineString with a head before it is a MultiLineString of one member; of so few bytes all
 -- members have room in the buffers; and what is no MultiLineString is refused by 11. Assumes nothing.
-use mathlib.Core.Path.{◌≡◌, refl, sym, ap, ◌∙◌, subst}
+use Rattle.std.specs.Prelude.{Ok, Err, Result}
+use Rattle.refusals.specs.Refusals.{Check}
+use mathlib.Core.Path.{◌≡◌, refl, sym, ap, ◌∙◌}
 use mathlib.Core.Bool.{Bool, true, false}
 use mathlib.Core.List.{List, [], ◌∷◌, ◌++◌, append-nil, map, flatten}
-use Prim.Native.Nat.{ℕ, zero, suc, ◌+◌, ◌*◌, ◌≤◌, ◌<◌}
-use native.Mathlib.Numerals.{add-one}
+use Prim.Native.Nat.{ℕ, zero, suc, ◌+◌, ◌*◌, ◌≤◌}
 use native.Mathlib.Omega.{arith}
 use lib.Dec.{leb}
 use lib.Ieee.{Float}
-use lib.ListN.{length, take, get_or, set, length-append}
-use lib.Seq.{take_at, take_all, take-suc, length-take-le}
+use lib.ListN.{length, take, length-append}
+use lib.Seq.{take_at}
 use borrow.Author.Tests.{le-leb}
 use Rattle.refusals.specs.declared.Refusal.{Refusal}
-use Rattle.refusals.specs.declared.Check.{Check}
-use Rattle.refusals.specs.declared.Check.TheVariants as check
 use Rattle.refusals.specs.Refusals.{unless, and_then, Answer, refused, gives, ◌then◌, ◌into◌, answer_by, clears}
 use Rattle.refusals.proofs.Answers.{then_passed}
 use Rattle.refusals.proofs.Leaving.{Clearing, clearing_unless, clearing_then}
 use Rattle.grid.specs.Domain.{count_check}
 use Rattle.wkb.specs.declared.Order.TheVariants.{Little}
-use Rattle.wkb.specs.declared.Read.{Read}
-use Rattle.wkb.specs.declared.Read.TheVariants as one
 use Rattle.wkb.specs.Bytes.{Point, order_byte, little_bytes, word_bytes, LineString, Members, none, more, multi_head, MultiLineString}
 use Rattle.wkb.specs.Reading.{field_check, end_at, head_check, line_check, end_check, count_at, found, slices_check, outcome, read_of, ReadAs}
 use Rattle.wkb.specs.Multi.{starts_of, members_check, multi_check, chains_at, found_multi, pair_check, members_room_check, multi_outcome}
 use Rattle.wkb.specs.Inside.{PutIn}
 use Rattle.wkb.proofs.Words.{length_word}
-use Rattle.wkb.proofs.Stores.{put_length, put_more, put_then}
+use Rattle.wkb.proofs.Stores.{put_length, put_then}
 use Rattle.wkb.proofs.Chains.{Some, length_starts}
 use Rattle.wkb.proofs.MultiLineStrings.{multi_complete}
 use Rattle.members.specs.Held.{all_lengths}
@@ -54,42 +51,32 @@ one_member {bs} l = record {
 }
 
 -- it was read
-pub line_found : {bs : List ℕ} {x₀ y₀ x₁ y₁ : List Float} {r : Read} {n : ℕ} → ReadAs bs x₀ y₀ r x₁ y₁ → r ≡ one.Points n → found_multi (multi_head Little 1 ++ bs) ≡ chains_found bs
+pub line_found : {bs : List ℕ} {x₀ y₀ x₁ y₁ : List Float} {r : Result ℕ Refusal} {n : ℕ} → ReadAs bs x₀ y₀ r x₁ y₁ → r ≡ Ok n → found_multi (multi_head Little 1 ++ bs) ≡ chains_found bs
 unfolding read_of answer_by outcome chains_found
 line_found {bs} {x₀} {y₀} {x₁} {y₁} {r} {n} a e = go (outcome (length x₀) (length y₀) bs) refl (sym e ∙ a.answer)
   where
-    go : (o : Answer (List Point)) → outcome (length x₀) (length y₀) bs ≡ o → one.Points n ≡ read_of o → found_multi (multi_head Little 1 ++ bs) ≡ chains_found bs
+    go : (o : Answer (List Point)) → outcome (length x₀) (length y₀) bs ≡ o → Ok n ≡ read_of o → found_multi (multi_head Little 1 ++ bs) ≡ chains_found bs
     go (refused q) h d = absurd (let z : ◌≡◌ {A = ℕ} 0 1 = cc in omega arith)
     go (gives ps) h d =
         let f : found bs ≡ gives ps = (then_passed (slices_check (length x₀) (length y₀)) (found bs) h).1 in
         multi_complete _ (ps ∷ []) (one_member (a.only ps f)) ∙ sym (ap (answer_by (λ (q : Refusal). found_multi bs) (λ (qs : List Point). gives (qs ∷ []))) f)
 
 -- there is none
-pub line_none : {bs : List ℕ} {x₀ y₀ x₁ y₁ : List Float} {r : Read} {q : Refusal} → ReadAs bs x₀ y₀ r x₁ y₁ → r ≡ one.Refused q → length x₀ ≡ 1024 → length y₀ ≡ 1024 → found_multi bs ≡ chains_found bs
+pub line_none : {bs : List ℕ} {x₀ y₀ x₁ y₁ : List Float} {r : Result ℕ Refusal} {q : Refusal} → ReadAs bs x₀ y₀ r x₁ y₁ → r ≡ Err q → length x₀ ≡ 1024 → length y₀ ≡ 1024 → found_multi bs ≡ chains_found bs
 unfolding read_of answer_by outcome chains_found slices_check unless ◌then◌
 line_none {bs} {x₀} {y₀} {x₁} {y₁} {r} {q} a e ex ey = go (found bs) refl
   where
     go : (f : Answer (List Point)) → found bs ≡ f → found_multi bs ≡ answer_by (λ s. found_multi bs) (λ ps. gives (ps ∷ [])) f
     go (refused s) h = refl
     go (gives ps) h =
-        let d : one.Refused q ≡ read_of (outcome 1024 1024 bs) = sym e ∙ rw (ex, ey) at a.answer in
-        let g : one.Refused q ≡ read_of (gives ps) = d ∙ ap read_of h in
+        let d : Err q ≡ read_of (outcome 1024 1024 bs) = sym e ∙ rw (ex, ey) at a.answer in
+        let g : Err q ≡ read_of (gives ps) = d ∙ ap read_of h in
         absurd (let z : ◌≡◌ {A = ℕ} 0 1 = cc in omega arith)
 
 -- ---- what is put at the start of a slice
 
 put_front : {xs s₀ s₁ : List ℕ} (n : ℕ) → PutIn 0 xs s₀ s₁ → length xs ≡ n → take n s₁ ≡ xs
 put_front {xs} n p e = ap (take n) p.is ∙ take_at xs _ n e
-
--- bytes are copied one after another
-pub copy_more : (from : List ℕ) (at i : ℕ) {s₀ s : List ℕ} → i < length from → at + length from ≤ length s₀ → PutIn at (take i from) s₀ s → PutIn at (take (i + 1) from) s₀ (set s (at + i) (get_or from i 0))
-copy_more from at i {s₀} {s} h l p =
-    let n : length (take i from) ≡ i = length-take-le i from (omega arith) in
-    let e : take (i + 1) from ≡ take i from ++ (get_or from i 0 ∷ []) = ap (λ (k : ℕ). take k from) (add-one i) ∙ take-suc from i 0 h in
-    subst (λ (xs : List ℕ). PutIn at xs s₀ (set s (at + i) (get_or from i 0))) (sym e) (put_more (get_or from i 0) p (omega arith) (omega arith))
-
-pub copy_all : (from : List ℕ) (at i : ℕ) {s₀ s : List ℕ} → length from ≤ i → PutIn at (take i from) s₀ s → PutIn at from s₀ s
-copy_all from at i {s₀} {s} h p = subst (λ (xs : List ℕ). PutIn at xs s₀ s) (take_all i from h) p
 
 pub widened_line : {bs s₀ s₁ s₂ : List ℕ} → found_multi (multi_head Little 1 ++ bs) ≡ chains_found bs → PutIn 0 head s₀ s₁ → PutIn 9 bs s₁ s₂
     → Widened bs (9 + length bs) s₂
@@ -115,7 +102,7 @@ members_some : {rest : List ℕ} {pss : List (List Point)} → Members rest pss 
 members_some none = tt
 members_some (more l r) = (l.some, members_some r)
 
-pub few_lines : (pss : List (List Point)) → Some pss → length (flatten pss) ≤ 4096 → count_check (length (starts_of pss)) ≡ check.Fine
+pub few_lines : (pss : List (List Point)) → Some pss → length (flatten pss) ≤ 4096 → count_check (length (starts_of pss)) ≡ Ok tt
 unfolding count_check unless
 few_lines pss s h = let n = length_starts pss s in rw (le-leb (length (starts_of pss)) 65536 (omega arith))
 
@@ -167,5 +154,5 @@ unfolding found_multi multi_check ◌then◌
 none_clears bs {r} e = go (multi_check bs) (clearing_then (head_same 5 0 bs) (clearing_then (field_same _ _ _ _) (members_same (count_at 0 bs) 9 bs))) e
   where
     go : (c : Check) → Clearing false c → (c then gives (chains_at (count_at 0 bs) 9 bs)) ≡ refused r → clears r.number ≡ false
-    go check.Fine k d = absurd (let z : ◌≡◌ {A = ℕ} 0 1 = cc in omega arith)
-    go (check.Refused s) k d = let z : check.Refused s ≡ check.Refused r = cc in k.says r z
+    go (Ok _) k d = absurd (let z : ◌≡◌ {A = ℕ} 0 1 = cc in omega arith)
+    go (Err s) k d = let z : Err s ≡ Err r = cc in k.says r z

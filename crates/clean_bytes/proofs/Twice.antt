@@ -2,6 +2,7 @@
 --   file-accepted   of every input that is accepted, the file is accepted too, and its members are the kept ones
 --   cleaned-twice   nothing is printed of it, and its own file is the same, byte for byte
 --   same-file       the same from the promises of two calls alone
+use Rattle.std.specs.Prelude.{Ok}
 use mathlib.Core.Path.{◌≡◌, refl, sym, ap, ◌∙◌, subst}
 use mathlib.Core.Bool.{Bool, true, false, cond}
 use mathlib.Core.List.{List, [], ◌∷◌, ◌++◌, append_assoc, append-nil, map, flatten, flat_map}
@@ -12,7 +13,6 @@ use lib.ListN.{length, take, replicate, length-append}
 use lib.Seq.{take-nil}
 use borrow.Author.Tests.{le-leb, leb-true}
 use Rattle.refusals.specs.declared.Refusal.{Refusal}
-use Rattle.refusals.specs.declared.Check.TheVariants as check
 use Rattle.refusals.specs.Refusals.{unless, and_then, Answer, refused, gives, answer_by, left_in}
 use Rattle.refusals.proofs.Answers.{then_fine, then_passed}
 use Rattle.refusals.proofs.Checks.{unless_fine, and_then_right}
@@ -134,12 +134,12 @@ multi_found {bs} {pss} l = go (found bs) refl
 
 -- ---- the sizes
 
-sizes_fine : (room n : ℕ) → 65545 ≤ room → n ≤ 65536 → sizes_check room n ≡ check.Fine
+sizes_fine : (room n : ℕ) → 65545 ≤ room → n ≤ 65536 → sizes_check room n ≡ Ok tt
 unfolding sizes_check unless and_then
 sizes_fine room n h k = rw (le-leb 65545 room h, le-leb n 65536 k)
 
 -- 65,536 bytes at most were read
-sizes_few : (room n : ℕ) → sizes_check room n ≡ check.Fine → n ≤ 65536
+sizes_few : (room n : ℕ) → sizes_check room n ≡ (Ok tt) → n ≤ 65536
 unfolding sizes_check
 sizes_few room n e = leb-true n 65536 (unless_fine _ _ _ (and_then_right (unless (leb 65545 room) 3 0) _ e))
 

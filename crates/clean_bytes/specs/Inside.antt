@@ -1,6 +1,5 @@
 -- What private functions ask and promise. Definitions only.
-use Rattle.std.specs.Prelude.{ℕ, ◌+◌, ◌*◌, ◌≤◌, ◌≡◌, List, length, take}
-use Rattle.refusals.specs.declared.Check.TheVariants.{Fine}
+use Rattle.std.specs.Prelude.{Ok, ℕ, ◌+◌, ◌*◌, ◌≤◌, ◌≡◌, List, length, take}
 use Rattle.refusals.specs.Refusals.{Answer, zero_beyond}
 use Rattle.report.specs.Pages.{page, Puts}
 use Rattle.report.specs.Lines.{refused_line}
@@ -36,14 +35,14 @@ pub record Parts (x y lengths : List ℕ) (points members : ℕ) : Type 0 where
 
 -- points and lengths that go together, few enough for the file, and a slice for it
 pub record BytesAsk (x y lengths file : List ℕ) : Type 0 where
-  pub held : held_check (length x) (length y) lengths ≡ Fine
+  pub held : held_check (length x) (length y) lengths ≡ Ok tt
   pub few : 9 + 9 * length lengths + 16 * length x ≤ 65545
   pub room : 65545 ≤ length file
 
 -- what the writer takes, with room for it
 pub record Fits (x y lengths file : List ℕ) : Type 0 where
-  pub held : held_check (length x) (length y) lengths ≡ Fine
-  pub few : count_check (length (starts_of (chains_of lengths (points_of x y)))) ≡ Fine
+  pub held : held_check (length x) (length y) lengths ≡ Ok tt
+  pub few : count_check (length (starts_of (chains_of lengths (points_of x y)))) ≡ Ok tt
   pub room : length (multi_bytes (chains_of lengths (points_of x y))) ≤ length file
 
 -- members are written

@@ -1,6 +1,6 @@
 -- Document 02, 10: what the cleaning program writes to `clean.wkb` and prints, for the bytes of its input. Definitions only.
+use Rattle.refusals.specs.Refusals.{Check}
 use Rattle.std.specs.Prelude.{ℕ, zero, suc, ◌≡◌, List, [], ◌∷◌, ◌++◌, map, leb, length}
-use Rattle.refusals.specs.declared.Check.{Check}
 use Rattle.refusals.specs.Refusals.{unless, and_then, Answer, gives, ◌then◌, answer_by, left_in, zero_beyond}
 use Rattle.wkb.specs.Bytes.{Point, multi_bytes}
 use Rattle.wkb.specs.Reading.{found}

@@ -14,7 +14,6 @@ ghost use Rattle.clean_bytes.specs.Printed.{chains_in, CleansAs};
 ghost use Rattle.clean_bytes.specs.Inside.{NoFile, PutsAs, Parts, BytesAsk, Fits, WroteText};
 
 use clean::Cleaned;
-use members::Written;
 use wkb::MultiRead;
 
 // Where the file and the text end. A file of 0 bytes is none.
@@ -62,8 +61,8 @@ fn write_kept(
         file,
     );
     match written {
-        Written::Bytes(n) => n,
-        Written::Refused(_) => 0,
+        Ok(n) => n,
+        Err(_) => 0,
     }
 }
 
@@ -87,8 +86,8 @@ fn put_found(x: &[u64], y: &[u64], lengths: &[u32], file: &mut [u8], text: &mut 
         &mut reasons,
     );
     match answer {
-        Cleaned::Refused(r) => refuse(r.number, text),
-        Cleaned::Kept { points, members } => {
+        Err(r) => refuse(r.number, text),
+        Ok(Cleaned { points, members }) => {
             let bytes = write_kept(&kept_x, &kept_y, &kept_lengths, points, members, file);
             let end = text::put_members(lengths, &reasons, text);
             Ends { bytes, text: end }
@@ -123,8 +122,8 @@ fn put_multi(bytes: &[u8], file: &mut [u8], text: &mut [u8]) -> Ends
     let mut lengths = [0u32; 4096];
     let read = wkb::members::read_multi_line_string(bytes, &mut x, &mut y, &mut lengths);
     match read {
-        MultiRead::Refused(r) => refuse(r.number, text),
-        MultiRead::Members { points, members } => {
+        Err(r) => refuse(r.number, text),
+        Ok(MultiRead { points, members }) => {
             put_part(&x, &y, &lengths, points, members, file, text)
         },
     }

@@ -29,10 +29,8 @@ fn put_member(
     ensures { Puts (member_text member 0 (take n (drop from reasons.now))) (page out.old at) (page out.new result) }
 {
     let mut at = at;
-    let mut i = 0;
-    while i < n {
+    for i in 0..n {
         at = put_point(member, i as u64, reasons[from + i], out, at);
-        i += 1;
     }
     at
 }
@@ -44,12 +42,10 @@ pub(crate) fn put_members(lengths: &[u32], reasons: &[u32], out: &mut [u8]) -> u
 {
     let mut at = 0;
     let mut from = 0;
-    let mut k = 0;
-    while k < lengths.len() {
+    for k in 0..lengths.len() {
         let n = wide(lengths[k]);
         at = put_member(k as u64, reasons, from, n, out, at);
         from = from + n;
-        k += 1;
     }
     at
 }

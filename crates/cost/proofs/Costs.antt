@@ -2,6 +2,7 @@
 --   Adding ..    a turn of the sum over the cells
 --   cost-..      the cells' tests and the globals' are all tests
 -- Assumes nothing.
+use Rattle.std.specs.Prelude.{Ok, Err}
 use mathlib.Core.Path.{◌≡◌, refl, sym, ap, ◌∙◌}
 use mathlib.Core.Bool.{cond}
 use mathlib.Core.List.{List}
@@ -13,7 +14,6 @@ use lib.Dec.{leb}
 use lib.ListN.{length, get_or}
 use lib.Seq.{length-take-le}
 use Rattle.refusals.specs.declared.Refusal.{Refusal}
-use Rattle.refusals.specs.declared.Check.TheVariants.{Fine, Refused}
 use Rattle.refusals.specs.Refusals.{gives, answer_by}
 use Rattle.refusals.proofs.Checks.{unless_fine, and_then_left, and_then_right}
 use Rattle.refusals.proofs.Answers.{refused_by, past}
@@ -32,7 +32,6 @@ use Rattle.visit.specs.Words.{half_down, sum_below}
 use Rattle.visit.proofs.Number.{half_is, sum_zero, sum_suc, tests_number}
 use borrow.Author.Tests.{leb-true}
 use Rattle.cost.specs.declared.Cost.{Cost}
-use Rattle.cost.specs.declared.CostAnswer.TheVariants as answer
 use Rattle.cost.specs.Cost.{greatest, cost_of, cost_answer}
 use Rattle.cost.specs.Inside.{gap, GapsAsk, CellsCost, CostAsks}
 
@@ -126,15 +125,15 @@ module _ (n g : ℕ) (a : CostAsks n g) where
 
 -- ---- all of it
 
-pub cost_refused : (g : Grid) (t : Tables) (r : Refusal) → standing_check g t ≡ Refused r → answer.Refused r ≡ cost_answer g t
+pub cost_refused : (g : Grid) (t : Tables) (r : Refusal) → standing_check g t ≡ Err r → Err r ≡ cost_answer g t
 unfolding cost_answer
-cost_refused g t r e = refused_by answer.Refused answer.Costs _ _ r e
+cost_refused g t r e = refused_by Err Ok _ _ r e
 
 module _ (g : Grid) (n : ℕ) (offsets items globals : List ℕ) (m : ℕ) where
   abbrev t : Tables
   t = tables g n offsets items globals m
 
-  module _ (f : standing_check g (tables g n offsets items globals m) ≡ Fine) where
+  module _ (f : standing_check g (tables g n offsets items globals m) ≡ (Ok tt)) where
     few_lines : n ≤ 65536
     unfolding standing_check count_check
     few_lines = leb-true n 65536 (unless_fine _ 2 n (and_then_left _ _ f))
@@ -180,6 +179,6 @@ module _ (g : Grid) (n : ℕ) (offsets items globals : List ℕ) (m : ℕ) where
       longest_is : l.longest ≡ greatest (λ c. length (list_of t c)) (cells t)
       longest_is = w.longest ∙ sym (greatest_same (λ c. length (list_of t c)) (gap offsets) (cells t) gap_at)
 
-      pub cost_is : answer.Costs (record { tests = l.tests + x; longest = l.longest }) ≡ cost_answer g t
+      pub cost_is : Ok (record { tests = l.tests + x; longest = l.longest }) ≡ cost_answer g t
       unfolding cost_answer answer_by
-      cost_is = rw (all_tests, longest_is) (past answer.Refused answer.Costs _ (gives (cost_of t)) f)
+      cost_is = rw (all_tests, longest_is) (past Err Ok _ (gives (cost_of t)) f)

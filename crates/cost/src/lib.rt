@@ -9,19 +9,13 @@ ghost use Rattle.cost.specs.Cost.{cost_answer};
 ghost use Rattle.cost.specs.Inside.{GapsAsk, CellsCost, CostAsks};
 
 use grid::Grid;
-use refusals::{Check, Refusal};
+use refusals::Refusal;
 
 // The tests of a full visit, and the lines of the longest list.
 #[derive(Clone, Copy)]
 pub struct Cost {
     pub tests: u64,
     pub longest: u64,
-}
-
-#[derive(Clone, Copy)]
-pub enum CostAnswer {
-    Costs(Cost),
-    Refused(Refusal),
 }
 
 fn wide(x: u32) -> u64
@@ -54,12 +48,10 @@ fn of_cells(cells: usize, offsets: &[u32]) -> Cost
 {
     let mut tests: u64 = 0;
     let mut longest: u64 = 0;
-    let mut cell = 0;
-    while cell < cells {
+    for cell in 0..cells {
         let k = offsets[cell + 1] - offsets[cell];
         tests = tests + triangle(k);
         longest = greater(longest, wide(k));
-        cell = cell + 1;
     }
     Cost { tests, longest }
 }
@@ -83,17 +75,14 @@ pub fn cost_of(
     items: &[u32],
     globals: &[u32],
     global_count: usize,
-) -> CostAnswer
+) -> Result<Cost, Refusal>
     ensures { result ≡ cost_answer grid (tables grid lines offsets.now items.now globals.now global_count) }
 {
-    let fit = tables::check_tables(grid, lines, offsets, items, globals, global_count);
-    if let Check::Refused(r) = fit {
-        return CostAnswer::Refused(r);
-    }
+    tables::check_tables(grid, lines, offsets, items, globals, global_count)?;
     let cells = (grid.rows as usize) * (grid.cols as usize);
     let listed = of_cells(cells, offsets);
     let global = of_globals(lines as u32, global_count as u32);
-    CostAnswer::Costs(Cost {
+    Ok(Cost {
         tests: listed.tests + global,
         longest: listed.longest,
     })

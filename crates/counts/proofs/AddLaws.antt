@@ -4,6 +4,8 @@
 --     associates                both groupings give the same table, or both are refused
 --     one-sum                   the promise settles the answer and every entry
 -- Commutative and associative it is for tables of any lengths and entries. Assumes nothing.
+use Rattle.std.specs.Prelude.{Ok, Err}
+use Rattle.refusals.specs.Refusals.{Check, refusal, unless, and_then, each_from, Answer, refused, gives, ◌then◌, ◌into◌, clears, left_in}
 use mathlib.Core.Path.{◌≡◌, refl, sym, ap, ◌∙◌, fun_ext}
 use mathlib.Core.Bool.{false}
 use mathlib.Core.List.{List}
@@ -17,9 +19,6 @@ use lib.ListN.{length, get_or, set, length-set, length-replicate}
 use lib.Seq.{get_or-set_same, get_or-set_other, ext_get_or, take-length}
 use Rattle.slices.proofs.Clearing.{zeros_at}
 use Rattle.refusals.specs.declared.Refusal.{Refusal}
-use Rattle.refusals.specs.declared.Check.{Check}
-use Rattle.refusals.specs.declared.Check.TheVariants.{Fine, Refused}
-use Rattle.refusals.specs.Refusals.{refusal, unless, and_then, each_from, Answer, refused, gives, ◌then◌, ◌into◌, clears, left_in}
 use Rattle.refusals.proofs.Checks.{unless_fine, and_then_left, and_then_right, each_good, each_bad, each_over, each_says, each_fine}
 use Rattle.refusals.proofs.Answers.{then_passed, into_passed, apart}
 use Rattle.refusals.proofs.Leaving.{Clearing, clearing_each, left_same}
@@ -47,15 +46,15 @@ module _ {a b : List ℕ} {c : ℕ} (h : Searching a b c) where
   searching_more l s =
       record { at = omega arith; same = h.same; rest = h.rest ∙ each_good (λ c. leb (sum_at a b c) 65536) 13 (length a) c l (le-leb (sum_at a b c) 65536 (omega (arith, sum_at_lem a b c))) }
 
-  pub searching_bad : c < length a → 65536 < get_or a c 0 + get_or b c 0 → Refused (refusal 13 c) ≡ sums_check a b
+  pub searching_bad : c < length a → 65536 < get_or a c 0 + get_or b c 0 → Err (refusal 13 c) ≡ sums_check a b
   searching_bad l s = sym (h.rest ∙ each_bad (λ c. leb (sum_at a b c) 65536) 13 (length a) c l (lt-leb (sum_at a b c) 65536 (omega (arith, sum_at_lem a b c))))
 
-  pub searching_over : length a ≤ c → Fine ≡ sums_check a b
+  pub searching_over : length a ≤ c → Ok tt ≡ sums_check a b
   searching_over l = sym (h.rest ∙ each_over (λ c. leb (sum_at a b c) 65536) 13 (length a) c l)
 
 -- ---- the sums written: t is a with those of its first c entries in their place
 
-pub sums_within : (a b : List ℕ) → sums_check a b ≡ Fine → (c : ℕ) → c < length a → sum_at a b c ≤ 65536
+pub sums_within : (a b : List ℕ) → sums_check a b ≡ Ok tt → (c : ℕ) → c < length a → sum_at a b c ≤ 65536
 unfolding sums_check
 sums_within a b h c l = leb-true (sum_at a b c) 65536 (each_says (λ c. leb (sum_at a b c) 65536) 13 (length a) 0 c h (omega arith) (omega arith))
 
@@ -63,11 +62,11 @@ pub record Writing (a b t : List ℕ) (c : ℕ) : Type 0 where
   pub at : c ≤ length a
   pub len : length t ≡ length a
   pub same : length b ≡ length a
-  pub fine : sums_check a b ≡ Fine
+  pub fine : sums_check a b ≡ Ok tt
   pub done : (k : ℕ) → k < c → get_or t k 0 ≡ sum_at a b k
   pub left : (k : ℕ) → c ≤ k → get_or t k 0 ≡ get_or a k 0
 
-pub writing_none : (a b : List ℕ) → length b ≡ length a → sums_check a b ≡ Fine → Writing a b a 0
+pub writing_none : (a b : List ℕ) → length b ≡ length a → sums_check a b ≡ Ok tt → Writing a b a 0
 writing_none a b h f = record { at = omega arith; len = refl; same = h; fine = f; done = λ k l. absurd (omega arith); left = λ k l. refl }
 
 module _ {a b t : List ℕ} {c : ℕ} (h : Writing a b t c) where
@@ -118,11 +117,11 @@ module _ (a b : List ℕ) where
 
   -- ---- what add leaves
 
-  left_alone : (r : Refusal) → add_check a b ≡ Refused r → clears r.number ≡ false → SumIs a b (Refused r) a
+  left_alone : (r : Refusal) → add_check a b ≡ Err r → clears r.number ≡ false → SumIs a b (Err r) a
   unfolding add_of ◌then◌ left_in
   left_alone r h s = record { answer = sym h; table = rw h (sym (left_same 0 r a s)) }
 
-  pub add_unequal : (length b ≡ length a → ⊥) → SumIs a b (Refused (refusal 3 0)) a
+  pub add_unequal : (length b ≡ length a → ⊥) → SumIs a b (Err (refusal 3 0)) a
   unfolding add_check unless and_then clears
   add_unequal n = left_alone (refusal 3 0) (rw (ne_eqb (length b) (length a) n)) refl
 
@@ -134,10 +133,10 @@ module _ (a b : List ℕ) where
   unfolding sums_check clears
   sums_spare = clearing_each (λ c. leb (sum_at a b c) 65536) 13 (length a) 0 refl
 
-  pub add_above : length b ≡ length a → (r : Refusal) → sums_check a b ≡ Refused r → SumIs a b (Refused r) a
+  pub add_above : length b ≡ length a → (r : Refusal) → sums_check a b ≡ Err r → SumIs a b (Err r) a
   add_above e r h = left_alone r (lengths_pass e ∙ h) (sums_spare.says r h)
 
-  pub add_done : (t : List ℕ) → length b ≡ length a → sums_check a b ≡ Fine → t ≡ added a b → SumIs a b Fine t
+  pub add_done : (t : List ℕ) → length b ≡ length a → sums_check a b ≡ Ok tt → t ≡ added a b → SumIs a b (Ok tt) t
   unfolding add_of ◌then◌ left_in
   add_done t e h k = record { answer = sym (lengths_pass e ∙ h); table = rw (lengths_pass e ∙ h) k }
 

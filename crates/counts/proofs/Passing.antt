@@ -1,4 +1,5 @@
 -- What passes the checks of a count, and the entries of the table that it leaves. Assumes nothing.
+use Rattle.std.specs.Prelude.{Ok}
 use mathlib.Core.Path.{◌≡◌, refl, ap, ◌∙◌}
 use mathlib.Core.Bool.{true}
 use mathlib.Core.List.{List, ◌++◌}
@@ -9,7 +10,6 @@ use lib.Dec.{leb}
 use lib.ListN.{length, get_or, replicate, length-append, length-replicate, get_or-append}
 use lib.Seq.{get_or-append-add}
 use Rattle.slices.proofs.Clearing.{zeros_at}
-use Rattle.refusals.specs.declared.Check.TheVariants.{Fine}
 use Rattle.refusals.specs.Refusals.{unless, and_then}
 use Rattle.refusals.proofs.Checks.{unless_fine, and_then_left, and_then_right, each_says, each_fine}
 use Rattle.grid.specs.declared.Grid.{Grid}
@@ -33,7 +33,7 @@ pub record Passes (mode : Mode) (g : Grid) (ls : Lines) (room scratch : ℕ) : T
   pub ended : (i : ℕ) → i < count ls → completes (walk_on mode g ls i) ≡ true
 
 module _ (mode : Mode) (g : Grid) (ls : Lines) (room scratch : ℕ) where
-  pub fine_passes : counting_check mode g ls room scratch ≡ Fine → Passes mode g ls room scratch
+  pub fine_passes : counting_check mode g ls room scratch ≡ Ok tt → Passes mode g ls room scratch
   unfolding counting_check on_grid_check tried_check scratch_check grid_check room_check turns_check
   fine_passes h =
       let lent = and_then_left (on_grid_check g ls scratch) (tried_check mode g ls room) h in
@@ -50,7 +50,7 @@ module _ (mode : Mode) (g : Grid) (ls : Lines) (room scratch : ℕ) where
         ended = λ i l. each_says (λ i. completes (walk_on mode g ls i)) 7 (count ls) 0 i (and_then_right (room_check g room) (turns_check mode g ls) tried) (omega arith) (omega arith);
       }
 
-  pub passes_fine : Passes mode g ls room scratch → counting_check mode g ls room scratch ≡ Fine
+  pub passes_fine : Passes mode g ls room scratch → counting_check mode g ls room scratch ≡ Ok tt
   unfolding counting_check on_grid_check tried_check scratch_check grid_check room_check turns_check lines_check lengths_check count_check coordinates_check unless and_then
   passes_fine h =
       rw (

@@ -5,6 +5,10 @@
 --     build-is-tables           a build leaves what `tables_on` leaves on the grid that the build chose
 --     lengths-added             the added count tables of benches are the lengths of the lists in all lines' tables
 -- Assumes nothing.
+use Rattle.std.specs.Prelude.{Ok, Err, Result}
+use Rattle.refusals.specs.declared.Refusal.{Refusal}
+use Rattle.refusals.specs.Refusals.{Check, unless, and_then, Answer, gives, ◌then◌, ◌into◌, answer_by, left_in, zero_beyond}
+use Rattle.build.specs.declared.Standing.{Standing}
 use mathlib.Core.Path.{◌≡◌, refl, sym, ap, ◌∙◌}
 use mathlib.Core.List.{List, ◌++◌}
 use Prim.Native.Nat.{ℕ, suc, ◌-◌, ◌≤◌, ◌<◌}
@@ -13,9 +17,6 @@ use borrow.Author.Tests.{leb-true, le-leb}
 use lib.Dec.{leb}
 use lib.ListN.{length, get_or, replicate}
 use Rattle.slices.proofs.Clearing.{length_filled}
-use Rattle.refusals.specs.declared.Check.{Check}
-use Rattle.refusals.specs.declared.Check.TheVariants.{Fine, Refused}
-use Rattle.refusals.specs.Refusals.{unless, and_then, Answer, gives, ◌then◌, ◌into◌, answer_by, left_in, zero_beyond}
 use Rattle.refusals.proofs.Checks.{unless_fine, and_then_left, and_then_right}
 use Rattle.refusals.proofs.Answers.{then_passed}
 use Rattle.grid.specs.declared.Grid.{Grid}
@@ -31,25 +32,23 @@ use Rattle.fill.specs.Checks.{counting_check, space_check}
 use Rattle.fill.proofs.Counts.{turns_all}
 use Rattle.fill.proofs.Walks.{cells_walk}
 use Rattle.build.specs.declared.Plan.{Plan}
-use Rattle.build.specs.declared.Built.{Built}
 use Rattle.build.specs.Choice.{choice}
 use Rattle.build.specs.Build.{room_on, end_of, BuildIs}
 use Rattle.build.proofs.Settled.{Made, made_says}
 use Rattle.counts.specs.declared.Counted.{Counted}
 use Rattle.counts.specs.declared.Tabled.{Tabled}
-use Rattle.counts.specs.declared.Tabled.TheVariants as tabled
-use Rattle.counts.specs.OnGrid.{CountingIs, tables_room_check, tables_of, TablesAre}
+use Rattle.counts.specs.OnGrid.{CountingIs, tabled_on, tables_room_check, tables_of, TablesAre}
 use Rattle.counts.specs.Sharing.{Benches, Shared, table_by}
 use Rattle.counts.proofs.Passing.{Passes, fine_passes, passes_fine, table_in}
 use Rattle.counts.proofs.Sharings.{shared_counts}
 
 -- ---- the promises settle everything
 
-pub one_count : {mode : Mode} {g : Grid} {ls : Lines} {o s : List ℕ} {r r₁ : Counted} {o' o₁ s' s₁ : List ℕ} {a : Answer ℕ}
+pub one_count : {mode : Mode} {g : Grid} {ls : Lines} {o s : List ℕ} {r r₁ : Result Counted Refusal} {o' o₁ s' s₁ : List ℕ} {a : Answer ℕ}
     → CountingIs mode g ls o s r o' s' a → CountingIs mode g ls o s r₁ o₁ s₁ a → (r ≡ r₁) × (o' ≡ o₁) × (s' ≡ s₁)
 one_count h k = (h.answer ∙ sym k.answer, h.counts_are ∙ sym k.counts_are, h.scratch_is ∙ sym k.scratch_is)
 
-pub one_tables : {mode : Mode} {g : Grid} {ls : Lines} {o t gs s : List ℕ} {r r₁ : Tabled} {o' o₁ t' t₁ gs' gs₁ s' s₁ : List ℕ} {a : Answer Grid}
+pub one_tables : {mode : Mode} {g : Grid} {ls : Lines} {o t gs s : List ℕ} {r r₁ : Result Tabled Refusal} {o' o₁ t' t₁ gs' gs₁ s' s₁ : List ℕ} {a : Answer Grid}
     → TablesAre mode g ls o t gs s r o' t' gs' s' a → TablesAre mode g ls o t gs s r₁ o₁ t₁ gs₁ s₁ a → (r ≡ r₁) × (o' ≡ o₁) × (t' ≡ t₁) × (gs' ≡ gs₁) × (s' ≡ s₁)
 one_tables h k = (
   h.answer ∙ sym k.answer,
@@ -68,7 +67,7 @@ record Fills (mode : Mode) (g : Grid) (ls : Lines) (offsets items globals scratc
   listed : length (globals_on mode g ls) ≤ globals
 
 module _ (mode : Mode) (g : Grid) (ls : Lines) (offsets items globals scratch : ℕ) where
-  fine_fills : tables_room_check mode g ls offsets items globals scratch ≡ Fine → Fills mode g ls offsets items globals scratch
+  fine_fills : tables_room_check mode g ls offsets items globals scratch ≡ Ok tt → Fills mode g ls offsets items globals scratch
   unfolding tables_room_check space_check
   fine_fills h =
       let s = and_then_right (counting_check mode g ls offsets scratch) (space_check mode g ls items globals) h in
@@ -87,16 +86,19 @@ module _ (mode : Mode) (g : Grid) (ls : Lines) (offsets items globals scratch : 
         le-leb (length (globals_on mode g ls)) globals f.listed,
       )
 
-module _ {mode : Mode} {g : Grid} {ls : Lines} {o t gs s : List ℕ} {r : Tabled} {o' t' gs' s' : List ℕ} {items globals : ℕ} (h : TablesAre mode g ls o t gs s r o' t' gs' s' (tables_of mode g ls (length o) (length t) (length gs) (length s))) (ok : r ≡ tabled.Tables items globals) where
-  passed : (k : Check) → r ≡ answer_by tabled.Refused (λ g. tabled.Tables (total mode g ls) (length (globals_on mode g ls))) (k then gives g) → (k ≡ Fine) × (globals ≡ length (globals_on mode g ls))
+same_tabled : {t u : Tabled} → ◌≡◌ {A = Result Tabled Refusal} (Ok t) (Ok u) → t ≡ u
+same_tabled e = cc
+
+module _ {mode : Mode} {g : Grid} {ls : Lines} {o t gs s : List ℕ} {r : Result Tabled Refusal} {o' t' gs' s' : List ℕ} {items globals : ℕ} (h : TablesAre mode g ls o t gs s r o' t' gs' s' (tables_of mode g ls (length o) (length t) (length gs) (length s))) (ok : r ≡ Ok (record { items = items; globals = globals })) where
+  passed : (k : Check) → r ≡ answer_by Err (λ g. Ok (tabled_on mode ls g)) (k then gives g) → (k ≡ Ok tt) × (globals ≡ length (globals_on mode g ls))
   unfolding ◌then◌ answer_by
   passed k e = go k e
     where
-      go : (k : Check) → r ≡ answer_by tabled.Refused (λ g. tabled.Tables (total mode g ls) (length (globals_on mode g ls))) (k then gives g) → (k ≡ Fine) × (globals ≡ length (globals_on mode g ls))
-      go Fine e = (refl, cc)
-      go (Refused q) e = let z : ◌≡◌ {A = ℕ} 0 1 = cc in absurd (omega arith)
+      go : (k : Check) → r ≡ answer_by Err (λ g. Ok (tabled_on mode ls g)) (k then gives g) → (k ≡ Ok tt) × (globals ≡ length (globals_on mode g ls))
+      go (Ok _) e = (refl, ap (λ (t : Tabled). t.globals) (same_tabled (sym ok ∙ e)))
+      go (Err q) e = let z : ◌≡◌ {A = ℕ} 0 1 = cc in absurd (omega arith)
 
-  check_passed : (tables_room_check mode g ls (length o) (length t) (length gs) (length s) ≡ Fine) × (globals ≡ length (globals_on mode g ls))
+  check_passed : (tables_room_check mode g ls (length o) (length t) (length gs) (length s) ≡ Ok tt) × (globals ≡ length (globals_on mode g ls))
   unfolding tables_of
   check_passed = passed (tables_room_check mode g ls (length o) (length t) (length gs) (length s)) h.answer
 
@@ -155,7 +157,7 @@ module _ {mode : Mode} {g : Grid} {ls : Lines} {o t gs s : List ℕ} {r : Tabled
 
 -- ---- A BUILD IS THIS ON THE GRID THAT IT CHOSE
 
-scratch_says : (n : ℕ) → scratch_check n ≡ Fine → 16384 ≤ n
+scratch_says : (n : ℕ) → scratch_check n ≡ Ok tt → 16384 ≤ n
 unfolding scratch_check
 scratch_says n h = leb-true 16384 n (unless_fine (leb 16384 n) 3 0 h)
 
@@ -163,13 +165,13 @@ left_on : {a b : Answer Grid} {g : Grid} (was : List ℕ) (puts : Grid → List 
 left_on was puts h k = ap (λ (x : Answer Grid). left_in 0 was x puts) (h ∙ sym k)
 
 answer_on : (mode : Mode) (ls : Lines) (g : Grid) {a : Answer Grid} → a ≡ gives g
-    → tabled.Tables (total mode g ls) (length (globals_on mode g ls)) ≡ answer_by tabled.Refused (λ g. tabled.Tables (total mode g ls) (length (globals_on mode g ls))) a
+    → ◌≡◌ {A = Result Tabled Refusal} (Ok (tabled_on mode ls g)) (answer_by Err (λ g. Ok (tabled_on mode ls g)) a)
 unfolding answer_by
 answer_on mode ls g h = rw h
 
-pub build_is_tables : (plan : Plan) {ls : Lines} {o t gs s : List ℕ} {r : Built} {o' t' gs' s' : List ℕ} {g : Grid}
+pub build_is_tables : (plan : Plan) {ls : Lines} {o t gs s : List ℕ} {r : Result Standing Refusal} {o' t' gs' s' : List ℕ} {g : Grid}
     → BuildIs plan.mode ls o t gs s r o' t' gs' s' (end_of plan ls (length o) (length t) (length gs) (length s)) → end_of plan ls (length o) (length t) (length gs) (length s) ≡ gives g
-    → TablesAre plan.mode g ls o t gs s (tabled.Tables (total plan.mode g ls) (length (globals_on plan.mode g ls))) o' t' gs' s' (tables_of plan.mode g ls (length o) (length t) (length gs) (length s))
+    → TablesAre plan.mode g ls o t gs s (Ok (tabled_on plan.mode ls g)) o' t' gs' s' (tables_of plan.mode g ls (length o) (length t) (length gs) (length s))
 unfolding end_of
 build_is_tables plan {ls} {o} {t} {gs} {s} {g = g} h e =
     let m : Made plan.mode ls (length o) (length t) (length gs) g = made_says plan ls (length o) (length t) (length gs) (length s) g e in

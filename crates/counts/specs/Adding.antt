@@ -1,7 +1,6 @@
 -- Document 02, change 8: adding count tables. Definitions only.
+use Rattle.refusals.specs.Refusals.{Check, unless, and_then, each_from, Answer, refused, gives, ◌then◌, left_in}
 use Rattle.std.specs.Prelude.{◌≡◌, List, ℕ, ◌+◌, ◌≤◌, leb, eqb, length, get_or, replicate}
-use Rattle.refusals.specs.declared.Check.{Check}
-use Rattle.refusals.specs.Refusals.{unless, and_then, each_from, Answer, refused, gives, ◌then◌, left_in}
 use Rattle.tables.specs.Lists.{tabulate}
 
 -- ---- two tables

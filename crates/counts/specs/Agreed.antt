@@ -1,7 +1,7 @@
 -- The grid that benches agree on. Document 02 has one agreed grid and does not say which: this is the first that a build of all lines tries, from
 -- their bounds and their number alone. Definitions only.
-use Rattle.std.specs.Prelude.{ℕ, zero, suc}
-use lib.Ieee.{}
+use Rattle.std.specs.Prelude.{ℕ, zero, suc, Result, Ok, Err}
+use Rattle.refusals.specs.declared.Refusal.{Refusal}
 use Rattle.numbers.specs.Arithmetic.{◌-₆₄◌}
 use Rattle.numbers.specs.Order.{least_of, greatest_of}
 use Rattle.refusals.specs.Refusals.{Answer, gives, ◌then◌, answer_by}
@@ -12,8 +12,6 @@ use Rattle.sizing.specs.declared.Sizing.{Sizing}
 use Rattle.sizing.specs.declared.Extent.{Extent}
 use Rattle.sizing.specs.Size.{first_size}
 use Rattle.sizing.specs.Counts.{grid_of, empty_grid}
-use Rattle.counts.specs.declared.GridAnswer.{GridAnswer}
-use Rattle.counts.specs.declared.GridAnswer.TheVariants as agreed
 
 -- the bounds that two opposite corners say, in either order: the lower corner, and how far they reach from it
 unfoldable pub bounds_of : Segment → Extent
@@ -35,5 +33,5 @@ unfoldable pub agreed_of : Sizing → Segment → ℕ → Answer Grid
 agreed_of z c n = segment_check c then gives (agreed_on z (bounds_of c) n)
 
 -- the answer
-abbrev pub agreed_answer : Sizing → Segment → ℕ → GridAnswer
-agreed_answer z c n = answer_by agreed.Refused agreed.On (agreed_of z c n)
+abbrev pub agreed_answer : Sizing → Segment → ℕ → Result Grid Refusal
+agreed_answer z c n = answer_by Err Ok (agreed_of z c n)

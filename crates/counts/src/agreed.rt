@@ -2,10 +2,9 @@
 ghost use Rattle.std.specs.Prelude.{◌≡◌};
 ghost use Rattle.counts.specs.Agreed.{bounds_of, agreed_answer};
 
-use crate::GridAnswer;
-use grid::Segment;
+use grid::{Grid, Segment};
 use numbers::order::{greatest, least};
-use refusals::Check;
+use refusals::Refusal;
 use sizing::{Extent, Sizing};
 
 // The bounds, by two opposite corners in either order.
@@ -23,17 +22,14 @@ fn bounds_of(corners: Segment) -> Extent
 }
 
 // About one line to a cell, of however many lines, as long as the cells are at most 1,001 across and 1,001 up. No lines have the grid of a build of no lines.
-pub fn agreed_grid(sizing: Sizing, corners: Segment, lines: usize) -> GridAnswer
+pub fn agreed_grid(sizing: Sizing, corners: Segment, lines: usize) -> Result<Grid, Refusal>
     ensures { result ≡ agreed_answer sizing corners lines }
 {
-    let checked = grid::checks::check_segment(corners);
-    if let Check::Refused(r) = checked {
-        return GridAnswer::Refused(r);
-    }
+    grid::checks::check_segment(corners)?;
     if lines == 0 {
-        return GridAnswer::On(sizing::empty_grid());
+        return Ok(sizing::empty_grid());
     }
     let extent = bounds_of(corners);
     let size = sizing::first_size(sizing, extent, lines);
-    GridAnswer::On(sizing::grid_of(extent, size))
+    Ok(sizing::grid_of(extent, size))
 }

@@ -18,25 +18,18 @@ use refusals::Refusal;
 use slices::wide;
 use walk::Mode;
 
-// The sum of all counts, and how many lines are global, which are counted in no cell; or the refusal that is due.
+// The sum of all counts, and how many lines are global, which are counted in no cell.
 #[derive(Clone, Copy)]
-pub enum Counted {
-    Of { listed: usize, globals: usize },
-    Refused(Refusal),
+pub struct Counted {
+    pub listed: usize,
+    pub globals: usize,
 }
 
-// How many items and global lines the tables have, or the refusal that is due.
+// How many items and global lines the tables have.
 #[derive(Clone, Copy)]
-pub enum Tabled {
-    Tables { items: usize, globals: usize },
-    Refused(Refusal),
-}
-
-// The grid that benches agree on, or the refusal that is due.
-#[derive(Clone, Copy)]
-pub enum GridAnswer {
-    On(Grid),
-    Refused(Refusal),
+pub struct Tabled {
+    pub items: usize,
+    pub globals: usize,
 }
 
 fn cell_count(grid: Grid) -> usize
@@ -51,10 +44,8 @@ fn sum_of(counts: &[u32], cells: usize) -> usize
     ensures { result ≡ sum (λ k. get_or counts.now k 0) cells }
 {
     let mut total: usize = 0;
-    let mut c = 0;
-    while c < cells {
+    for c in 0..cells {
         total += wide(counts[c]);
-        c += 1;
     }
     total
 }
@@ -70,33 +61,28 @@ pub fn count(
     mode: Mode,
     counts: &mut [u32],
     scratch: &mut [u32],
-) -> Counted
+) -> Result<Counted, Refusal>
     ensures { let ls = lines start_x.now start_y.now end_x.now end_y.now in
         let o = counts.old in
         let s = scratch.old in
         CountingIs mode grid ls o s result counts.new scratch.new (count_of mode grid ls (length o) (length s)) }
 {
-    let counted = fill::count_on(mode, start_x, start_y, end_x, end_y, grid, counts, scratch);
-    match counted {
-        fill::Count::Of(globals) => {
-            let listed = sum_of(counts, cell_count(grid));
-            Counted::Of { listed, globals }
-        },
-        fill::Count::Refused(r) => Counted::Refused(r),
-    }
+    let globals = fill::count_on(mode, start_x, start_y, end_x, end_y, grid, counts, scratch)?;
+    let listed = sum_of(counts, cell_count(grid));
+    Ok(Counted { listed, globals })
 }
 
 // At most 65,536 lines are filled in, so no cell is crowded.
-fn tabled_by(filled: Filled) -> Tabled
+fn tabled_by(filled: Result<Filled, Refusal>) -> Result<Tabled, Refusal>
     ensures { result ≡ tabled_by filled }
 {
     match filled {
-        Filled::Tables { items, globals } => Tabled::Tables { items, globals },
-        Filled::Crowded => Tabled::Refused(Refusal {
+        Ok(Filled::Tables { items, globals }) => Ok(Tabled { items, globals }),
+        Ok(Filled::Crowded) => Err(Refusal {
             number: 8,
             value: 0,
         }),
-        Filled::Refused(r) => Tabled::Refused(r),
+        Err(r) => Err(r),
     }
 }
 
@@ -112,7 +98,7 @@ pub fn tables_on(
     items: &mut [u32],
     globals: &mut [u32],
     scratch: &mut [u32],
-) -> Tabled
+) -> Result<Tabled, Refusal>
     ensures { let ls = lines start_x.now start_y.now end_x.now end_y.now in
         let o = offsets.old in
         let t = items.old in

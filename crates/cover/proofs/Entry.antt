@@ -1,4 +1,5 @@
 -- The steps of the public function: the guard and the ends as the code's branches make them, and the answer from its parts. Assumes nothing.
+use Rattle.std.specs.Prelude.{Ok, Err}
 use mathlib.Core.Path.{◌≡◌, refl, sym, ap, ◌∙◌}
 use mathlib.Core.Bool.{Bool, true, false, not, cond, ◌&&◌}
 use mathlib.Core.List.{List, []}
@@ -10,8 +11,6 @@ use lib.Dec.{leb, ltb}
 use lib.ListN.{length, take}
 use lib.Ieee.{Float}
 use Rattle.refusals.specs.declared.Refusal.{Refusal}
-use Rattle.refusals.specs.declared.Check.TheVariants.{Fine}
-use Rattle.refusals.specs.declared.Check.TheVariants as check
 use Rattle.refusals.specs.Refusals.{answer_by}
 use Rattle.refusals.proofs.Checks.{unless_fine, and_then_left, and_then_right}
 use Rattle.refusals.proofs.Answers.{then_refused, then_fine}
@@ -23,7 +22,7 @@ use Rattle.grid.specs.Domain.{shape, scratch_check}
 use Rattle.grid.proofs.Bools.{and_left, and_right}
 use Rattle.grid.proofs.Shapes.{Shape, shape_says}
 use Rattle.cover.specs.declared.Ends.{Ends}
-use Rattle.cover.specs.declared.Covered.TheVariants.{Found, Everywhere, Refused}
+use Rattle.cover.specs.declared.Covered.TheVariants.{Found, Everywhere}
 use Rattle.cover.specs.Fine.{fine_on, near_on}
 use Rattle.cover.specs.Rule.{run, cells_between}
 use Rattle.cover.specs.Covering.{end_passes, passes, ordered, fine_ends, every_cell, unless_no_column, covering_of, off_grid, everywhere, scratch_shape_check, found_of, covered_of, CoverIs}
@@ -98,7 +97,7 @@ module _ (g : Grid) (line : Segment) (h : passes g line ≡ true) where
 
 -- ---- what a scratch and the counts of a grid say that pass the checks
 
-module _ (n : ℕ) (g : Grid) (h : scratch_shape_check n g ≡ Fine) where
+module _ (n : ℕ) (g : Grid) (h : scratch_shape_check n g ≡ Ok tt) where
   pub room_for : 16384 ≤ n
   unfolding scratch_shape_check scratch_check
   room_for = leb-true 16384 n (unless_fine _ 3 0 (and_then_left _ _ h))
@@ -167,17 +166,17 @@ module _ (g : Grid) (line : Segment) where
 -- ---- the answer
 
 module _ (g : Grid) (line : Segment) (was : List ℕ) where
-  pub refused_answer : (r : Refusal) → scratch_shape_check (length was) g ≡ check.Refused r → CoverIs g line was (Refused r) was
+  pub refused_answer : (r : Refusal) → scratch_shape_check (length was) g ≡ Err r → CoverIs g line was (Err r) was
   unfolding covered_of answer_by
   refused_answer r e = record { answer = rw (then_refused _ _ r e); size = refl; left = refl }
 
-  module _ (fine : scratch_shape_check (length was) g ≡ Fine) where
+  module _ (fine : scratch_shape_check (length was) g ≡ Ok tt) where
     -- the cells are found
-    found_answer : (now : List ℕ) (n : ℕ) → everywhere g line ≡ false → length now ≡ length was → n ≡ length (covering_of g line) → take n now ≡ covering_of g line → CoverIs g line was (Found n) now
+    found_answer : (now : List ℕ) (n : ℕ) → everywhere g line ≡ false → length now ≡ length was → n ≡ length (covering_of g line) → take n now ≡ covering_of g line → CoverIs g line was (Ok (Found n)) now
     unfolding found_of
     found_answer now n e l c t = record { answer = sym (found_is (length was) g fine line ∙ rw (e, c)); size = l; left = t }
 
-    pub none_answer : g.cols ≡ 0 → CoverIs g line was (Found 0) was
+    pub none_answer : g.cols ≡ 0 → CoverIs g line was (Ok (Found 0)) was
     none_answer e =
         let z : covering_of g line ≡ [] = covering_none g line e in
         let k : g.rows * g.cols ≤ 2048 = ap_zero g.rows g.cols e in
@@ -186,16 +185,16 @@ module _ (g : Grid) (line : Segment) (was : List ℕ) where
         ap_zero : (r c : ℕ) → c ≡ 0 → r * c ≤ 2048
         ap_zero r c h = rw h (omega arith)
 
-    pub rule_answer : (now : List ℕ) (e : Ends) (n : ℕ) → 0 < g.cols → passes g line ≡ true → e ≡ fine_ends g line → length now ≡ length was → Front (cells_between g.cols g.rows e) now n → CoverIs g line was (Found n) now
+    pub rule_answer : (now : List ℕ) (e : Ends) (n : ℕ) → 0 < g.cols → passes g line ≡ true → e ≡ fine_ends g line → length now ≡ length was → Front (cells_between g.cols g.rows e) now n → CoverIs g line was (Ok (Found n)) now
     rule_answer now e n c h k l f =
         let z : cells_between g.cols g.rows e ≡ covering_of g line = ap (cells_between g.cols g.rows) k ∙ sym (covering_by_rule g line c h) in
         found_answer now n (everywhere_not g line h) l (f.count ∙ ap length z) (f.is ∙ z)
 
-    pub everywhere_answer : passes g line ≡ false → 2048 < g.rows * g.cols → CoverIs g line was Everywhere was
+    pub everywhere_answer : passes g line ≡ false → 2048 < g.rows * g.cols → CoverIs g line was (Ok Everywhere) was
     unfolding found_of
     everywhere_answer h l = record { answer = sym (found_is (length was) g fine line ∙ rw (everywhere_so g line h l)); size = refl; left = refl }
 
-    pub all_answer : (now : List ℕ) (n : ℕ) → 0 < g.cols → passes g line ≡ false → g.rows * g.cols ≤ 2048 → Appended was now 0 n (run (g.rows * g.cols) 0) → CoverIs g line was (Found n) now
+    pub all_answer : (now : List ℕ) (n : ℕ) → 0 < g.cols → passes g line ≡ false → g.rows * g.cols ≤ 2048 → Appended was now 0 n (run (g.rows * g.cols) 0) → CoverIs g line was (Ok (Found n)) now
     all_answer now n c h l w =
         let z : every_cell g ≡ covering_of g line = sym (covering_all g line c h) in
         let k = ap length z in

@@ -1,15 +1,15 @@
 -- The cells of a segment in the covering mode, what the walk answers, and what it leaves. Definitions only.
-use Rattle.std.specs.Prelude.{ℕ, zero, suc, ◌*◌, ◌≡◌, Bool, true, cond, not, ◌&&◌, List, [], leb, ltb, length, take, Float}
+use Rattle.std.specs.Prelude.{ℕ, zero, suc, ◌*◌, ◌≡◌, Bool, true, cond, not, ◌&&◌, List, [], leb, ltb, length, take, Float, Result, Ok, Err}
+use Rattle.refusals.specs.declared.Refusal.{Refusal}
+use Rattle.refusals.specs.Refusals.{Check, unless, and_then, gives, ◌then◌, answer_by}
 use Rattle.slices.specs.Lists.{elem}
-use Rattle.refusals.specs.declared.Check.{Check}
-use Rattle.refusals.specs.Refusals.{unless, and_then, gives, ◌then◌, answer_by}
 use Rattle.grid.specs.declared.Grid.{Grid}
 use Rattle.grid.specs.declared.Segment.{Segment}
 use Rattle.grid.specs.Axes.{x_axis, y_axis}
 use Rattle.grid.specs.Domain.{shape, scratch_check}
 use Rattle.cover.specs.declared.Ends.{Ends}
 use Rattle.cover.specs.declared.Covered.{Covered}
-use Rattle.cover.specs.declared.Covered.TheVariants.{Found, Everywhere, Refused}
+use Rattle.cover.specs.declared.Covered.TheVariants.{Found, Everywhere}
 use Rattle.cover.specs.Fine.{fine_on, near_on}
 use Rattle.cover.specs.Rule.{run, cells_between}
 
@@ -69,25 +69,25 @@ unfoldable pub scratch_shape_check : ℕ → Grid → Check
 scratch_shape_check n g = and_then (scratch_check n) (unless (shape g.cols g.rows) 8 0)
 
 -- how many cells there are, or that they are every cell of a grid of more than 2,048
-unfoldable pub found_of : Grid → Segment → Covered
+unfoldable pub found_of : Grid → Segment → Result Covered Refusal
 unfolding everywhere covering_of
-found_of g line = cond (everywhere g line) Everywhere (Found (length (covering_of g line)))
+found_of g line = cond (everywhere g line) (Ok Everywhere) (Ok (Found (length (covering_of g line))))
 
 -- the first refusal that applies, else that
-unfoldable pub covered_of : ℕ → Grid → Segment → Covered
+unfoldable pub covered_of : ℕ → Grid → Segment → Result Covered Refusal
 unfolding found_of
-covered_of n g line = answer_by Refused (λ c. c) (scratch_shape_check n g then gives (found_of g line))
+covered_of n g line = answer_by Err (λ c. c) (scratch_shape_check n g then gives (found_of g line))
 
 -- ---- what is left of the scratch
 
 -- the cells at its start, and what is beyond them is open; every other answer changes nothing
-abbrev pub CoverLeft : List ℕ → List ℕ → Covered → List ℕ → Type 0
-CoverLeft cells was (Found n) now = take n now ≡ cells
-CoverLeft cells was Everywhere now = now ≡ was
-CoverLeft cells was (Refused r) now = now ≡ was
+abbrev pub CoverLeft : List ℕ → List ℕ → Result Covered Refusal → List ℕ → Type 0
+CoverLeft cells was (Ok (Found n)) now = take n now ≡ cells
+CoverLeft cells was (Ok Everywhere) now = now ≡ was
+CoverLeft cells was (Err r) now = now ≡ was
 
 -- what the covering walk promises, of a grid and a segment as they are
-pub record CoverIs (g : Grid) (line : Segment) (was : List ℕ) (r : Covered) (now : List ℕ) : Type 0 where
+pub record CoverIs (g : Grid) (line : Segment) (was : List ℕ) (r : Result Covered Refusal) (now : List ℕ) : Type 0 where
   pub answer : r ≡ covered_of (length was) g line
   pub size : length now ≡ length was
   pub left : CoverLeft (covering_of g line) was r now

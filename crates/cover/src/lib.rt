@@ -11,17 +11,16 @@ ghost use Rattle.cover.specs.Covering.{off_grid, scratch_shape_check, CoverIs};
 
 use fine::{ends_of, passes};
 use grid::{Grid, Segment};
-use refusals::{Check, Refusal, refuse_unless};
+use refusals::{Refusal, refuse_unless};
 use rows::cells_between;
 use runs::put_run;
 
 // The number of cells, which stand in the lent scratch; or that the line is in every cell of a grid of more than 2,048, since one of its ends is off the
-// grid; or a refusal. Behind the last two the scratch is as it was.
+// grid. Behind that, and behind a refusal, the scratch is as it was. It is no `Option`: a `None` would have to say "every cell".
 #[derive(Clone, Copy)]
 pub enum Covered {
     Found(usize),
     Everywhere,
-    Refused(Refusal),
 }
 
 // The ends of a line in fine units, the lower one first.
@@ -54,27 +53,21 @@ pub fn is_off(grid: Grid, line: Segment) -> bool
 }
 
 // Refusals 3 and 8, of n entries of scratch and the counts of a grid: few comparisons of whole numbers, which a walk makes for every line.
-pub fn check_room(grid: Grid, n: usize) -> Check
+pub fn check_room(grid: Grid, n: usize) -> Result<(), Refusal>
     ensures { result ≡ scratch_shape_check n grid }
 {
-    let lent = grid::checks::check_scratch(n);
-    if let Check::Refused(r) = lent {
-        return Check::Refused(r);
-    }
+    grid::checks::check_scratch(n)?;
     refuse_unless(grid::checks::is_shape(grid.cols, grid.rows), 8, 0)
 }
 
 // The cells of a segment at the start of the scratch. What is beyond them there is not zeroed. The floats of the grid and of the segment are taken as they
 // are: an end that is no number does not pass the guard.
-pub fn cover_segment(grid: Grid, line: Segment, scratch: &mut [u32]) -> Covered
+pub fn cover_segment(grid: Grid, line: Segment, scratch: &mut [u32]) -> Result<Covered, Refusal>
     ensures { CoverIs grid line scratch.old result scratch.new }
 {
-    let check = check_room(grid, scratch.len());
-    if let Check::Refused(r) = check {
-        return Covered::Refused(r);
-    }
+    check_room(grid, scratch.len())?;
     if grid.cols == 0 {
-        return Covered::Found(0);
+        return Ok(Covered::Found(0));
     }
     if passes(grid, line) {
         let n = cells_between(
@@ -83,12 +76,12 @@ pub fn cover_segment(grid: Grid, line: Segment, scratch: &mut [u32]) -> Covered
             grid.cols as u64,
             grid.rows as u64,
         );
-        return Covered::Found(n);
+        return Ok(Covered::Found(n));
     }
     let all = (grid.rows as u64) * (grid.cols as u64);
     if 2048 < all {
-        return Covered::Everywhere;
+        return Ok(Covered::Everywhere);
     }
     let n = put_run(scratch, 0, 0, all);
-    Covered::Found(n)
+    Ok(Covered::Found(n))
 }

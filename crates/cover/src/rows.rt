@@ -192,10 +192,8 @@ fn climb(scratch: &mut [u32], e: Ends, cols: u64, rows: u64, first: u64, last: u
         first,
         start_columns(e, s, cols, rows, last, first),
     );
-    let mut r = first + 1;
-    while r < last {
+    for r in first + 1..last {
         n = put_row(scratch, n, cols, r, columns(e, s, cols, rows, last, r));
-        r += 1;
     }
     put_row(scratch, n, cols, last, end_columns(e, s, cols, rows, last))
 }

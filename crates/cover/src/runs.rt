@@ -10,11 +10,9 @@ fn put_each(scratch: &mut [u32], n: usize, first: u64, k: u64) -> usize
     ensures { Appended scratch.old scratch.new n result (run k first) }
 {
     let mut m = n;
-    let mut i = 0;
-    while i < k {
+    for i in 0..k {
         scratch[m] = (first + i) as u32;
         m += 1;
-        i += 1;
     }
     m
 }

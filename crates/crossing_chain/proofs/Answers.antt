@@ -1,30 +1,24 @@
 -- What is printed, case by case of what the calls answered. Assumes nothing.
-use Rattle.std.proofs.Common.{◌≡◌, ℕ, zero, suc, ◌+◌, ◌-◌, ◌*◌, ◌<◌, ◌≤◌, List, [], ◌∷◌, ◌++◌, map, length, get_or, take, drop, replicate, ℤ, sym, refl, ap, ◌∙◌, append_assoc, append-nil, add-one, arith, length-append, length-drop, length-take-le, take_at}
+use Rattle.std.specs.Prelude.{Ok, Err, Result}
+use Rattle.std.proofs.Common.{◌≡◌, ℕ, zero, suc, ◌+◌, ◌-◌, ◌<◌, ◌≤◌, List, [], ◌∷◌, ◌++◌, map, length, get_or, take, drop, replicate, ℤ, sym, refl, ap, ◌∙◌, append_assoc, append-nil, add-one, arith, length-append, length-drop, length-take-le, take_at}
 use lib.Ieee.{Float}
 use lib.ListN.{length-map}
 use Rattle.refusals.specs.declared.Refusal.{Refusal}
-use Rattle.refusals.specs.declared.Check.{Check}
-use Rattle.refusals.specs.declared.Check.TheVariants.{Fine, Refused}
 use Rattle.refusals.specs.Refusals.{Answer, refused, gives, ◌then◌, ◌into◌, answer_by, left_in, zero_beyond}
 use Rattle.grid.specs.declared.Grid.{Grid}
 use Rattle.grid.specs.Domain.{Lines, lines}
-use Rattle.tables.specs.Lists.{items_of, offsets_of}
-use Rattle.fill.specs.OnGrid.{list_on, globals_on, total}
+use Rattle.fill.specs.OnGrid.{globals_on, total}
 use Rattle.build.specs.declared.Plan.{Plan}
 use Rattle.build.specs.declared.Standing.{Standing}
-use Rattle.build.specs.declared.Built.{Built}
-use Rattle.build.specs.declared.Built.TheVariants as built
 use Rattle.build.specs.Build.{end_of, built_on, answer_of, BuildIs}
 use Rattle.seek.specs.Tests.{Pair}
 use Rattle.visit.specs.Batches.{firsts, seconds}
 use Rattle.first_tests.specs.Firsts.{PairsAre}
-use Rattle.lent.specs.declared.OnceAnswer.{OnceAnswer}
-use Rattle.lent.specs.declared.OnceAnswer.TheVariants as answer
 use Rattle.samples.specs.Samples.{Samples, samples, sample_lines_check}
 use Rattle.crossings.specs.Crossings.{beside_samples}
-use Rattle.report.specs.Pages.{Page, page, Puts}
+use Rattle.report.specs.Pages.{Page, Puts}
 use Rattle.report.specs.Lines.{crossings_line, pair_line, refused_line}
-use Rattle.report.proofs.Putting.{puts_none, puts_then, puts_text}
+use Rattle.report.proofs.Putting.{puts_none, puts_then}
 use Rattle.chain.specs.Printed.{refused_text}
 use Rattle.wkb.specs.Reading.{found}
 use Rattle.chain.proofs.Chains.{lines_of}
@@ -51,7 +45,7 @@ puts_pair ms ns i h k f g = rw (add-one, pairs_more ms ns i h k) (puts_then f g)
 
 -- ---- the crossings that were listed
 
-pub listed_refused : {end : Answer (List Pair)} {f s st l c f' s' st' l' c' : List ℕ} {r : OnceAnswer} {q : Refusal} → PairsAre end f s st l c r f' s' st' l' c' → r ≡ answer.Refused q → refused_line q.number ≡ answer_by refused_text crossings_text end
+pub listed_refused : {end : Answer (List Pair)} {f s st l c f' s' st' l' c' : List ℕ} {r : Result ℕ Refusal} {q : Refusal} → PairsAre end f s st l c r f' s' st' l' c' → r ≡ Err q → refused_line q.number ≡ answer_by refused_text crossings_text end
 unfolding answer_by
 listed_refused {end = refused p} {q = q} a e = let w : q ≡ p = cc a.answers in ap refused_text w
 listed_refused {end = gives ps} a e = absurd (let z : ◌≡◌ {A = ℕ} 0 1 = cc a.answers in omega arith)
@@ -66,7 +60,7 @@ front : (n : ℕ) (xs : List ℕ) (room : ℕ) → length xs ≡ n → (n ≤ le
 unfolding zero_beyond
 front n xs room e = (simp length-append (omega arith), take_at xs (replicate (room - length xs) 0) n e)
 
-pub listed_pairs : {end : Answer (List Pair)} {f s st l c f' s' st' l' c' : List ℕ} {r : OnceAnswer} {n : ℕ} → PairsAre end f s st l c r f' s' st' l' c' → r ≡ answer.Pairs n → Listed end n f' s'
+pub listed_pairs : {end : Answer (List Pair)} {f s st l c f' s' st' l' c' : List ℕ} {r : Result ℕ Refusal} {n : ℕ} → PairsAre end f s st l c r f' s' st' l' c' → r ≡ Ok n → Listed end n f' s'
 unfolding answer_by left_in crossings_text
 listed_pairs {end = refused p} a e = absurd (let z : ◌≡◌ {A = ℕ} 0 1 = cc a.answers in omega arith)
 listed_pairs {end = gives ps} {f} {s} {n = n} a e =
@@ -81,22 +75,22 @@ listed_pairs {end = gives ps} {f} {s} {n = n} a e =
 
 -- ---- the build
 
-module _ (plan : Plan) (ls : Lines) {o i gs s o' i' gs' s' : List ℕ} {r : Built} (eo : length o ≡ 4096) (ei : length i ≡ 4096) (eg : length gs ≡ 64) (es : length s ≡ 16384) where
+module _ (plan : Plan) (ls : Lines) {o i gs s o' i' gs' s' : List ℕ} {r : Result Standing Refusal} (eo : length o ≡ 4096) (ei : length i ≡ 4096) (eg : length gs ≡ 64) (es : length s ≡ 16384) where
   at_end : (e : Answer Grid) → end_of plan ls 4096 4096 64 16384 ≡ e → BuildIs plan.mode ls o i gs s r o' i' gs' s' (end_of plan ls (length o) (length i) (length gs) (length s)) → BuildIs plan.mode ls o i gs s r o' i' gs' s' e
   at_end e h b = rw (eo, ei, eg, es, h) at b
 
-  module _ (ss : Samples) (fine : sample_lines_check ss ≡ Fine) where
-    refused_end : (e : Answer Grid) → BuildIs plan.mode ls o i gs s r o' i' gs' s' e → (q : Refusal) → r ≡ built.Refused q
+  module _ (ss : Samples) (fine : sample_lines_check ss ≡ Ok tt) where
+    refused_end : (e : Answer Grid) → BuildIs plan.mode ls o i gs s r o' i' gs' s' e → (q : Refusal) → r ≡ Err q
         → refused_line q.number ≡ answer_by refused_text crossings_text (sample_lines_check ss then (e into (λ g. crossings_in ss g (tables_beside plan ss ls g))))
     unfolding answer_of answer_by built_on ◌then◌ ◌into◌
     refused_end (refused p) b q x = let w : q ≡ p = cc b.answer in rw fine (ap refused_text w)
     refused_end (gives g) b q x = absurd (let z : ◌≡◌ {A = ℕ} 0 1 = cc b.answer in omega arith)
 
-    pub build_refused : BuildIs plan.mode ls o i gs s r o' i' gs' s' (end_of plan ls (length o) (length i) (length gs) (length s)) → {q : Refusal} → r ≡ built.Refused q → refused_line q.number ≡ printed_samples plan ss ls
+    pub build_refused : BuildIs plan.mode ls o i gs s r o' i' gs' s' (end_of plan ls (length o) (length i) (length gs) (length s)) → {q : Refusal} → r ≡ Err q → refused_line q.number ≡ printed_samples plan ss ls
     unfolding printed_samples crossings_built
     build_refused b {q} x = refused_end _ (at_end _ refl b) q x
 
-    made_end : (e : Answer Grid) → BuildIs plan.mode ls o i gs s r o' i' gs' s' e → (st : Standing) → r ≡ built.Tables st
+    made_end : (e : Answer Grid) → BuildIs plan.mode ls o i gs s r o' i' gs' s' e → (st : Standing) → r ≡ Ok st
         → crossings_of_tables ss st.grid (beside_samples ss st.grid o' i' gs' st.globals) ≡ answer_by refused_text crossings_text (sample_lines_check ss then (e into (λ g. crossings_in ss g (tables_beside plan ss ls g))))
     unfolding answer_of answer_by built_on left_in tables_beside crossings_of_tables ◌then◌ ◌into◌
     made_end (refused p) b st x = absurd (let z : ◌≡◌ {A = ℕ} 0 1 = cc b.answer in omega arith)
@@ -104,12 +98,12 @@ module _ (plan : Plan) (ls : Lines) {o i gs s o' i' gs' s' : List ℕ} {r : Buil
         let w : st ≡ record { grid = g; items = total plan.mode g ls; globals = length (globals_on plan.mode g ls) } = cc b.answer in
         rw (fine, w, b.cell_offsets, b.cell_items, b.global_lines, eo, ei, eg)
 
-    pub build_made : BuildIs plan.mode ls o i gs s r o' i' gs' s' (end_of plan ls (length o) (length i) (length gs) (length s)) → {st : Standing} → r ≡ built.Tables st → crossings_of_tables ss st.grid (beside_samples ss st.grid o' i' gs' st.globals) ≡ printed_samples plan ss ls
+    pub build_made : BuildIs plan.mode ls o i gs s r o' i' gs' s' (end_of plan ls (length o) (length i) (length gs) (length s)) → {st : Standing} → r ≡ Ok st → crossings_of_tables ss st.grid (beside_samples ss st.grid o' i' gs' st.globals) ≡ printed_samples plan ss ls
     unfolding printed_samples crossings_built
     build_made b {st} x = made_end _ (at_end _ refl b) st x
 
 -- the samples were refused
-pub samples_refused : (plan : Plan) (ss : Samples) (ls : Lines) {q : Refusal} → sample_lines_check ss ≡ Refused q → refused_line q.number ≡ printed_samples plan ss ls
+pub samples_refused : (plan : Plan) (ss : Samples) (ls : Lines) {q : Refusal} → sample_lines_check ss ≡ Err q → refused_line q.number ≡ printed_samples plan ss ls
 unfolding printed_samples crossings_built answer_by ◌then◌
 samples_refused plan ss ls e = rw e
 

@@ -1,7 +1,7 @@
 -- How long a text can be: 192,600 bytes hold every one, for at most 4,096 pairs are printed. Assumes nothing.
-use Rattle.std.proofs.Common.{◌≡◌, ℕ, ◌+◌, ◌*◌, ◌≤◌, leb, List, [], ◌∷◌, ◌++◌, length, replicate, sym, refl, ap, ◌∙◌, arith, length-append, leb-true}
+use Rattle.std.proofs.Common.{◌≡◌, ℕ, ◌*◌, ◌≤◌, List, [], ◌∷◌, length, replicate, refl, ap, arith, length-append, leb-true}
 use lib.ListN.{length-map, length-replicate}
-use Rattle.refusals.specs.Refusals.{Answer, refused, gives, ◌then◌, ◌into◌, answer_by}
+use Rattle.refusals.specs.Refusals.{Answer, refused, gives, ◌into◌, answer_by}
 use Rattle.refusals.proofs.Checks.{unless_fine}
 use Rattle.refusals.proofs.Answers.{then_passed}
 use Rattle.grid.specs.declared.Grid.{Grid}

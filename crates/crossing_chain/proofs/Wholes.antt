@@ -1,9 +1,8 @@
 -- A float as a whole number: what the tests of `whole_of` say. `Within v` says that v is finite and of magnitude at most 2^29. Assumes nothing.
-use Rattle.std.proofs.Common.{◌≡◌, ℕ, zero, suc, ◌+◌, ◌-◌, ◌*◌, ◌/◌, ◌%◌, ◌^◌, ◌<◌, ◌≤◌, min, Bool, true, false, cond, ◌&&◌, ◌||◌, T, eqb, ltb, leb, ◌⊎◌, List, [], ◌∷◌, ◌++◌, map, length, get_or, take, drop, set, ℤ, pos, negsuc, neg_ℤ, sym, refl, ap, ◌∙◌, inl, inr, true≢false, mul-le-mul_right, mul_assoc, mul_comm, one-mul, div-add-mod', zero-mul, mul-one, div-mul-le_self, le_of_mul-le-mul_right, mul_left_comm, add-one, arith, w32, w64, SFits, ltb-false, ltb-true, le-ltb, lt-ltb, eq-eqb, ne_eqb, eqb-true, le-leb, leb-true}
+use Rattle.std.proofs.Common.{◌≡◌, ℕ, zero, suc, ◌+◌, ◌-◌, ◌*◌, ◌/◌, ◌%◌, ◌^◌, ◌<◌, ◌≤◌, min, Bool, true, false, cond, ◌&&◌, ◌||◌, T, eqb, ltb, leb, ◌⊎◌, List, [], ◌∷◌, ◌++◌, map, length, get_or, take, drop, set, ℤ, pos, neg_ℤ, sym, refl, ap, ◌∙◌, inl, inr, true≢false, mul-le-mul_right, mul_assoc, mul_comm, div-add-mod', zero-mul, mul-one, div-mul-le_self, add-one, arith, w32, w64, SFits, le-ltb, lt-ltb, eq-eqb, ne_eqb, eqb-true, le-leb, leb-true}
 use mathlib.Core.Bool.{beq, false≢true}
-use native.Mathlib.Nat.{eq_of_mul-eq-mul_right, mul-mod_left}
+use native.Mathlib.Nat.{eq_of_mul-eq-mul_right}
 use native.Mathlib.Decide.{dec_le}
-use borrow.Author.Tests.{eqb-false}
 use lib.Ieee.{Float, nan, inf, fin, binary64, up, down, lt, le, eq, of_int, to_signed}
 use lib.Ieee.Exact.{HasValue}
 use lib.Ieee.Fits.{down_pos}

@@ -11,11 +11,8 @@ ghost use Rattle.chain.specs.Printed.{chain_of};
 ghost use Rattle.crossing_chain.specs.Printed.{crossings_of_tables, printed_samples, crossings_of_lines, crossings_printed};
 ghost use Rattle.crossing_chain.specs.Inside.{LengthsHeld};
 
-use build::{Built, Plan};
+use build::Plan;
 use grid::Grid;
-use lent::OnceAnswer;
-use refusals::Check;
-use wkb::Read;
 
 mod show;
 mod whole;
@@ -59,8 +56,8 @@ fn put_tables(
         &mut counts,
     );
     match listed {
-        OnceAnswer::Refused(r) => report::refused_line(r.number, out, 0),
-        OnceAnswer::Pairs(n) => show::put_crossings(n, &first, &second, out),
+        Err(r) => report::refused_line(r.number, out, 0),
+        Ok(n) => show::put_crossings(n, &first, &second, out),
     }
 }
 
@@ -87,7 +84,7 @@ fn put_samples(
         whole_end_x,
         whole_end_y,
     );
-    if let Check::Refused(r) = sampled {
+    if let Err(r) = sampled {
         return report::refused_line(r.number, out, 0);
     }
     let mut offsets = [0u32; 4096];
@@ -106,8 +103,8 @@ fn put_samples(
         &mut scratch,
     );
     match built {
-        Built::Refused(r) => report::refused_line(r.number, out, 0),
-        Built::Tables(s) => put_tables(
+        Err(r) => report::refused_line(r.number, out, 0),
+        Ok(s) => put_tables(
             whole_start_x,
             whole_start_y,
             whole_end_x,
@@ -175,8 +172,8 @@ fn put_chain(bytes: &[u8], plan: Plan, out: &mut [u8]) -> usize
     let mut y = [0.0f64; 1024];
     let read = wkb::read_line_string(bytes, &mut x, &mut y);
     match read {
-        Read::Refused(r) => report::refused_line(r.number, out, 0),
-        Read::Points(n) => put_points(&x, &y, n, plan, out),
+        Err(r) => report::refused_line(r.number, out, 0),
+        Ok(n) => put_points(&x, &y, n, plan, out),
     }
 }
 

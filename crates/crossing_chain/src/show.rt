@@ -11,10 +11,8 @@ fn put_pairs(n: usize, first: &[u32], second: &[u32], out: &mut [u8], at: usize)
     ensures { Puts (pair_lines (take n first.now) (take n second.now)) (page out.old at) (page out.new result) }
 {
     let mut at = at;
-    let mut i = 0;
-    while i < n {
+    for i in 0..n {
         at = report::pair_line(first[i], second[i], out, at);
-        i += 1;
     }
     at
 }

@@ -24,9 +24,7 @@ pub(crate) fn wholes_of(from: &[f64], to: &mut [i32])
     requires { length from.now ≤ length to.old }
     ensures { Wholes from.now to.old to.new }
 {
-    let mut i = 0;
-    while i < from.len() {
+    for i in 0..from.len() {
         to[i] = whole_of(from[i]);
-        i += 1;
     }
 }

@@ -1,8 +1,8 @@
 -- Document 02, 7: "A crate above the grid lists each pair handed out whose closed segments share a point, once, at its first test, in visit order."
 -- Segments that share a point have boxes that overlap, so all such pairs are handed out, and whether they share a point is all that is asked.
 -- Definitions only.
+use Rattle.refusals.specs.Refusals.{Check}
 use Rattle.std.specs.Prelude.{List, ℕ, length}
-use Rattle.refusals.specs.declared.Check.{Check}
 use Rattle.refusals.specs.Refusals.{and_then, Answer, gives, ◌then◌}
 use Rattle.grid.specs.declared.Grid.{Grid}
 use Rattle.grid.specs.Domain.{grid_check}

@@ -10,8 +10,7 @@ ghost use Rattle.samples.specs.Sharing.{shares};
 ghost use Rattle.crossings.specs.Crossings.{beside_samples, crossings_by};
 
 use grid::Grid;
-use lent::OnceAnswer;
-use refusals::Check;
+use refusals::Refusal;
 
 mod cells;
 mod globals;
@@ -80,7 +79,7 @@ pub fn list_crossings(
     starts: &mut [u32],
     listing: &mut [u32],
     counts: &mut [u32],
-) -> OnceAnswer
+) -> Result<u64, Refusal>
     ensures { let ss = samples start_x.now start_y.now end_x.now end_y.now in
         let t = beside_samples ss grid offsets.now items.now globals.now global_count in
         let end = crossings_by ss grid t first.old second.old starts.old listing.old counts.old in
@@ -88,7 +87,7 @@ pub fn list_crossings(
         first.new second.new starts.new listing.new counts.new }
 {
     let lines = samples::checks::check_sample_lines(start_x, start_y, end_x, end_y);
-    let begun = lent::begin(
+    lent::begin(
         lines,
         start_x.len(),
         grid,
@@ -101,10 +100,7 @@ pub fn list_crossings(
         starts,
         listing,
         counts,
-    );
-    if let Check::Refused(r) = begun {
-        return OnceAnswer::Refused(r);
-    }
+    )?;
     let hits = run(
         start_x,
         start_y,

@@ -1,13 +1,13 @@
 -- WHAT IS LISTED: of any tables, a call lists two lines that share a point once if they are tested, and no others. Assumes nothing.
-use mathlib.Core.Path.{◌≡◌, refl, sym, ap, ap₂, ◌∙◌}
-use mathlib.Core.Bool.{Bool, true, false, not, ◌&&◌}
+use Rattle.std.specs.Prelude.{Ok}
+use mathlib.Core.Path.{◌≡◌, refl, sym, ◌∙◌}
+use mathlib.Core.Bool.{Bool, true, false, ◌&&◌}
 use mathlib.Core.List.{List}
-use Prim.Native.Nat.{ℕ, ◌+◌, ◌<◌}
+use Prim.Native.Nat.{ℕ, ◌<◌}
 use native.Mathlib.Omega.{arith}
 use borrow.Author.Tests.{lt-ltb}
-use lib.Dec.{leb, ltb}
-use lib.ListN.{length, take, length-map}
-use Rattle.refusals.specs.declared.Check.TheVariants.{Fine}
+use lib.Dec.{ltb}
+use lib.ListN.{take, length-map}
 use Rattle.refusals.specs.Refusals.{Answer, gives}
 use Rattle.refusals.proofs.Checks.{and_then_left, and_then_right}
 use Rattle.refusals.proofs.Answers.{then_passed}
@@ -21,7 +21,7 @@ use Rattle.visit.specs.Batches.{firsts, seconds}
 use Rattle.visit.specs.Words.{one_where, times}
 use Rattle.visit.proofs.Often.{one_true, one_false}
 use Rattle.once_laws.proofs.Once.{each_once}
-use Rattle.samples.specs.Samples.{Samples, sample_count, whole_at, raised_at, all_samples, sampled, sample_lines_check}
+use Rattle.samples.specs.Samples.{Samples, sample_count, whole_at, raised_at, all_samples, sample_lines_check}
 use Rattle.samples.specs.Sharing.{sharing, shares}
 use Rattle.samples.proofs.Checking.{sample_lines_fine}
 use Rattle.samples.proofs.Both.{sharing_swap, exact, shared}
@@ -36,7 +36,7 @@ shares_swap ss a b = sharing_swap (raised_at ss a) (raised_at ss b)
 
 module _ {ss : Samples} {g : Grid} {t : Tables} (c : CrossingsCall ss g t) where
   record CallSays : Type 0 where
-    passed : crossings_check ss g t ≡ Fine
+    passed : crossings_check ss g t ≡ Ok tt
     often : (a b : ℕ) → listed_in a b c ≡ times a b (crossings_of ss t)
 
   call_says : CallSays
@@ -55,7 +55,7 @@ module _ {ss : Samples} {g : Grid} {t : Tables} (c : CrossingsCall ss g t) where
       same : {xs ys : List Pair} → ◌≡◌ {A = Answer (List Pair)} (gives xs) (gives ys) → xs ≡ ys
       same d = cc
 
-  samples_fine : sample_lines_check ss ≡ Fine
+  samples_fine : sample_lines_check ss ≡ Ok tt
   unfolding crossings_check
   samples_fine = and_then_left _ _ call_says.passed
 

@@ -1,6 +1,6 @@
 -- The words of the laws of crossings: lines of samples that share a point, the same lines as floats, and calls of `crossings::list_crossings`. Definitions
 -- only.
-use Rattle.std.specs.Prelude.{◌≡◌, List, ℕ, ◌<◌, take}
+use Rattle.std.specs.Prelude.{Ok, ◌≡◌, List, ℕ, ◌<◌, take}
 use Rattle.grid.specs.declared.Grid.{Grid}
 use Rattle.grid.specs.Domain.{Lines, segment_at}
 use Rattle.grid.specs.Domain as domain
@@ -8,7 +8,6 @@ use Rattle.grid.specs.Points.{WholeShare, InParts}
 use Rattle.tables.specs.Tables.{Tables}
 use Rattle.seek.specs.Tests.{tests_of}
 use Rattle.visit.specs.Words.{times}
-use Rattle.lent.specs.declared.OnceAnswer.TheVariants.{Pairs}
 use Rattle.first_tests.specs.Firsts.{PairsAre}
 use Rattle.samples.specs.Samples.{Samples, sample_count, whole_at}
 use Rattle.crossings.specs.Crossings.{crossings_by}
@@ -39,7 +38,7 @@ pub record CrossingsCall (ss : Samples) (g : Grid) (t : Tables) : Type 0 where
   pub listing' : List ℕ
   pub counts' : List ℕ
   pub number : ℕ
-  pub says : PairsAre (crossings_by ss g t «lent-first» «lent-second» starts listing counts) «lent-first» «lent-second» starts listing counts (Pairs number) first second starts' listing' counts'
+  pub says : PairsAre (crossings_by ss g t «lent-first» «lent-second» starts listing counts) «lent-first» «lent-second» starts listing counts (Ok number) first second starts' listing' counts'
 
 -- how often it lists a and b, either of them first
 abbrev pub listed_in : {ss : Samples} {g : Grid} {t : Tables} → ℕ → ℕ → CrossingsCall ss g t → ℕ

@@ -1,5 +1,6 @@
 -- What the calls of a full visit hand out together, however long their outputs are: exactly the tests whose boxes overlap, in their order; and
 -- the tests that they answer are all tests. Of any tables. Assumes nothing.
+use Rattle.std.specs.Prelude.{Ok}
 use mathlib.Core.Path.{◌≡◌, refl, sym, ap, subst, ◌∙◌}
 use mathlib.Core.Bool.{Bool, true, false}
 use mathlib.Core.List.{List, [], ◌∷◌, ◌++◌}
@@ -13,7 +14,6 @@ use Rattle.grid.specs.declared.Grid.{Grid}
 use Rattle.grid.specs.Domain.{Lines}
 use Rattle.tables.specs.Tables.{Tables}
 use Rattle.visit.specs.declared.Tally.{Tally}
-use Rattle.visit.specs.declared.BatchAnswer.TheVariants as batch
 use Rattle.seek.specs.Tests.{Pair, tests_of}
 use Rattle.visit.specs.Overlap.{overlap}
 use Rattle.visit.specs.Batches.{made, overlapping, handed, firsts, seconds}
@@ -47,7 +47,7 @@ module _ (ls : Lines) (g : Grid) (t : Tables) where
     first_is : take c.tally.overlaps c.first ≡ firsts (handed ls (drop b (tests_of t)) (length c.«lent-first»))
     second_is : take c.tally.overlaps c.second ≡ seconds (handed ls (drop b (tests_of t)) (length c.«lent-first»))
 
-  call_says : (b : ℕ) (c : Call) → BatchIs ls g t b c.«lent-first» c.«lent-second» c.first c.second (batch.Done c.tally) → CallSays b c
+  call_says : (b : ℕ) (c : Call) → BatchIs ls g t b c.«lent-first» c.«lent-second» c.first c.second (Ok c.tally) → CallSays b c
   call_says b c h =
       let room : ℕ = length c.«lent-first» in
       let ps : List Pair = handed ls (drop b (tests_of t)) room in

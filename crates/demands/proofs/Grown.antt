@@ -1,9 +1,10 @@
 -- Demand 3 after a build, or a build followed by lines added in its mode: what such calls leave stands, so that nothing of the demand is proved a second time.
 -- Assumes nothing.
+use Rattle.std.specs.Prelude.{Ok, Result}
+use Rattle.refusals.specs.declared.Refusal.{Refusal}
 use mathlib.Core.Path.{◌≡◌, refl, sym, ap, ◌∙◌, subst}
-use mathlib.Core.Bool.{Bool, true, false, ◌&&◌}
 use mathlib.Core.List.{List, [], ◌∷◌, ◌++◌}
-use Prim.Native.Nat.{ℕ, zero, suc, ◌+◌, ◌*◌, ◌≤◌, ◌<◌}
+use Prim.Native.Nat.{ℕ, suc, ◌+◌, ◌≤◌, ◌<◌}
 use native.Mathlib.Numerals.{add-one}
 use native.Mathlib.Omega.{arith}
 use native.Mathlib.Decide.{ℕ_discrete}
@@ -11,26 +12,22 @@ use borrow.Author.Tests.{eq-eqb, le-leb}
 use lib.Ieee.{Float, nan}
 use lib.ListN.{length, get_or, length-append, get_or-append}
 use lib.Seq.{get_or_at}
-use Rattle.refusals.specs.declared.Check.TheVariants.{Fine}
-use Rattle.refusals.specs.Refusals.{unless, and_then, each_from, Answer, refused, gives, answer_by, left_in, zero_beyond}
+use Rattle.refusals.specs.Refusals.{unless, and_then, Answer, refused, gives, answer_by, left_in, zero_beyond}
 use Rattle.refusals.proofs.Checks.{each_fine}
 use Rattle.grid.specs.declared.Grid.{Grid}
 use Rattle.grid.specs.declared.Segment.{Segment}
-use Rattle.grid.specs.Domain.{Lines, lines, count, Alike, segment_at, segment_by, segment, line_fits, fit, lengths_check, count_check, coordinates_check, lines_check}
+use Rattle.grid.specs.Domain.{Lines, count, Alike, segment_at, line_fits, lengths_check, count_check, coordinates_check, lines_check}
 use Rattle.grid.proofs.Fine.{LinesFit, lines_fine}
 use Rattle.walk.specs.declared.Mode.{Mode}
-use Rattle.turns.specs.Pushes.{Outcome}
 use Rattle.walk.specs.Segment.{segment_of}
-use Rattle.tables.specs.Tables.{Tables, tables, cells, list_of, globals_of}
-use Rattle.tables.specs.Lists.{Walks, local_lines, global_lines, items_of, offsets_of}
+use Rattle.tables.specs.Tables.{Tables, tables, cells}
+use Rattle.tables.specs.Lists.{local_lines, global_lines, items_of, offsets_of}
 use Rattle.tables.specs.Stands.{Stands}
 use Rattle.fill.specs.declared.Filled.{Filled}
 use Rattle.fill.specs.declared.Filled.TheVariants as filled
 use Rattle.fill.specs.OnGrid.{grid_cells, walk_on, visited, cells_on, list_on, globals_on}
 use Rattle.fill.specs.Fill.{Filling, crowded, made, filling_of, filled_of, written_in, FillIs}
-use Rattle.build.specs.declared.Plan.{Plan}
 use Rattle.build.proofs.Theorems.{build_stands, walks_end, lines_passed, grid_fits}
-use Rattle.added.specs.declared.Added.TheVariants as added
 use Rattle.added.specs.Added.{cleared}
 use Rattle.added.proofs.Theorems.{Success, success, offsets_laid, items_laid, globals_laid, found_laid, add_stands, stands_alike}
 use Rattle.blocks_added.specs.Beside.{BesideIs}
@@ -42,7 +39,7 @@ use Rattle.demands.proofs.Whole.{demand_3}
 -- what such calls come to
 pub record Says (mode : Mode) (g : Grid) (ls : Lines) (t : Tables) : Type 0 where
   pub stands : Stands (cells_on mode g ls) (count ls) g t
-  pub passed : lines_check ls ≡ Fine
+  pub passed : lines_check ls ≡ Ok tt
   pub walks : (k : ℕ) → k < count ls → walk_on mode g ls k ≡ gives (cells_on mode g ls k)
   pub some : 1 ≤ count ls → 1 ≤ g.cols
 
@@ -108,7 +105,7 @@ module _ (ls : Lines) (line : Segment) where
         }
 
 -- lines that fit pass 3, 2 and 1
-fit_passes : (ls : Lines) → LinesFit ls → lines_check ls ≡ Fine
+fit_passes : (ls : Lines) → LinesFit ls → lines_check ls ≡ Ok tt
 unfolding lines_check lengths_check count_check coordinates_check unless and_then
 fit_passes ls f =
     let a = eq-eqb (length ls.start_y) (count ls) f.same.«start_y» in
@@ -239,8 +236,8 @@ after_grown k = let s = grown_says k in record { walks = s.walks; demand = deman
 -- ---- document 02, 11: "the new ones are those of all n + 1 counted and placed on it in that mode"
 
 -- where filling the tables of some lines succeeds, it leaves these
-fills : {mode : Mode} {g : Grid} {ls : Lines} {was t : Tables} {offsets items globals scratch : List ℕ} {r : Filled} {a b : ℕ} {o xs gs z : List ℕ}
-    → AsFilled mode g ls was t → (f : Answer Filling) → FillIs mode g ls offsets items globals scratch r o xs gs z f → r ≡ filled.Tables a b
+fills : {mode : Mode} {g : Grid} {ls : Lines} {was t : Tables} {offsets items globals scratch : List ℕ} {r : (Result Filled Refusal)} {a b : ℕ} {o xs gs z : List ℕ}
+    → AsFilled mode g ls was t → (f : Answer Filling) → FillIs mode g ls offsets items globals scratch r o xs gs z f → r ≡ Ok (filled.Tables a b)
     → length offsets ≡ length was.offsets → length items ≡ length was.items → length globals ≡ length was.globals
     → (t.offsets ≡ o) × (t.items ≡ xs) × (t.globals ≡ gs) × (t.global_count ≡ b)
 unfolding answer_by filled_of left_in written_in
@@ -255,21 +252,21 @@ fills k (gives made) h e p q v = (
 
 -- A LINE ADDED IS ALL LINES COUNTED AND PLACED on the same grid, in slices of the same lengths
 pub as_counted : {mode : Mode} {g : Grid} {ls : Lines} {t : Tables} {line : Segment} {t' : Tables} → Grown mode g ls t → FromLine mode g ls t line t'
-    → (most : ℕ) {offsets items globals scratch : List ℕ} {r : Filled} {a b : ℕ} {o xs gs z : List ℕ}
+    → (most : ℕ) {offsets items globals scratch : List ℕ} {r : (Result Filled Refusal)} {a b : ℕ} {o xs gs z : List ℕ}
     → FillIs mode g (with_line ls line) offsets items globals scratch r o xs gs z (filling_of mode g (with_line ls line) most (length offsets) (length items) (length globals) (length scratch))
-    → r ≡ filled.Tables a b → length offsets ≡ length t.offsets → length items ≡ length t.items → length globals ≡ length t.globals
+    → r ≡ Ok (filled.Tables a b) → length offsets ≡ length t.offsets → length items ≡ length t.items → length globals ≡ length t.globals
     → (t'.offsets ≡ o) × (t'.items ≡ xs) × (t'.globals ≡ gs) × (t'.global_count ≡ b)
 as_counted k h most f e p q v = fills (line_filled (grown_says k) h) _ f e p q v
 
 -- ---- a line that was added with its summary is one that was added
 
 pub line_beside : {mode : Mode} {g : Grid} {ls : Lines} {t : Tables} {line : Segment} {kept s : List ℕ} {i j l : ℕ} {o xs gs k z : List ℕ}
-    → BesideIs mode g line t kept s (added.Tables i j l) o xs gs k z → FromLine mode g ls t line (tables g (suc (count ls)) o xs gs l)
+    → BesideIs mode g line t kept s (Ok (record { cells = i; items = j; globals = l })) o xs gs k z → FromLine mode g ls t line (tables g (suc (count ls)) o xs gs l)
 line_beside {s = s} {i = i} {j = j} {l = l} {o = o} {xs = xs} {gs = gs} {z = z} h =
     record {
       scratch = s;
       leaves = cleared s;
-      answer = added.Tables i j l;
+      answer = Ok (record { cells = i; items = j; globals = l });
       listing_cells = i;
       all_items = j;
       all_globals = l;

@@ -1,5 +1,8 @@
 -- A full visit of standing tables hands out two different lines each time that they are tested if their boxes overlap, and else never. Of any
 -- walk. Assumes nothing.
+use Rattle.std.specs.Prelude.{Ok, Result}
+use Rattle.refusals.specs.declared.Refusal.{Refusal}
+use Rattle.visit.specs.declared.Tally.{Tally}
 use mathlib.Core.Path.{◌≡◌, refl, ap, subst, ◌∙◌}
 use mathlib.Core.Bool.{Bool, true, false, cond}
 use mathlib.Core.List.{List, [], ◌∷◌}
@@ -7,12 +10,10 @@ use Prim.Native.Nat.{ℕ, ◌+◌, ◌-◌, ◌*◌, ◌<◌}
 use native.Mathlib.Nat.{zero-add}
 use native.Mathlib.Omega.{arith}
 use lib.ListN.{length}
-use Rattle.refusals.specs.declared.Check.TheVariants.{Fine}
 use Rattle.grid.specs.declared.Grid.{Grid}
 use Rattle.grid.specs.Domain.{Lines, lines_check}
 use Rattle.tables.specs.Tables.{Tables, cells, list_of, globals_of}
 use Rattle.tables.specs.Stands.{Stands}
-use Rattle.visit.specs.declared.BatchAnswer.{BatchAnswer}
 use Rattle.seek.specs.Tests.{Pair, tests_of}
 use Rattle.visit.specs.Overlap.{overlap}
 use Rattle.visit.specs.Batches.{made, overlapping, firsts, seconds}
@@ -49,11 +50,11 @@ module _ {W : ℕ → List ℕ} {n : ℕ} {g : Grid} {t : Tables} (s : Stands W 
   tests_made cs h = visit_tests ls g t cs h ∙ count-laws.number s
 
   -- ONE BATCH IS A FULL VISIT, if its outputs have one length and more room than there are overlaps
-  pub one_batch : lines_check ls ≡ Fine
-      → {first second first' second' : List ℕ} {r : BatchAnswer} → BatchIs ls g t 0 first second first' second' r
+  pub one_batch : lines_check ls ≡ Ok tt
+      → {first second first' second' : List ℕ} {r : (Result Tally Refusal)} → BatchIs ls g t 0 first second first' second' r
       → length first ≡ length second → length (overlapping ls (tests_of t)) < length first
       → FullVisit ls g t (record { «lent-first» = first; «lent-second» = second; first = first'; second = second'; tally = tally_of ls (tests_of t) 0 (length first) } ∷ [])
   one_batch passed {first} {second} {first'} {second'} {r} h e l = (
-    subst (λ (x : BatchAnswer). BatchIs ls g t 0 first second first' second' x) (batch_made s ls passed h e (omega arith)) h,
+    subst (λ (x : (Result Tally Refusal)). BatchIs ls g t 0 first second first' second' x) (batch_made s ls passed h e (omega arith)) h,
     zero-add (length (made ls (tests_of t) (length first))) ∙ ap length (made_all ls (tests_of t) (length first) l),
   )

@@ -1,5 +1,6 @@
 -- EACH PAIR ONCE: a call of `once::pairs_once` hands out what a full visit hands out, each pair once, of any tables; and after a build in the
 -- covering mode, or one followed by lines added in it, any two lines that share an exact point. Assumes nothing.
+use Rattle.std.specs.Prelude.{Ok, Err, Result}
 use mathlib.Core.Path.{◌≡◌, refl, sym, ◌∙◌}
 use mathlib.Core.List.{List}
 use Prim.Native.Nat.{ℕ, ◌-◌}
@@ -8,7 +9,7 @@ use borrow.Author.Tests.{lt-ltb}
 use lib.Dec.{ltb}
 use lib.ListN.{length, take, replicate, length-map}
 use lib.Seq.{take-append_seam}
-use Rattle.refusals.specs.declared.Check.TheVariants.{Fine}
+use Rattle.refusals.specs.declared.Refusal.{Refusal}
 use Rattle.refusals.specs.Refusals.{Answer, refused, gives, answer_by, left_in, zero_beyond}
 use Rattle.refusals.proofs.Answers.{then_passed}
 use Rattle.grid.specs.declared.Grid.{Grid}
@@ -21,7 +22,6 @@ use Rattle.seek.specs.Bookmarks.{visit_check}
 use Rattle.seek.proofs.Standing.{stands}
 use Rattle.visit.specs.Words.{one_where, times}
 use Rattle.visit.proofs.Often.{one_true, handed_often}
-use Rattle.lent.specs.declared.OnceAnswer.TheVariants as answer
 use Rattle.once.specs.Once.{once_of, once_by}
 use Rattle.once_laws.proofs.Once.{once_as_visit}
 use Rattle.demands.specs.Grown.{Grown}
@@ -31,16 +31,16 @@ use Rattle.demands.proofs.Handed.{pairs_times}
 use Rattle.demands.proofs.Points.{nothing_dropped, crossings_overlap}
 
 -- a number of pairs is no refusal
-pub given : (end : Answer (List Pair)) (n : ℕ) → answer.Pairs n ≡ answer_by answer.Refused (λ ps. answer.Pairs (length ps)) end
+pub given : (end : Answer (List Pair)) (n : ℕ) → Ok n ≡ answer_by Err (λ ps. Ok (length ps)) end
     → (C : Type 0) → ((ps : List Pair) → end ≡ gives ps → n ≡ length ps → C) → C
 unfolding answer_by
 given (gives ps) n h C go = go ps refl (same h)
   where
-    same : {m k : ℕ} → answer.Pairs m ≡ answer.Pairs k → m ≡ k
+    same : {m k : ℕ} → ◌≡◌ {A = Result ℕ Refusal} (Ok m) (Ok k) → m ≡ k
     same d = cc
 given (refused r) n h C go = apart h
   where
-    apart : answer.Pairs n ≡ answer.Refused r → C
+    apart : ◌≡◌ {A = Result ℕ Refusal} (Ok n) (Err r) → C
     apart d = let z : ◌≡◌ {A = ℕ} 0 1 = cc in absurd (omega arith)
 
 -- the front of an output is what was written
@@ -51,7 +51,7 @@ front side end ps was now k e h n = rw (n, h, e) (take-append_seam (side ps) (re
 
 module _ {ls : Lines} {g : Grid} {t : Tables} (c : OnceCall ls g t) where
   record CallSays : Type 0 where
-    passed : visit_check ls g t ≡ Fine
+    passed : visit_check ls g t ≡ Ok tt
     often : (a b : ℕ) → once_out a b c ≡ times a b (once_of ls t)
 
   call_says : CallSays

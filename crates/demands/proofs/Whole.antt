@@ -1,8 +1,8 @@
 -- Demand 3 whole: it holds of standing tables of any walk, beside lines that pass their checks. Assumes nothing.
+use Rattle.std.specs.Prelude.{Ok}
 use mathlib.Core.Path.{◌≡◌}
 use mathlib.Core.List.{List}
 use Prim.Native.Nat.{ℕ}
-use Rattle.refusals.specs.declared.Check.TheVariants.{Fine}
 use Rattle.grid.specs.declared.Grid.{Grid}
 use Rattle.grid.specs.Domain.{Lines, count, lines_check}
 use Rattle.tables.specs.Tables.{Tables}
@@ -14,7 +14,7 @@ use Rattle.demands.proofs.Calls as calls
 use Rattle.demands.proofs.Often as often
 use Rattle.demands.proofs.Handed as handed
 
-pub demand_3 : {W : ℕ → List ℕ} {ls : Lines} {g : Grid} {t : Tables} → Stands W (count ls) g t → lines_check ls ≡ Fine → Demand3 ls g W t
+pub demand_3 : {W : ℕ → List ℕ} {ls : Lines} {g : Grid} {t : Tables} → Stands W (count ls) g t → lines_check ls ≡ (Ok tt) → Demand3 ls g W t
 demand_3 {W} {ls} {g} {t} s passed =
     record {
       increasing = standing.list_rises s;

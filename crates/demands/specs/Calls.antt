@@ -1,11 +1,10 @@
 -- A full visit as calls of `visit::visits::batch`: each starts at the bookmark that the one before it answered, the first at 0, and the last
 -- answers the total. Definitions only.
-use Rattle.std.specs.Prelude.{◌≡◌, ◌&&◌, ◌||◌, List, [], ◌∷◌, ◌++◌, ℕ, ◌+◌, eqb, length, take}
+use Rattle.std.specs.Prelude.{Ok, ◌≡◌, ◌&&◌, ◌||◌, List, [], ◌∷◌, ◌++◌, ℕ, ◌+◌, eqb, length, take}
 use Rattle.grid.specs.declared.Grid.{Grid}
 use Rattle.grid.specs.Domain.{Lines}
 use Rattle.tables.specs.Tables.{Tables}
 use Rattle.visit.specs.declared.Tally.{Tally}
-use Rattle.visit.specs.declared.BatchAnswer.TheVariants as batch
 use Rattle.seek.specs.Tests.{tests_of}
 use Rattle.visit.specs.Entries.{BatchIs}
 use Rattle.visit.specs.Words.{one_where}
@@ -22,7 +21,7 @@ pub record Call : Type 0 where
 abbrev pub EndToEnd : Lines → Grid → Tables → ℕ → List Call → Type 0
 EndToEnd ls g t b [] = b ≡ length (tests_of t)
 EndToEnd ls g t b (c ∷ cs) =
-    BatchIs ls g t b c.«lent-first» c.«lent-second» c.first c.second (batch.Done c.tally)
+    BatchIs ls g t b c.«lent-first» c.«lent-second» c.first c.second (Ok c.tally)
     × EndToEnd ls g t c.tally.bookmark cs
 
 -- a full visit

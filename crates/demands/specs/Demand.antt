@@ -1,10 +1,9 @@
 -- Demand 3, sentence by sentence, of the lines ls, a grid g, any walk W of the lines, and the tables t. Definitions only.
-use Rattle.std.specs.Prelude.{◌≡◌, false, not, cond, ◌&&◌, List, ℕ, ◌+◌, ◌-◌, ◌*◌, ◌≤◌, ◌<◌, ltb, length, get_or}
+use Rattle.std.specs.Prelude.{Ok, Some, None, ◌≡◌, false, not, cond, ◌&&◌, List, ℕ, ◌+◌, ◌-◌, ◌*◌, ◌≤◌, ◌<◌, ltb, length, get_or}
 use Rattle.slices.specs.Lists.{elem, Rising}
 use Rattle.grid.specs.declared.Grid.{Grid}
 use Rattle.grid.specs.Domain.{Lines, count}
 use Rattle.tables.specs.Tables.{Tables, cells, list_of, globals_of}
-use Rattle.visit.specs.declared.TestAnswer.TheVariants as answer
 use Rattle.seek.specs.Tests.{Pair, tests_of}
 use Rattle.visit.specs.Overlap.{overlap}
 use Rattle.visit.specs.Batches.{overlapping, firsts, seconds}
@@ -22,8 +21,8 @@ pub record Demand3 (ls : Lines) (g : Grid) (W : ℕ → List ℕ) (t : Tables) :
   pub globals : (k : ℕ) → elem k (globals_of t) ≡ (ltb k (count ls) && is_global W k)
   -- a full visit is what the entries answer: asked by bookmark, `visit::visits::test_at` answers each of the tests, in their order, with its
   -- place, its two lines and whether they overlap, and at the total the end mark
-  pub answered : (b : ℕ) (p : Pair) → b < length (tests_of t) → test_at ls g t b ≡ answer.Made (test_of ls (get_or (tests_of t) b p))
-  pub ended : test_at ls g t (length (tests_of t)) ≡ answer.End
+  pub answered : (b : ℕ) (p : Pair) → b < length (tests_of t) → test_at ls g t b ≡ Ok (Some (test_of ls (get_or (tests_of t) b p)))
+  pub ended : test_at ls g t (length (tests_of t)) ≡ Ok None
   -- and over calls of `visit::visits::batch` laid end to end the pairs handed out are, in order, those of the tests that overlap, and no others
   pub firsts_are : (cs : List Call) → FullVisit ls g t cs → firsts_of cs ≡ firsts (overlapping ls (tests_of t))
   pub seconds_are : (cs : List Call) → FullVisit ls g t cs → seconds_of cs ≡ seconds (overlapping ls (tests_of t))

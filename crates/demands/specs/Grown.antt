@@ -1,6 +1,7 @@
 -- Document 02, 11: "from here demand 3's build reads 'a build, or a build followed by lines added in its mode, each numbered with the count of lines so
 -- far'." The lines and the tables that such calls come to, straight from what they promise. Definitions only.
-use Rattle.std.specs.Prelude.{◌≡◌, List, [], ◌∷◌, ◌++◌, ℕ, suc, ◌<◌, length}
+use Rattle.std.specs.Prelude.{Ok, Result, ◌≡◌, List, [], ◌∷◌, ◌++◌, ℕ, suc, ◌<◌, length}
+use Rattle.refusals.specs.declared.Refusal.{Refusal}
 use Rattle.grid.specs.declared.Grid.{Grid}
 use Rattle.grid.specs.declared.Segment.{Segment}
 use Rattle.grid.specs.Domain.{Lines, lines, count}
@@ -9,11 +10,8 @@ use Rattle.tables.specs.Tables.{Tables, tables, cells, list_of, globals_of, besi
 use Rattle.tables.specs.Fit.{TablesFit}
 use Rattle.build.specs.declared.Plan.{Plan}
 use Rattle.build.specs.declared.Standing.{Standing}
-use Rattle.build.specs.declared.Built.{Built}
-use Rattle.build.specs.declared.Built.TheVariants as built
 use Rattle.build.specs.Build.{end_of, BuildIs}
 use Rattle.added.specs.declared.Added.{Added}
-use Rattle.added.specs.declared.Added.TheVariants as added
 use Rattle.added.specs.Added.{add_end, AddIs}
 
 -- a build that succeeded, in some slices
@@ -24,14 +22,14 @@ pub record FromBuild (mode : Mode) (g : Grid) (ls : Lines) (t : Tables) : Type 0
   pub items : List ℕ
   pub globals : List ℕ
   pub scratch : List ℕ
-  pub answer : Built
+  pub answer : (Result Standing Refusal)
   pub offsets' : List ℕ
   pub items' : List ℕ
   pub globals' : List ℕ
   pub scratch' : List ℕ
   pub standing : Standing
   pub is : BuildIs plan.mode ls offsets items globals scratch answer offsets' items' globals' scratch' (end_of plan ls (length offsets) (length items) (length globals) (length scratch))
-  pub made : answer ≡ built.Tables standing
+  pub made : answer ≡ Ok standing
   pub on_grid : standing.grid ≡ g
   pub left : t ≡ beside ls g offsets' items' globals' standing.globals
 
@@ -45,7 +43,7 @@ with_line ls line =
 pub record FromLine (mode : Mode) (g : Grid) (ls : Lines) (t : Tables) (line : Segment) (t' : Tables) : Type 0 where
   pub scratch : List ℕ
   pub leaves : List ℕ → List ℕ
-  pub answer : Added
+  pub answer : (Result Added Refusal)
   pub listing_cells : ℕ
   pub all_items : ℕ
   pub all_globals : ℕ
@@ -54,7 +52,7 @@ pub record FromLine (mode : Mode) (g : Grid) (ls : Lines) (t : Tables) (line : S
   pub globals' : List ℕ
   pub scratch' : List ℕ
   pub is : AddIs t (add_end mode g line t (length scratch)) scratch leaves answer offsets' items' globals' scratch'
-  pub made : answer ≡ added.Tables listing_cells all_items all_globals
+  pub made : answer ≡ Ok (record { cells = listing_cells; items = all_items; globals = all_globals })
   pub left : t' ≡ tables g (suc (count ls)) offsets' items' globals' all_globals
 
 -- the same lists in other slices, which may have more room

@@ -1,11 +1,10 @@
 -- Each pair once, of calls of `once::pairs_once` that are not refused: they hand out the pairs, taken without order, that a full visit hands
 -- out, each once; and after a build in the covering mode, or one followed by lines added in it, any two different lines that share an exact point. Definitions only.
-use Rattle.std.specs.Prelude.{◌≡◌, List, ℕ, ltb, take}
+use Rattle.std.specs.Prelude.{Ok, ◌≡◌, List, ℕ, ltb, take}
 use Rattle.grid.specs.declared.Grid.{Grid}
 use Rattle.grid.specs.Domain.{Lines}
 use Rattle.tables.specs.Tables.{Tables}
 use Rattle.visit.specs.Words.{one_where}
-use Rattle.lent.specs.declared.OnceAnswer.TheVariants.{Pairs}
 use Rattle.first_tests.specs.Firsts.{PairsAre}
 use Rattle.once.specs.Once.{once_by}
 use Rattle.demands.specs.Calls.{Call, FullVisit, firsts_of, seconds_of, handed_out}
@@ -24,7 +23,7 @@ pub record OnceCall (ls : Lines) (g : Grid) (t : Tables) : Type 0 where
   pub listing' : List ℕ
   pub counts' : List ℕ
   pub number : ℕ
-  pub says : PairsAre (once_by ls g t «lent-first» «lent-second» starts listing counts) «lent-first» «lent-second» starts listing counts (Pairs number) first second starts' listing' counts'
+  pub says : PairsAre (once_by ls g t «lent-first» «lent-second» starts listing counts) «lent-first» «lent-second» starts listing counts (Ok number) first second starts' listing' counts'
 
 -- how often it hands out a and b, either of them first
 abbrev pub once_out : {ls : Lines} {g : Grid} {t : Tables} → ℕ → ℕ → OnceCall ls g t → ℕ

@@ -1,7 +1,8 @@
 -- Document 01, "Measured points": P1 to P10 as one table. A row has its label, what is asked, and what was measured; the claim is that every
 -- question of every row is answered as it was measured. Of document 02 there is what the sided walk answers at P6 (change 4), and, where P9 and P10
 -- speak of GeosCompat, whether it agrees with Grid (change 13). Definitions only.
-use Rattle.std.specs.Prelude.{◌≡◌, true, false, List, [], ◌∷◌, ℕ, ◌+◌, ◌-◌, ◌^◌, Float}
+use Rattle.std.specs.Prelude.{Ok, Result, Bool, ◌≡◌, true, false, List, [], ◌∷◌, ℕ, ◌+◌, ◌-◌, ◌^◌, Float}
+use Rattle.refusals.specs.declared.Refusal.{Refusal}
 use Rattle.numbers.specs.Arithmetic.{decimal, minus_decimal}
 use Rattle.refusals.specs.Refusals.{gives}
 use Rattle.grid.specs.declared.Grid.{Grid}
@@ -9,12 +10,7 @@ use Rattle.grid.specs.Domain.{segment_by}
 use Rattle.walk.specs.declared.Mode.{Mode}
 use Rattle.walk.specs.declared.Mode.TheVariants.{Rust, Sided}
 use Rattle.walk.specs.Segment.{entry_of}
-use Rattle.own.specs.declared.Owned.{Owned}
-use Rattle.own.specs.declared.Owned.TheVariants.{Yes, No}
 use Rattle.own.specs.Own.{point_answer}
-use Rattle.snap.specs.declared.Snapped.TheVariants.{Point}
-use Rattle.snap.specs.declared.Agreement.{Agreement}
-use Rattle.snap.specs.declared.Agreement.TheVariants.{Same, Differ}
 use Rattle.snap.specs.Snap.{snap_answer}
 use Rattle.snap.specs.Strategies.{agreement_answer}
 
@@ -41,11 +37,11 @@ pub data Question : Type 0 where
   -- the segment from (x₀, y₀) to (x₁, y₁) in a mode of walk: its cells
   segment_in : (mode : Mode) (x₀ y₀ x₁ y₁ : Float) (cells : List ℕ) → Question
   -- the cell (row, col) and the point (x, y): whether it owns it
-  owner : (row col : ℕ) (x y : Float) (owns : Owned) → Question
+  owner : (row col : ℕ) (x y : Float) (owns : (Result Bool Refusal)) → Question
   -- v, size 1: v snapped
   snap : (v to : Float) → Question
   -- v, size 1: whether Grid and GeosCompat agree
-  strategies : (v : Float) (agreement : Agreement) → Question
+  strategies : (v : Float) (agreement : (Result Bool Refusal)) → Question
 
 -- in the Rust's mode, in which all was measured
 abbrev pub segment_asked : Float → Float → Float → Float → List ℕ → Question
@@ -77,11 +73,11 @@ table =
     ∷ row P5 (point_asked (decimal (2 ^ 39 + 1) (2 ^ 39)) (decimal 1 2) (1 ∷ []) ∷ [])
     ∷ row P6
     (point_asked (decimal (2 ^ 41 - 1) (2 ^ 41)) (decimal 1 2) (0 ∷ []) ∷ point_sided (decimal (2 ^ 41 - 1) (2 ^ 41)) (decimal 1 2) (0 ∷ 1 ∷ []) ∷ [])
-    ∷ row P7 (owner 0 1 (decimal 1 1) (decimal 1 2) Yes ∷ owner 0 0 (decimal 1 1) (decimal 1 2) No ∷ [])
-    ∷ row P8 (owner 3 3 (decimal 4 1) (decimal 4 1) Yes ∷ [])
+    ∷ row P7 (owner 0 1 (decimal 1 1) (decimal 1 2) (Ok true) ∷ owner 0 0 (decimal 1 1) (decimal 1 2) (Ok false) ∷ [])
+    ∷ row P8 (owner 3 3 (decimal 4 1) (decimal 4 1) (Ok true) ∷ [])
     ∷ row P9
-    (snap (decimal 49999999999999994 (10 ^ 17)) (decimal 0 1) ∷ strategies (decimal 49999999999999994 (10 ^ 17)) Differ ∷ [])
-    ∷ row P10 (snap (minus_decimal 5 2) (minus_decimal 3 1) ∷ strategies (minus_decimal 5 2) Same ∷ [])
+    (snap (decimal 49999999999999994 (10 ^ 17)) (decimal 0 1) ∷ strategies (decimal 49999999999999994 (10 ^ 17)) (Ok false) ∷ [])
+    ∷ row P10 (snap (minus_decimal 5 2) (minus_decimal 3 1) ∷ strategies (minus_decimal 5 2) (Ok true) ∷ [])
     ∷ []
 
 -- ---- the claim
@@ -91,7 +87,7 @@ table =
 abbrev pub Answered : Question → Type 0
 Answered (segment_in mode x₀ y₀ x₁ y₁ cells) = entry_of mode 16384 four (segment_by x₀ y₀ x₁ y₁) ≡ gives cells
 Answered (owner row col x y owns) = point_answer four row col x y ≡ owns
-Answered (snap v to) = snap_answer v v (decimal 1 1) 0 ≡ Point to to
+Answered (snap v to) = snap_answer v v (decimal 1 1) 0 ≡ Ok (record { x = to; y = to })
 Answered (strategies v agreement) = agreement_answer v (decimal 1 1) ≡ agreement
 
 abbrev pub AllAnswered : List Question → Type 0

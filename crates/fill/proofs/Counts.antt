@@ -1,4 +1,5 @@
 -- The first pass over all lines: no walk so far was refused, and so many lines are global. Assumes nothing.
+use Rattle.std.specs.Prelude.{Ok, Err}
 use mathlib.Core.Path.{◌≡◌, refl, ap, ◌∙◌}
 use mathlib.Core.Bool.{Bool, true, false}
 use mathlib.Core.List.{List}
@@ -10,7 +11,6 @@ use lib.ListN.{length, replicate, length-append}
 use mir.Val.{Fits}
 use mir.Syntax.{w64}
 use Rattle.slices.proofs.Clearing.{zeros_at}
-use Rattle.refusals.specs.declared.Check.TheVariants.{Fine, Refused}
 use Rattle.refusals.specs.Refusals.{refusal, unless, each_from}
 use Rattle.refusals.proofs.Checks.{unless_fine, each_good, each_bad, each_over, each_says}
 use Rattle.grid.specs.declared.Grid.{Grid}
@@ -20,7 +20,6 @@ use Rattle.tables.specs.Lists.{long, only, global_lines}
 use Rattle.tables.specs.InsidePasses.{CanCount}
 use Rattle.tables.proofs.Laws.{counted_none}
 use Rattle.fill.specs.declared.passes.Walked.{Walked}
-use Rattle.fill.specs.declared.Count.TheVariants as counted
 use Rattle.fill.specs.OnGrid.{grid_cells, walk_on, completes, cells_on, globals_on, one_if}
 use Rattle.fill.specs.Checks.{room_check, turns_check}
 use Rattle.fill.specs.Inside.{CountAs, Walkable, WalkAsks, WalkedIs, local_on, VisitsCounted, CountedTo, CountAsks, LineCounted, PassAsks, AllCounted}
@@ -67,7 +66,7 @@ module _ {mode : Mode} {g : Grid} {ls : Lines} {o₀ s₀ o s : List ℕ} {globa
   counting_asks = record { at = l; walkable = k.walkable; counted = k.counted }
 
   module _ {s' : List ℕ} {w : Walked} (v : WalkedIs mode g ls i s' w) where
-    pub counting_over : w.over ≡ true → turns_check mode g ls ≡ Refused (refusal 7 i)
+    pub counting_over : w.over ≡ true → turns_check mode g ls ≡ Err (refusal 7 i)
     counting_over e = k.turns ∙ each_bad (λ i. completes (walk_on mode g ls i)) 7 (count ls) i l (walk_ends mode g ls i w.over false v.over_is e)
 
     module _ (e : w.over ≡ false) where
@@ -95,14 +94,14 @@ module _ {mode : Mode} {g : Grid} {ls : Lines} {o₀ s₀ o s : List ℕ} {globa
               counted = h.next;
             }
 
-pub counting_end : {mode : Mode} {g : Grid} {ls : Lines} {o₀ s₀ o s : List ℕ} {globals i : ℕ} → CountingAll mode g ls o₀ s₀ o s globals i → count ls ≤ i → CountAs (turns_check mode g ls) (AllCounted mode g ls o) (counted.Of globals)
+pub counting_end : {mode : Mode} {g : Grid} {ls : Lines} {o₀ s₀ o s : List ℕ} {globals i : ℕ} → CountingAll mode g ls o₀ s₀ o s globals i → count ls ≤ i → CountAs (turns_check mode g ls) (AllCounted mode g ls o) (Ok globals)
 unfolding globals_on
 counting_end {mode} {g} {ls} {i = i} k l =
     let e : i ≡ count ls = omega (arith, k.at) in
     (k.turns ∙ each_over (λ i. completes (walk_on mode g ls i)) 7 (count ls) i l, record { found = rw e at k.found; counted = rw e at k.counted })
 
 -- where no walk is refused, each ends
-pub turns_all : (mode : Mode) (g : Grid) (ls : Lines) → turns_check mode g ls ≡ Fine → (i : ℕ) → i < count ls → completes (walk_on mode g ls i) ≡ true
+pub turns_all : (mode : Mode) (g : Grid) (ls : Lines) → turns_check mode g ls ≡ Ok tt → (i : ℕ) → i < count ls → completes (walk_on mode g ls i) ≡ true
 unfolding turns_check
 turns_all mode g ls h i l = each_says (λ i. completes (walk_on mode g ls i)) 7 (count ls) 0 i h (omega arith) (omega arith)
 
@@ -110,16 +109,16 @@ turns_all mode g ls h i l = each_says (λ i. completes (walk_on mode g ls i)) 7 
 
 -- 4: the offsets hold a grid's cells and one more
 module _ (g : Grid) (room n : ℕ) (e : n ≡ grid_cells g) where
-  pub room_short : room < n + 1 → Refused (refusal 4 (n + 1)) ≡ room_check g room
+  pub room_short : room < n + 1 → Err (refusal 4 (n + 1)) ≡ room_check g room
   unfolding room_check unless
   room_short l = let k : room < grid_cells g + 1 = omega arith in rw (lt-leb (grid_cells g + 1) room k, e)
 
-  pub room_fine : n + 1 ≤ room → Fine ≡ room_check g room
+  pub room_fine : n + 1 ≤ room → Ok tt ≡ room_check g room
   unfolding room_check unless
   room_fine l = let k : grid_cells g + 1 ≤ room = omega arith in rw (le-leb (grid_cells g + 1) room k)
 
 -- cleared offsets count no line
-pub counted_clear : (mode : Mode) (g : Grid) (ls : Lines) (o o' : List ℕ) → o' ≡ replicate (length o) 0 → length o' ≡ length o → room_check g (length o) ≡ Fine → CountedTo mode g ls 0 o'
+pub counted_clear : (mode : Mode) (g : Grid) (ls : Lines) (o o' : List ℕ) → o' ≡ replicate (length o) 0 → length o' ≡ length o → room_check g (length o) ≡ Ok tt → CountedTo mode g ls 0 o'
 unfolding room_check
 counted_clear mode g ls o o' e s f =
     let l : grid_cells g + 1 ≤ length o = leb-true (grid_cells g + 1) (length o) (unless_fine _ 4 _ f) in

@@ -1,4 +1,5 @@
 -- From the counts on a grid to its tables, or to refusal 5 or 6. Assumes nothing.
+use Rattle.std.specs.Prelude.{Ok, Err}
 use mathlib.Core.Path.{◌≡◌, refl, sym, ap, ◌∙◌, fun_ext}
 use mathlib.Core.List.{List, [], ◌∷◌, ◌++◌}
 use Prim.Native.Nat.{ℕ, zero, suc, ◌-◌, ◌≤◌, ◌<◌, ◌^◌}
@@ -7,7 +8,6 @@ use borrow.Author.Tests.{le-leb, lt-leb}
 use lib.ListN.{length, get_or, replicate}
 use Rattle.slices.specs.Slices.{cleared_from}
 use Rattle.slices.proofs.Clearing.{zeros_at}
-use Rattle.refusals.specs.declared.Check.TheVariants.{Fine, Refused}
 use Rattle.refusals.specs.Refusals.{refusal, unless, and_then, gives, answer_by, left_in, zero_beyond}
 use Rattle.grid.specs.declared.Grid.{Grid}
 use Rattle.grid.specs.Domain.{Lines, count}
@@ -47,15 +47,15 @@ placed_cleared {W} {n} {cells} {o₀} {o} w h low high rest =
 -- ---- 5, then 6
 
 module _ (mode : Mode) (g : Grid) (ls : Lines) (items globals all found : ℕ) (e : all ≡ total mode g ls) (d : found ≡ length (globals_on mode g ls)) where
-  pub space_short : items < all → space_check mode g ls items globals ≡ Refused (refusal 5 all)
+  pub space_short : items < all → space_check mode g ls items globals ≡ Err (refusal 5 all)
   unfolding space_check unless and_then
   space_short l = rw (← e, lt-leb all items l)
 
-  pub space_globals : all ≤ items → globals < found → space_check mode g ls items globals ≡ Refused (refusal 6 found)
+  pub space_globals : all ≤ items → globals < found → space_check mode g ls items globals ≡ Err (refusal 6 found)
   unfolding space_check unless and_then
   space_globals l m = rw (← e, ← d, le-leb all items l, lt-leb found globals m)
 
-  pub space_fine : all ≤ items → found ≤ globals → space_check mode g ls items globals ≡ Fine
+  pub space_fine : all ≤ items → found ≤ globals → space_check mode g ls items globals ≡ Ok tt
   unfolding space_check unless and_then
   space_fine l m = rw (← e, ← d, le-leb all items l, le-leb found globals m)
 
@@ -102,7 +102,7 @@ module _ {mode : Mode} {g : Grid} {ls : Lines} {all found items globals : ℕ} {
       }
 
   pub lay_made : {t gs o₂ o₃ t₂ gs₂ s₃ : List ℕ} {n room long : ℕ} → n ≡ grid_cells g → AllPlaced mode g ls o₂ t₂ room gs₂ → ShiftedBack o₂ o₃ n → s₃ ≡ replicate long 0
-      → length o₃ ≡ length o → length t₂ ≡ length t → room ≡ length gs → long ≡ length s → FillIs mode g ls o t gs s (filled.Tables all found) o₃ t₂ gs₂ s₃ (gives made)
+      → length o₃ ≡ length o → length t₂ ≡ length t → room ≡ length gs → long ≡ length s → FillIs mode g ls o t gs s (Ok (filled.Tables all found)) o₃ t₂ gs₂ s₃ (gives made)
   unfolding answer_by left_in filled_of written_in zero_beyond list_on total
   lay_made {o₂ = o₂} {o₃} {t₂} e q k z b d f h =
       let a = p.asks in

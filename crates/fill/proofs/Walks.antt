@@ -1,4 +1,5 @@
 -- The walks of lines on a fit grid. Assumes nothing.
+use Rattle.std.specs.Prelude.{Ok, Err, Result}
 use mathlib.Core.Path.{◌≡◌, refl, sym, ap, ◌∙◌}
 use mathlib.Core.Bool.{Bool, true, false, not, true≢false}
 use mathlib.Core.List.{List}
@@ -28,7 +29,7 @@ use Rattle.fill.specs.Inside.{Walkable, WalkAsks, LineFront, WalkedIs, local_on}
 -- ---- what the walk answers, as a count
 
 -- the answer names the cells, and they stand at the front; or they are all; or the answer is a refusal
-walked_found : (o : Outcome) (all : Bool) (was : List ℕ) (n : ℕ) (s : List ℕ) → walk.Walked all o was (reached.Found n) s
+walked_found : (o : Outcome) (all : Bool) (was : List ℕ) (n : ℕ) (s : List ℕ) → walk.Walked all o was (Ok (reached.Found n)) s
     → (completes o ≡ true) × (all ≡ false) × (n ≡ length (visited o)) × (take n s ≡ visited o)
 unfolding walk.reached_of answer_by
 walked_found (refused why) all was n s h = let z : ◌≡◌ {A = ℕ} 0 1 = cc h.answer in absurd (omega arith)
@@ -37,13 +38,13 @@ walked_found (gives xs) false was n s h =
     let k : n ≡ length xs = cc h.answer in
     (refl, refl, k, rw k h.left)
 
-walked_everywhere : (o : Outcome) (all : Bool) (was s : List ℕ) → walk.Walked all o was reached.Everywhere s → (completes o ≡ true) × (all ≡ true)
+walked_everywhere : (o : Outcome) (all : Bool) (was s : List ℕ) → walk.Walked all o was (Ok reached.Everywhere) s → (completes o ≡ true) × (all ≡ true)
 unfolding walk.reached_of answer_by
 walked_everywhere (refused why) all was s h = let z : ◌≡◌ {A = ℕ} 0 1 = cc h.answer in absurd (omega arith)
 walked_everywhere (gives xs) true was s h = (refl, refl)
 walked_everywhere (gives xs) false was s h = let z : ◌≡◌ {A = ℕ} 0 1 = cc h.answer in absurd (omega arith)
 
-walked_refused : (o : Outcome) (all : Bool) (was : List ℕ) (r : Refusal) (s : List ℕ) → walk.Walked all o was (reached.Refused r) s → completes o ≡ false
+walked_refused : (o : Outcome) (all : Bool) (was : List ℕ) (r : Refusal) (s : List ℕ) → walk.Walked all o was (Err r) s → completes o ≡ false
 unfolding walk.reached_of answer_by
 walked_refused (refused why) all was r s h = refl
 walked_refused (gives xs) true was r s h = let z : ◌≡◌ {A = ℕ} 0 1 = cc h.answer in absurd (omega arith)
@@ -69,7 +70,7 @@ module _ (mode : Mode) (g : Grid) (ls : Lines) (i : ℕ) where
       go (gives xs) e k = segment_visits mode g (segment_at ls i) h xs e
 
   -- the scratch and the grid pass, so the walk can be refused by 7 alone
-  module _ {s : List ℕ} (a : WalkAsks g ls i s) (r : Reached) {s' : List ℕ}
+  module _ {s : List ℕ} (a : WalkAsks g ls i s) (r : Result Reached Refusal) {s' : List ℕ}
       (h : walk.Walked (walk.everywhere_in mode g (segment_at ls i)) (walk.as_is_of mode (length s) g (segment_at ls i)) s r s') where
     abbrev all : Bool
     all = walk.everywhere_in mode g (segment_at ls i)
@@ -78,20 +79,20 @@ module _ (mode : Mode) (g : Grid) (ls : Lines) (i : ℕ) where
     unfolding walk_on
     inner = let w = a.walkable in rw (as_is (length s) g mode _ w.space w.fits) at h
 
-    pub walk_found : (n : ℕ) → r ≡ reached.Found n → WalkedIs mode g ls i s' (record { over = false; cells = n })
+    pub walk_found : (n : ℕ) → r ≡ Ok (reached.Found n) → WalkedIs mode g ls i s' (record { over = false; cells = n })
     unfolding cells_on
     walk_found n e =
         let k = walked_found (walk_on mode g ls i) all s n s' (rw e at inner) in
         let few : n ≤ length s' = omega (arith, (line_cells a.walkable.fits k.0).few k.1, a.walkable.space, inner.size, k.2) in
         record { over_is = sym (ap not k.0); cells_are = λ _. record { size = k.2; front = λ _. (few, k.3) } }
 
-    pub walk_everywhere : (n : ℕ) → r ≡ reached.Everywhere → n ≡ grid_cells g → WalkedIs mode g ls i s' (record { over = false; cells = n })
+    pub walk_everywhere : (n : ℕ) → r ≡ (Ok reached.Everywhere) → n ≡ grid_cells g → WalkedIs mode g ls i s' (record { over = false; cells = n })
     walk_everywhere n e d =
         let k = walked_everywhere (walk_on mode g ls i) all s s' (rw e at inner) in
         let v = (line_cells a.walkable.fits k.0).all k.1 in
         record { over_is = sym (ap not k.0); cells_are = λ _. record { size = d ∙ sym v.0; front = λ l. absurd (omega (arith, v.1)) } }
 
-    pub walk_over : (q : Refusal) → r ≡ reached.Refused q → WalkedIs mode g ls i s' (record { over = true; cells = 0 })
+    pub walk_over : (q : Refusal) → r ≡ Err q → WalkedIs mode g ls i s' (record { over = true; cells = 0 })
     walk_over q e =
         record { over_is = sym (ap not (walked_refused (walk_on mode g ls i) all s q s' (rw e at inner))); cells_are = λ z. absurd (true≢false z) }
 

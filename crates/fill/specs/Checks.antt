@@ -1,7 +1,6 @@
 -- Document 01, "Refusal numbers": what is refused on a given grid, in its order. Definitions only.
+use Rattle.refusals.specs.Refusals.{Check, unless, and_then, each_from}
 use Rattle.std.specs.Prelude.{ℕ, ◌+◌, leb, length}
-use Rattle.refusals.specs.declared.Check.{Check}
-use Rattle.refusals.specs.Refusals.{unless, and_then, each_from}
 use Rattle.grid.specs.declared.Grid.{Grid}
 use Rattle.grid.specs.Domain.{Lines, count, scratch_check, lines_check, grid_check}
 use Rattle.walk.specs.declared.Mode.{Mode}

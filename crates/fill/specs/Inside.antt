@@ -1,16 +1,12 @@
 -- What the private functions ask and promise. Definitions only.
-use Rattle.std.specs.Prelude.{◌≡◌, true, false, not, List, ◌++◌, ℕ, ◌+◌, ◌-◌, ◌≤◌, ◌<◌, length, take, get_or, replicate}
+use Rattle.std.specs.Prelude.{◌≡◌, true, false, not, List, ◌++◌, ℕ, ◌+◌, ◌-◌, ◌≤◌, ◌<◌, length, take, get_or, replicate, Result, Ok, Err}
+use Rattle.refusals.specs.Refusals.{Check, Answer, refused, gives, left_by}
 use Rattle.refusals.specs.declared.Refusal.{Refusal}
-use Rattle.refusals.specs.declared.Check.{Check}
-use Rattle.refusals.specs.declared.Check.TheVariants.{Fine, Refused}
-use Rattle.refusals.specs.Refusals.{refusal, Answer, refused, gives, left_by}
 use Rattle.grid.specs.declared.Grid.{Grid}
 use Rattle.grid.specs.Domain.{Lines, count, Alike, line_fits, fit}
 use Rattle.walk.specs.declared.Mode.{Mode}
 use Rattle.tables.specs.Lists.{long, local, lines_at, sum}
 use Rattle.tables.specs.InsidePasses.{Counted, Placed, CanCount, CanPlace}
-use Rattle.fill.specs.declared.Count.{Count}
-use Rattle.fill.specs.declared.Count.TheVariants as counted
 use Rattle.fill.specs.declared.passes.Walked.{Walked}
 use Rattle.fill.specs.declared.offsets.SumsEnd.{SumsEnd}
 use Rattle.fill.specs.declared.Filled.{Filled}
@@ -22,9 +18,9 @@ use Rattle.fill.specs.Fill.{more_than, Filling, crowded, made}
 -- ---- a number, or refused
 
 -- the refusal of a check; or the check refuses nothing, and the number is as told
-abbrev pub CountAs : Check → (ℕ → Type 0) → Count → Type 0
-CountAs k P (counted.Of n) = (k ≡ Fine) × P n
-CountAs k P (counted.Refused r) = k ≡ Refused r
+abbrev pub CountAs : Check → (ℕ → Type 0) → Result ℕ Refusal → Type 0
+CountAs k P (Ok n) = (k ≡ Ok tt) × P n
+CountAs k P (Err r) = k ≡ Err r
 
 -- ---- one line
 
@@ -87,10 +83,10 @@ pub record AllCounted (mode : Mode) (g : Grid) (ls : Lines) (o : List ℕ) (k : 
   pub counted : CountedTo mode g ls (count ls) o
 
 -- all lines counted, or a refusal, by whose rule both slices are as they were
-pub record CountLent (mode : Mode) (g : Grid) (ls : Lines) (o s : List ℕ) (r : Count) (o' s' : List ℕ) : Type 0 where
+pub record CountLent (mode : Mode) (g : Grid) (ls : Lines) (o s : List ℕ) (r : Result ℕ Refusal) (o' s' : List ℕ) : Type 0 where
   pub is : CountAs (counting_check mode g ls (length o) (length s)) (AllCounted mode g ls o') r
-  pub offsets : (q : Refusal) → r ≡ counted.Refused q → left_by 0 q o' ≡ left_by 0 q o
-  pub scratch : (q : Refusal) → r ≡ counted.Refused q → left_by 0 q s' ≡ left_by 0 q s
+  pub offsets : (q : Refusal) → r ≡ Err q → left_by 0 q o' ≡ left_by 0 q o
+  pub scratch : (q : Refusal) → r ≡ Err q → left_by 0 q s' ≡ left_by 0 q s
 
 -- ---- the second pass
 
@@ -119,7 +115,7 @@ pub record LinePlaced (mode : Mode) (g : Grid) (ls : Lines) (i : ℕ) (o t : Lis
 -- the second pass can begin, and has room
 pub record PlaceAsks (mode : Mode) (g : Grid) (ls : Lines) (o t gs s : List ℕ) : Type 0 where
   pub walkable : Walkable g ls s
-  pub turns : turns_check mode g ls ≡ Fine
+  pub turns : turns_check mode g ls ≡ Ok tt
   pub first : PlacedTo mode g ls 0 o t
   pub clear : gs ≡ replicate (length gs) 0
   pub fits : length (globals_on mode g ls) ≤ length gs
@@ -153,7 +149,7 @@ pub record ShiftedBack (o₀ o : List ℕ) (cells : ℕ) : Type 0 where
 -- the lines are counted, and `found` are global
 pub record FillAsks (mode : Mode) (g : Grid) (ls : Lines) (found : ℕ) (o s : List ℕ) : Type 0 where
   pub walkable : Walkable g ls s
-  pub turns : turns_check mode g ls ≡ Fine
+  pub turns : turns_check mode g ls ≡ Ok tt
   pub all : AllCounted mode g ls o found
 
 -- the offsets o are the running sums of the counts, and the tables have room
@@ -172,16 +168,10 @@ pub record DueRefusal (o s o' s' : List ℕ) (f : Answer Filling) (q : Refusal) 
   pub scratch : left_by 0 q s' ≡ left_by 0 q s
 
 -- by the answer: the tables are due, and can be laid out; some cell is crowded; or a refusal is due
-abbrev pub PlanAs : Mode → Grid → Lines → ℕ → ℕ → List ℕ → List ℕ → List ℕ → List ℕ → Answer Filling → Filled → Type 0
-PlanAs mode g ls items globals o s o' s' f (filled.Tables all found) = (f ≡ gives made) × LayAsks mode g ls all found items globals o' s'
-PlanAs mode g ls items globals o s o' s' f filled.Crowded = f ≡ gives crowded
-PlanAs mode g ls items globals o s o' s' f (filled.Refused q) = DueRefusal o s o' s' f q
+abbrev pub PlanAs : Mode → Grid → Lines → ℕ → ℕ → List ℕ → List ℕ → List ℕ → List ℕ → Answer Filling → Result Filled Refusal → Type 0
+PlanAs mode g ls items globals o s o' s' f (Ok (filled.Tables all found)) = (f ≡ gives made) × LayAsks mode g ls all found items globals o' s'
+PlanAs mode g ls items globals o s o' s' f (Ok filled.Crowded) = f ≡ gives crowded
+PlanAs mode g ls items globals o s o' s' f (Err q) = DueRefusal o s o' s' f q
 
-pub record PlanIs (mode : Mode) (g : Grid) (ls : Lines) (items globals : ℕ) (o s o' s' : List ℕ) (f : Answer Filling) (r : Filled) : Type 0 where
+pub record PlanIs (mode : Mode) (g : Grid) (ls : Lines) (items globals : ℕ) (o s o' s' : List ℕ) (f : Answer Filling) (r : Result Filled Refusal) : Type 0 where
   pub by : PlanAs mode g ls items globals o s o' s' f r
-
--- the refusal whose rule says what is left where no tables are made
-abbrev pub rule_of : Filled → Refusal
-rule_of (filled.Refused q) = q
-rule_of filled.Crowded = refusal 4 0
-rule_of (filled.Tables all found) = refusal 4 0

@@ -6,7 +6,7 @@ ghost use Rattle.fill.specs.Inside.{PlanIs};
 
 use crate::offsets::running_sums;
 use crate::passes::cell_count;
-use crate::{Count, Filled, count_lent};
+use crate::{Filled, count_lent};
 use grid::Grid;
 use refusals::Refusal;
 use walk::Mode;
@@ -25,38 +25,33 @@ pub(crate) fn plan(
     globals: usize,
     offsets: &mut [u32],
     scratch: &mut [u32],
-) -> Filled
+) -> Result<Filled, Refusal>
     ensures { let ls = lines start_x.now start_y.now end_x.now end_y.now in
         let o = offsets.old in
         let s = scratch.old in
         PlanIs mode grid ls items globals o s offsets.new scratch.new (filling_of mode grid ls most (length o) items globals (length s)) result }
 {
-    let counted = count_lent(mode, start_x, start_y, end_x, end_y, grid, offsets, scratch);
-    match counted {
-        Count::Of(found) => {
-            let n = cell_count(grid);
-            let sums = running_sums(offsets, n, most);
-            if sums.crowded {
-                return Filled::Crowded;
-            }
-            let sum = sums.total as usize;
-            if items < sum {
-                return Filled::Refused(Refusal {
-                    number: 5,
-                    value: sum as u64,
-                });
-            }
-            if globals < found {
-                return Filled::Refused(Refusal {
-                    number: 6,
-                    value: found as u64,
-                });
-            }
-            Filled::Tables {
-                items: sum,
-                globals: found,
-            }
-        },
-        Count::Refused(r) => Filled::Refused(r),
+    let found = count_lent(mode, start_x, start_y, end_x, end_y, grid, offsets, scratch)?;
+    let n = cell_count(grid);
+    let sums = running_sums(offsets, n, most);
+    if sums.crowded {
+        return Ok(Filled::Crowded);
     }
+    let sum = sums.total as usize;
+    if items < sum {
+        return Err(Refusal {
+            number: 5,
+            value: sum as u64,
+        });
+    }
+    if globals < found {
+        return Err(Refusal {
+            number: 6,
+            value: found as u64,
+        });
+    }
+    Ok(Filled::Tables {
+        items: sum,
+        globals: found,
+    })
 }

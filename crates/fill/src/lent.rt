@@ -3,26 +3,24 @@ ghost use Rattle.std.specs.Prelude.{◌≡◌, true};
 ghost use Rattle.refusals.specs.Refusals.{and_then, left_by};
 ghost use Rattle.grid.specs.Domain.{lines, fit};
 ghost use Rattle.fill.specs.Checks.{on_grid_check, room_check};
-ghost use Rattle.fill.specs.Inside.{rule_of};
 
-use crate::Filled;
 use crate::passes::cell_count;
 use grid::Grid;
-use refusals::{Check, Refusal};
+use refusals::Refusal;
 
 // 4: the offsets have room for the cells and one more.
-fn check_room(grid: Grid, room: usize) -> Check
+fn check_room(grid: Grid, room: usize) -> Result<(), Refusal>
     requires { fit grid ≡ true }
     ensures { result ≡ room_check grid room }
 {
     let asked = cell_count(grid) + 1;
     if room < asked {
-        return Check::Refused(Refusal {
+        return Err(Refusal {
             number: 4,
             value: asked as u64,
         });
     }
-    Check::Fine
+    Ok(())
 }
 
 // 3, 2, 1, 8, then 4: before anything is written.
@@ -34,22 +32,13 @@ pub(crate) fn check(
     grid: Grid,
     scratch: usize,
     room: usize,
-) -> Check
+) -> Result<(), Refusal>
     ensures { let ls = lines start_x.now start_y.now end_x.now end_y.now in
         result ≡ and_then (on_grid_check grid ls scratch) (room_check grid room) }
 {
-    let space = grid::checks::check_scratch(scratch);
-    if let Check::Refused(_) = space {
-        return space;
-    }
-    let lines = grid::checks::check_lines(start_x, start_y, end_x, end_y);
-    if let Check::Refused(_) = lines {
-        return lines;
-    }
-    let shape = grid::checks::check_grid(grid);
-    if let Check::Refused(_) = shape {
-        return shape;
-    }
+    grid::checks::check_scratch(scratch)?;
+    grid::checks::check_lines(start_x, start_y, end_x, end_y)?;
+    grid::checks::check_grid(grid)?;
     check_room(grid, room)
 }
 
@@ -64,17 +53,4 @@ pub(crate) fn leave(why: Refusal, s: &mut [u32])
         return;
     }
     slices::clear(s);
-}
-
-// The refusal whose rule says what is left where no tables are made. Where some cell is crowded nothing is kept of the count, as by 4.
-pub(crate) fn rule_of(why: Filled) -> Refusal
-    ensures { result ≡ rule_of why }
-{
-    let Filled::Refused(r) = why else {
-        return Refusal {
-            number: 4,
-            value: 0,
-        };
-    };
-    r
 }

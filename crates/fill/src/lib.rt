@@ -14,26 +14,18 @@ ghost use Rattle.fill.specs.Fill.{count_of, CountIs, filling_of, FillIs};
 ghost use Rattle.fill.specs.Inside.{CountLent};
 
 use crate::filling::plan;
-use crate::lent::{check, leave, rule_of};
+use crate::lent::{check, leave};
 use crate::offsets::shift_back;
 use crate::passes::{cell_count, count_lines, place_lines};
 use grid::Grid;
-use refusals::{Check, Refusal};
+use refusals::Refusal;
 use walk::Mode;
 
-// A number, or the refusal that is due.
-#[derive(Clone, Copy)]
-pub enum Count {
-    Of(usize),
-    Refused(Refusal),
-}
-
-// How many items and global lines the tables have; or that some cell would list more lines than it may; or the refusal that is due.
+// How many items and global lines the tables have; or that some cell would list more lines than it may, which a `None` would not say.
 #[derive(Clone, Copy)]
 pub enum Filled {
     Tables { items: usize, globals: usize },
     Crowded,
-    Refused(Refusal),
 }
 
 // The checks, and the count. A refusal is not cleared up after yet.
@@ -46,11 +38,11 @@ pub(crate) fn count_lent(
     grid: Grid,
     offsets: &mut [u32],
     scratch: &mut [u32],
-) -> Count
+) -> Result<usize, Refusal>
     ensures { let ls = lines start_x.now start_y.now end_x.now end_y.now in
         CountLent mode grid ls offsets.old scratch.old result offsets.new scratch.new }
 {
-    let checked = check(
+    check(
         start_x,
         start_y,
         end_x,
@@ -58,10 +50,7 @@ pub(crate) fn count_lent(
         grid,
         scratch.len(),
         offsets.len(),
-    );
-    if let Check::Refused(r) = checked {
-        return Count::Refused(r);
-    }
+    )?;
     slices::clear(offsets);
     count_lines(mode, start_x, start_y, end_x, end_y, grid, offsets, scratch)
 }
@@ -76,13 +65,13 @@ pub fn count_on(
     grid: Grid,
     counts: &mut [u32],
     scratch: &mut [u32],
-) -> Count
+) -> Result<usize, Refusal>
     ensures { let ls = lines start_x.now start_y.now end_x.now end_y.now in
         let a = count_of mode grid ls (length counts.old) (length scratch.old) in
         CountIs mode grid ls counts.old scratch.old result counts.new scratch.new a }
 {
     let counted = count_lent(mode, start_x, start_y, end_x, end_y, grid, counts, scratch);
-    if let Count::Refused(r) = counted {
+    if let Err(r) = counted {
         leave(r, counts);
         leave(r, scratch);
         return counted;
@@ -106,7 +95,7 @@ pub fn fill_on(
     items: &mut [u32],
     globals: &mut [u32],
     scratch: &mut [u32],
-) -> Filled
+) -> Result<Filled, Refusal>
     ensures { let ls = lines start_x.now start_y.now end_x.now end_y.now in
         let o = offsets.old in
         let t = items.old in
@@ -128,24 +117,36 @@ pub fn fill_on(
         offsets,
         scratch,
     );
-    if let Filled::Tables {
-        items: total,
-        globals: _,
-    } = planned
-    {
-        slices::clear_from(items, total);
-        slices::clear(globals);
-        place_lines(
-            mode, start_x, start_y, end_x, end_y, grid, offsets, items, globals, scratch,
-        );
-        shift_back(offsets, cell_count(grid));
-        slices::clear(scratch);
-        return planned;
+    match planned {
+        Ok(
+            Filled::Tables {
+                items: total,
+                globals: _,
+            },
+        ) => {
+            slices::clear_from(items, total);
+            slices::clear(globals);
+            place_lines(
+                mode, start_x, start_y, end_x, end_y, grid, offsets, items, globals, scratch,
+            );
+            shift_back(offsets, cell_count(grid));
+            slices::clear(scratch);
+            planned
+        },
+        // nothing is kept of the count, as by refusal 4
+        Ok(Filled::Crowded) => {
+            slices::clear(offsets);
+            slices::clear(items);
+            slices::clear(globals);
+            slices::clear(scratch);
+            planned
+        },
+        Err(why) => {
+            leave(why, offsets);
+            leave(why, items);
+            leave(why, globals);
+            leave(why, scratch);
+            planned
+        },
     }
-    let rule = rule_of(planned);
-    leave(rule, offsets);
-    leave(rule, items);
-    leave(rule, globals);
-    leave(rule, scratch);
-    planned
 }

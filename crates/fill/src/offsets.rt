@@ -16,8 +16,7 @@ pub(crate) fn running_sums(offsets: &mut [u32], cells: usize, most: u32) -> Sums
     ensures { SumsAre most offsets.old offsets.new cells result }
 {
     let mut total: u32 = 0;
-    let mut c = 0;
-    while c < cells {
+    for c in 0..cells {
         let count = offsets[c];
         if most < count {
             return SumsEnd {
@@ -27,7 +26,6 @@ pub(crate) fn running_sums(offsets: &mut [u32], cells: usize, most: u32) -> Sums
         }
         offsets[c] = total;
         total += count;
-        c += 1;
     }
     offsets[cells] = total;
     SumsEnd {
@@ -41,10 +39,8 @@ pub(crate) fn shift_back(offsets: &mut [u32], cells: usize)
     requires { cells < length offsets.old }
     ensures { ShiftedBack offsets.old offsets.new cells }
 {
-    let mut c = cells;
-    while 0 < c {
-        offsets[c] = offsets[c - 1];
-        c -= 1;
+    for c in (0..cells).rev() {
+        offsets[c + 1] = offsets[c];
     }
     offsets[0] = 0;
 }

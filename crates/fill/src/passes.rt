@@ -6,7 +6,6 @@ ghost use Rattle.fill.specs.OnGrid.{grid_cells};
 ghost use Rattle.fill.specs.Checks.{turns_check};
 ghost use Rattle.fill.specs.Inside.{CountAs, WalkAsks, WalkedIs, VisitsCounted, PassAsks, AllCounted, VisitsPlaced, PlaceAsks, AllPlaced};
 
-use crate::Count;
 use grid::Grid;
 use grid::segments::segment_at;
 use refusals::Refusal;
@@ -54,15 +53,15 @@ fn walk_line(
         scratch,
     );
     match reached {
-        Reached::Found(n) => Walked {
+        Ok(Reached::Found(n)) => Walked {
             over: false,
             cells: n,
         },
-        Reached::Everywhere => Walked {
+        Ok(Reached::Everywhere) => Walked {
             over: false,
             cells: cell_count(grid),
         },
-        Reached::Refused(_) => Walked {
+        Err(_) => Walked {
             over: true,
             cells: 0,
         },
@@ -78,11 +77,9 @@ fn count_visits(scratch: &[u32], n: usize, offsets: &mut [u32]) -> usize
     if 2048 < n {
         return 1;
     }
-    let mut j = 0;
-    while j < n {
+    for j in 0..n {
         let c = scratch[j] as usize;
         offsets[c] += 1;
-        j += 1;
     }
     0
 }
@@ -97,26 +94,24 @@ pub(crate) fn count_lines(
     grid: Grid,
     offsets: &mut [u32],
     scratch: &mut [u32],
-) -> Count
+) -> Result<usize, Refusal>
     requires { let ls = lines start_x.now start_y.now end_x.now end_y.now in
         PassAsks mode grid ls offsets.old scratch.old }
     ensures { let ls = lines start_x.now start_y.now end_x.now end_y.now in
         CountAs (turns_check mode grid ls) (AllCounted mode grid ls offsets.new) result }
 {
     let mut globals = 0;
-    let mut i = 0;
-    while i < start_x.len() {
+    for i in 0..start_x.len() {
         let walked = walk_line(mode, start_x, start_y, end_x, end_y, i, grid, scratch);
         if walked.over {
-            return Count::Refused(Refusal {
+            return Err(Refusal {
                 number: 7,
                 value: i as u64,
             });
         }
         globals += count_visits(scratch, walked.cells, offsets);
-        i += 1;
     }
-    Count::Of(globals)
+    Ok(globals)
 }
 
 // Writes the number of a line where the pointer of each of its cells stands, and moves the pointer on, unless the line is global. Answers how many
@@ -135,13 +130,11 @@ fn place_visits(
         return 1;
     }
     let line = i as u32;
-    let mut j = 0;
-    while j < visits {
+    for j in 0..visits {
         let c = scratch[j] as usize;
         let at = offsets[c];
         items[at as usize] = line;
         offsets[c] = at + 1;
-        j += 1;
     }
     0
 }
@@ -165,14 +158,11 @@ pub(crate) fn place_lines(
         AllPlaced mode grid ls offsets.new items.new (length globals.old) globals.new }
 {
     let mut found = 0;
-    let mut i = 0;
-    while i < start_x.len() {
+    for i in 0..start_x.len() {
         let walked = walk_line(mode, start_x, start_y, end_x, end_y, i, grid, scratch);
         let more = place_visits(i, scratch, walked.cells, offsets, items);
-        let line = i as u32;
-        i += 1;
         if 0 < more {
-            globals[found] = line;
+            globals[found] = i as u32;
             found += more;
         }
     }

@@ -1,4 +1,6 @@
 -- The end of a visit: what it leaves in what it is lent, and the refusals in their order. Assumes nothing.
+use Rattle.std.specs.Prelude.{Err, Result}
+use Rattle.refusals.specs.Refusals.{Check}
 use mathlib.Core.Path.{◌≡◌, sym, ◌∙◌}
 use mathlib.Core.Bool.{true, false}
 use mathlib.Core.List.{List, [], ◌∷◌, ◌++◌, append-nil, append_assoc}
@@ -12,8 +14,6 @@ use lib.ListN.{length, take, replicate, set, length-map, length-set}
 use lib.Seq.{take-suc, take-set-le, get_or-set_same}
 use Rattle.slices.specs.Slices.{cleared_from}
 use Rattle.refusals.specs.declared.Refusal.{Refusal}
-use Rattle.refusals.specs.declared.Check.{Check}
-use Rattle.refusals.specs.declared.Check.TheVariants as check
 use Rattle.refusals.specs.Refusals.{refusal, unless, Answer, refused, gives, ◌then◌, answer_by, clears, left_in, zero_beyond}
 use Rattle.refusals.proofs.Answers.{then_refused}
 use Rattle.refusals.proofs.Leaving.{left_zero, left_same, Clearing, numbers_clear}
@@ -21,8 +21,6 @@ use Rattle.seek.specs.Tests.{Pair}
 use Rattle.visit.specs.Batches.{firsts, seconds}
 use Rattle.grid.specs.declared.Grid.{Grid}
 use Rattle.tables.specs.Tables.{Tables}
-use Rattle.lent.specs.declared.OnceAnswer.{OnceAnswer}
-use Rattle.lent.specs.declared.OnceAnswer.TheVariants as answer
 use Rattle.lent.specs.Lent.{begin_check, Begun, pairs_check, pairs_end, end_left, EndIs}
 use Rattle.lent.proofs.Beginning.{begun_stopped, begin_spares}
 use Rattle.first_tests.specs.Firsts.{PairsAre}
@@ -51,7 +49,7 @@ cleared s xs s' s'' n p e l c =
 
 -- a refusal that changes nothing
 pub pairs_refused : {end : Answer (List Pair)} {first second starts listing counts : List ℕ} (r : Refusal) → end ≡ refused r → clears r.number ≡ false
-    → PairsAre end first second starts listing counts (answer.Refused r) first second starts listing counts
+    → PairsAre end first second starts listing counts (Err r) first second starts listing counts
 unfolding answer_by left_in
 pairs_refused {first = first} {second = second} {starts = starts} {listing = listing} {counts = counts} r e h =
     record {
@@ -65,9 +63,9 @@ pairs_refused {first = first} {second = second} {starts = starts} {listing = lis
 
 -- a check has refused before the first test
 pub pairs_stopped : {checked : Check} {g : Grid} {t : Tables} {first second starts listing counts starts' listing' counts' : List ℕ} {r : Check}
-    → Begun checked g t (length first) (length second) starts listing counts r starts' listing' counts' → (s : Refusal) → r ≡ check.Refused s → Clearing false checked
+    → Begun checked g t (length first) (length second) starts listing counts r starts' listing' counts' → (s : Refusal) → r ≡ Err s → Clearing false checked
     → {end : Answer (List Pair)} (rest : Answer (List Pair)) → end ≡ (begin_check checked g t (length first) (length second) (length starts) (length listing) (length counts) then rest)
-    → PairsAre end first second starts listing counts (answer.Refused s) first second starts' listing' counts'
+    → PairsAre end first second starts listing counts (Err s) first second starts' listing' counts'
 pairs_stopped {g = g} {t = t} {first = first} {second = second} {starts = starts} {listing = listing} {counts = counts} b s q c rest e =
     let n = begun_stopped b s q in
     rw (n.starts_same, n.listing_same, n.counts_same)
@@ -77,7 +75,7 @@ zeros : {m n : ℕ} {xs : List ℕ} → xs ≡ replicate m 0 → m ≡ n → xs 
 zeros e q = rw q at e
 
 -- all checks but 5 are passed, and the pairs ps were written
-module _ (ps : List Pair) (first second starts listing counts : List ℕ) {first₁ second₁ starts₁ listing₁ counts₁ first₂ second₂ starts₂ listing₂ counts₂ : List ℕ} {hits : ℕ} {r : OnceAnswer}
+module _ (ps : List Pair) (first second starts listing counts : List ℕ) {first₁ second₁ starts₁ listing₁ counts₁ first₂ second₂ starts₂ listing₂ counts₂ : List ℕ} {hits : ℕ} {r : Result ℕ Refusal}
     (n : hits ≡ length ps) (f : SameFirst hits first₁ (put_at first 0 (firsts ps))) (g : SameFirst hits second₁ (put_at second 0 (seconds ps)))
     (q : length first ≡ length second) (qs : length starts₁ ≡ length starts) (ql : length listing₁ ≡ length listing) (qc : length counts₁ ≡ length counts)
     (e : EndIs hits first₁ second₁ starts₁ listing₁ counts₁ r first₂ second₂ starts₂ listing₂ counts₂)

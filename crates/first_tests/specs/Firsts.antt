@@ -1,7 +1,8 @@
 -- Each pair once: the first test of two lines, and the pairs that a visit hands out at it. "A test in cell c is the first if the two lines have no
 -- common cell before c, a global's if they have none at all." Which two lines are handed out is asked of a decision `chosen` on two line numbers.
 -- Definitions only.
-use Rattle.std.specs.Prelude.{ℕ, ◌+◌, ◌*◌, ◌≡◌, Bool, not, ◌&&◌, List, [], ◌∷◌, length, replicate}
+use Rattle.std.specs.Prelude.{Ok, Err, Result, ℕ, ◌+◌, ◌*◌, ◌≡◌, Bool, not, ◌&&◌, List, [], ◌∷◌, length, replicate}
+use Rattle.refusals.specs.declared.Refusal.{Refusal}
 use Rattle.refusals.specs.Refusals.{Answer, answer_by, left_in, zero_beyond}
 use Rattle.tables.specs.Tables.{Tables, cells, list_of}
 use Rattle.seek.specs.declared.Place.{Place}
@@ -9,8 +10,6 @@ use Rattle.seek.specs.declared.Place.TheVariants.{Cell, Global}
 use Rattle.seek.specs.Tests.{Pair, tests_of}
 use Rattle.visit.specs.Batches.{keep_if, firsts, seconds}
 use Rattle.by_line.specs.First.{met_below}
-use Rattle.lent.specs.declared.OnceAnswer.{OnceAnswer}
-use Rattle.lent.specs.declared.OnceAnswer.TheVariants as answer
 
 -- ---- the first test
 
@@ -39,8 +38,8 @@ first_tests chosen t = kept_by (keeps chosen t) (tests_of t)
 -- ---- what a full visit comes to
 
 -- the answer r to what a call comes to, and the five slices before and after: the pairs with zero beyond them, and the scratch, which is zero
-pub record PairsAre (end : Answer (List Pair)) (first second starts listing counts : List ℕ) (r : OnceAnswer) (first' second' starts' listing' counts' : List ℕ) : Type 0 where
-  pub answers : r ≡ answer_by answer.Refused (λ ps. answer.Pairs (length ps)) end
+pub record PairsAre (end : Answer (List Pair)) (first second starts listing counts : List ℕ) (r : Result ℕ Refusal) (first' second' starts' listing' counts' : List ℕ) : Type 0 where
+  pub answers : r ≡ answer_by Err (λ ps. Ok (length ps)) end
   pub first_is : first' ≡ left_in 0 first end (λ ps. zero_beyond 0 (length first) (firsts ps))
   pub second_is : second' ≡ left_in 0 second end (λ ps. zero_beyond 0 (length second) (seconds ps))
   pub starts_are : starts' ≡ left_in 0 starts end (λ ps. replicate (length starts) 0)

@@ -1,8 +1,7 @@
 -- What the functions of a scan ask and promise, whatever decides which two lines are handed out: over a decision `chosen` on two line numbers, and
 -- N lines. A scan over other slices than this crate's cites these, with their laws. Definitions only.
-use Rattle.std.specs.Prelude.{ℕ, suc, ◌+◌, ◌*◌, ◌≤◌, ◌<◌, ◌^◌, ◌≡◌, Bool, not, ◌&&◌, List, [], ◌∷◌, length, get_or, take, set, replicate}
+use Rattle.std.specs.Prelude.{Ok, ℕ, suc, ◌+◌, ◌*◌, ◌≤◌, ◌<◌, ◌^◌, ◌≡◌, Bool, not, ◌&&◌, List, [], ◌∷◌, length, get_or, take, set, replicate}
 use Rattle.slices.specs.Lists.{Below}
-use Rattle.refusals.specs.declared.Check.TheVariants.{Fine}
 use Rattle.grid.specs.declared.Grid.{Grid}
 use Rattle.tables.specs.Tables.{Tables, list_in}
 use Rattle.tables.specs.Fit.{standing_check}
@@ -141,7 +140,7 @@ pub record GlobalsDone (chosen : ℕ → ℕ → Bool) (N : ℕ) (globals : List
 
 -- tables that pass, their lists by line, and counts that are zero
 pub record RunAsks (g : Grid) (t : Tables) (starts listing counts : List ℕ) : Type 0 where
-  pub fine : standing_check g t ≡ Fine
+  pub fine : standing_check g t ≡ Ok tt
   pub starts_are : starts ≡ offsets_of (cells_listing t) t.lines (length starts)
   pub listing_is : listing ≡ items_of (cells_listing t) t.lines (length listing)
   pub starts_long : t.lines < length starts

@@ -1,4 +1,5 @@
 -- What lent lines say that pass the checks 3, 2 and 1, and the steps of the search for the first bad line. Assumes nothing.
+use Rattle.std.specs.Prelude.{Ok, Err}
 use mathlib.Core.Path.{◌≡◌, refl, sym, ◌∙◌}
 use mathlib.Core.Bool.{Bool, true, false, ◌&&◌}
 use Prim.Native.Nat.{ℕ, ◌+◌, ◌-◌, ◌≤◌, ◌<◌}
@@ -7,7 +8,6 @@ use borrow.Author.Tests.{eqb-true, leb-true}
 use lib.Dec.{eqb}
 use lib.ListN.{length, get_or}
 use lib.Ieee.{nan}
-use Rattle.refusals.specs.declared.Check.TheVariants.{Fine, Refused}
 use Rattle.refusals.specs.Refusals.{refusal, each_from, clears}
 use Rattle.refusals.proofs.Checks.{unless_fine, and_then_left, and_then_right, each_good, each_bad, each_over, each_says}
 use Rattle.refusals.proofs.Leaving.{Clearing, clearing_unless, clearing_then, clearing_each}
@@ -53,10 +53,10 @@ module _ {ls : Lines} {i : ℕ} (h : Searched ls i) where
   pub searched_more : i < count ls → line_fits ls i ≡ true → Searched ls (i + 1)
   searched_more l e = record { same = h.same; at = omega arith; rest = h.rest ∙ each_good (line_fits ls) 1 (count ls) i l e }
 
-  pub searched_bad : i < count ls → line_fits ls i ≡ false → Refused (refusal 1 i) ≡ coordinates_check ls
+  pub searched_bad : i < count ls → line_fits ls i ≡ false → Err (refusal 1 i) ≡ coordinates_check ls
   searched_bad l e = sym (h.rest ∙ each_bad (line_fits ls) 1 (count ls) i l e)
 
-  pub searched_over : count ls ≤ i → Fine ≡ coordinates_check ls
+  pub searched_over : count ls ≤ i → (Ok tt) ≡ coordinates_check ls
   searched_over l = sym (h.rest ∙ each_over (line_fits ls) 1 (count ls) i l)
 
 -- all lines were looked at before line i, and where `all` is true none of them was bad
@@ -83,12 +83,12 @@ module _ {ls : Lines} {all : Bool} {i : ℕ} (h : Looked ls all i) where
         good = λ k. searched_more (h.good (and_left all ((a && b) && (d && e)) k)) l (sym (rw (p, q, s, t)) ∙ and_right all ((a && b) && (d && e)) k);
       }
 
-  pub looked_over : count ls ≤ i → all ≡ true → Fine ≡ coordinates_check ls
+  pub looked_over : count ls ≤ i → all ≡ true → (Ok tt) ≡ coordinates_check ls
   looked_over l e = searched_over (h.good e) l
 
 -- ---- the checks 3, 2, 1 of lent lines
 
-pub lengths_fine : (ls : Lines) → lengths_check ls ≡ Fine → Alike ls
+pub lengths_fine : (ls : Lines) → lengths_check ls ≡ (Ok tt) → Alike ls
 unfolding lengths_check
 lengths_fine ls h = alike_says ls (unless_fine _ _ _ h)
 
@@ -98,7 +98,7 @@ pub record LinesFit (ls : Lines) : Type 0 where
   pub few : count ls ≤ 65536
   pub each : (i : ℕ) → i < count ls → line_fits ls i ≡ true
 
-pub lines_fine : (ls : Lines) → lines_check ls ≡ Fine → LinesFit ls
+pub lines_fine : (ls : Lines) → lines_check ls ≡ (Ok tt) → LinesFit ls
 unfolding lines_check count_check coordinates_check
 lines_fine ls h =
     record {
@@ -108,7 +108,7 @@ lines_fine ls h =
     }
 
 -- the number of lines that passed them passes 2 again
-pub lines_counted : (ls : Lines) → lines_check ls ≡ Fine → count_check (count ls) ≡ Fine
+pub lines_counted : (ls : Lines) → lines_check ls ≡ (Ok tt) → count_check (count ls) ≡ Ok tt
 unfolding lines_check
 lines_counted ls h = and_then_left _ _ (and_then_right _ _ h)
 

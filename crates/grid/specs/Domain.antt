@@ -1,10 +1,10 @@
 -- Document 01, "Domain", and the checks of its refusals 1, 2, 3, 8 and 9, in its words. Definitions only.
+use Rattle.refusals.specs.Refusals.{Check}
 use Rattle.std.specs.Prelude.{◌≡◌, ℕ, ◌*◌, Bool, ◌&&◌, ◌||◌, List, length, get_or, leb, ltb, eqb, Float}
 use Rattle.std.specs.Float.{nan}
 use Rattle.std.specs.Float.Ieee.{le}
 use Rattle.numbers.specs.Arithmetic.{decimal}
 use Rattle.numbers.specs.Order.{magnitude_of}
-use Rattle.refusals.specs.declared.Check.{Check}
 use Rattle.refusals.specs.Refusals.{unless, and_then, each_from}
 use Rattle.grid.specs.declared.Grid.{Grid}
 use Rattle.grid.specs.declared.Segment.{Segment}

@@ -1,13 +1,12 @@
-// The checks of document 01's domain: each answers `Fine`, or the refusal that is due.
-ghost use Rattle.std.specs.Prelude.{◌≡◌, false, true, ◌&&◌, leb, ltb, eqb, length};
-ghost use Rattle.refusals.specs.declared.Check.TheVariants.{Fine};
+// The checks of document 01's domain: each finds nothing, or the refusal that is due.
+ghost use Rattle.std.specs.Prelude.{◌≡◌, false, true, ◌&&◌, leb, ltb, eqb, length, Ok};
 ghost use Rattle.grid.specs.Domain.{coordinate, point, segment, lines, Alike, counts, shape, size_fits, sizes_fit, fit};
 ghost use Rattle.grid.specs.Domain.{lengths_check, scratch_check, count_check, coordinates_check, coordinate_check, point_check, segment_check, grid_check};
 ghost use Rattle.grid.specs.Domain.{cell_check, lines_check};
 
 use crate::segments::segment_at;
 use crate::{Grid, Segment};
-use refusals::{Check, Refusal, refuse_unless};
+use refusals::{Refusal, refuse_unless};
 
 // The most lines of a call, and the least scratch.
 pub const MOST_LINES: usize = 65536;
@@ -67,37 +66,37 @@ pub fn is_fit(grid: Grid) -> bool
         & (are_cell_sizes(grid.cell_width, grid.cell_height) & is_shape(grid.cols, grid.rows))
 }
 
-pub fn check_coordinate(v: f64) -> Check
+pub fn check_coordinate(v: f64) -> Result<(), Refusal>
     ensures { result ≡ coordinate_check v }
 {
     refuse_unless(is_coordinate(v), 1, 0)
 }
 
-pub fn check_point(x: f64, y: f64) -> Check
+pub fn check_point(x: f64, y: f64) -> Result<(), Refusal>
     ensures { result ≡ point_check x y }
 {
     refuse_unless(is_point(x, y), 1, 0)
 }
 
-pub fn check_segment(s: Segment) -> Check
+pub fn check_segment(s: Segment) -> Result<(), Refusal>
     ensures { result ≡ segment_check s }
 {
     refuse_unless(is_segment(s), 1, 0)
 }
 
-pub fn check_grid(grid: Grid) -> Check
+pub fn check_grid(grid: Grid) -> Result<(), Refusal>
     ensures { result ≡ grid_check grid }
 {
     refuse_unless(is_fit(grid), 8, 0)
 }
 
-pub fn check_scratch(n: usize) -> Check
+pub fn check_scratch(n: usize) -> Result<(), Refusal>
     ensures { result ≡ scratch_check n }
 {
     refuse_unless(LEAST_SCRATCH <= n, 3, 0)
 }
 
-pub fn check_count(n: usize) -> Check
+pub fn check_count(n: usize) -> Result<(), Refusal>
     ensures { result ≡ count_check n }
 {
     refuse_unless(n <= MOST_LINES, 2, n as u64)
@@ -109,7 +108,7 @@ fn is_cell(grid: Grid, row: u32, col: u32) -> bool
     (row < grid.rows) & (col < grid.cols)
 }
 
-pub fn check_cell(grid: Grid, row: u32, col: u32) -> Check
+pub fn check_cell(grid: Grid, row: u32, col: u32) -> Result<(), Refusal>
     ensures { result ≡ cell_check grid row col }
 {
     refuse_unless(is_cell(grid, row, col), 9, row as u64)
@@ -122,7 +121,12 @@ fn all_are(n: usize, a: usize, b: usize, c: usize) -> bool
 }
 
 // The coordinate slices have one length.
-pub fn check_lengths(start_x: &[f64], start_y: &[f64], end_x: &[f64], end_y: &[f64]) -> Check
+pub fn check_lengths(
+    start_x: &[f64],
+    start_y: &[f64],
+    end_x: &[f64],
+    end_y: &[f64],
+) -> Result<(), Refusal>
     ensures { result ≡ lengths_check (lines start_x.now start_y.now end_x.now end_y.now) }
 {
     refuse_unless(
@@ -135,51 +139,51 @@ pub fn check_lengths(start_x: &[f64], start_y: &[f64], end_x: &[f64], end_y: &[f
 // Whether every coordinate obeys the rule. Every line is looked at and none is a branch, so that several are looked at at once.
 fn all_obey(start_x: &[f64], start_y: &[f64], end_x: &[f64], end_y: &[f64]) -> bool
     requires { Alike (lines start_x.now start_y.now end_x.now end_y.now) }
-    ensures { let ls = lines start_x.now start_y.now end_x.now end_y.now in (result ≡ true → Fine ≡ coordinates_check ls) }
+    ensures { let ls = lines start_x.now start_y.now end_x.now end_y.now in (result ≡ true → (Ok tt) ≡ coordinates_check ls) }
 {
     let mut all = true;
-    let mut i = 0;
-    while i < start_x.len() {
+    for i in 0..start_x.len() {
         all = all
             & ((is_coordinate(start_x[i]) & is_coordinate(start_y[i]))
                 & (is_coordinate(end_x[i]) & is_coordinate(end_y[i])));
-        i += 1;
     }
     all
 }
 
 // The first line with a coordinate that breaks the rule, sought where there is one. The slices have one length.
-fn check_coordinates(start_x: &[f64], start_y: &[f64], end_x: &[f64], end_y: &[f64]) -> Check
+fn check_coordinates(
+    start_x: &[f64],
+    start_y: &[f64],
+    end_x: &[f64],
+    end_y: &[f64],
+) -> Result<(), Refusal>
     requires { Alike (lines start_x.now start_y.now end_x.now end_y.now) }
     ensures { result ≡ coordinates_check (lines start_x.now start_y.now end_x.now end_y.now) }
 {
     if all_obey(start_x, start_y, end_x, end_y) {
-        return Check::Fine;
+        return Ok(());
     }
-    let mut i = 0;
-    while i < start_x.len() {
+    for i in 0..start_x.len() {
         if !is_segment(segment_at(start_x, start_y, end_x, end_y, i)) {
-            return Check::Refused(Refusal {
+            return Err(Refusal {
                 number: 1,
                 value: i as u64,
             });
         }
-        i += 1;
     }
-    Check::Fine
+    Ok(())
 }
 
 // What every call that is lent lines checks first: 3, 2, 1.
-pub fn check_lines(start_x: &[f64], start_y: &[f64], end_x: &[f64], end_y: &[f64]) -> Check
+pub fn check_lines(
+    start_x: &[f64],
+    start_y: &[f64],
+    end_x: &[f64],
+    end_y: &[f64],
+) -> Result<(), Refusal>
     ensures { result ≡ lines_check (lines start_x.now start_y.now end_x.now end_y.now) }
 {
-    let alike = check_lengths(start_x, start_y, end_x, end_y);
-    if let Check::Refused(r) = alike {
-        return Check::Refused(r);
-    }
-    let few = check_count(start_x.len());
-    if let Check::Refused(r) = few {
-        return Check::Refused(r);
-    }
+    check_lengths(start_x, start_y, end_x, end_y)?;
+    check_count(start_x.len())?;
     check_coordinates(start_x, start_y, end_x, end_y)
 }

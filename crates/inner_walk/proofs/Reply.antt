@@ -1,4 +1,5 @@
 -- The answer in numbers, case by case. Assumes nothing.
+use Rattle.std.specs.Prelude.{Ok, Err, Result}
 use mathlib.Core.Path.{◌≡◌, refl, ap, ◌∙◌, subst}
 use Prim.Native.Nat.{ℕ}
 use native.Mathlib.Omega.{arith}
@@ -9,7 +10,7 @@ use Rattle.grid.specs.declared.Grid.{Grid}
 use Rattle.grid.specs.declared.Segment.{Segment}
 use Rattle.walk.specs.declared.Mode.{Mode}
 use Rattle.walk.specs.declared.Reached.{Reached}
-use Rattle.walk.specs.declared.Reached.TheVariants.{Found, Everywhere, Refused}
+use Rattle.walk.specs.declared.Reached.TheVariants.{Found, Everywhere}
 use Rattle.walk.specs.Segment.{everywhere_in, as_is_of, Walked}
 use Rattle.inner_walk.specs.Replies.{reach_number, reach_value, InnerReplies}
 
@@ -20,26 +21,26 @@ none_set (x ∷ xs) v e = absurd (omega arith)
 
 -- ---- by case
 
-module _ {R : Reached} (out : List ℕ) {out' : List ℕ} where
-  pub found_said : (n : ℕ) → R ≡ Found n → out' ≡ set out 0 n → (0 ≡ reach_number R) × (out' ≡ set out 0 (reach_value R))
+module _ {R : Result Reached Refusal} (out : List ℕ) {out' : List ℕ} where
+  pub found_said : (n : ℕ) → R ≡ Ok (Found n) → out' ≡ set out 0 n → (0 ≡ reach_number R) × (out' ≡ set out 0 (reach_value R))
   unfolding reach_number reach_value
   found_said n e h = rw e (refl, h)
 
-  pub everywhere_said : R ≡ Everywhere → out' ≡ set out 0 0 → (16 ≡ reach_number R) × (out' ≡ set out 0 (reach_value R))
+  pub everywhere_said : R ≡ Ok Everywhere → out' ≡ set out 0 0 → (16 ≡ reach_number R) × (out' ≡ set out 0 (reach_value R))
   unfolding reach_number reach_value
   everywhere_said e h = rw e (refl, h)
 
-  pub refused_said : (r : Refusal) → R ≡ Refused r → out' ≡ set out 0 r.value → (r.number ≡ reach_number R) × (out' ≡ set out 0 (reach_value R))
+  pub refused_said : (r : Refusal) → R ≡ Err r → out' ≡ set out 0 r.value → (r.number ≡ reach_number R) × (out' ≡ set out 0 (reach_value R))
   unfolding reach_number reach_value
   refused_said r e h = rw e (refl, h)
 
 -- ---- of the walk
 
-pub replies : {mode : Mode} {g : Grid} {line : Segment} {was now out out' : List ℕ} {R : Reached} {r : ℕ} → Walked (everywhere_in mode g line) (as_is_of mode (length was) g line) was R now
+pub replies : {mode : Mode} {g : Grid} {line : Segment} {was now out out' : List ℕ} {R : Result Reached Refusal} {r : ℕ} → Walked (everywhere_in mode g line) (as_is_of mode (length was) g line) was R now
     → (r ≡ reach_number R) × (out' ≡ set out 0 (reach_value R)) → InnerReplies mode g line was out r now out'
 replies {mode} {g} {line} {was} {now} {out} w k =
     record {
       number = k.0 ∙ ap reach_number w.answer;
-      value = k.1 ∙ ap (λ (R : Reached). set out 0 (reach_value R)) w.answer;
-      walked = subst (λ (R : Reached). Walked (everywhere_in mode g line) (as_is_of mode (length was) g line) was R now) w.answer w;
+      value = k.1 ∙ ap (λ (R : Result Reached Refusal). set out 0 (reach_value R)) w.answer;
+      walked = subst (λ (R : Result Reached Refusal). Walked (everywhere_in mode g line) (as_is_of mode (length was) g line) was R now) w.answer w;
     }

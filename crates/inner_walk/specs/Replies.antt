@@ -1,11 +1,12 @@
 -- The exported walks: the number and the value of each outcome, and what is left in each lent slice. Definitions only.
-use Rattle.std.specs.Prelude.{ℕ, ◌≡◌, List, false, cond, pos, ltb, Float, length, get_or, set}
+use Rattle.std.specs.Prelude.{ℕ, ◌≡◌, List, false, cond, pos, ltb, Float, length, get_or, set, Result, Ok, Err}
+use Rattle.refusals.specs.declared.Refusal.{Refusal}
 use Rattle.std.specs.Float.{nan, fin}
 use Rattle.grid.specs.declared.Grid.{Grid}
 use Rattle.grid.specs.declared.Segment.{Segment}
 use Rattle.walk.specs.declared.Mode.{Mode}
 use Rattle.walk.specs.declared.Reached.{Reached}
-use Rattle.walk.specs.declared.Reached.TheVariants.{Found, Everywhere, Refused}
+use Rattle.walk.specs.declared.Reached.TheVariants.{Found, Everywhere}
 use Rattle.walk.specs.Segment.{everywhere_in, as_is_of, reached_of, Walked}
 
 abbrev none : Float
@@ -25,19 +26,19 @@ grid_by_sizes sizes cols rows = cond (ltb (length sizes) 4)
     })
 
 -- 0, 16 where the line is everywhere, or the refusal's number
-unfoldable pub reach_number : Reached → ℕ
-reach_number (Found n) = 0
-reach_number Everywhere = 16
-reach_number (Refused r) = r.number
+unfoldable pub reach_number : Result Reached Refusal → ℕ
+reach_number (Ok (Found n)) = 0
+reach_number (Ok Everywhere) = 16
+reach_number (Err r) = r.number
 
 -- the number of cells, 0 where the line is everywhere, or the refusal's value
-unfoldable pub reach_value : Reached → ℕ
-reach_value (Found n) = n
-reach_value Everywhere = 0
-reach_value (Refused r) = r.value
+unfoldable pub reach_value : Result Reached Refusal → ℕ
+reach_value (Ok (Found n)) = n
+reach_value (Ok Everywhere) = 0
+reach_value (Err r) = r.value
 
 -- what the walk of a line answers inside a larger call, with a scratch of n entries
-abbrev pub reached_in : Mode → Grid → Segment → ℕ → Reached
+abbrev pub reached_in : Mode → Grid → Segment → ℕ → Result Reached Refusal
 reached_in mode g line n = reached_of (everywhere_in mode g line) (as_is_of mode n g line)
 
 -- its number, its value at the start of `out`, and the scratch as the walk promises it

@@ -9,6 +9,7 @@ ghost use Rattle.walk.specs.declared.Mode.TheVariants.{Rust, Covering};
 ghost use Rattle.inner_walk.specs.Replies.{grid_by_sizes, reach_number, reach_value, InnerReplies};
 
 use grid::Grid;
+use refusals::Refusal;
 use walk::{Mode, Reached};
 
 // Writes the first entry, where there is one.
@@ -31,19 +32,19 @@ pub extern "C" fn mt_inner_order(entries: &mut [u32]) -> u32
 }
 
 // The answer of a walk in numbers: 0, the refusal's number, or 16 where the line is everywhere. Out: the number of cells, the refusal's value, or 0.
-fn answer(r: Reached, out: &mut [u64]) -> u32
+fn answer(r: Result<Reached, Refusal>, out: &mut [u64]) -> u32
     ensures { (result ≡ reach_number r) × (out.new ≡ set out.old 0 (reach_value r)) }
 {
     match r {
-        Reached::Found(n) => {
+        Ok(Reached::Found(n)) => {
             put(n as u64, out);
             0
         },
-        Reached::Everywhere => {
+        Ok(Reached::Everywhere) => {
             put(0, out);
             16
         },
-        Reached::Refused(why) => {
+        Err(why) => {
             put(why.value, out);
             why.number
         },

@@ -7,27 +7,20 @@ ghost use Rattle.input.specs.Whole.{IsPrefixLen, Within, Brings};
 
 use std::io::Read;
 
-// What a read of the whole input comes to: so many bytes, or a read that failed.
-#[derive(Clone, Copy)]
-pub enum Input {
-    Bytes(usize),
-    Failed,
-}
-
-// Reads until the bytes are full or the input ends.
-pub fn read_input<R: Read>(reader: &mut R, bytes: &mut [u8]) -> Input
+// Reads until the bytes are full or the input ends: answers how many bytes came, or `None` where a read failed.
+pub fn read_input<R: Read>(reader: &mut R, bytes: &mut [u8]) -> Option<usize>
     ensures within { Within result bytes.new }
     ensures brings { Brings (R.remaining reader.old) (R.remaining reader.new) result bytes.new }
 {
     let mut done = 0;
     while done < bytes.len() {
         match reader.read(&mut bytes[done..]) {
-            Ok(0) => return Input::Bytes(done),
+            Ok(0) => return Some(done),
             Ok(n) => done += n,
-            Err(_) => return Input::Failed,
+            Err(_) => return None,
         }
     }
-    Input::Bytes(done)
+    Some(done)
 }
 
 // The same, where a read that fails ends the input: answers how many bytes came before.

@@ -1,4 +1,6 @@
 -- The beginning of a visit: the check of what it is lent, and the lists by line, which are there exactly where all checks pass. Assumes nothing.
+use Rattle.std.specs.Prelude.{Ok, Err, Result}
+use Rattle.refusals.specs.Refusals.{Check, unless, and_then, refused, gives, answer_by, clears, left_in}
 use mathlib.Core.Path.{◌≡◌, refl, sym, ap, ◌∙◌}
 use mathlib.Core.Bool.{false}
 use mathlib.Core.List.{List}
@@ -8,10 +10,6 @@ use borrow.Author.Tests.{eq-eqb, ne_eqb, lt-ltb, le-ltb, le-leb, lt-leb, leb-tru
 use lib.Dec.{leb}
 use lib.ListN.{length, replicate}
 use Rattle.refusals.specs.declared.Refusal.{Refusal}
-use Rattle.refusals.specs.declared.Check.{Check}
-use Rattle.refusals.specs.declared.Check.TheVariants.{Fine}
-use Rattle.refusals.specs.declared.Check.TheVariants as check
-use Rattle.refusals.specs.Refusals.{unless, and_then, refused, gives, answer_by, clears, left_in}
 use Rattle.refusals.proofs.Checks.{unless_fine, and_then_left, and_then_right, and_then_fine, and_then_refused}
 use Rattle.refusals.proofs.Answers.{then_refused, then_fine}
 use Rattle.refusals.proofs.Leaving.{left_same, Clearing, clearing_unless, clearing_then}
@@ -19,8 +17,6 @@ use Rattle.grid.specs.declared.Grid.{Grid}
 use Rattle.tables.specs.Tables.{Tables}
 use Rattle.tables.specs.Fit.{standing_check}
 use Rattle.tables.specs.Lists.{start, offsets_of, items_of}
-use Rattle.by_line.specs.declared.ByLine.{ByLine}
-use Rattle.by_line.specs.declared.ByLine.TheVariants as listed
 use Rattle.by_line.specs.ByLine.{cells_listing, lists_room_check, by_line, ByLineIs}
 use Rattle.by_line.proofs.Room.{room_says, standing_spares}
 use Rattle.lent.specs.Lent.{rooms_check, begin_check, kept_or, Begun}
@@ -46,8 +42,8 @@ module _ (lines items first second starts listing counts : ℕ) where
       unfolding rooms_check and_then unless lists_room_check
       lent_counts l = rw (eq-eqb first second e, lt-ltb lines starts h, le-leb items listing l)
 
-pub lent_says : (lines items first second starts listing counts : ℕ) → rooms_check lines items first second starts listing counts ≡ Fine
-    → (first ≡ second) × ((lists_room_check lines items starts listing ≡ Fine) × (lines ≤ counts))
+pub lent_says : (lines items first second starts listing counts : ℕ) → rooms_check lines items first second starts listing counts ≡ Ok tt
+    → (first ≡ second) × ((lists_room_check lines items starts listing ≡ Ok tt) × (lines ≤ counts))
 unfolding rooms_check
 lent_says lines items first second starts listing counts h =
     let b = and_then_right _ _ h in
@@ -61,14 +57,14 @@ lent_spares lines items first second starts listing counts =
 
 -- ---- the lists by line, by what the call that makes them answers
 
-module _ {g : Grid} {t : Tables} {starts listing starts' listing' : List ℕ} {r : ByLine}
-    (f : lists_room_check t.lines (length t.items) (length starts) (length listing) ≡ Fine) (w : ByLineIs g t starts listing r starts' listing') where
-  module _ (e : standing_check g t ≡ Fine) where
+module _ {g : Grid} {t : Tables} {starts listing starts' listing' : List ℕ} {r : Result ℕ Refusal}
+    (f : lists_room_check t.lines (length t.items) (length starts) (length listing) ≡ Ok tt) (w : ByLineIs g t starts listing r starts' listing') where
+  module _ (e : standing_check g t ≡ Ok tt) where
     given : by_line g t starts listing ≡ gives (start (cells_listing t) t.lines)
     unfolding by_line
     given = then_fine _ _ f ∙ then_fine _ _ e
 
-    listed_answer : r ≡ listed.Listed (start (cells_listing t) t.lines)
+    listed_answer : r ≡ Ok (start (cells_listing t) t.lines)
     unfolding answer_by
     listed_answer = w.answers ∙ rw given
 
@@ -80,12 +76,12 @@ module _ {g : Grid} {t : Tables} {starts listing starts' listing' : List ℕ} {r
     unfolding left_in
     listed_listing = w.listing_is ∙ rw given
 
-  module _ {s : Refusal} (e : standing_check g t ≡ check.Refused s) where
+  module _ {s : Refusal} (e : standing_check g t ≡ Err s) where
     not_given : by_line g t starts listing ≡ refused s
     unfolding by_line
     not_given = then_fine _ _ f ∙ then_refused _ _ s e
 
-    refused_answer : r ≡ listed.Refused s
+    refused_answer : r ≡ Err s
     unfolding answer_by
     refused_answer = w.answers ∙ rw not_given
 
@@ -98,33 +94,33 @@ module _ {g : Grid} {t : Tables} {starts listing starts' listing' : List ℕ} {r
     refused_listing = w.listing_is ∙ rw not_given (left_same 0 s listing ((standing_spares g t).says s e))
 
   -- it lists exactly where the tables stand
-  listed_stands : {m : ℕ} → r ≡ listed.Listed m → standing_check g t ≡ Fine
+  listed_stands : {m : ℕ} → r ≡ Ok m → standing_check g t ≡ Ok tt
   listed_stands {m} q = go (standing_check g t) refl
     where
-      go : (c : Check) → standing_check g t ≡ c → standing_check g t ≡ Fine
-      go Fine e = e
-      go (check.Refused s) e = apart (sym q ∙ refused_answer e)
+      go : (c : Check) → standing_check g t ≡ c → standing_check g t ≡ Ok tt
+      go (Ok _) e = e
+      go (Err s) e = apart (sym q ∙ refused_answer e)
         where
-          apart : listed.Listed m ≡ listed.Refused s → standing_check g t ≡ Fine
+          apart : Ok m ≡ Err s → standing_check g t ≡ Ok tt
           apart d = let z : ◌≡◌ {A = ℕ} 0 1 = cc in absurd (omega arith)
 
   -- and else refuses as their check does, and leaves the slices as they were
   record NotListed (s : Refusal) : Type 0 where
-    pub check_is : standing_check g t ≡ check.Refused s
+    pub check_is : standing_check g t ≡ Err s
     pub starts_same : starts' ≡ starts
     pub listing_same : listing' ≡ listing
 
-  refused_stands : {s : Refusal} → r ≡ listed.Refused s → NotListed s
+  refused_stands : {s : Refusal} → r ≡ Err s → NotListed s
   refused_stands {s} q = go (standing_check g t) refl
     where
       go : (c : Check) → standing_check g t ≡ c → NotListed s
-      go Fine e = apart (sym q ∙ listed_answer e)
+      go (Ok _) e = apart (sym q ∙ listed_answer e)
         where
-          apart : listed.Refused s ≡ listed.Listed (start (cells_listing t) t.lines) → NotListed s
+          apart : Err s ≡ Ok (start (cells_listing t) t.lines) → NotListed s
           apart d = let z : ◌≡◌ {A = ℕ} 0 1 = cc in absurd (omega arith)
-      go (check.Refused u) e = record { check_is = e ∙ ap check.Refused (same (sym (refused_answer e) ∙ q)); starts_same = refused_starts e; listing_same = refused_listing e }
+      go (Err u) e = record { check_is = e ∙ ap Err (same (sym (refused_answer e) ∙ q)); starts_same = refused_starts e; listing_same = refused_listing e }
         where
-          same : listed.Refused u ≡ listed.Refused s → u ≡ s
+          same : ◌≡◌ {A = Result ℕ Refusal} (Err u) (Err s) → u ≡ s
           same d = cc
 
 -- ---- the beginning
@@ -133,33 +129,33 @@ module _ (checked : Check) (g : Grid) (t : Tables) (first second : ℕ) (starts 
   abbrev lent : Check
   lent = rooms_check t.lines (length t.items) first second (length starts) (length listing) (length counts)
 
-  same : (r : Refusal) → begin_check checked g t first second (length starts) (length listing) (length counts) ≡ check.Refused r
-      → Begun checked g t first second starts listing counts (check.Refused r) starts listing counts
+  same : (r : Refusal) → begin_check checked g t first second (length starts) (length listing) (length counts) ≡ Err r
+      → Begun checked g t first second starts listing counts (Err r) starts listing counts
   unfolding kept_or
   same r e = record { answers = sym e; starts_are = refl; listing_is = refl; counts_are = refl }
 
-  pub begin_lent : (r : Refusal) → lent ≡ check.Refused r → Begun checked g t first second starts listing counts (check.Refused r) starts listing counts
+  pub begin_lent : (r : Refusal) → lent ≡ Err r → Begun checked g t first second starts listing counts (Err r) starts listing counts
   unfolding begin_check
   begin_lent r e = same r (and_then_refused _ _ r e)
 
-  module _ (f : lent ≡ Fine) where
-    pub begin_lines : (r : Refusal) → checked ≡ check.Refused r → Begun checked g t first second starts listing counts (check.Refused r) starts listing counts
+  module _ (f : lent ≡ Ok tt) where
+    pub begin_lines : (r : Refusal) → checked ≡ Err r → Begun checked g t first second starts listing counts (Err r) starts listing counts
     unfolding begin_check
     begin_lines r e = same r (and_then_fine _ _ f ∙ and_then_refused _ _ r e)
 
-    room_fine : lists_room_check t.lines (length t.items) (length starts) (length listing) ≡ Fine
+    room_fine : lists_room_check t.lines (length t.items) (length starts) (length listing) ≡ Ok tt
     room_fine = (lent_says t.lines (length t.items) first second (length starts) (length listing) (length counts) f).1.0
 
-    module _ (h : checked ≡ Fine) {r : ByLine} {starts' listing' : List ℕ} (w : ByLineIs g t starts listing r starts' listing') where
+    module _ (h : checked ≡ Ok tt) {r : Result ℕ Refusal} {starts' listing' : List ℕ} (w : ByLineIs g t starts listing r starts' listing') where
       begin_is : begin_check checked g t first second (length starts) (length listing) (length counts) ≡ standing_check g t
       unfolding begin_check
       begin_is = and_then_fine _ _ f ∙ and_then_fine _ _ h
 
-      pub begin_tables : (s : Refusal) → r ≡ listed.Refused s → Begun checked g t first second starts listing counts (check.Refused s) starts' listing' counts
+      pub begin_tables : (s : Refusal) → r ≡ Err s → Begun checked g t first second starts listing counts (Err s) starts' listing' counts
       begin_tables s q = let n = refused_stands room_fine w q in rw (n.starts_same, n.listing_same) (same s (begin_is ∙ n.check_is))
 
-      pub begin_done : {m : ℕ} → r ≡ listed.Listed m → {counts' : List ℕ} → counts' ≡ replicate (length counts) 0
-          → Begun checked g t first second starts listing counts Fine starts' listing' counts'
+      pub begin_done : {m : ℕ} → r ≡ Ok m → {counts' : List ℕ} → counts' ≡ replicate (length counts) 0
+          → Begun checked g t first second starts listing counts (Ok tt) starts' listing' counts'
       unfolding kept_or
       begin_done q z =
           let e = listed_stands room_fine w q in
@@ -175,13 +171,13 @@ module _ {checked : Check} {g : Grid} {t : Tables} {first second : ℕ} {starts 
     pub starts_long : t.lines < length starts
     pub listing_long : length t.items ≤ length listing
     pub counts_long : t.lines ≤ length counts
-    pub lines_fine : checked ≡ Fine
-    pub stands : standing_check g t ≡ Fine
+    pub lines_fine : checked ≡ Ok tt
+    pub stands : standing_check g t ≡ Ok tt
     pub starts_are : starts' ≡ offsets_of (cells_listing t) t.lines (length starts)
     pub listing_is : listing' ≡ items_of (cells_listing t) t.lines (length listing)
     pub counts_are : counts' ≡ replicate (length counts) 0
 
-  pub begun_passed : r ≡ Fine → Passed
+  pub begun_passed : r ≡ Ok tt → Passed
   unfolding begin_check kept_or
   begun_passed e =
       let a = sym b.answers ∙ e in
@@ -202,12 +198,12 @@ module _ {checked : Check} {g : Grid} {t : Tables} {first second : ℕ} {starts 
 
   -- one has refused, and no slice has changed
   pub record Stopped (s : Refusal) : Type 0 where
-    pub check_is : begin_check checked g t first second (length starts) (length listing) (length counts) ≡ check.Refused s
+    pub check_is : begin_check checked g t first second (length starts) (length listing) (length counts) ≡ Err s
     pub starts_same : starts' ≡ starts
     pub listing_same : listing' ≡ listing
     pub counts_same : counts' ≡ counts
 
-  pub begun_stopped : (s : Refusal) → r ≡ check.Refused s → Stopped s
+  pub begun_stopped : (s : Refusal) → r ≡ Err s → Stopped s
   unfolding kept_or
   begun_stopped s e =
       record { check_is = sym b.answers ∙ e; starts_same = b.starts_are ∙ rw e; listing_same = b.listing_is ∙ rw e; counts_same = b.counts_are ∙ rw e }

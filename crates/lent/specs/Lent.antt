@@ -1,16 +1,13 @@
 -- What a visit that hands out each pair once is lent, what it begins with, and what it leaves there. Definitions only.
-use Rattle.std.specs.Prelude.{ℕ, ◌≡◌, cond, List, leb, eqb, length, replicate}
+use Rattle.std.specs.Prelude.{ℕ, ◌≡◌, cond, List, leb, eqb, length, replicate, Result, Ok, Err}
+use Rattle.refusals.specs.declared.Refusal.{Refusal}
+use Rattle.refusals.specs.Refusals.{Check, unless, and_then, gives, ◌then◌, answer_by}
 use Rattle.slices.specs.Slices.{cleared_from}
-use Rattle.refusals.specs.declared.Check.{Check}
-use Rattle.refusals.specs.declared.Check.TheVariants.{Fine, Refused}
-use Rattle.refusals.specs.Refusals.{unless, and_then, gives, ◌then◌, answer_by}
 use Rattle.grid.specs.declared.Grid.{Grid}
 use Rattle.tables.specs.Tables.{Tables}
 use Rattle.tables.specs.Fit.{standing_check}
 use Rattle.tables.specs.Lists.{offsets_of, items_of}
 use Rattle.by_line.specs.ByLine.{cells_listing, lists_room_check}
-use Rattle.lent.specs.declared.OnceAnswer.{OnceAnswer}
-use Rattle.lent.specs.declared.OnceAnswer.TheVariants as answer
 
 -- ---- the beginning
 
@@ -26,8 +23,8 @@ begin_check checked g t first second starts listing counts =
 
 -- what is left in a slice: as it was, where the check refuses
 unfoldable pub kept_or : Check → List ℕ → List ℕ → List ℕ
-kept_or Fine s s' = s'
-kept_or (Refused r) s s' = s
+kept_or (Ok _) s s' = s'
+kept_or (Err r) s s' = s
 
 -- the answer r, and the three slices before and after: the lists by line, and counts that are zero
 pub record Begun (checked : Check) (g : Grid) (t : Tables) (first second : ℕ) (starts listing counts : List ℕ) (r : Check) (starts' listing' counts' : List ℕ) : Type 0 where
@@ -43,14 +40,14 @@ unfoldable pub pairs_check : ℕ → ℕ → Check
 pairs_check number room = unless (leb number room) 5 number
 
 -- so many pairs, or that there is no room for them
-unfoldable pub pairs_end : ℕ → ℕ → OnceAnswer
-pairs_end hits room = answer_by answer.Refused answer.Pairs (pairs_check hits room then gives hits)
+unfoldable pub pairs_end : ℕ → ℕ → Result ℕ Refusal
+pairs_end hits room = answer_by Err Ok (pairs_check hits room then gives hits)
 
 -- an output that holds so many pairs: zero beyond them; where there is no room for them, zero throughout
 unfoldable pub end_left : ℕ → ℕ → List ℕ → List ℕ
 end_left hits room s = cond (leb hits room) (cleared_from hits s) (replicate (length s) 0)
 
-pub record EndIs (hits : ℕ) (first second starts listing counts : List ℕ) (r : OnceAnswer) (first' second' starts' listing' counts' : List ℕ) : Type 0 where
+pub record EndIs (hits : ℕ) (first second starts listing counts : List ℕ) (r : Result ℕ Refusal) (first' second' starts' listing' counts' : List ℕ) : Type 0 where
   pub answers : r ≡ pairs_end hits (length first)
   pub first_is : first' ≡ end_left hits (length first) first
   pub second_is : second' ≡ end_left hits (length first) second

@@ -6,16 +6,8 @@ ghost use Rattle.std.specs.Prelude.{◌≡◌, set};
 ghost use Rattle.tables.specs.Tables.{tables};
 ghost use Rattle.lent.specs.Lent.{rooms_check, Begun, EndIs};
 
-use by_line::ByLine;
 use grid::Grid;
-use refusals::{Check, Refusal};
-
-// The number of pairs, or a refusal.
-#[derive(Clone, Copy)]
-pub enum OnceAnswer {
-    Pairs(u64),
-    Refused(Refusal),
-}
+use refusals::Refusal;
 
 // Refusal 3, by lengths: the outputs differ, the lists by line have too little room, or there is no count for each line.
 fn check_lent(
@@ -26,7 +18,7 @@ fn check_lent(
     starts: usize,
     listing: usize,
     counts: usize,
-) -> Check
+) -> Result<(), Refusal>
     ensures { result ≡ rooms_check lines items first second starts listing counts }
 {
     if first != second {
@@ -44,7 +36,7 @@ fn check_lent(
 // The lists by line of tables beside so many lines, and counts that are zero. Refusal 3, of what is lent; then that of a check of the lines; then 2, 8 and
 // 10 of the tables. A refusal changes nothing.
 pub fn begin(
-    checked: Check,
+    checked: Result<(), Refusal>,
     lines: usize,
     grid: Grid,
     offsets: &[u32],
@@ -56,11 +48,11 @@ pub fn begin(
     starts: &mut [u32],
     listing: &mut [u32],
     counts: &mut [u32],
-) -> Check
+) -> Result<(), Refusal>
     ensures { let t = tables grid lines offsets.now items.now globals.now global_count in
         Begun checked grid t first second starts.old listing.old counts.old result starts.new listing.new counts.new }
 {
-    let lent = check_lent(
+    check_lent(
         lines,
         items.len(),
         first,
@@ -68,14 +60,9 @@ pub fn begin(
         starts.len(),
         listing.len(),
         counts.len(),
-    );
-    if let Check::Refused(r) = lent {
-        return Check::Refused(r);
-    }
-    if let Check::Refused(r) = checked {
-        return Check::Refused(r);
-    }
-    let listed = by_line::lists_by_line(
+    )?;
+    checked?;
+    by_line::lists_by_line(
         lines,
         grid,
         offsets,
@@ -84,12 +71,9 @@ pub fn begin(
         global_count,
         starts,
         listing,
-    );
-    if let ByLine::Refused(r) = listed {
-        return Check::Refused(r);
-    }
+    )?;
     slices::clear(counts);
-    Check::Fine
+    Ok(())
 }
 
 // Writes an entry; one beyond the end is not written.
@@ -110,7 +94,7 @@ pub fn put_pair(first: &mut [u32], second: &mut [u32], at: usize, a: u32, b: u32
     put(second, at, b);
 }
 
-// So many pairs stand in the outputs, or would. Clears the scratch, and the outputs beyond the pairs; where they have no room, throughout, by 5.
+// So many pairs stand in the outputs, or would: answers their number. Clears the scratch, and the outputs beyond the pairs; where they have no room, throughout, by 5.
 pub fn finish(
     hits: usize,
     first: &mut [u32],
@@ -118,7 +102,7 @@ pub fn finish(
     starts: &mut [u32],
     listing: &mut [u32],
     counts: &mut [u32],
-) -> OnceAnswer
+) -> Result<u64, Refusal>
     ensures { EndIs hits first.old second.old starts.old listing.old counts.old result
         first.new second.new starts.new listing.new counts.new }
 {
@@ -128,12 +112,12 @@ pub fn finish(
     if first.len() < hits {
         slices::clear(first);
         slices::clear(second);
-        return OnceAnswer::Refused(Refusal {
+        return Err(Refusal {
             number: 5,
             value: hits as u64,
         });
     }
     slices::clear_from(first, hits);
     slices::clear_from(second, hits);
-    OnceAnswer::Pairs(hits as u64)
+    Ok(hits as u64)
 }

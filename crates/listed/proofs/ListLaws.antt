@@ -1,4 +1,5 @@
 -- What is left of a list from a place in it: the first test there, a part of a row taken off, the list done. Assumes nothing.
+use Rattle.std.specs.Prelude.{Some, None, Option}
 use mathlib.Core.Path.{◌≡◌, refl, sym, ap, subst, ◌∙◌}
 use mathlib.Core.Bool.{false, cond}
 use mathlib.Core.List.{List, [], ◌∷◌, ◌++◌, append_assoc}
@@ -16,7 +17,6 @@ use Rattle.seek.specs.Cursors.{rest_in}
 use Rattle.seek.proofs.Clauses.{with_append, length_with, pairs_nil, pairs_cons}
 use Rattle.seek.proofs.CellRests.{row_ends, list_ends, list_begins}
 use Rattle.listed.specs.declared.settle.RowAt.{RowAt}
-use Rattle.listed.specs.declared.settle.RowAt.TheVariants as rowat
 use Rattle.listed.specs.Lists.{list_from}
 use Rattle.listed.specs.Places.{row_with, row_at, is_brief}
 
@@ -49,9 +49,9 @@ pub record RowIs (len i j a b : ℕ) : Type 0 where
   pub inside : b < len
   pub same : (pl : Place) (xs : List ℕ) → length xs ≡ len → list_from pl xs i j ≡ list_from pl xs a b
 
-abbrev RowFound : ℕ → ℕ → ℕ → RowAt → Type 0
-RowFound len i j (rowat.At a b) = RowIs len i j a b
-RowFound len i j rowat.Past = (pl : Place) (xs : List ℕ) → length xs ≡ len → list_from pl xs i j ≡ []
+abbrev RowFound : ℕ → ℕ → ℕ → (Option RowAt) → Type 0
+RowFound len i j (Some x) = RowIs len i j x.i x.j
+RowFound len i j None = (pl : Place) (xs : List ℕ) → length xs ≡ len → list_from pl xs i j ≡ []
 
 pub row_past : (len i j : ℕ) → len ≤ i → (pl : Place) (xs : List ℕ) → length xs ≡ len → list_from pl xs i j ≡ []
 unfolding list_from
@@ -91,37 +91,37 @@ module _ (len i j at : ℕ) (ea : at ≡ cond (ltb i j) j (suc i)) where
   unfolding row_with
   found_with = go (dec_lt at len) (dec_lt (i + 2) len)
     where
-      go : Dec (at < len) → Dec (i + 2 < len) → RowFound len i j (cond (ltb at len) (rowat.At i at) (cond (ltb (i + 2) len) (rowat.At (i + 1) (i + 2)) rowat.Past))
+      go : Dec (at < len) → Dec (i + 2 < len) → RowFound len i j (cond (ltb at len) (Some (record { i = i; j = at })) (cond (ltb (i + 2) len) (Some (record { i = (i + 1); j = (i + 2) })) None))
       go (yes h) q = rw (lt-ltb at len h) (row_here h)
       go (no h) (yes k) = rw (le-ltb at len (omega arith), lt-ltb (i + 2) len k) (row_next (omega arith) (omega arith))
       go (no h) (no k) = rw (le-ltb at len (omega arith), le-ltb (i + 2) len (omega arith)) (row_done (omega arith) (omega arith))
 
   -- as the code finds it
-  pub is_here : at < len → rowat.At i at ≡ row_at len i j
+  pub is_here : at < len → Some (record { i = i; j = at }) ≡ row_at len i j
   unfolding row_at row_with
   is_here h = rw (← ea, lt-ltb at len h)
 
-  pub is_done : len ≤ at → len - i ≤ 2 → rowat.Past ≡ row_at len i j
+  pub is_done : len ≤ at → len - i ≤ 2 → None ≡ row_at len i j
   unfolding row_at row_with
   is_done h k = rw (← ea, le-ltb at len h, le-ltb (i + 2) len (omega arith))
 
-  pub is_next : len ≤ at → 2 < len - i → rowat.At (i + 1) (i + 2) ≡ row_at len i j
+  pub is_next : len ≤ at → 2 < len - i → Some (record { i = (i + 1); j = (i + 2) }) ≡ row_at len i j
   unfolding row_at row_with
   is_next h k = rw (← ea, le-ltb at len h, lt-ltb (i + 2) len (omega arith))
 
-pub is_past : (len i j : ℕ) → len ≤ i → rowat.Past ≡ row_at len i j
+pub is_past : (len i j : ℕ) → len ≤ i → None ≡ row_at len i j
 is_past len i j h = is_done len i j (cond (ltb i j) j (suc i)) refl (omega (arith, later_more i j)) (omega arith)
 
 -- what was found says
-module _ (len i j : ℕ) (r : RowAt) (e : r ≡ row_at len i j) where
+module _ (len i j : ℕ) (r : (Option RowAt)) (e : r ≡ row_at len i j) where
   found : RowFound len i j r
   unfolding row_at
   found = rw e (found_with len i j (cond (ltb i j) j (suc i)) refl)
 
-  pub row_at_is : (a b : ℕ) → r ≡ rowat.At a b → RowIs len i j a b
+  pub row_at_is : (a b : ℕ) → r ≡ Some (record { i = a; j = b }) → RowIs len i j a b
   row_at_is a b k = subst (RowFound len i j) k found
 
-  pub row_at_past : r ≡ rowat.Past → (pl : Place) (xs : List ℕ) → length xs ≡ len → list_from pl xs i j ≡ []
+  pub row_at_past : r ≡ None → (pl : Place) (xs : List ℕ) → length xs ≡ len → list_from pl xs i j ≡ []
   row_at_past k = subst (RowFound len i j) k found
 
 -- a list of fewer than two has no test

@@ -1,4 +1,5 @@
 -- Any two answers that the promises of `next_cell` and of `cell_at` admit are the same. Assumes nothing.
+use Rattle.std.specs.Prelude.{Some, None, Option}
 use mathlib.Core.Path.{◌≡◌, refl, sym, ap, ◌∙◌}
 use mathlib.Core.List.{List, [], ◌∷◌, ◌++◌}
 use Prim.Native.Nat.{ℕ, suc, ◌+◌, ◌-◌, ◌*◌, ◌≤◌, ◌<◌}
@@ -14,7 +15,6 @@ use Rattle.seek.specs.Tests.{Pair, pair, place_of}
 use Rattle.seek.specs.Cursors.{rest_in}
 use Rattle.seek.proofs.CellRests.{pair_taken}
 use Rattle.listed.specs.declared.CellAt.{CellAt}
-use Rattle.listed.specs.declared.CellAt.TheVariants as cellat
 use Rattle.listed.specs.Lists.{list_by, tests_of_cells}
 use Rattle.listed.specs.Places.{NextCell, FirstAt, LeftAt}
 use Rattle.listed.proofs.AsIs.{list_increases}
@@ -85,7 +85,7 @@ module _ (cols n m : ℕ) (offsets items : List ℕ) where
           one_place 0 (list_by n offsets items c) b b' rises f.among (rw same_cell g.among)
           (ap (λ (p : Pair). p.second) same_first ∙ rw same_cell)
 
-      same_at : cellat.At c a b ≡ cellat.At c' a' b'
+      same_at : ◌≡◌ {A = Option CellAt} (Some (record { cell = c; i = a; j = b })) (Some (record { cell = c'; i = a'; j = b' }))
       same_at = rw (same_cell, same_i, same_j)
 
     not_none : (c a b : ℕ) → FirstAt cols n m offsets items rest c a b → rest ≡ [] → ⊥
@@ -93,8 +93,8 @@ module _ (cols n m : ℕ) (offsets items : List ℕ) where
         let z : suc (length (rest_in (place_of cols c) (list_by n offsets items c) a (suc b) ++ tests_of_cells cols (list_by n offsets items) (m - suc c) (suc c))) ≡ 0 = ap length (sym (begins c a b f) ∙ e) in
         omega arith
 
-    pub one_at : (x y : CellAt) → LeftAt cols n m offsets items rest x → LeftAt cols n m offsets items rest y → x ≡ y
-    one_at (cellat.At c a b) (cellat.At c' a' b') f g = same_at c a b c' a' b' f g
-    one_at (cellat.At c a b) cellat.Past f g = absurd (not_none c a b f g)
-    one_at cellat.Past (cellat.At c a b) f g = absurd (not_none c a b g f)
-    one_at cellat.Past cellat.Past f g = refl
+    pub one_at : (x y : (Option CellAt)) → LeftAt cols n m offsets items rest x → LeftAt cols n m offsets items rest y → x ≡ y
+    one_at (Some x) (Some y) f g = same_at x.cell x.i x.j y.cell y.i y.j f g
+    one_at (Some x) None f g = absurd (not_none x.cell x.i x.j f g)
+    one_at None (Some x) f g = absurd (not_none x.cell x.i x.j g f)
+    one_at None None f g = refl

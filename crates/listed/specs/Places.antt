@@ -1,20 +1,18 @@
 -- Where the first test at or after a place stands: in a list, and in the cells. Definitions only.
-use Rattle.std.specs.Prelude.{ℕ, suc, ◌+◌, ◌-◌, ◌*◌, ◌≤◌, ◌<◌, min, ◌≡◌, Bool, cond, ◌&&◌, List, [], length, get_or, eqb, leb, ltb}
+use Rattle.std.specs.Prelude.{Some, None, Option, ℕ, suc, ◌+◌, ◌-◌, ◌*◌, ◌≤◌, ◌<◌, min, ◌≡◌, Bool, cond, ◌&&◌, List, [], length, get_or, eqb, leb, ltb}
 use Rattle.seek.specs.Tests.{Pair}
 use Rattle.listed.specs.declared.settle.RowAt.{RowAt}
-use Rattle.listed.specs.declared.settle.RowAt.TheVariants as rowat
 use Rattle.listed.specs.declared.CellAt.{CellAt}
-use Rattle.listed.specs.declared.CellAt.TheVariants as cellat
 use Rattle.listed.specs.Lists.{list_by, cells_from}
 
 -- ---- in a list of `len` entries
 
 -- entry i with entry b, if there is one; else the first test of the next row, if it has one
-unfoldable pub row_with : ℕ → ℕ → ℕ → RowAt
-row_with len i b = cond (ltb b len) (rowat.At i b) (cond (ltb (i + 2) len) (rowat.At (i + 1) (i + 2)) rowat.Past)
+unfoldable pub row_with : ℕ → ℕ → ℕ → (Option RowAt)
+row_with len i b = cond (ltb b len) (Some (record { i = i; j = b })) (cond (ltb (i + 2) len) (Some (record { i = (i + 1); j = (i + 2) })) None)
 
 -- the first test at or after entries i and j, of which only a later one is tested with i
-unfoldable pub row_at : ℕ → ℕ → ℕ → RowAt
+unfoldable pub row_at : ℕ → ℕ → ℕ → (Option RowAt)
 row_at len i j = row_with len i (cond (ltb i j) j (suc i))
 
 -- at most 32 entries, begun at the start, and room for more pairs than they make
@@ -38,6 +36,6 @@ pub record FirstAt (cols n m : ℕ) (offsets items : List ℕ) (rest : List Pair
   pub is : rest ≡ cells_from cols (list_by n offsets items) (m - c) c a b
 
 -- where the first of some tests stands, or that there is none
-abbrev pub LeftAt : ℕ → ℕ → ℕ → List ℕ → List ℕ → List Pair → CellAt → Type 0
-LeftAt cols n m offsets items rest (cellat.At c a b) = FirstAt cols n m offsets items rest c a b
-LeftAt cols n m offsets items rest cellat.Past = rest ≡ []
+abbrev pub LeftAt : ℕ → ℕ → ℕ → List ℕ → List ℕ → List Pair → (Option CellAt) → Type 0
+LeftAt cols n m offsets items rest (Some x) = FirstAt cols n m offsets items rest x.cell x.i x.j
+LeftAt cols n m offsets items rest None = rest ≡ []

@@ -78,12 +78,10 @@ fn is_inner(inner: Box, many: usize, room: &[f64]) -> bool
     let bx = inner.max_x;
     let by = inner.max_y;
     let mut all = true;
-    let mut u = 0;
-    while u < many {
+    for u in 0..many {
         all = all
             & ((room[u] <= ax)
                 & ((bx <= room[1026 + u]) & ((room[513 + u] <= ay) & (by <= room[1539 + u]))));
-        u = u + 1;
     }
     all
 }

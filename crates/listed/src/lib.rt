@@ -7,9 +7,10 @@ pub mod bytes;
 pub mod lists;
 pub mod settle;
 
-// Where the first test that is left in the cells stands: a cell and two entries of its list; or that none is left.
+// Where a test in the cells stands: a cell and two entries of its list.
 #[derive(Clone, Copy)]
-pub enum CellAt {
-    At { cell: usize, i: usize, j: usize },
-    Past,
+pub struct CellAt {
+    pub cell: usize,
+    pub i: usize,
+    pub j: usize,
 }

@@ -31,14 +31,12 @@ pub fn next_cell(reach: usize, offsets: &[u32], cell: usize) -> usize
     ensures { NextCell reach offsets.now cell result }
 {
     let last = least(reach, less_one(offsets.len()));
-    let mut cell = cell;
-    while cell < last {
-        if wide(offsets[cell]) + 2 <= wide(offsets[cell + 1]) {
-            return cell;
+    for i in cell..last {
+        if wide(offsets[i]) + 2 <= wide(offsets[i + 1]) {
+            return i;
         }
-        cell = cell + 1;
     }
-    cell
+    cell.max(last)
 }
 
 // Whether a list is short and begun at its start, and there is room for all its pairs: the square of its length is more than they are.

@@ -5,11 +5,11 @@ ghost use Rattle.listed.specs.Places.{row_at, LeftAt};
 
 use crate::{CellAt, lists};
 
-// Two entries of a list, or that no test is left in it.
+// Two entries of a list.
 #[derive(Clone, Copy)]
-pub enum RowAt {
-    At { i: usize, j: usize },
-    Past,
+pub struct RowAt {
+    pub i: usize,
+    pub j: usize,
 }
 
 // The later entry that entry i is tested with next: j, but none before the one after i.
@@ -23,24 +23,24 @@ fn later(i: usize, j: usize, len: usize) -> usize
     i + 1
 }
 
-// In a list of `len` entries.
-pub fn row_at(len: usize, i: usize, j: usize) -> RowAt
+// In a list of `len` entries, or that no test is left in it.
+pub fn row_at(len: usize, i: usize, j: usize) -> Option<RowAt>
     ensures { result ≡ row_at len i j }
 {
     if len <= i {
-        return RowAt::Past;
+        return None;
     }
     let at = later(i, j, len);
     if at < len {
-        return RowAt::At { i, j: at };
+        return Some(RowAt { i, j: at });
     }
     if len - i <= 2 {
-        return RowAt::Past;
+        return None;
     }
-    RowAt::At { i: i + 1, j: i + 2 }
+    Some(RowAt { i: i + 1, j: i + 2 })
 }
 
-// In the cells.
+// In the cells, or that none is left.
 pub fn cell_at(
     lines: usize,
     reach: usize,
@@ -49,21 +49,22 @@ pub fn cell_at(
     cell: usize,
     i: usize,
     j: usize,
-) -> CellAt
+) -> Option<CellAt>
     ensures { let L = list_by lines offsets.now items.now in
         ((cols : ℕ) → LeftAt cols lines reach offsets.now items.now (cells_from cols L (reach - cell) cell i j) result) }
 {
     let mut cell = cell;
     let mut i = i;
     let mut j = j;
+    // Each step goes to the next cell that has two lines.
     while cell < reach {
         let list = lists::list_of(lines, offsets, items, cell);
-        if let RowAt::At { i: a, j: b } = row_at(list.len(), i, j) {
-            return CellAt::At { cell, i: a, j: b };
+        if let Some(RowAt { i: a, j: b }) = row_at(list.len(), i, j) {
+            return Some(CellAt { cell, i: a, j: b });
         }
         cell = lists::next_cell(reach, offsets, cell + 1);
         i = 0;
         j = 1;
     }
-    CellAt::Past
+    None
 }

@@ -1,5 +1,6 @@
 -- Laws of points held with member lengths: of the points of two slices, of cutting them into members, and of what refusal 3 lets through.
 -- Assumes nothing.
+use Rattle.std.specs.Prelude.{Ok}
 use mathlib.Core.Path.{◌≡◌, refl, sym, ap, ◌∙◌}
 use mathlib.Core.Bool.{true}
 use mathlib.Core.List.{List, [], ◌∷◌, ◌++◌, map, flatten, zip_with}
@@ -9,7 +10,6 @@ use lib.Dec.{leb, eqb}
 use lib.ListN.{length, take, drop, get_or, length-append, length-drop, take-append-drop}
 use lib.Seq.{length-take-le, take-append_seam, drop-append_seam}
 use borrow.Author.Tests.{le-leb, leb-true, eq-eqb, eqb-true}
-use Rattle.refusals.specs.declared.Check.TheVariants.{Fine}
 use Rattle.refusals.specs.Refusals.{unless}
 use Rattle.refusals.proofs.Checks.{unless_fine}
 use Rattle.grid.proofs.Bools.{and_says}
@@ -176,7 +176,7 @@ pub record Held (m n : ℕ) (ns : List ℕ) : Type 0 where
   pub each : all_lengths ns ≡ true
   pub sum : sum_of ns ≡ m
 
-pub held_says : (m n : ℕ) (ns : List ℕ) → held_check m n ns ≡ Fine → Held m n ns
+pub held_says : (m n : ℕ) (ns : List ℕ) → held_check m n ns ≡ (Ok tt) → Held m n ns
 unfolding held_check
 held_says m n ns h =
     let a = and_says (eqb m n) _ (unless_fine _ _ _ h) in
@@ -189,7 +189,7 @@ held_says m n ns h =
       sum = eqb-true (sum_of ns) m c.1;
     }
 
-pub held_fine : {m n : ℕ} {ns : List ℕ} → Held m n ns → held_check m n ns ≡ Fine
+pub held_fine : {m n : ℕ} {ns : List ℕ} → Held m n ns → held_check m n ns ≡ Ok tt
 unfolding held_check unless
 held_fine {m} {n} {ns} h =
     rw (eq-eqb m n (sym h.alike), le-leb (length ns) 4294967295 h.most, h.each, eq-eqb (sum_of ns) m h.sum)

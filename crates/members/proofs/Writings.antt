@@ -1,4 +1,5 @@
 -- The promises of the writer and of the lines of members from their parts. Assumes nothing.
+use Rattle.std.specs.Prelude.{Ok, Err}
 use mathlib.Core.Path.{◌≡◌, refl, sym, ap, ◌∙◌, subst}
 use mathlib.Core.Bool.{true, false}
 use mathlib.Core.List.{List, flatten, map}
@@ -9,7 +10,6 @@ use lib.Ieee.{Float, binary64, of_bits}
 use lib.ListN.{length, replicate}
 use borrow.Author.Tests.{leb-true}
 use Rattle.refusals.specs.declared.Refusal.{Refusal}
-use Rattle.refusals.specs.declared.Check.TheVariants as check
 use Rattle.refusals.specs.Refusals.{Answer, refused, gives, ◌then◌, answer_by, clears, left_in, zero_beyond}
 use Rattle.refusals.proofs.Checks.{unless_fine}
 use Rattle.refusals.proofs.Answers.{then_refused, then_fine, then_passed}
@@ -25,31 +25,29 @@ use Rattle.members.specs.Held.{points_of, chains_of, sum_of, held_check}
 use Rattle.members.specs.Writing.{fit_check, bytes_in, written, written_of, bytes_left, WrittenAs}
 use Rattle.members.specs.Lining.{lined_within, lining, lined_of, ends_left, lines_left, LinedAs}
 use Rattle.members.specs.Inside.{zero_lines, floats_at, lines_put}
-use Rattle.members.specs.declared.Written.TheVariants.{Bytes, Refused}
-use Rattle.members.specs.declared.Lined.TheVariants as lined
 use Rattle.members.proofs.Held.{Held, held_says, length_points_of, map_x, map_y, length_chains_of, flatten_chains, chains_fit, fits_some}
 use Rattle.members.proofs.Along.{starts_by, ends_by}
 use Rattle.members.proofs.Putting.{length_multi, multi_is}
 
 -- ---- the checks, by what a refusal leaves
 
-pub fit_says : (room n : ℕ) → fit_check room n ≡ check.Fine → n ≤ room
+pub fit_says : (room n : ℕ) → fit_check room n ≡ (Ok tt) → n ≤ room
 unfolding fit_check
 fit_says room n h = leb-true n room (unless_fine _ _ _ h)
 
-pub count_says : (n : ℕ) → count_check n ≡ check.Fine → n ≤ 65536
+pub count_says : (n : ℕ) → count_check n ≡ (Ok tt) → n ≤ 65536
 unfolding count_check
 count_says n h = leb-true n 65536 (unless_fine _ _ _ h)
 
-fit_clears : (room n : ℕ) (r : Refusal) → fit_check room n ≡ check.Refused r → clears r.number ≡ true
+fit_clears : (room n : ℕ) (r : Refusal) → fit_check room n ≡ Err r → clears r.number ≡ true
 unfolding fit_check clears
 fit_clears room n r e = (clearing_unless (leb n room) 5 n refl).says r e
 
-held_same : (m n : ℕ) (ns : List ℕ) (r : Refusal) → held_check m n ns ≡ check.Refused r → clears r.number ≡ false
+held_same : (m n : ℕ) (ns : List ℕ) (r : Refusal) → held_check m n ns ≡ Err r → clears r.number ≡ false
 unfolding held_check clears
 held_same m n ns r e = (clearing_unless _ 3 0 refl).says r e
 
-alike_same : (ls : Lines) (r : Refusal) → lengths_check ls ≡ check.Refused r → clears r.number ≡ false
+alike_same : (ls : Lines) (r : Refusal) → lengths_check ls ≡ Err r → clears r.number ≡ false
 unfolding lengths_check clears
 alike_same ls r e = (clearing_unless _ 3 0 refl).says r e
 
@@ -64,7 +62,7 @@ pub record Counts (x y ns : List ℕ) : Type 0 where
   pub some : length ns ≤ length x
   pub bytes : length (multi_bytes (chains_of ns (points_of x y))) ≡ 9 + 9 * length ns + 16 * length x
 
-pub counts : (x y ns : List ℕ) → Patterns (points_of x y) → held_check (length x) (length y) ns ≡ check.Fine → Counts x y ns
+pub counts : (x y ns : List ℕ) → Patterns (points_of x y) → held_check (length x) (length y) ns ≡ (Ok tt) → Counts x y ns
 counts x y ns q h =
     let d = held_says (length x) (length y) ns h in
     let ps = points_of x y in
@@ -98,32 +96,32 @@ module _ (x y ns b₀ : List ℕ) (patterns : Patterns (points_of x y)) where
       let f = chains_fit ns (points_of x y) d.each (d.sum ∙ sym n) patterns in
       subst (λ (cs : List ℕ). MultiLineString cs pss) (gives_same c.1) (multi_is pss f (omega (arith, length_chains_of ns (points_of x y), d.most)))
 
-  none : (r : Refusal) → written x y ns (length b₀) ≡ refused r → clears r.number ≡ false → WrittenAs x y ns b₀ (Refused r) b₀
+  none : (r : Refusal) → written x y ns (length b₀) ≡ refused r → clears r.number ≡ false → WrittenAs x y ns b₀ (Err r) b₀
   unfolding written_of bytes_left answer_by left_in
   none r e k = record { answer = rw e; in_bytes = rw e (sym (left_same 0 r b₀ k)); is = is_multi }
 
-  pub write_lent : (r : Refusal) → held_check (length x) (length y) ns ≡ check.Refused r → WrittenAs x y ns b₀ (Refused r) b₀
+  pub write_lent : (r : Refusal) → held_check (length x) (length y) ns ≡ Err r → WrittenAs x y ns b₀ (Err r) b₀
   unfolding written
   write_lent r e = none r (then_refused _ _ r e) (held_same (length x) (length y) ns r e)
 
-  module _ (h : held_check (length x) (length y) ns ≡ check.Fine) where
+  module _ (h : held_check (length x) (length y) ns ≡ (Ok tt)) where
     to_count : written x y ns (length b₀) ≡ (count_check (length x - length ns) then fit_check (length b₀) (9 + 9 * length ns + 16 * length x) then gives (multi_bytes (chains_of ns (points_of x y))))
     unfolding written bytes_in
     to_count = let c = counts x y ns patterns h in then_fine _ _ h ∙ rw (c.lines, c.bytes)
 
-    pub write_many : (r : Refusal) → count_check (length x - length ns) ≡ check.Refused r → WrittenAs x y ns b₀ (Refused r) b₀
+    pub write_many : (r : Refusal) → count_check (length x - length ns) ≡ Err r → WrittenAs x y ns b₀ (Err r) b₀
     write_many r e = none r (to_count ∙ then_refused _ _ r e) (count_same (length x - length ns) r e)
 
-    module _ (few : count_check (length x - length ns) ≡ check.Fine) where
+    module _ (few : count_check (length x - length ns) ≡ (Ok tt)) where
       -- refusal 5: zero throughout
-      pub write_short : {b₁ : List ℕ} (r : Refusal) → fit_check (length b₀) (9 + 9 * length ns + 16 * length x) ≡ check.Refused r → b₁ ≡ replicate (length b₀) 0 → WrittenAs x y ns b₀ (Refused r) b₁
+      pub write_short : {b₁ : List ℕ} (r : Refusal) → fit_check (length b₀) (9 + 9 * length ns + 16 * length x) ≡ Err r → b₁ ≡ replicate (length b₀) 0 → WrittenAs x y ns b₀ (Err r) b₁
       unfolding written_of bytes_left answer_by left_in
       write_short r e eb =
           let o = to_count ∙ then_fine _ _ few ∙ then_refused _ _ r e in
           let k = fit_clears (length b₀) (9 + 9 * length ns + 16 * length x) r e in
           record { answer = rw o; in_bytes = rw o (eb ∙ sym (left_zero 0 r b₀ k)); is = is_multi }
 
-      pub write_all : {b₁ : List ℕ} → fit_check (length b₀) (9 + 9 * length ns + 16 * length x) ≡ check.Fine → b₁ ≡ zero_beyond 0 (length b₀) (multi_bytes (chains_of ns (points_of x y))) → WrittenAs x y ns b₀ (Bytes (9 + 9 * length ns + 16 * length x)) b₁
+      pub write_all : {b₁ : List ℕ} → fit_check (length b₀) (9 + 9 * length ns + 16 * length x) ≡ (Ok tt) → b₁ ≡ zero_beyond 0 (length b₀) (multi_bytes (chains_of ns (points_of x y))) → WrittenAs x y ns b₀ (Ok (9 + 9 * length ns + 16 * length x)) b₁
       unfolding written_of bytes_left answer_by left_in
       write_all e eb =
           let o = to_count ∙ then_fine _ _ few ∙ then_fine _ _ e in
@@ -149,7 +147,7 @@ module _ (x y ns : List ℕ) (ls : Lines) (patterns : Patterns (points_of x y)) 
   unfolding ends_left left_in
   same_by f ends o r s e k = rw e (sym (left_same nought r s k))
 
-  stays : (r : Refusal) → lining x y ns ls ≡ refused r → clears r.number ≡ false → LinedAs x y ns ls (lined.Refused r) ls
+  stays : (r : Refusal) → lining x y ns ls ≡ refused r → clears r.number ≡ false → LinedAs x y ns ls (Err r) ls
   unfolding lined_of answer_by
   stays r e k = record {
     answer = rw e;
@@ -158,30 +156,30 @@ module _ (x y ns : List ℕ) (ls : Lines) (patterns : Patterns (points_of x y)) 
         (same_by (λ p. p.x) ends_of _ r ls.end_x e k) (same_by (λ p. p.y) ends_of _ r ls.end_y e k);
   }
 
-  pub line_alike : (r : Refusal) → lengths_check ls ≡ check.Refused r → LinedAs x y ns ls (lined.Refused r) ls
+  pub line_alike : (r : Refusal) → lengths_check ls ≡ Err r → LinedAs x y ns ls (Err r) ls
   unfolding lining
   line_alike r e = stays r (then_refused _ _ r e) (alike_same ls r e)
 
-  module _ (a : lengths_check ls ≡ check.Fine) where
-    pub line_lent : (r : Refusal) → held_check (length x) (length y) ns ≡ check.Refused r → LinedAs x y ns ls (lined.Refused r) ls
+  module _ (a : lengths_check ls ≡ (Ok tt)) where
+    pub line_lent : (r : Refusal) → held_check (length x) (length y) ns ≡ Err r → LinedAs x y ns ls (Err r) ls
     unfolding lining
     line_lent r e = stays r (then_fine _ _ a ∙ then_refused _ _ r e) (held_same (length x) (length y) ns r e)
 
-    module _ (h : held_check (length x) (length y) ns ≡ check.Fine) where
+    module _ (h : held_check (length x) (length y) ns ≡ (Ok tt)) where
       to_lines : lining x y ns ls ≡ (count_check (length x - length ns) then fit_check (count ls) (length x - length ns) then gives (chains_of ns (points_of x y)))
       unfolding lining lined_within
       to_lines = then_fine _ _ a ∙ then_fine _ _ h ∙ rw (counts x y ns patterns h).lines
 
-      pub line_many : (r : Refusal) → count_check (length x - length ns) ≡ check.Refused r → LinedAs x y ns ls (lined.Refused r) ls
+      pub line_many : (r : Refusal) → count_check (length x - length ns) ≡ Err r → LinedAs x y ns ls (Err r) ls
       line_many r e = stays r (to_lines ∙ then_refused _ _ r e) (count_same (length x - length ns) r e)
 
-      module _ (few : count_check (length x - length ns) ≡ check.Fine) (ls' : Lines) where
+      module _ (few : count_check (length x - length ns) ≡ (Ok tt)) (ls' : Lines) where
         zero_by : (f : Point → ℕ) (ends : List (List Point) → List Point) (o : Answer (List (List Point))) (r : Refusal) (s : List Float) → o ≡ refused r → clears r.number ≡ true → replicate (length s) nought ≡ ends_left f ends o s
         unfolding ends_left left_in
         zero_by f ends o r s e k = rw e (sym (left_zero nought r s k))
 
         -- refusal 5: zero throughout
-        pub line_short : (r : Refusal) → fit_check (count ls) (length x - length ns) ≡ check.Refused r → ls' ≡ zero_lines ls → LinedAs x y ns ls (lined.Refused r) ls'
+        pub line_short : (r : Refusal) → fit_check (count ls) (length x - length ns) ≡ Err r → ls' ≡ zero_lines ls → LinedAs x y ns ls (Err r) ls'
         unfolding lined_of answer_by zero_lines
         line_short r e z =
             let o = to_lines ∙ then_fine _ _ few ∙ then_refused _ _ r e in
@@ -198,7 +196,7 @@ module _ (x y ns : List ℕ) (ls : Lines) (patterns : Patterns (points_of x y)) 
         unfolding ends_left left_in
         made_by f ends o pss s cs e c = rw (e, c)
 
-        pub line_all : fit_check (count ls) (length x - length ns) ≡ check.Fine → ls' ≡ lines_put ns x y ls → LinedAs x y ns ls (lined.Lines (length x - length ns)) ls'
+        pub line_all : fit_check (count ls) (length x - length ns) ≡ (Ok tt) → ls' ≡ lines_put ns x y ls → LinedAs x y ns ls (Ok (length x - length ns)) ls'
         unfolding lined_of answer_by lines_put floats_at
         line_all e z =
             let o = to_lines ∙ then_fine _ _ few ∙ then_fine _ _ e in

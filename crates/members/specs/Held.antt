@@ -1,8 +1,8 @@
 -- Chains held as points with member lengths (document 02, 1): the points of all members in two slices, as bit patterns, and the number of points
 -- of each member. Definitions only.
+use Rattle.refusals.specs.Refusals.{Check}
 use Rattle.std.specs.Prelude.{ℕ, ◌+◌, Bool, true, ◌&&◌, leb, eqb, length, take, drop}
 use mathlib.Core.List.{List, [], ◌∷◌, zip_with}
-use Rattle.refusals.specs.declared.Check.{Check}
 use Rattle.refusals.specs.Refusals.{unless}
 use Rattle.wkb.specs.Bytes.{Point}
 

@@ -1,8 +1,7 @@
 // The bytes of numbers, points and members, put into a slice one after another, in the little order.
-ghost use Rattle.std.specs.Prelude.{◌≡◌, ◌+◌, ◌*◌, ◌-◌, ◌≤◌, length, take, drop, replicate};
+ghost use Rattle.std.specs.Prelude.{◌≡◌, ◌+◌, ◌*◌, ◌-◌, ◌≤◌, length, take, drop, replicate, Ok};
 ghost use mathlib.Core.List.{◌++◌, flat_map};
 ghost use Rattle.wkb.specs.declared.Order.TheVariants.{Little};
-ghost use Rattle.refusals.specs.declared.Check.TheVariants.{Fine};
 ghost use Rattle.wkb.specs.Bytes.{little_bytes, points_bytes, line_bytes, multi_bytes};
 ghost use Rattle.wkb.specs.Inside.{PutIn};
 ghost use Rattle.members.specs.Held.{points_of, chains_of, held_check};
@@ -35,11 +34,9 @@ fn put_points(x: &[u64], y: &[u64], from: usize, n: usize, s: &mut [u8], at: usi
     requires { (length y.now ≡ length x.now) × (from + n ≤ length x.now) × (at + 16 * n ≤ length s.old) }
     ensures { PutIn at (points_bytes Little (take n (drop from (points_of x.now y.now)))) s.old s.new }
 {
-    let mut i = 0;
-    while i < n {
+    for i in 0..n {
         put_8(s, at + 16 * i, x[from + i]);
         put_8(s, at + 16 * i + 8, y[from + i]);
-        i += 1;
     }
 }
 
@@ -57,26 +54,24 @@ fn put_member(x: &[u64], y: &[u64], from: usize, n: usize, s: &mut [u8], at: usi
 // All members, one after another, from byte 9 on.
 fn put_members(x: &[u64], y: &[u64], lengths: &[u32], s: &mut [u8])
     requires { let pss = chains_of lengths.now (points_of x.now y.now) in
-        (held_check (length x.now) (length y.now) lengths.now ≡ Fine) × (9 + length (flat_map (line_bytes Little) pss) ≤ length s.old) }
+        (held_check (length x.now) (length y.now) lengths.now ≡ (Ok tt)) × (9 + length (flat_map (line_bytes Little) pss) ≤ length s.old) }
     ensures { let pss = chains_of lengths.now (points_of x.now y.now) in
         PutIn 9 (flat_map (line_bytes Little) pss) s.old s.new }
 {
     let mut at = 9;
     let mut from = 0;
-    let mut k = 0;
-    while k < lengths.len() {
-        let n = slices::wide(lengths[k]);
+    for &length in lengths {
+        let n = slices::wide(length);
         put_member(x, y, from, n, s, at);
         at = at + 9 + 16 * n;
         from = from + n;
-        k += 1;
     }
 }
 
 // The whole: its order, its type, its number of members, its members.
 pub(crate) fn put_multi(x: &[u64], y: &[u64], lengths: &[u32], s: &mut [u8])
     requires { let pss = chains_of lengths.now (points_of x.now y.now) in
-        (held_check (length x.now) (length y.now) lengths.now ≡ Fine) × (length (multi_bytes pss) ≤ length s.old) }
+        (held_check (length x.now) (length y.now) lengths.now ≡ (Ok tt)) × (length (multi_bytes pss) ≤ length s.old) }
     ensures { let pss = chains_of lengths.now (points_of x.now y.now) in
         PutIn 0 (multi_bytes pss) s.old s.new }
 {
@@ -90,9 +85,6 @@ pub(crate) fn put_multi(x: &[u64], y: &[u64], lengths: &[u32], s: &mut [u8])
 pub(crate) fn clear_bytes(s: &mut [u8], from: usize)
     ensures { s.new ≡ take from s.old ++ replicate (length s.old - from) 0 }
 {
-    let mut i = from;
-    while i < s.len() {
-        s[i] = 0;
-        i += 1;
-    }
+    let a = slices::least(s.len(), from);
+    s[a..].fill(0);
 }

@@ -10,22 +10,8 @@ ghost use Rattle.std.specs.Prelude.{◌≡◌, ◌&&◌, ◌<◌, length, leb, e
 ghost use Rattle.members.specs.Held.{is_length, all_lengths, sum_of, held_check};
 ghost use Rattle.members.specs.Writing.{fit_check};
 
-use refusals::{Check, Refusal};
+use refusals::Refusal;
 use slices::wide;
-
-// What the writer answers: how many bytes it wrote, or why it wrote none.
-#[derive(Clone, Copy)]
-pub enum Written {
-    Bytes(usize),
-    Refused(Refusal),
-}
-
-// What is answered for the lines of members: how many there are, or why they were not made.
-#[derive(Clone, Copy)]
-pub enum Lined {
-    Lines(usize),
-    Refused(Refusal),
-}
 
 // A member has 1 to 1,024 points.
 fn is_length(n: u32) -> bool
@@ -40,15 +26,11 @@ fn add_up(lengths: &[u32], points: usize) -> bool
     ensures { result ≡ (all_lengths lengths.now && eqb (sum_of lengths.now) points) }
 {
     let mut sum = 0;
-    let mut k = 0;
-    while k < lengths.len() {
-        let n = lengths[k];
-        if is_length(n) {
-            sum = sum + wide(n);
-            k += 1;
-        } else {
+    for &n in lengths {
+        if !is_length(n) {
             return false;
         }
+        sum += wide(n);
     }
     sum == points
 }
@@ -68,14 +50,14 @@ fn is_held(x: usize, y: usize, lengths: &[u32]) -> bool
 }
 
 // 3: points and lengths that do not go together.
-pub fn check_held(x: usize, y: usize, lengths: &[u32]) -> Check
+pub fn check_held(x: usize, y: usize, lengths: &[u32]) -> Result<(), Refusal>
     ensures { result ≡ held_check x y lengths.now }
 {
     refusals::refuse_unless(is_held(x, y, lengths), 3, 0)
 }
 
 // 5: room for fewer than n.
-fn check_fit(room: usize, n: usize) -> Check
+fn check_fit(room: usize, n: usize) -> Result<(), Refusal>
     ensures { result ≡ fit_check room n }
 {
     refusals::refuse_unless(n <= room, 5, n as u64)

@@ -1,8 +1,7 @@
 // The lines of members, in the four coordinate slices that a build is lent.
-ghost use Rattle.std.specs.Prelude.{◌≡◌, true, map, ◌+◌, ◌-◌, ◌≤◌, length, take, drop};
+ghost use Rattle.std.specs.Prelude.{◌≡◌, true, map, ◌+◌, ◌-◌, ◌≤◌, length, take, drop, Ok};
 ghost use Rattle.std.specs.Float.{binary64};
 ghost use Rattle.std.specs.Float.Ieee.{of_bits};
-ghost use Rattle.refusals.specs.declared.Check.TheVariants.{Fine};
 ghost use Rattle.grid.specs.Domain.{lines, count, lengths_check};
 ghost use Rattle.wkb.specs.Inside.{PutIn};
 ghost use Rattle.members.specs.Held.{all_lengths, sum_of, held_check};
@@ -10,18 +9,16 @@ ghost use Rattle.members.specs.Writing.{fit_check};
 ghost use Rattle.members.specs.Inside.{ends_at, floats_at, zero_lines, lines_put};
 ghost use Rattle.members.specs.Lining.{LinedAs};
 
-use crate::{Lined, check_fit, check_held};
-use refusals::{Check, Refusal};
+use crate::{check_fit, check_held};
+use refusals::Refusal;
 
 // The floats of n patterns, from the place `at` on, go to s from `to` on.
 fn put_floats(from: &[u64], at: usize, n: usize, s: &mut [f64], to: usize)
     requires { (at + n ≤ length from.now) × (to + n ≤ length s.old) }
     ensures { PutIn to (map (of_bits binary64) (take n (drop at from.now))) s.old s.new }
 {
-    let mut i = 0;
-    while i < n {
+    for i in 0..n {
         s[to + i] = numbers::bits::from_bits(from[at + i]);
-        i += 1;
     }
 }
 
@@ -33,13 +30,11 @@ fn put_ends(from: &[u64], lengths: &[u32], skip: usize, s: &mut [f64])
 {
     let mut at = 0;
     let mut to = 0;
-    let mut k = 0;
-    while k < lengths.len() {
-        let n = slices::wide(lengths[k]);
+    for &length in lengths {
+        let n = slices::wide(length);
         put_floats(from, at + skip, n - 1, s, to);
         at = at + n;
         to = to + (n - 1);
-        k += 1;
     }
     wkb::zero_from(s, to);
 }
@@ -66,7 +61,7 @@ fn put_lines(
     end_y: &mut [f64],
 )
     requires { let ls = lines start_x.old start_y.old end_x.old end_y.old in
-        (held_check (length x.now) (length y.now) lengths.now ≡ Fine) × (lengths_check ls ≡ Fine) × (fit_check (count ls) (length x.now - length lengths.now) ≡ Fine) }
+        (held_check (length x.now) (length y.now) lengths.now ≡ (Ok tt)) × (lengths_check ls ≡ (Ok tt)) × (fit_check (count ls) (length x.now - length lengths.now) ≡ (Ok tt)) }
     ensures { let ls = lines start_x.old start_y.old end_x.old end_y.old in
         lines start_x.new start_y.new end_x.new end_y.new ≡ lines_put lengths.now x.now y.now ls }
 {
@@ -76,8 +71,8 @@ fn put_lines(
     put_ends(y, lengths, 1, end_y);
 }
 
-// Makes the lines of the members: consecutive points of a member make a line. Zero beyond. Refusal 5 leaves zero throughout, and every other
-// changes nothing.
+// Makes the lines of the members: consecutive points of a member make a line. Zero beyond. The answer is how many lines there are. Refusal 5 leaves
+// zero throughout, and every other changes nothing.
 pub fn lines_of_members(
     x: &[u64],
     y: &[u64],
@@ -86,29 +81,20 @@ pub fn lines_of_members(
     start_y: &mut [f64],
     end_x: &mut [f64],
     end_y: &mut [f64],
-) -> Lined
+) -> Result<usize, Refusal>
     ensures { let ls = lines start_x.old start_y.old end_x.old end_y.old in
         let ls' = lines start_x.new start_y.new end_x.new end_y.new in
         LinedAs x.now y.now lengths.now ls result ls' }
 {
-    let alike = grid::checks::check_lengths(start_x, start_y, end_x, end_y);
-    if let Check::Refused(r) = alike {
-        return Lined::Refused(r);
-    }
-    let held = check_held(x.len(), y.len(), lengths);
-    if let Check::Refused(r) = held {
-        return Lined::Refused(r);
-    }
+    grid::checks::check_lengths(start_x, start_y, end_x, end_y)?;
+    check_held(x.len(), y.len(), lengths)?;
     let count = x.len() - lengths.len();
-    let few = grid::checks::check_count(count);
-    if let Check::Refused(r) = few {
-        return Lined::Refused(r);
-    }
+    grid::checks::check_count(count)?;
     let room = check_fit(start_x.len(), count);
-    if let Check::Refused(r) = room {
+    if let Err(r) = room {
         clear_lines(start_x, start_y, end_x, end_y);
-        return Lined::Refused(r);
+        return Err(r);
     }
     put_lines(x, y, lengths, start_x, start_y, end_x, end_y);
-    Lined::Lines(count)
+    Ok(count)
 }

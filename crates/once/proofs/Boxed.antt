@@ -1,4 +1,5 @@
 -- A row's line with its box, and the boxes of a list that stand ready. Assumes nothing.
+use Rattle.std.specs.Prelude.{Ok}
 use mathlib.Core.Path.{◌≡◌, refl, sym, ◌∙◌}
 use mathlib.Core.Bool.{Bool, true, false}
 use mathlib.Core.List.{List}
@@ -10,7 +11,6 @@ use lib.Ieee.{Float, nan}
 use lib.ListN.{length, get_or, set, length-set}
 use lib.Seq.{get_or-set_same, get_or-set_other}
 use Rattle.slices.proofs.Members.{below_at}
-use Rattle.refusals.specs.declared.Check.TheVariants.{Fine}
 use Rattle.grid.specs.declared.Box.{Box}
 use Rattle.grid.specs.Domain.{Lines, count, segment_at, lines_check}
 use Rattle.grid.specs.Boxes.{box_of, overlaps}
@@ -33,10 +33,10 @@ row_first e = rw e
 pub row_sure : {row other : Row} → row ≡ other → row.sure ≡ other.sure
 row_sure e = rw e
 
-pub row_held : {ls : Lines} {row : Row} {a sure : ℕ} {A : Type 0} → row ≡ row_of ls a sure → lines_check ls ≡ Fine → sure ≤ 1 → A → RowHeld ls row A
+pub row_held : {ls : Lines} {row : Row} {a sure : ℕ} {A : Type 0} → row ≡ row_of ls a sure → lines_check ls ≡ Ok tt → sure ≤ 1 → A → RowHeld ls row A
 row_held e f l x = record { fine = f; held = rw e; most = rw e l; asks = x }
 
-pub line_asks : {ls : Lines} {a : ℕ} → lines_check ls ≡ Fine → a < count ls → LineAsks ls a
+pub line_asks : {ls : Lines} {a : ℕ} → lines_check ls ≡ Ok tt → a < count ls → LineAsks ls a
 line_asks f l = record { fine = f; one = l }
 
 pub held_other : {ls : Lines} {row : Row} {A B : Type 0} → RowHeld ls row A → B → RowHeld ls row B
@@ -109,13 +109,13 @@ module _ (s : List Float) (u : ℕ) (b : Box) where
         rw (z, with_other t 1 n (omega arith), with_other t 2 n (omega arith), with_other t 3 n (omega arith))
 
 pub record Gathering (ls : Lines) (xs : List ℕ) (s₀ s : List Float) (u : ℕ) : Type 0 where
-  pub fine : lines_check ls ≡ Fine
+  pub fine : lines_check ls ≡ Ok tt
   pub asks : BoxesAsk ls xs s₀
   pub to : u ≤ length xs
   pub done : Boxed ls xs u s
   pub long : length s ≡ length s₀
 
-pub gather_begin : {ls : Lines} {xs : List ℕ} {s : List Float} → lines_check ls ≡ Fine → BoxesAsk ls xs s → Gathering ls xs s s 0
+pub gather_begin : {ls : Lines} {xs : List ℕ} {s : List Float} → lines_check ls ≡ Ok tt → BoxesAsk ls xs s → Gathering ls xs s s 0
 gather_begin f a = record { fine = f; asks = a; to = omega arith; done = record { each = λ u l. absurd (omega arith) }; long = refl }
 
 module _ {ls : Lines} {xs : List ℕ} {s₀ s : List Float} {u : ℕ} (g : Gathering ls xs s₀ s u) where

@@ -1,7 +1,6 @@
 -- What the private functions ask of their lines and boxes, beside what a scan asks. Definitions only.
-use Rattle.std.specs.Prelude.{ℕ, ◌+◌, ◌*◌, ◌≤◌, ◌<◌, ◌≡◌, List, Float, length, get_or, set}
+use Rattle.std.specs.Prelude.{Ok, ℕ, ◌+◌, ◌*◌, ◌≤◌, ◌<◌, ◌≡◌, List, Float, length, get_or, set}
 use Rattle.slices.specs.Lists.{Below}
-use Rattle.refusals.specs.declared.Check.TheVariants.{Fine}
 use Rattle.grid.specs.declared.Box.{Box}
 use Rattle.grid.specs.Domain.{Lines, count, segment_at, lines_check}
 use Rattle.grid.specs.Boxes.{box_of}
@@ -14,12 +13,12 @@ row_of ls a sure = record { first = a; sure = sure; bounds = box_of (segment_at 
 
 -- the lines pass their check, beside what is asked of them
 pub record LinesChecked (ls : Lines) (A : Type 0) : Type 0 where
-  pub fine : lines_check ls ≡ Fine
+  pub fine : lines_check ls ≡ Ok tt
   pub asks : A
 
 -- a row holds the box of its line, too
 pub record RowHeld (ls : Lines) (row : Row) (A : Type 0) : Type 0 where
-  pub fine : lines_check ls ≡ Fine
+  pub fine : lines_check ls ≡ Ok tt
   pub held : row.bounds ≡ box_of (segment_at ls row.first)
   pub most : row.sure ≤ 1
   pub asks : A

@@ -75,10 +75,8 @@ pub(crate) fn gather(
     ensures { let ls = lines start_x.now start_y.now end_x.now end_y.now in
         Boxed ls list.now (length list.now) room.new }
 {
-    let mut u = 0;
-    while u < list.len() {
+    for u in 0..list.len() {
         let bounds = box_at(start_x, start_y, end_x, end_y, list[u]);
         put_box(room, u, bounds);
-        u = u + 1;
     }
 }

@@ -28,11 +28,9 @@ fn count_list(list: &[u32], counts: &mut [u32])
     ensures { let s = list.now in
         ((h : CanCount counts.old s (length s)) → Counted (lines_at h.W (h.i + 1)) counts.new) }
 {
-    let mut j = 0;
-    while j < list.len() {
-        let line = list[j] as usize;
+    for line in list {
+        let line = *line as usize;
         counts[line] += 1;
-        j += 1;
     }
 }
 
@@ -150,8 +148,7 @@ pub(crate) fn scan_cells(
     let mut marks = [0u32; 4096];
     let mut room = [0.0; 256];
     let mut hits = 0;
-    let mut cell = 0;
-    while cell < cells {
+    for cell in 0..cells {
         let list = list_of(offsets, items, cell);
         hits = scan_cell(
             cell as u32,
@@ -171,7 +168,6 @@ pub(crate) fn scan_cells(
             hits,
         );
         count_list(list, counts);
-        cell = cell + 1;
     }
     hits
 }

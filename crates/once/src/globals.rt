@@ -69,13 +69,11 @@ pub(crate) fn scan_globals(
         first.old second.old hits first.new second.new result }
 {
     let mut hits = hits;
-    let mut p = 0;
-    while p < global_count {
+    for p in 0..global_count {
         hits = scan_global(
             n, p, globals, start_x, start_y, end_x, end_y, starts, listing, counts, first, second,
             hits,
         );
-        p = p + 1;
     }
     hits
 }

@@ -13,8 +13,7 @@ ghost use Rattle.first_tests.specs.InsideScan.{HandedOut, RunAsks};
 ghost use Rattle.once.specs.Inside.{LinesChecked};
 
 use grid::Grid;
-use lent::OnceAnswer;
-use refusals::Check;
+use refusals::Refusal;
 
 mod boxes;
 mod cells;
@@ -84,7 +83,7 @@ pub fn pairs_once(
     starts: &mut [u32],
     listing: &mut [u32],
     counts: &mut [u32],
-) -> OnceAnswer
+) -> Result<u64, Refusal>
     ensures { let ls = lines start_x.now start_y.now end_x.now end_y.now in
         let t = beside ls grid offsets.now items.now globals.now global_count in
         let end = once_by ls grid t first.old second.old starts.old listing.old counts.old in
@@ -92,7 +91,7 @@ pub fn pairs_once(
         first.new second.new starts.new listing.new counts.new }
 {
     let lines = grid::checks::check_lines(start_x, start_y, end_x, end_y);
-    let begun = lent::begin(
+    lent::begin(
         lines,
         start_x.len(),
         grid,
@@ -105,10 +104,7 @@ pub fn pairs_once(
         starts,
         listing,
         counts,
-    );
-    if let Check::Refused(r) = begun {
-        return OnceAnswer::Refused(r);
-    }
+    )?;
     let hits = run(
         start_x,
         start_y,

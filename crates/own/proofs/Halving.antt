@@ -1,16 +1,16 @@
 -- The search for the first index of an axis that owns p: it halves the indexes from `low` to `high`, among which is the first with
 -- p < high edge, or else the last. That index is the first owner, if it owns p; else there is none. Assumes nothing.
+use Rattle.std.specs.Prelude.{Some, None}
 use Rattle.std.proofs.Common.{◌≡◌, ℕ, suc, ◌+◌, ◌-◌, ◌<◌, ◌≤◌, Bool, true, false, ◌&&◌, ◌||◌, eqb, ltb, sym, refl, ap, ◌∙◌, subst, inl, inr, ⊎_elim, arith, ltb-false, ltb-true, ne_eqb, eqb-true}
 use borrow.Author.Tests.{eqb-false}
 use lib.Ieee.{Float, lt, le, eq}
 use Rattle.grid.specs.declared.Axis.{Axis}
 use Rattle.grid.specs.Axes.{low_on, high_on}
-use Rattle.own.specs.declared.Found.TheVariants.{At, Nowhere}
 use Rattle.own.specs.Own.{owns_on}
 use Rattle.own.specs.Owner.{first_from, first_owning, Searchable}
 use Rattle.own.specs.Inside.{HalvedRange}
 use Rattle.own.proofs.Edges.{over_before, under_after}
-use Rattle.own.proofs.Firsts.{None, first_at, first_none}
+use Rattle.own.proofs.Firsts.{NonePasses, first_at, first_none}
 
 -- ---- the test as Bools: l is "low <= p", t is "p < high", n is "the last index" and e is "p = high"
 
@@ -24,7 +24,7 @@ not_low false t n h k = refl
 
 -- ---- the search
 
-pub empty_axis : (a : Axis) (p : Float) → a.count ≡ 0 → Nowhere ≡ first_owning a p
+pub empty_axis : (a : Axis) (p : Float) → a.count ≡ 0 → None ≡ first_owning a p
 unfolding first_owning first_from
 empty_axis a p h = rw h
 
@@ -66,24 +66,24 @@ module _ (a : Axis) (p : Float) (asks : Searchable a p) where
   only_low i t h = not_low (le (low_on a i) p) (lt p (high_on a i)) _ t h
 
   -- an index that owns p, where p has reached the high edge before it
-  pub at_guess : (i : ℕ) → 0 < i → i < a.count → (edge : Float) → edge ≡ high_on a (i - 1) → lt p edge ≡ false → true ≡ owns i → At i ≡ first_owning a p
+  pub at_guess : (i : ℕ) → 0 < i → i < a.count → (edge : Float) → edge ≡ high_on a (i - 1) → lt p edge ≡ false → true ≡ owns i → Some i ≡ first_owning a p
   unfolding first_owning
   at_guess i some within edge is t o = sym (first_at owns a.count i (record { from = omega arith; within = within; passes = sym o; before = before }))
     where
       reached : lt p (high_on a (i - 1)) ≡ false
       reached = subst (λ (e : Float). lt p e ≡ false) is t
 
-      before : None owns 0 i
+      before : NonePasses owns 0 i
       before j u l = behind j (omega arith) (over_before a asks.low asks.size p j (i - 1) asks.point (omega arith) (omega (arith, asks.few)) reached)
 
   module _ (i high : ℕ) (h : HalvedRange a p i high) (met : high ≤ i) where
     inside : i < a.count
     inside = omega (arith, h.order, h.inside)
 
-    before : None owns 0 i
+    before : NonePasses owns 0 i
     before j u l = behind j (omega (arith, inside)) (h.passed j l)
 
-    pub found : true ≡ owns_on a i p → At i ≡ first_owning a p
+    pub found : true ≡ owns_on a i p → Some i ≡ first_owning a p
     unfolding first_owning
     found t = sym (first_at owns a.count i (record { from = omega arith; within = inside; passes = sym t; before = before }))
 
@@ -96,7 +96,7 @@ module _ (a : Axis) (p : Float) (asks : Searchable a p) where
         (λ (t : lt p (high_on a high) ≡ true). under j (under_after a asks.low asks.size p i j (omega arith) (omega (arith, asks.few)) (only_low i (ap (λ (n : ℕ). lt p (high_on a n)) (sym same) ∙ t) f)))
         h.ahead
 
-    pub nowhere : false ≡ owns_on a i p → Nowhere ≡ first_owning a p
+    pub nowhere : false ≡ owns_on a i p → None ≡ first_owning a p
     unfolding first_owning
     nowhere f = sym (first_none owns a.count (λ j u m. each j m (ltb j i) (eqb j i) refl refl))
       where

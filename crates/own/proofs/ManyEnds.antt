@@ -1,11 +1,10 @@
 -- The call for many points, by its checks: what each refusal leaves, what all of them let through, and that the promise settles the outcome.
 -- Assumes nothing.
+use Rattle.std.specs.Prelude.{Ok, Err}
 use Rattle.std.proofs.Common.{◌≡◌, ℕ, ◌<◌, true, false, ◌&&◌, eqb, List, length, get_or, sym, refl, ap, ◌∙◌, arith, lit<, eqb-true}
 use lib.Ieee.{Float, nan}
 use Rattle.refusals.specs.declared.Refusal.{Refusal}
-use Rattle.refusals.specs.declared.Check.{Check}
-use Rattle.refusals.specs.declared.Check.TheVariants.{Fine, Refused}
-use Rattle.refusals.specs.Refusals.{unless, and_then, Answer, refused, gives, ◌then◌, answer_by, clears, left_in}
+use Rattle.refusals.specs.Refusals.{Check, unless, and_then, Answer, refused, gives, ◌then◌, answer_by, clears, left_in}
 use Rattle.refusals.proofs.Checks.{unless_fine}
 use Rattle.refusals.proofs.Answers.{then_refused, then_fine, then_passed}
 use Rattle.refusals.proofs.Leaving.{left_same, numbers_below, clearing_unless, clearing_each}
@@ -14,7 +13,6 @@ use Rattle.grid.specs.Domain.{fit, point_check, grid_check}
 use Rattle.grid.proofs.Bools.{and_left, and_right}
 use Rattle.grid.proofs.Fine.{grid_spares}
 use Rattle.grid.proofs.Shapes.{fit_says}
-use Rattle.own.specs.declared.OwnerAnswer.TheVariants.{Found}
 use Rattle.own.specs.Own.{point_on_grid_check}
 use Rattle.own.specs.Owner.{owner_of, owner_answer}
 use Rattle.own.specs.Many.{owner_number, owner_by, owners_of, alike_check, point_fits, points_check, owners_end, owners_check, OwnersAre}
@@ -23,7 +21,7 @@ use Rattle.own.proofs.ThreeCases.{its_case}
 use Rattle.own.proofs.ManyLaws.{told, owners_at, point_at}
 
 -- the slices have one length
-pub lengths : (m n k : ℕ) → alike_check m n k ≡ Fine → (n ≡ m) × (k ≡ m)
+pub lengths : (m n k : ℕ) → alike_check m n k ≡ Ok tt → (n ≡ m) × (k ≡ m)
 unfolding alike_check
 lengths m n k a =
     let e = unless_fine (eqb n m && eqb k m) 3 0 a in
@@ -32,33 +30,33 @@ lengths m n k a =
 module _ (g : Grid) (xs ys : List Float) (was : List ℕ) where
   -- ---- a refusal leaves the answers as they were
 
-  spared : (r : Refusal) → owners_end g xs ys (length was) ≡ refused r → clears r.number ≡ false → OwnersAre g xs ys was (Refused r) was
+  spared : (r : Refusal) → owners_end g xs ys (length was) ≡ refused r → clears r.number ≡ false → OwnersAre g xs ys was (Err r) was
   unfolding owners_check answer_by left_in
   spared r e h = record { answer = rw e; left = rw e (sym (left_same 0 r was h)) }
 
-  pub unlike : (r : Refusal) → alike_check (length xs) (length ys) (length was) ≡ Refused r → OwnersAre g xs ys was (Refused r) was
+  pub unlike : (r : Refusal) → alike_check (length xs) (length ys) (length was) ≡ Err r → OwnersAre g xs ys was (Err r) was
   unfolding owners_end alike_check
   unlike r e = spared r (then_refused _ _ r e) ((clearing_unless _ 3 0 (numbers_below 3 (lit< tt))).says r e)
 
-  module _ (a : alike_check (length xs) (length ys) (length was) ≡ Fine) where
-    pub bad_point : (r : Refusal) → points_check xs ys ≡ Refused r → OwnersAre g xs ys was (Refused r) was
+  module _ (a : alike_check (length xs) (length ys) (length was) ≡ Ok tt) where
+    pub bad_point : (r : Refusal) → points_check xs ys ≡ Err r → OwnersAre g xs ys was (Err r) was
     unfolding owners_end points_check
     bad_point r e =
         spared r (then_fine _ _ a ∙ then_refused _ _ r e) ((clearing_each (point_fits xs ys) 1 (length xs) 0 (numbers_below 1 (lit< tt))).says r e)
 
-    module _ (p : points_check xs ys ≡ Fine) where
-      pub unfit : (r : Refusal) → grid_check g ≡ Refused r → OwnersAre g xs ys was (Refused r) was
+    module _ (p : points_check xs ys ≡ Ok tt) where
+      pub unfit : (r : Refusal) → grid_check g ≡ Err r → OwnersAre g xs ys was (Err r) was
       unfolding owners_end
       unfit r e = spared r (then_fine _ _ a ∙ then_fine _ _ p ∙ then_refused _ _ r e) ((grid_spares g).says r e)
 
-      module _ (f : grid_check g ≡ Fine) where
+      module _ (f : grid_check g ≡ Ok tt) where
         pub checked : PointsChecked g xs ys was
         unfolding grid_check
         checked =
             let l = lengths (length xs) (length ys) (length was) a in
             record { fits = unless_fine (fit g) 8 0 f; points = p; alike = l.0; room = l.1 }
 
-        pub all_told : {now : List ℕ} → now ≡ owners_of g xs ys → OwnersAre g xs ys was Fine now
+        pub all_told : {now : List ℕ} → now ≡ owners_of g xs ys → OwnersAre g xs ys was (Ok tt) now
         unfolding owners_end owners_check answer_by left_in
         all_told e =
             let end : owners_end g xs ys (length was) ≡ gives (owners_of g xs ys) = then_fine _ _ a ∙ then_fine _ _ p ∙ then_fine _ _ f in
@@ -73,19 +71,19 @@ one_outcome h k = (h.answer ∙ sym k.answer, h.left ∙ sym k.left)
 module _ (g : Grid) (xs ys : List Float) (was now : List ℕ) where
   -- what a call that is not refused has passed and left
   record Passed : Type 0 where
-    alike : alike_check (length xs) (length ys) (length was) ≡ Fine
-    points : points_check xs ys ≡ Fine
-    grid : grid_check g ≡ Fine
+    alike : alike_check (length xs) (length ys) (length was) ≡ Ok tt
+    points : points_check xs ys ≡ Ok tt
+    grid : grid_check g ≡ Ok tt
     is : now ≡ owners_of g xs ys
 
-  passed : OwnersAre g xs ys was Fine now → Passed
+  passed : OwnersAre g xs ys was (Ok tt) now → Passed
   unfolding owners_check owners_end answer_by left_in
   passed h = go (owners_end g xs ys (length was)) refl h.answer h.left
     where
       same : {p q : List ℕ} → ◌≡◌ {A = Answer (List ℕ)} (gives p) (gives q) → q ≡ p
       same d = cc
 
-      go : (a : Answer (List ℕ)) → owners_end g xs ys (length was) ≡ a → Fine ≡ answer_by Refused (λ owners. Fine) a → now ≡ left_in 0 was a (λ owners. owners) → Passed
+      go : (a : Answer (List ℕ)) → owners_end g xs ys (length was) ≡ a → ◌≡◌ {A = Check} (Ok tt) (answer_by Err (λ owners. Ok tt) a) → now ≡ left_in 0 was a (λ owners. owners) → Passed
       go (refused r) e f l = let z : ◌≡◌ {A = ℕ} 0 1 = cc in absurd (omega arith)
       go (gives o) e f l =
           let p = then_passed _ _ e in
@@ -93,7 +91,7 @@ module _ (g : Grid) (xs ys : List Float) (was now : List ℕ) where
           let s = then_passed _ _ q.1 in
           record { alike = p.0; points = q.0; grid = s.0; is = l ∙ same s.1 }
 
-  pub as_one : OwnersAre g xs ys was Fine now → (i : ℕ) → i < length xs → Found (owner_by g.cols (get_or now i 0)) ≡ owner_answer g (get_or xs i nan) (get_or ys i nan)
+  pub as_one : OwnersAre g xs ys was (Ok tt) now → (i : ℕ) → i < length xs → Ok (owner_by g.cols (get_or now i 0)) ≡ owner_answer g (get_or xs i nan) (get_or ys i nan)
   unfolding owner_answer point_on_grid_check point_check grid_check answer_by ◌then◌ and_then unless
   as_one h i l =
       let p = passed h in
@@ -105,4 +103,4 @@ module _ (g : Grid) (xs ys : List Float) (was now : List ℕ) where
       ap (λ (s : List ℕ). get_or s i 0) p.is ∙ owners_at g xs ys i (lengths (length xs) (length ys) (length was) p.alike).0 l in
       let says : owner_by g.cols (get_or now i 0) ≡ owner_of g x y =
       ap (owner_by g.cols) entry ∙ told g (omega arith) x y (owner_of g x y) (its_case g x y) in
-      rw (point_at xs ys i p.points l, fits) (ap Found says)
+      rw (point_at xs ys i p.points l, fits) (ap Ok says)

@@ -1,8 +1,8 @@
 -- The owners of many points: which number stands for which answer, that they tell all answers apart, and the answers entry by entry.
 -- Assumes nothing.
+use Rattle.std.specs.Prelude.{Ok, Err}
 use Rattle.std.proofs.Common.{◌≡◌, ℕ, zero, suc, ◌+◌, ◌-◌, ◌*◌, ◌<◌, ◌≤◌, true, false, List, [], ◌∷◌, ◌++◌, length, get_or, take, drop, set, sym, refl, ap, ◌∙◌, subst, ap₂, append-nil, add-one, arith, length-set, drop_of_length-le, take_all, ne_eqb}
 use lib.Ieee.{Float, nan}
-use Rattle.refusals.specs.declared.Check.TheVariants.{Fine, Refused}
 use Rattle.refusals.specs.Refusals.{refusal, each_from}
 use Rattle.refusals.proofs.Checks.{each_good, each_bad, each_over, each_says}
 use Rattle.grid.specs.declared.Grid.{Grid}
@@ -93,7 +93,7 @@ askable g x y f p =
       few = fits.counts.cells;
     }
 
-pub point_at : (xs ys : List Float) (i : ℕ) → points_check xs ys ≡ Fine → i < length xs → point (get_or xs i nan) (get_or ys i nan) ≡ true
+pub point_at : (xs ys : List Float) (i : ℕ) → points_check xs ys ≡ Ok tt → i < length xs → point (get_or xs i nan) (get_or ys i nan) ≡ true
 unfolding points_check point_fits
 point_at xs ys i h l = each_says (point_fits xs ys) 1 (length xs) 0 i h (omega arith) (omega arith)
 
@@ -113,10 +113,10 @@ module _ {xs ys : List Float} {i : ℕ} (h : Sought xs ys i) where
   pub sought_more : i < length xs → point_fits xs ys i ≡ true → Sought xs ys (i + 1)
   sought_more l e = record { alike = h.alike; at = omega arith; rest = h.rest ∙ each_good (point_fits xs ys) 1 (length xs) i l e }
 
-  pub sought_bad : i < length xs → point_fits xs ys i ≡ false → Refused (refusal 1 i) ≡ points_check xs ys
+  pub sought_bad : i < length xs → point_fits xs ys i ≡ false → Err (refusal 1 i) ≡ points_check xs ys
   sought_bad l e = sym (h.rest ∙ each_bad (point_fits xs ys) 1 (length xs) i l e)
 
-  pub sought_over : length xs ≤ i → Fine ≡ points_check xs ys
+  pub sought_over : length xs ≤ i → (Ok tt) ≡ points_check xs ys
   sought_over l = sym (h.rest ∙ each_over (point_fits xs ys) 1 (length xs) i l)
 
 -- the first i answers are written

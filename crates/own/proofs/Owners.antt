@@ -1,7 +1,7 @@
 -- The owner of a point, from the first column and the first row that own it, and what the checks say for their search. Assumes nothing.
+use Rattle.std.specs.Prelude.{Ok, Some, None, Option}
 use Rattle.std.proofs.Common.{◌≡◌, ℕ, ◌+◌, ◌*◌, ◌/◌, ◌%◌, Bool, true, false, cond, ◌&&◌, sym, refl, ap, ◌∙◌, ap₂}
 use lib.Ieee.{Float}
-use Rattle.refusals.specs.declared.Check.TheVariants.{Fine}
 use Rattle.refusals.proofs.Checks.{unless_fine, and_then_left, and_then_right}
 use Rattle.grid.specs.declared.Grid.{Grid}
 use Rattle.grid.specs.declared.Axis.{Axis}
@@ -9,8 +9,6 @@ use Rattle.grid.specs.Axes.{x_axis, y_axis}
 use Rattle.grid.specs.Domain.{coordinate, point, fit, point_check, grid_check}
 use Rattle.grid.proofs.Bools.{and_left, and_right}
 use Rattle.grid.proofs.Shapes.{fit_says}
-use Rattle.own.specs.declared.Found.{Found}
-use Rattle.own.specs.declared.Found.TheVariants.{At, Nowhere}
 use Rattle.own.specs.declared.Owner.TheVariants.{Cell, Seam, Outside}
 use Rattle.own.specs.Own.{owns_on, owns_point, point_on_grid_check}
 use Rattle.own.specs.Owner.{first_owning, Searchable, spans, seam_or_outside, owner_cell, owner_of}
@@ -20,7 +18,7 @@ use Rattle.own.proofs.Firsts.{first_at, first_none, at_first, none_first, no_col
 pub asked : (a a' : Axis) (p : Float) → a ≡ a' → Searchable a' p → Searchable a p
 asked a a' p d h = rw d h
 
-pub answered : (a a' : Axis) (p : Float) (f v : Found) → f ≡ first_owning a p → a ≡ a' → f ≡ v → first_owning a' p ≡ v
+pub answered : (a a' : Axis) (p : Float) (f v : (Option ℕ)) → f ≡ first_owning a p → a ≡ a' → f ≡ v → first_owning a' p ≡ v
 answered a a' p f v e d h = sym (ap (λ (b : Axis). first_owning b p) d) ∙ sym e ∙ h
 
 module _ (g : Grid) (x y : Float) where
@@ -33,15 +31,15 @@ module _ (g : Grid) (x y : Float) where
   cell : ℕ → Bool
   cell k = owns_point g (k / g.cols) (k % g.cols) x y
 
-  pub no_column_owns : first_owning (x_axis g) x ≡ Nowhere → seam_or_outside g x y ≡ owner_of g x y
+  pub no_column_owns : first_owning (x_axis g) x ≡ None → seam_or_outside g x y ≡ owner_of g x y
   unfolding first_owning owner_of owns_point column row cell
   no_column_owns h = sym (ap (owner_cell g.cols (seam_or_outside g x y)) (first_none cell (g.rows * g.cols) (no_column column row g.cols g.rows (none_first column g.cols h))))
 
-  pub no_row_owns : first_owning (y_axis g) y ≡ Nowhere → seam_or_outside g x y ≡ owner_of g x y
+  pub no_row_owns : first_owning (y_axis g) y ≡ None → seam_or_outside g x y ≡ owner_of g x y
   unfolding first_owning owner_of owns_point column row cell
   no_row_owns h = sym (ap (owner_cell g.cols (seam_or_outside g x y)) (first_none cell (g.rows * g.cols) (no_row column row g.cols g.rows (none_first row g.rows h))))
 
-  pub both_own : (c r : ℕ) → first_owning (x_axis g) x ≡ At c → first_owning (y_axis g) y ≡ At r → Cell r c ≡ owner_of g x y
+  pub both_own : (c r : ℕ) → first_owning (x_axis g) x ≡ Some c → first_owning (y_axis g) y ≡ Some r → Cell r c ≡ owner_of g x y
   unfolding first_owning owner_of owns_point column row cell
   both_own c r h k =
       let a = at_first column g.cols c h in
@@ -51,8 +49,8 @@ module _ (g : Grid) (x y : Float) where
       ∙ ap₂ Cell (row_is column row n g.rows c r a b) (column_is column row n g.rows c r a b))
 
   -- on axes that were read off the grid
-  pub cell_of : (ax ay : Axis) (c r : ℕ) → ax ≡ x_axis g → ay ≡ y_axis g → At c ≡ first_owning ax x → At r ≡ first_owning ay y → Cell r c ≡ owner_of g x y
-  cell_of ax ay c r d k h j = both_own c r (answered ax (x_axis g) x (At c) (At c) h d refl) (answered ay (y_axis g) y (At r) (At r) j k refl)
+  pub cell_of : (ax ay : Axis) (c r : ℕ) → ax ≡ x_axis g → ay ≡ y_axis g → Some c ≡ first_owning ax x → Some r ≡ first_owning ay y → Cell r c ≡ owner_of g x y
+  cell_of ax ay c r d k h j = both_own c r (answered ax (x_axis g) x (Some c) (Some c) h d refl) (answered ay (y_axis g) y (Some r) (Some r) j k refl)
 
   -- ---- where no cell owns it: u and v are what the two axes answer
 
@@ -72,7 +70,7 @@ module _ (g : Grid) (x y : Float) where
 
 -- ---- what the checks say of the two axes
 
-pub searchable : (g : Grid) (x y : Float) → point_on_grid_check g x y ≡ Fine → Searchable (x_axis g) x × Searchable (y_axis g) y
+pub searchable : (g : Grid) (x y : Float) → point_on_grid_check g x y ≡ Ok tt → Searchable (x_axis g) x × Searchable (y_axis g) y
 unfolding point_on_grid_check point_check grid_check point
 searchable g x y h =
     let xy = unless_fine (coordinate x && coordinate y) 1 0 (and_then_left _ _ h) in

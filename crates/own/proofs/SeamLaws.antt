@@ -1,22 +1,20 @@
 -- A point between the ends of the grid has no owner exactly where, on some axis, it lies between the high edge of an index and the low edge of
 -- the next, which rounding parted. Assumes nothing.
+use Rattle.std.specs.Prelude.{Ok, Some, None, Option}
 use Rattle.std.proofs.Common.{◌≡◌, ℕ, zero, suc, ◌+◌, ◌-◌, ◌<◌, Bool, true, false, ◌&&◌, ◌||◌, T, eqb, ltb, ◌⊎◌, sym, refl, ap, ◌∙◌, subst, inl, inr, ⊎_elim, true≢false, arith, ltb-false, ltb-true, eq-eqb}
 use lib.Ieee.{Float, lt, le, eq}
 use lib.Ieee.Bits.{is_true}
-use Rattle.refusals.specs.declared.Check.TheVariants.{Fine}
 use Rattle.grid.specs.declared.Grid.{Grid}
 use Rattle.grid.specs.declared.Axis.{Axis}
 use Rattle.grid.specs.Axes.{x_axis, y_axis, low_on, high_on}
 use Rattle.grid.proofs.Floats.{coordinate_number}
 use Rattle.grid.proofs.Bools.{and_off}
 use Rattle.numbers.proofs.FloatOrder.{at_most, not_under}
-use Rattle.own.specs.declared.Found.{Found}
-use Rattle.own.specs.declared.Found.TheVariants.{At, Nowhere}
 use Rattle.own.specs.Own.{owns_on, owns_point, point_on_grid_check}
 use Rattle.own.specs.Owner.{first_owning, Searchable}
 use Rattle.own.specs.Cases.{Nobody, WithinGrid, Parted, InGap}
 use Rattle.own.proofs.Edges.{high_number, over_before, under_after}
-use Rattle.own.proofs.Firsts.{None, none_first, at_first}
+use Rattle.own.proofs.Firsts.{NonePasses, none_first, at_first}
 use Rattle.own.proofs.Halving.{behind, under}
 use Rattle.own.proofs.Owners.{searchable}
 
@@ -31,7 +29,7 @@ not_at_last l t n e h m k = sym (rw (h, m)) ∙ k
 
 -- ---- one axis
 
-module _ (a : Axis) (p : Float) (asks : Searchable a p) (last : le p (high_on a (a.count - 1)) ≡ true) (none : None (λ i. owns_on a i p) 0 a.count) where
+module _ (a : Axis) (p : Float) (asks : Searchable a p) (last : le p (high_on a (a.count - 1)) ≡ true) (none : NonePasses (λ i. owns_on a i p) 0 a.count) where
   -- from an index whose low edge p has reached, up to the last
   gap : (left i : ℕ) → i + suc left ≡ a.count → le (low_on a i) p ≡ true → InGap a p
   unfolding owns_on le
@@ -68,7 +66,7 @@ module _ (a : Axis) (p : Float) (asks : Searchable a p) (i : ℕ) (h : Parted a 
 
 -- ---- the grid
 
-pub between_neighbours : (g : Grid) (x y : Float) → point_on_grid_check g x y ≡ Fine → Nobody g x y → WithinGrid g x y → InGap (x_axis g) x ⊎ InGap (y_axis g) y
+pub between_neighbours : (g : Grid) (x y : Float) → point_on_grid_check g x y ≡ Ok tt → Nobody g x y → WithinGrid g x y → InGap (x_axis g) x ⊎ InGap (y_axis g) y
 unfolding first_owning owns_point
 between_neighbours g x y fine nobody ends = by_column (first_owning (x_axis g) x) refl
   where
@@ -78,20 +76,20 @@ between_neighbours g x y fine nobody ends = by_column (first_owning (x_axis g) x
     rows : Searchable (y_axis g) y
     rows = (searchable g x y fine).1
 
-    by_row : (c : ℕ) → first_owning (x_axis g) x ≡ At c → (f : Found) → first_owning (y_axis g) y ≡ f → InGap (x_axis g) x ⊎ InGap (y_axis g) y
-    by_row c h Nowhere k =
+    by_row : (c : ℕ) → first_owning (x_axis g) x ≡ Some c → (f : (Option ℕ)) → first_owning (y_axis g) y ≡ f → InGap (x_axis g) x ⊎ InGap (y_axis g) y
+    by_row c h None k =
         inr (gap (y_axis g) y rows ends.above (none_first (λ i. owns_on (y_axis g) i y) g.rows k) (g.rows - 1) 0 (omega (arith, ends.rows)) ends.below)
-    by_row c h (At r) k =
+    by_row c h (Some r) k =
         let u = at_first (λ i. owns_on (x_axis g) i x) g.cols c h in
         let v = at_first (λ i. owns_on (y_axis g) i y) g.rows r k in
         absurd (true≢false (sym (rw (u.passes, v.passes)) ∙ nobody r c v.within u.within))
 
-    by_column : (f : Found) → first_owning (x_axis g) x ≡ f → InGap (x_axis g) x ⊎ InGap (y_axis g) y
-    by_column Nowhere h =
+    by_column : (f : (Option ℕ)) → first_owning (x_axis g) x ≡ f → InGap (x_axis g) x ⊎ InGap (y_axis g) y
+    by_column None h =
         inl (gap (x_axis g) x columns ends.right (none_first (λ i. owns_on (x_axis g) i x) g.cols h) (g.cols - 1) 0 (omega (arith, ends.cols)) ends.left)
-    by_column (At c) h = by_row c h (first_owning (y_axis g) y) refl
+    by_column (Some c) h = by_row c h (first_owning (y_axis g) y) refl
 
-pub nobody_between : (g : Grid) (x y : Float) → point_on_grid_check g x y ≡ Fine → InGap (x_axis g) x ⊎ InGap (y_axis g) y → Nobody g x y
+pub nobody_between : (g : Grid) (x y : Float) → point_on_grid_check g x y ≡ Ok tt → InGap (x_axis g) x ⊎ InGap (y_axis g) y → Nobody g x y
 unfolding owns_point
 nobody_between g x y fine gaps row col l m =
     ⊎_elim (λ (h : InGap (x_axis g) x). ap (λ (b : Bool). b && owns_on (y_axis g) row y) (no_index (x_axis g) x (searchable g x y fine).0 h.0 h.1 col m))

@@ -1,8 +1,8 @@
 -- The cases of the ownership tests and of the first check, as the code takes them. lo and hi are the edges of index i. Assumes nothing.
+use Rattle.std.specs.Prelude.{Ok, Err}
 use Rattle.std.proofs.Common.{◌≡◌, ℕ, suc, ◌+◌, Bool, true, false, ◌&&◌, ◌||◌, eqb, sym, ap, ◌∙◌, add-one, eq-eqb, ne_eqb}
 use lib.Ieee.{Float, lt, le, eq}
 use Rattle.refusals.specs.declared.Refusal.{Refusal}
-use Rattle.refusals.specs.declared.Check.TheVariants.{Fine, Refused}
 use Rattle.refusals.specs.Refusals.{and_then}
 use Rattle.refusals.proofs.Checks.{and_then_left}
 use Rattle.grid.specs.declared.Grid.{Grid}
@@ -87,14 +87,14 @@ by_neither u p q row e h r = rw (← e, h, ne_eqb row 0 r)
 -- ---- the check of the point, then that of the grid
 
 module _ (g : Grid) (x y : Float) where
-  pub place_refused : (r : Refusal) → point_check x y ≡ Refused r → Refused r ≡ point_on_grid_check g x y
+  pub place_refused : (r : Refusal) → point_check x y ≡ Err r → Err r ≡ point_on_grid_check g x y
   unfolding point_on_grid_check and_then
   place_refused r h = rw h
 
-  pub place_rest : point_check x y ≡ Fine → grid_check g ≡ point_on_grid_check g x y
+  pub place_rest : point_check x y ≡ Ok tt → grid_check g ≡ point_on_grid_check g x y
   unfolding point_on_grid_check and_then
   place_rest h = rw h
 
-  pub place_point : point_on_grid_check g x y ≡ Fine → point_check x y ≡ Fine
+  pub place_point : point_on_grid_check g x y ≡ Ok tt → point_check x y ≡ Ok tt
   unfolding point_on_grid_check
   place_point h = and_then_left (point_check x y) (grid_check g) h

@@ -1,5 +1,6 @@
 -- The three answers of the owner search leave no point out and exclude each other: what the search answers holds of the point, and nothing else
 -- does. Assumes nothing.
+use Rattle.std.specs.Prelude.{Some, None, Option}
 use Rattle.std.proofs.Common.{◌≡◌, ℕ, zero, suc, ◌+◌, ◌-◌, ◌*◌, ◌/◌, ◌%◌, ◌<◌, Bool, true, false, cond, ◌&&◌, sym, refl, ap, ◌∙◌, ap₂, true≢false, mod-lt, div-lt_iff_lt-mul, div-add-mod', arith}
 use lib.Ieee.{Float, le}
 use Rattle.grid.specs.declared.Grid.{Grid}
@@ -7,14 +8,12 @@ use Rattle.grid.specs.declared.Axis.{Axis}
 use Rattle.grid.specs.Axes.{x_axis, y_axis, low_on, high_on}
 use Rattle.grid.proofs.Bools.{and_left, and_right}
 use Rattle.grid.proofs.Shapes.{cell_inside, col_of, row_of_lem}
-use Rattle.own.specs.declared.Found.{Found}
-use Rattle.own.specs.declared.Found.TheVariants.{At, Nowhere}
 use Rattle.own.specs.declared.Owner.{Owner}
 use Rattle.own.specs.declared.Owner.TheVariants.{Cell, Seam, Outside}
 use Rattle.own.specs.Own.{owns_point}
 use Rattle.own.specs.Owner.{first_from, spans, seam_or_outside, owner_cell, owner_of}
 use Rattle.own.specs.Cases.{FirstOwner, Nobody, WithinGrid, Case}
-use Rattle.own.proofs.Firsts.{First, None, first_at, first_none, at_first, none_first}
+use Rattle.own.proofs.Firsts.{First, NonePasses, first_at, first_none, at_first, none_first}
 use Rattle.own.proofs.EndLaws.{no_ends, two_ends}
 
 -- ---- a cell by its number in row order
@@ -56,10 +55,10 @@ module _ (g : Grid) (x y : Float) where
         h.first (j / g.cols) (j % g.cols) (mod-lt j (omega (arith, h.in_col))) (omega arith);
   }
 
-  nobody : None cell 0 (g.rows * g.cols) → Nobody g x y
+  nobody : NonePasses cell 0 (g.rows * g.cols) → Nobody g x y
   nobody h row col l m = sym (cell_at row col m) ∙ h (row * g.cols + col) (omega arith) (cell_inside g.rows g.cols row col l m)
 
-  none : Nobody g x y → None cell 0 (g.rows * g.cols)
+  none : Nobody g x y → NonePasses cell 0 (g.rows * g.cols)
   unfolding cell
   none h k l m =
       let some = some_of g.rows g.cols k m in
@@ -119,9 +118,9 @@ module _ (g : Grid) (x y : Float) where
       by_ends true e n = (n, within e)
       by_ends false e n = (n, λ w. true≢false (sym (between_ends w) ∙ e))
 
-      by_found : (f : Found) → first_from cell (g.rows * g.cols) 0 ≡ f → Case g x y (owner_cell g.cols (seam_or_outside g x y) f)
-      by_found (At k) e = first_owner k (at_first cell (g.rows * g.cols) k e)
-      by_found Nowhere e = by_ends spanned refl (nobody (none_first cell (g.rows * g.cols) e))
+      by_found : (f : (Option ℕ)) → first_from cell (g.rows * g.cols) 0 ≡ f → Case g x y (owner_cell g.cols (seam_or_outside g x y) f)
+      by_found (Some k) e = first_owner k (at_first cell (g.rows * g.cols) k e)
+      by_found None e = by_ends spanned refl (nobody (none_first cell (g.rows * g.cols) e))
 
   -- what holds of it is what the search answers
   pub only_case : (o : Owner) → Case g x y o → o ≡ owner_of g x y

@@ -1,11 +1,10 @@
 -- What the private functions of the owner search promise. Definitions only.
-use Rattle.std.specs.Prelude.{◌≡◌, ℕ, suc, ◌*◌, ◌<◌, ◌≤◌, true, false, ◌⊎◌, List, length, Float}
+use Rattle.std.specs.Prelude.{Ok, ◌≡◌, ℕ, suc, ◌*◌, ◌<◌, ◌≤◌, true, false, ◌⊎◌, List, length, Float}
 use Rattle.std.specs.Float.Ieee.{lt}
 use Rattle.grid.specs.declared.Axis.{Axis}
 use Rattle.grid.specs.declared.Grid.{Grid}
 use Rattle.grid.specs.Axes.{x_axis, y_axis, high_on}
 use Rattle.grid.specs.Domain.{fit}
-use Rattle.refusals.specs.declared.Check.TheVariants.{Fine}
 use Rattle.own.specs.Owner.{Searchable}
 use Rattle.own.specs.Many.{points_check}
 
@@ -25,6 +24,6 @@ pub record PointAskable (g : Grid) (x y : Float) : Type 0 where
 -- all that the checks of many points find: the grid and every point are fit, and the slices have one length
 pub record PointsChecked (g : Grid) (xs ys : List Float) (answers : List ℕ) : Type 0 where
   pub fits : fit g ≡ true
-  pub points : points_check xs ys ≡ Fine
+  pub points : points_check xs ys ≡ Ok tt
   pub alike : length ys ≡ length xs
   pub room : length answers ≡ length xs

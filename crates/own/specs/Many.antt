@@ -1,9 +1,7 @@
 -- Document 02, 9: the owners of many points in one call. Each answer is that of the owner search, as a number. Definitions only.
-use Rattle.std.specs.Prelude.{◌≡◌, ℕ, ◌+◌, ◌*◌, ◌/◌, ◌%◌, Bool, cond, ◌&&◌, List, [], ◌∷◌, length, ◌==◌, slice_index_or, Float}
+use Rattle.std.specs.Prelude.{Ok, Err, ◌≡◌, ℕ, ◌+◌, ◌*◌, ◌/◌, ◌%◌, Bool, cond, ◌&&◌, List, [], ◌∷◌, length, ◌==◌, slice_index_or, Float}
 use Rattle.std.specs.Float.{nan}
-use Rattle.refusals.specs.declared.Check.{Check}
-use Rattle.refusals.specs.declared.Check.TheVariants.{Fine, Refused}
-use Rattle.refusals.specs.Refusals.{unless, each_from, Answer, gives, ◌then◌, answer_by, left_in}
+use Rattle.refusals.specs.Refusals.{Check, unless, each_from, Answer, gives, ◌then◌, answer_by, left_in}
 use Rattle.grid.specs.declared.Grid.{Grid}
 use Rattle.grid.specs.Domain.{point, grid_check}
 use Rattle.own.specs.declared.Owner.{Owner}
@@ -48,7 +46,7 @@ owners_end g xs ys answers =
 
 -- the refusal that is due, or none
 unfoldable pub owners_check : Grid → List Float → List Float → ℕ → Check
-owners_check g xs ys answers = answer_by Refused (λ owners. Fine) (owners_end g xs ys answers)
+owners_check g xs ys answers = answer_by Err (λ owners. (Ok tt)) (owners_end g xs ys answers)
 
 -- The promise: the refusal that is due, or none, and what the answers hold then: all of them, or what a refusal leaves, which is what they held.
 pub record OwnersAre (g : Grid) (xs ys : List Float) (was : List ℕ) (r : Check) (now : List ℕ) : Type 0 where

@@ -1,16 +1,14 @@
 -- Document 01, "Ownership and snapping", its first paragraph: the two ownership tests of a cell. The edges of an index on an axis are
 -- `low_on` and `high_on`. Definitions only.
-use Rattle.std.specs.Prelude.{ℕ, suc, Bool, true, false, ◌&&◌, ◌||◌, ◌==◌, Float}
+use Rattle.refusals.specs.declared.Refusal.{Refusal}
+use Rattle.std.specs.Prelude.{Ok, Err, Result, ℕ, suc, Bool, ◌&&◌, ◌||◌, ◌==◌, Float}
 use Rattle.std.specs.Float.Ieee.{lt, le, eq}
-use Rattle.refusals.specs.declared.Check.{Check}
-use Rattle.refusals.specs.Refusals.{and_then, gives, ◌then◌, answer_by}
+use Rattle.refusals.specs.Refusals.{Check, and_then, gives, ◌then◌, answer_by}
 use Rattle.grid.specs.declared.Grid.{Grid}
 use Rattle.grid.specs.declared.Axis.{Axis}
 use Rattle.grid.specs.Axes.{x_axis, y_axis, low_on, high_on}
 use Rattle.grid.specs.Domain.{point_check, grid_check, cell_check}
 use Rattle.snap.specs.Snap.{snap_check, snap_of}
-use Rattle.own.specs.declared.Owned.{Owned}
-use Rattle.own.specs.declared.Owned.TheVariants.{Yes, No, Refused}
 
 -- ---- a point
 
@@ -34,23 +32,22 @@ owns_overlap g row col x y = (holds_on (x_axis g) col x && holds_on (y_axis g) r
 
 -- ---- the answers
 
-abbrev pub owned : Bool → Owned
-owned true = Yes
-owned false = No
+abbrev pub owned : Bool → Result Bool Refusal
+owned owns = Ok owns
 
 -- 1, then 8: what every call here checks first
 unfoldable pub point_on_grid_check : Grid → Float → Float → Check
 point_on_grid_check g x y = and_then (point_check x y) (grid_check g)
 
 -- after refusals 1, 8 and 9
-unfoldable pub point_answer : Grid → ℕ → ℕ → Float → Float → Owned
+unfoldable pub point_answer : Grid → ℕ → ℕ → Float → Float → Result Bool Refusal
 point_answer g row col x y =
-    answer_by Refused owned (point_on_grid_check g x y then cell_check g row col then gives (owns_point g row col x y))
+    answer_by Err owned (point_on_grid_check g x y then cell_check g row col then gives (owns_point g row col x y))
 
 -- after refusals 1, 8, 12 and 9
-unfoldable pub overlap_answer : Grid → ℕ → ℕ → Float → Float → Float → ℕ → Owned
+unfoldable pub overlap_answer : Grid → ℕ → ℕ → Float → Float → Float → ℕ → Result Bool Refusal
 overlap_answer g row col x y size strategy =
-    answer_by Refused owned
+    answer_by Err owned
     (point_on_grid_check g x y
     then snap_check size strategy
     then cell_check g row col

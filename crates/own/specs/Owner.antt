@@ -1,31 +1,28 @@
 -- Document 01, "Ownership and snapping": the owner of a point is the first cell in row order that owns it. Document 02, 5: a point that no
 -- cell owns is in a seam, if it lies between the ends of the grid, else outside. Definitions only.
-use Rattle.std.specs.Prelude.{◌≡◌, ℕ, zero, suc, ◌*◌, ◌/◌, ◌%◌, ◌≤◌, Bool, true, false, cond, ◌&&◌, Float}
+use Rattle.refusals.specs.declared.Refusal.{Refusal}
+use Rattle.std.specs.Prelude.{Ok, Err, Some, None, Result, Option, ◌≡◌, ℕ, zero, suc, ◌*◌, ◌/◌, ◌%◌, ◌≤◌, Bool, true, false, cond, ◌&&◌, Float}
 use Rattle.std.specs.Float.Ieee.{le}
 use Rattle.refusals.specs.Refusals.{gives, ◌then◌, answer_by}
 use Rattle.grid.specs.declared.Grid.{Grid}
 use Rattle.grid.specs.declared.Axis.{Axis}
 use Rattle.grid.specs.Axes.{x_axis, y_axis, low_on, high_on}
 use Rattle.grid.specs.Domain.{coordinate, size_fits}
-use Rattle.own.specs.declared.Found.{Found}
-use Rattle.own.specs.declared.Found.TheVariants.{At, Nowhere}
 use Rattle.own.specs.declared.Owner.{Owner}
 use Rattle.own.specs.declared.Owner.TheVariants.{Cell, Seam, Outside}
-use Rattle.own.specs.declared.OwnerAnswer.{OwnerAnswer}
-use Rattle.own.specs.declared.OwnerAnswer.TheVariants as answer
 use Rattle.own.specs.Own.{owns_on, owns_point, point_on_grid_check}
 
 -- the first of the `left` numbers from k on that passes a test
-abbrev pub or_else : Bool → ℕ → Found → Found
-or_else true k rest = At k
+abbrev pub or_else : Bool → ℕ → (Option ℕ) → Option ℕ
+or_else true k rest = Some k
 or_else false k rest = rest
 
-unfoldable pub first_from : (ℕ → Bool) → ℕ → ℕ → Found
-first_from test zero k = Nowhere
+unfoldable pub first_from : (ℕ → Bool) → ℕ → ℕ → Option ℕ
+first_from test zero k = None
 first_from test (suc left) k = or_else (test k) k (first_from test left (suc k))
 
 -- the first index of an axis that owns p
-unfoldable pub first_owning : Axis → Float → Found
+unfoldable pub first_owning : Axis → Float → Option ℕ
 unfolding first_from
 first_owning a p = first_from (λ i. owns_on a i p) a.count 0
 
@@ -53,9 +50,9 @@ seam_or_outside g x y = cond (spans (x_axis g) x && spans (y_axis g) y) Seam Out
 -- ---- the owner
 
 -- in row order cell k is the column k % cols of the row k / cols
-abbrev pub owner_cell : ℕ → Owner → Found → Owner
-owner_cell cols none (At k) = Cell (k / cols) (k % cols)
-owner_cell cols none Nowhere = none
+abbrev pub owner_cell : ℕ → Owner → (Option ℕ) → Owner
+owner_cell cols none (Some k) = Cell (k / cols) (k % cols)
+owner_cell cols none None = none
 
 -- the first cell that owns the point
 unfoldable pub owner_of : Grid → Float → Float → Owner
@@ -63,5 +60,5 @@ unfolding first_from
 owner_of g x y = owner_cell g.cols (seam_or_outside g x y) (first_from (λ k. owns_point g (k / g.cols) (k % g.cols) x y) (g.rows * g.cols) 0)
 
 -- after refusals 1 and 8
-unfoldable pub owner_answer : Grid → Float → Float → OwnerAnswer
-owner_answer g x y = answer_by answer.Refused answer.Found (point_on_grid_check g x y then gives (owner_of g x y))
+unfoldable pub owner_answer : Grid → Float → Float → Result Owner Refusal
+owner_answer g x y = answer_by Err Ok (point_on_grid_check g x y then gives (owner_of g x y))

@@ -1,11 +1,9 @@
 // One axis of ownership.
-ghost use Rattle.std.specs.Prelude.{◌≡◌, ◌<◌, ◌≤◌, true};
+ghost use Rattle.std.specs.Prelude.{◌≡◌, ◌<◌, ◌≤◌, true, Some};
 ghost use Rattle.own.specs.Own.{owns_on, holds_on};
 ghost use Rattle.own.specs.Owner.{Searchable, first_owning};
 ghost use Rattle.own.specs.Inside.{HalvedRange};
-ghost use Rattle.own.specs.declared.Found.TheVariants.{At};
 
-use crate::Found;
 use grid::Axis;
 
 // The indexes from `low` to `high`.
@@ -64,7 +62,7 @@ pub(crate) fn guessed(cells: f64, count: u32) -> u32
 // nothing else is asked.
 pub(crate) fn settled(axis: Axis, p: f64, guess: u32) -> bool
     requires { Searchable axis p }
-    ensures { result ≡ true → At guess ≡ first_owning axis p }
+    ensures { result ≡ true → Some guess ≡ first_owning axis p }
 {
     if guess == 0 {
         return false;
@@ -130,7 +128,7 @@ fn about(axis: Axis, p: f64, guess: u32) -> Stretch
 
 // The first index that owns p, sought about a guess. The edges keep their order along the axis, so the first index with p below its high
 // edge, or else the last, is found by halving; if that index does not own p, none does.
-fn searched(axis: Axis, p: f64, guess: u32) -> Found
+fn searched(axis: Axis, p: f64, guess: u32) -> Option<u32>
     requires searchable { Searchable axis p }
     requires some_cells { 0 < axis.count }
     requires guess_within { guess ≤ axis.count }
@@ -148,22 +146,22 @@ fn searched(axis: Axis, p: f64, guess: u32) -> Found
         }
     }
     if owns(axis, low, p) {
-        return Found::At(low);
+        return Some(low);
     }
-    Found::Nowhere
+    None
 }
 
 // The first index that owns p, by a guess that a division gives, or else by the search about it.
-pub(crate) fn first(axis: Axis, p: f64) -> Found
+pub(crate) fn first(axis: Axis, p: f64) -> Option<u32>
     requires { Searchable axis p }
     ensures { result ≡ first_owning axis p }
 {
     if axis.count == 0 {
-        return Found::Nowhere;
+        return None;
     }
     let guess = guessed(axis.scaled(p), axis.count);
     if settled(axis, p, guess) {
-        return Found::At(guess);
+        return Some(guess);
     }
     searched(axis, p, guess)
 }

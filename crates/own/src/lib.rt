@@ -8,20 +8,11 @@ pub mod many;
 
 ghost use Rattle.std.specs.Prelude.{◌≡◌, ◌&&◌};
 ghost use Rattle.grid.specs.Axes.{x_axis, y_axis};
-ghost use Rattle.own.specs.Own.{owns_point, holds_on, owns_overlap, point_on_grid_check, owned, point_answer, overlap_answer};
+ghost use Rattle.own.specs.Own.{owns_point, holds_on, owns_overlap, point_on_grid_check, point_answer, overlap_answer};
 ghost use Rattle.own.specs.Owner.{Searchable, seam_or_outside, owner_of, owner_answer};
 
 use grid::Grid;
-use refusals::{Check, Refusal};
-use snap::Snapped;
-
-// Whether a cell owns what it was asked about, or the refusal that is due.
-#[derive(Clone, Copy)]
-pub enum Owned {
-    Yes,
-    No,
-    Refused(Refusal),
-}
+use refusals::Refusal;
 
 // Whose a point is: a cell's, or nobody's, in a seam between cells or outside the grid.
 #[derive(Clone, Copy)]
@@ -31,38 +22,12 @@ pub enum Owner {
     Outside,
 }
 
-// Whose a point is, or the refusal that is due.
-#[derive(Clone, Copy)]
-pub enum OwnerAnswer {
-    Found(Owner),
-    Refused(Refusal),
-}
-
-// The first number that passes a test, if there is one.
-#[derive(Clone, Copy)]
-pub enum Found {
-    At(u32),
-    Nowhere,
-}
-
 // 1, then 8.
-fn check_place(grid: Grid, x: f64, y: f64) -> Check
+fn check_place(grid: Grid, x: f64, y: f64) -> Result<(), Refusal>
     ensures { result ≡ point_on_grid_check grid x y }
 {
-    let point = grid::checks::check_point(x, y);
-    if let Check::Refused(r) = point {
-        return Check::Refused(r);
-    }
+    grid::checks::check_point(x, y)?;
     grid::checks::check_grid(grid)
-}
-
-fn answer(yes: bool) -> Owned
-    ensures { result ≡ owned yes }
-{
-    if yes {
-        return Owned::Yes;
-    }
-    Owned::No
 }
 
 fn owns_point(grid: Grid, row: u32, col: u32, x: f64, y: f64) -> bool
@@ -98,18 +63,12 @@ fn owns_overlap(grid: Grid, row: u32, col: u32, x: f64, y: f64) -> bool
 }
 
 // Whether a cell owns a point. Refuses by 1, 8, 9.
-pub fn point_owned(grid: Grid, row: u32, col: u32, x: f64, y: f64) -> Owned
+pub fn point_owned(grid: Grid, row: u32, col: u32, x: f64, y: f64) -> Result<bool, Refusal>
     ensures { result ≡ point_answer grid row col x y }
 {
-    let place = check_place(grid, x, y);
-    if let Check::Refused(r) = place {
-        return Owned::Refused(r);
-    }
-    let cell = grid::checks::check_cell(grid, row, col);
-    if let Check::Refused(r) = cell {
-        return Owned::Refused(r);
-    }
-    answer(owns_point(grid, row, col, x, y))
+    check_place(grid, x, y)?;
+    grid::checks::check_cell(grid, row, col)?;
+    Ok(owns_point(grid, row, col, x, y))
 }
 
 // Whether a cell owns a collinear overlap whose first end is (x, y). Refuses by 1, 8, 12, 9.
@@ -121,27 +80,13 @@ pub fn overlap_owned(
     y: f64,
     size: f64,
     strategy: u32,
-) -> Owned
+) -> Result<bool, Refusal>
     ensures { result ≡ overlap_answer grid row col x y size strategy }
 {
-    let place = check_place(grid, x, y);
-    if let Check::Refused(r) = place {
-        return Owned::Refused(r);
-    }
-    let end = snap::snap_point(x, y, size, strategy);
-    match end {
-        Snapped::Refused(r) => Owned::Refused(r),
-        Snapped::Point {
-            x: snapped_x,
-            y: snapped_y,
-        } => {
-            let cell = grid::checks::check_cell(grid, row, col);
-            if let Check::Refused(r) = cell {
-                return Owned::Refused(r);
-            }
-            answer(owns_overlap(grid, row, col, snapped_x, snapped_y))
-        },
-    }
+    check_place(grid, x, y)?;
+    let end = snap::snap_point(x, y, size, strategy)?;
+    grid::checks::check_cell(grid, row, col)?;
+    Ok(owns_overlap(grid, row, col, end.x, end.y))
 }
 
 // For a point that no cell owns.
@@ -165,23 +110,20 @@ pub(crate) fn first_cell(grid: Grid, x: f64, y: f64) -> Owner
     ensures { result ≡ owner_of grid x y }
 {
     let across = axis::first(grid.x_axis(), x);
-    let Found::At(col) = across else {
+    let Some(col) = across else {
         return seam_or_outside(grid, x, y);
     };
     let along = axis::first(grid.y_axis(), y);
-    let Found::At(row) = along else {
+    let Some(row) = along else {
         return seam_or_outside(grid, x, y);
     };
     Owner::Cell { row, col }
 }
 
 // The first cell in row order that owns a point, or else a seam or outside. Refuses by 1, 8.
-pub fn owner_of(grid: Grid, x: f64, y: f64) -> OwnerAnswer
+pub fn owner_of(grid: Grid, x: f64, y: f64) -> Result<Owner, Refusal>
     ensures { result ≡ owner_answer grid x y }
 {
-    let place = check_place(grid, x, y);
-    if let Check::Refused(r) = place {
-        return OwnerAnswer::Refused(r);
-    }
-    OwnerAnswer::Found(first_cell(grid, x, y))
+    check_place(grid, x, y)?;
+    Ok(first_cell(grid, x, y))
 }

@@ -7,7 +7,7 @@ ghost use Rattle.own.specs.Inside.{PointAskable, PointsChecked};
 use crate::axis::{guessed, settled};
 use crate::{Owner, first_cell};
 use grid::Grid;
-use refusals::{Check, Refusal, refuse_unless};
+use refusals::{Refusal, refuse_unless};
 
 // The numbers of the two answers that are no cell.
 pub const SEAM: u32 = 4294967294;
@@ -43,28 +43,26 @@ fn number_at(grid: Grid, columns: f64, rows: f64, x: f64, y: f64) -> u32
 }
 
 // The three slices have one length.
-fn check_alike(xs: usize, ys: usize, answers: usize) -> Check
+fn check_alike(xs: usize, ys: usize, answers: usize) -> Result<(), Refusal>
     ensures { result ≡ alike_check xs ys answers }
 {
     refuse_unless((ys == xs) & (answers == xs), 3, 0)
 }
 
 // The first point with a coordinate that breaks the rule. The slices have one length.
-fn check_points(x: &[f64], y: &[f64]) -> Check
+fn check_points(x: &[f64], y: &[f64]) -> Result<(), Refusal>
     requires { length y.now ≡ length x.now }
     ensures { result ≡ points_check x.now y.now }
 {
-    let mut i = 0;
-    while i < x.len() {
+    for i in 0..x.len() {
         if !grid::checks::is_point(x[i], y[i]) {
-            return Check::Refused(Refusal {
+            return Err(Refusal {
                 number: 1,
                 value: i as u64,
             });
         }
-        i += 1;
     }
-    Check::Fine
+    Ok(())
 }
 
 // Writes the answer of each point. All checks are passed.
@@ -74,29 +72,18 @@ fn write_owners(grid: Grid, x: &[f64], y: &[f64], answers: &mut [u32])
 {
     let columns = 1.0 / grid.cell_width;
     let rows = 1.0 / grid.cell_height;
-    let mut i = 0;
-    while i < x.len() {
+    for i in 0..x.len() {
         answers[i] = number_at(grid, columns, rows, x[i], y[i]);
-        i += 1;
     }
 }
 
 // The owner of each point (x[i], y[i]), by its number: a cell's, SEAM or OUTSIDE. Refuses by 3, 1 and 8, before it writes.
-pub fn owners_of(grid: Grid, x: &[f64], y: &[f64], answers: &mut [u32]) -> Check
+pub fn owners_of(grid: Grid, x: &[f64], y: &[f64], answers: &mut [u32]) -> Result<(), Refusal>
     ensures { OwnersAre grid x.now y.now answers.old result answers.new }
 {
-    let alike = check_alike(x.len(), y.len(), answers.len());
-    if let Check::Refused(r) = alike {
-        return Check::Refused(r);
-    }
-    let points = check_points(x, y);
-    if let Check::Refused(r) = points {
-        return Check::Refused(r);
-    }
-    let fits = grid::checks::check_grid(grid);
-    if let Check::Refused(r) = fits {
-        return Check::Refused(r);
-    }
+    check_alike(x.len(), y.len(), answers.len())?;
+    check_points(x, y)?;
+    grid::checks::check_grid(grid)?;
     write_owners(grid, x, y, answers);
-    Check::Fine
+    Ok(())
 }

@@ -5,7 +5,6 @@
 #![tactic(auto)]
 
 use build::Plan;
-use input::Input;
 use std::io::Read;
 
 // Says on standard error the value of the refusal that is due, if one is. It reads and builds for itself: the report has no place for a value.
@@ -38,8 +37,8 @@ pub fn run<I: Read, R: Print + Eprint>(reader: &mut I, rt: &R, plan: Plan) {
     let mut bytes = [0u8; 16394];
     let read = input::read_input(reader, &mut bytes);
     match read {
-        Input::Bytes(n) => respond(rt, &bytes[..n], plan),
-        Input::Failed => {
+        Some(n) => respond(rt, &bytes[..n], plan),
+        None => {
             let _ = eprintln!(rt; "morelturret: standard input can't be read");
         }
     }

@@ -1,12 +1,15 @@
 -- How far two rows of words are the same. Assumes nothing.
-use Prim.Native.Nat.{ℕ, zero, suc, ◌≤◌, ◌<◌}
+use Prim.Native.Nat.{ℕ, zero, suc, ◌≤◌, ◌<◌, min}
 use native.Mathlib.Omega.{arith}
+use native.Mathlib.Nat.{min-eq_left, min-eq_right}
 use native.Mathlib.Decide.{ℕ_discrete}
+use mathlib.Core.Logic.{inl, inr}
 use mathlib.Core.Path.{◌≡◌, refl}
 use mathlib.Core.List.{List, [], ◌∷◌, cons≢nil, head-eq_of_cons-eq, tail-eq_of_cons-eq}
 use borrow.Author.Tests.{eq-eqb, ne_eqb}
 use lib.ListN.{length, take, drop, get_or, drop_of_length-le}
 use lib.Seq.{drop-cons}
+use Rattle.std.proofs.lemmas.Bool.{cases_lt}
 use Rattle.records.specs.Words.{same_to}
 
 -- ---- the words up to the first that differs
@@ -57,7 +60,7 @@ pub same_end : (a b : List ℕ) (i : ℕ) → i < length a → i < length b → 
 same_end a b i h k e = rw (drop-cons a i 0 h, drop-cons b i 0 k) (same_none (get_or a i 0) (get_or b i 0) (drop (suc i) a) (drop (suc i) b) e)
 
 -- past the end of one of them
-pub past_first : (a b : List ℕ) (i : ℕ) → length a ≤ i → same_to (drop i a) (drop i b) ≡ 0
+past_first : (a b : List ℕ) (i : ℕ) → length a ≤ i → same_to (drop i a) (drop i b) ≡ 0
 unfolding same_to
 past_first a b i h = rw (drop_of_length-le a h)
 
@@ -66,5 +69,11 @@ unfolding same_to
 none [] = refl
 none (x ∷ a) = refl
 
-pub past_second : (a b : List ℕ) (i : ℕ) → length b ≤ i → same_to (drop i a) (drop i b) ≡ 0
+past_second : (a b : List ℕ) (i : ℕ) → length b ≤ i → same_to (drop i a) (drop i b) ≡ 0
 past_second a b i h = rw (drop_of_length-le b h) (none (drop i a))
+
+pub past_one : (a b : List ℕ) (i : ℕ) → i ≡ min (length a) (length b) → same_to (drop i a) (drop i b) ≡ 0
+past_one a b i e = elim (cases_lt (length a) (length b)) [
+  | inl h ↦ past_first a b i (omega (arith, e, min-eq_left {n = length a} {m = length b} (omega (arith, h))))
+  | inr h ↦ past_second a b i (omega (arith, e, min-eq_right {n = length b} {m = length a} h))
+]

@@ -22,10 +22,8 @@ pub fn words(out: &mut [u64], at: usize, s: &[u64]) -> usize
     ensures { PutWords at s.now out.old result out.new }
 {
     let mut to = at;
-    let mut i = 0;
-    while i < s.len() {
-        to = word(out, to, s[i]);
-        i += 1;
+    for &value in s {
+        to = word(out, to, value);
     }
     to
 }
@@ -42,12 +40,10 @@ pub fn reply(answer: &mut [u64], number: u32, out: &[u64]) -> usize
 fn listed(s: &[u32]) -> usize
     ensures { (take result s.now ≡ listed_of s.now) × (result ≤ length s.now) }
 {
-    let mut n = s.len();
-    while 0 < n {
-        if s[n - 1] != 0 {
-            return n;
+    for i in (0..s.len()).rev() {
+        if s[i] != 0 {
+            return i + 1;
         }
-        n -= 1;
     }
     0
 }
@@ -58,10 +54,8 @@ pub fn written(answer: &mut [u64], at: usize, s: &[u32]) -> usize
 {
     let n = listed(s);
     let mut to = word(answer, at, n as u64);
-    let mut i = 0;
-    while i < n {
-        to = word(answer, to, s[i] as u64);
-        i += 1;
+    for &value in &s[..n] {
+        to = word(answer, to, value as u64);
     }
     to
 }

@@ -40,10 +40,8 @@ pub fn all_floats(q: &[u64]) -> [f64; 16384]
     ensures { result ≡ map float_by (first_words 16384 q.now) }
 {
     let mut out = [0.0; 16384];
-    let mut i = 0;
-    while i < 16384 {
+    for i in 0..16384 {
         out[i] = float(q, i);
-        i += 1;
     }
     out
 }
@@ -52,10 +50,8 @@ pub fn all_shorts(q: &[u64]) -> [u32; 16384]
     ensures { result ≡ map short_by (first_words 16384 q.now) }
 {
     let mut out = [0; 16384];
-    let mut i = 0;
-    while i < 16384 {
+    for i in 0..16384 {
         out[i] = short(q, i);
-        i += 1;
     }
     out
 }
@@ -80,10 +76,8 @@ fn place(q: &[u64], numbers: usize, k: usize) -> usize
     ensures { result ≡ slice_place q.now numbers k }
 {
     let mut at = numbers;
-    let mut i = 0;
-    while i < k {
+    for _i in 0..k {
         at = end(q, at);
-        i += 1;
     }
     at
 }

@@ -36,10 +36,8 @@ pub fn words_of(bytes: &[u8], out: &mut [u64])
         out.new ≡ words_of n bytes.now ++ drop n out.old }
 {
     let n = slices::least(bytes.len() / 8, out.len());
-    let mut i = 0;
-    while i < n {
+    for i in 0..n {
         out[i] = eight(bytes, 8 * i);
-        i += 1;
     }
 }
 
@@ -47,15 +45,11 @@ pub fn words_of(bytes: &[u8], out: &mut [u64])
 pub fn same_to(a: &[u64], b: &[u64]) -> usize
     ensures { result ≡ same_to a.now b.now }
 {
-    let mut i = 0;
-    while i < a.len() {
-        if b.len() <= i {
-            return i;
-        }
+    let n = slices::least(a.len(), b.len());
+    for i in 0..n {
         if a[i] != b[i] {
             return i;
         }
-        i += 1;
     }
-    i
+    n
 }

@@ -4,6 +4,8 @@
 --   each-..          the search, place by place; each-fine, each-says: it finds nothing where, and only where, each place
 --                    passes
 -- Assumes nothing.
+use Rattle.std.specs.Prelude.{Ok, Err}
+use Rattle.refusals.specs.Refusals.{Check}
 use mathlib.Core.Path.{◌≡◌, refl}
 use mathlib.Core.Bool.{Bool, true, false}
 use Prim.Native.Nat.{ℕ, zero, suc, ◌+◌, ◌-◌, ◌≤◌, ◌<◌}
@@ -12,13 +14,11 @@ use native.Mathlib.Omega.{arith}
 use borrow.Author.Tests.{eqb-true, eqb-false}
 use lib.Dec.{eqb}
 use Rattle.refusals.specs.declared.Refusal.{Refusal}
-use Rattle.refusals.specs.declared.Check.{Check}
-use Rattle.refusals.specs.declared.Check.TheVariants.{Fine, Refused}
 use Rattle.refusals.specs.Refusals.{refusal, unless, and_then, each_from}
 
 -- ---- one check
 
-pub unless_fine : (b : Bool) (n v : ℕ) → unless b n v ≡ Fine → b ≡ true
+pub unless_fine : (b : Bool) (n v : ℕ) → unless b n v ≡ (Ok tt) → b ≡ true
 unfolding unless
 unless_fine true n v h = refl
 unless_fine false n v h = let z : ◌≡◌ {A = ℕ} 0 1 = cc in absurd (omega arith)
@@ -26,23 +26,23 @@ unless_fine false n v h = let z : ◌≡◌ {A = ℕ} 0 1 = cc in absurd (omega 
 -- ---- two in a row
 
 module _ (a b : Check) where
-  pub and_then_refused : (r : Refusal) → a ≡ Refused r → and_then a b ≡ Refused r
+  pub and_then_refused : (r : Refusal) → a ≡ Err r → and_then a b ≡ Err r
   unfolding and_then
   and_then_refused r e = rw e
 
-  pub and_then_fine : a ≡ Fine → and_then a b ≡ b
+  pub and_then_fine : a ≡ (Ok tt) → and_then a b ≡ b
   unfolding and_then
   and_then_fine e = rw e
 
-pub and_then_left : (a b : Check) → and_then a b ≡ Fine → a ≡ Fine
+pub and_then_left : (a b : Check) → and_then a b ≡ (Ok tt) → a ≡ Ok tt
 unfolding and_then
-and_then_left Fine b h = refl
-and_then_left (Refused r) b h = h
+and_then_left (Ok _) b h = refl
+and_then_left (Err r) b h = h
 
-pub and_then_right : (a b : Check) → and_then a b ≡ Fine → b ≡ Fine
+pub and_then_right : (a b : Check) → and_then a b ≡ (Ok tt) → b ≡ Ok tt
 unfolding and_then
-and_then_right Fine b h = h
-and_then_right (Refused r) b h = let z : ◌≡◌ {A = ℕ} 0 1 = cc in absurd (omega arith)
+and_then_right (Ok _) b h = h
+and_then_right (Err r) b h = let z : ◌≡◌ {A = ℕ} 0 1 = cc in absurd (omega arith)
 
 -- ---- the first place at which a test fails, by the places that are left
 
@@ -51,20 +51,20 @@ module _ (ok : ℕ → Bool) (number n i : ℕ) where
   unfolding each_from unless and_then
   each_good l h = let e : n - i ≡ suc (n - suc i) = omega arith in rw (e, add-one, h)
 
-  pub each_bad : i < n → ok i ≡ false → each_from ok number (n - i) i ≡ Refused (refusal number i)
+  pub each_bad : i < n → ok i ≡ false → each_from ok number (n - i) i ≡ Err (refusal number i)
   unfolding each_from unless and_then
   each_bad l h = let e : n - i ≡ suc (n - suc i) = omega arith in rw (e, h)
 
-  pub each_over : n ≤ i → each_from ok number (n - i) i ≡ Fine
+  pub each_over : n ≤ i → each_from ok number (n - i) i ≡ Ok tt
   unfolding each_from
   each_over l = let e : n - i ≡ 0 = omega arith in rw e
 
-pub each_fine : (ok : ℕ → Bool) (number left i : ℕ) → ((k : ℕ) → i ≤ k → k < i + left → ok k ≡ true) → each_from ok number left i ≡ Fine
+pub each_fine : (ok : ℕ → Bool) (number left i : ℕ) → ((k : ℕ) → i ≤ k → k < i + left → ok k ≡ true) → each_from ok number left i ≡ Ok tt
 unfolding each_from unless and_then
 each_fine ok number zero i h = refl
 each_fine ok number (suc left) i h = rw (h i (omega arith) (omega arith)) (each_fine ok number left (suc i) (λ k l m. h k (omega arith) (omega arith)))
 
-pub each_says : (ok : ℕ → Bool) (number left i k : ℕ) → each_from ok number left i ≡ Fine → i ≤ k → k < i + left → ok k ≡ true
+pub each_says : (ok : ℕ → Bool) (number left i k : ℕ) → each_from ok number left i ≡ (Ok tt) → i ≤ k → k < i + left → ok k ≡ true
 unfolding each_from
 each_says ok number zero i k h l m = absurd (omega arith)
 each_says ok number (suc left) i k h l m =

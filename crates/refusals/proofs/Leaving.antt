@@ -5,6 +5,8 @@
 --   Clearing         what a check can refuse by: numbers that clear, or numbers that do not; by its parts
 --   Clears           the like of an answer, for numbers that clear; in-alike: such an answer asks a slice for its length alone
 -- Assumes nothing.
+use Rattle.std.specs.Prelude.{Ok, Err}
+use Rattle.refusals.specs.Refusals.{Check}
 use mathlib.Core.Path.{◌≡◌, refl, sym, ap, ◌∙◌}
 use mathlib.Core.Bool.{Bool, true, false, cond}
 use mathlib.Core.List.{List}
@@ -13,8 +15,6 @@ use native.Mathlib.Omega.{arith}
 use borrow.Author.Tests.{le-leb, lt-leb}
 use lib.ListN.{length, replicate}
 use Rattle.refusals.specs.declared.Refusal.{Refusal}
-use Rattle.refusals.specs.declared.Check.{Check}
-use Rattle.refusals.specs.declared.Check.TheVariants.{Fine, Refused}
 use Rattle.refusals.specs.Refusals.{unless, and_then, each_from, Answer, refused, gives, ◌then◌, ◌into◌, clears, left_by, left_in}
 
 -- ---- the numbers
@@ -50,15 +50,15 @@ left_alike {B} nought r was was' e l =
 -- ---- what a check can refuse by
 
 pub record Clearing (b : Bool) (check : Check) : Type 0 where
-  pub says : (r : Refusal) → check ≡ Refused r → clears r.number ≡ b
+  pub says : (r : Refusal) → check ≡ Err r → clears r.number ≡ b
 
-clearing_fine : {b : Bool} → Clearing b Fine
+clearing_fine : {b : Bool} → Clearing b (Ok tt)
 clearing_fine = record { says = λ r e. let z : ◌≡◌ {A = ℕ} 0 1 = cc in absurd (omega arith) }
 
-clearing_refused : {b : Bool} (s : Refusal) → clears s.number ≡ b → Clearing b (Refused s)
+clearing_refused : {b : Bool} (s : Refusal) → clears s.number ≡ b → Clearing b (Err s)
 clearing_refused s h = record { says = λ r e. rw (same e) h }
   where
-    same : {p q : Refusal} → Refused p ≡ Refused q → q ≡ p
+    same : {p q : Refusal} → ◌≡◌ {A = Check} (Err p) (Err q) → q ≡ p
     same d = cc
 
 module _ {b : Bool} where
@@ -72,8 +72,8 @@ module _ {b : Bool} where
   clearing_then {first} {next} = go first next
     where
       go : (first next : Check) → Clearing b first → Clearing b next → Clearing b (and_then first next)
-      go Fine next f g = g
-      go (Refused s) next f g = f
+      go (Ok _) next f g = g
+      go (Err s) next f g = f
 
   pub clearing_each : (ok : ℕ → Bool) (number left i : ℕ) → clears number ≡ b → Clearing b (each_from ok number left i)
   unfolding each_from
@@ -100,8 +100,8 @@ module _ {A : Type 0} where
   clears_then {check} {answer} = go check answer
     where
       go : (check : Check) (answer : Answer A) → Clearing true check → Clears answer → Clears (check then answer)
-      go Fine answer f g = g
-      go (Refused s) answer f g = clears_refused s (f.says s refl)
+      go (Ok _) answer f g = g
+      go (Err s) answer f g = clears_refused s (f.says s refl)
 
   pub clears_if : (b : Bool) {x y : Answer A} → Clears x → Clears y → Clears (cond b x y)
   clears_if true f g = f

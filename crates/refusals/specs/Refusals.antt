@@ -1,11 +1,13 @@
 -- Document 01, "Refusal numbers": what a check finds, what an entry answers, and what is left in a slice that it is lent to write. Every entry's
 -- promise is said in these words. Definitions only.
-use Rattle.std.specs.Prelude.{ℕ, zero, suc, ◌-◌, Bool, true, false, cond, ◌&&◌, List, ◌++◌, leb, length, replicate}
+use Rattle.std.specs.Prelude.{Ok, Err, Result, ℕ, zero, suc, ◌-◌, Bool, true, false, cond, ◌&&◌, List, ◌++◌, leb, length, replicate}
 use Rattle.refusals.specs.declared.Refusal.{Refusal}
-use Rattle.refusals.specs.declared.Check.{Check}
-use Rattle.refusals.specs.declared.Check.TheVariants.{Fine, Refused}
 
 -- ---- checks
+
+-- what a check finds: nothing, or a refusal
+abbrev pub Check : Type 0
+Check = Result Unit Refusal
 
 -- a refusal by its number, with its value
 abbrev pub refusal : ℕ → ℕ → Refusal
@@ -13,17 +15,17 @@ refusal number value = record { number = number; value = value }
 
 -- refuses, with a number and a value, where the test fails
 unfoldable pub unless : Bool → ℕ → ℕ → Check
-unless true number value = Fine
-unless false number value = Refused (refusal number value)
+unless true number value = Ok tt
+unless false number value = Err (refusal number value)
 
 -- the first of two checks that refuses
 unfoldable pub and_then : Check → Check → Check
-and_then Fine next = next
-and_then (Refused r) next = Refused r
+and_then (Ok _) next = next
+and_then (Err r) next = Err r
 
 -- the first of the `left` places from i on at which a test fails, refused with a number; the value is the place
 unfoldable pub each_from : (ℕ → Bool) → ℕ → ℕ → ℕ → Check
-each_from ok number zero i = Fine
+each_from ok number zero i = Ok tt
 each_from ok number (suc left) i = and_then (unless (ok i) number i) (each_from ok number left (suc i))
 
 -- ---- answers
@@ -36,8 +38,8 @@ pub data Answer (A : Type 0) : Type 0 where
 infixr 20 ◌then◌
 -- the first refusal that applies, else the result: checks stand in their order, the answer last
 unfoldable pub ◌then◌ : {A : Type 0} → Check → Answer A → Answer A
-◌then◌ Fine answer = answer
-◌then◌ (Refused r) answer = refused r
+◌then◌ (Ok _) answer = answer
+◌then◌ (Err r) answer = refused r
 
 infixl 15 ◌into◌
 -- a result goes on to what it leads to; a refusal stays

@@ -10,44 +10,51 @@ ghost use Rattle.replies.specs.Replies.{Replies};
 ghost use Rattle.replies.specs.Inside.{Handed};
 ghost use Rattle.replies.specs.Answers.{of_check, of_snap, of_agreement, of_owned, of_owner, of_owner_answer, of_read, of_cells, of_built, of_part, of_place, of_test, of_batch};
 
-use build::Built;
+use build::Standing;
 use numbers::bits::to_bits;
-use own::{Owned, Owner, OwnerAnswer};
-use refusals::Check;
+use own::Owner;
+use refusals::Refusal;
 use seek::Place;
-use snap::{Agreement, Snapped};
+use snap::Snapped;
 use stores::{eight, one, refused, six, three, two};
-use visit::{BatchAnswer, TestAnswer};
-use walk::Cells;
-use wkb::Read;
+use visit::{Tally, Test};
 
 // The number of a function whose `out` is short.
 pub const SHORT: u32 = 100;
 
-pub fn checked(answer: Check, out: &mut [u64]) -> u32
+fn flag(b: bool) -> u64
+    ensures { result ≡ cond b 1 0 }
+{
+    if b {
+        return 1;
+    }
+    0
+}
+
+pub fn checked(answer: Result<(), Refusal>, out: &mut [u64]) -> u32
     ensures { Replies 1 (of_check answer) out.old result out.new }
 {
     if out.len() < 1 {
         return SHORT;
     }
     match answer {
-        Check::Fine => 0,
-        Check::Refused(r) => refused(r, out),
+        Ok(()) => 0,
+        Err(r) => refused(r, out),
     }
 }
 
 // Apart from the test of `out`: with that beside it the compiler moves x and y as one, and each call waits until both are stored.
-fn point(answer: Snapped, out: &mut [u64]) -> u32
+fn point(answer: Result<Snapped, Refusal>, out: &mut [u64]) -> u32
     requires { 2 ≤ length out.old }
     ensures { Handed (of_snap answer) out.old result out.new }
 {
     match answer {
-        Snapped::Point { x, y } => two(to_bits(x), to_bits(y), out),
-        Snapped::Refused(r) => refused(r, out),
+        Ok(Snapped { x, y }) => two(to_bits(x), to_bits(y), out),
+        Err(r) => refused(r, out),
     }
 }
 
-pub fn snapped(answer: Snapped, out: &mut [u64]) -> u32
+pub fn snapped(answer: Result<Snapped, Refusal>, out: &mut [u64]) -> u32
     ensures { Replies 2 (of_snap answer) out.old result out.new }
 {
     if out.len() < 2 {
@@ -56,29 +63,29 @@ pub fn snapped(answer: Snapped, out: &mut [u64]) -> u32
     point(answer, out)
 }
 
-pub fn agreement(answer: Agreement, out: &mut [u64]) -> u32
+// 1 if the strategies give the same bits, else 0.
+pub fn agreement(answer: Result<bool, Refusal>, out: &mut [u64]) -> u32
     ensures { Replies 1 (of_agreement answer) out.old result out.new }
 {
     if out.len() < 1 {
         return SHORT;
     }
     match answer {
-        Agreement::Same => one(1, out),
-        Agreement::Differ => one(0, out),
-        Agreement::Refused(r) => refused(r, out),
+        Ok(same) => one(flag(same), out),
+        Err(r) => refused(r, out),
     }
 }
 
-pub fn owned(answer: Owned, out: &mut [u64]) -> u32
+// 1 if the cell owns it, else 0.
+pub fn owned(answer: Result<bool, Refusal>, out: &mut [u64]) -> u32
     ensures { Replies 1 (of_owned answer) out.old result out.new }
 {
     if out.len() < 1 {
         return SHORT;
     }
     match answer {
-        Owned::Yes => one(1, out),
-        Owned::No => one(0, out),
-        Owned::Refused(r) => refused(r, out),
+        Ok(owns) => one(flag(owns), out),
+        Err(r) => refused(r, out),
     }
 }
 
@@ -93,50 +100,50 @@ fn whose(owner: Owner, out: &mut [u64]) -> u32
     }
 }
 
-pub fn owner(answer: OwnerAnswer, out: &mut [u64]) -> u32
+pub fn owner(answer: Result<Owner, Refusal>, out: &mut [u64]) -> u32
     ensures { Replies 3 (of_owner_answer answer) out.old result out.new }
 {
     if out.len() < 3 {
         return SHORT;
     }
     match answer {
-        OwnerAnswer::Found(owner) => whose(owner, out),
-        OwnerAnswer::Refused(r) => refused(r, out),
+        Ok(owner) => whose(owner, out),
+        Err(r) => refused(r, out),
     }
 }
 
-pub fn read(answer: Read, out: &mut [u64]) -> u32
+pub fn read(answer: Result<usize, Refusal>, out: &mut [u64]) -> u32
     ensures { Replies 1 (of_read answer) out.old result out.new }
 {
     if out.len() < 1 {
         return SHORT;
     }
     match answer {
-        Read::Points(n) => one(n as u64, out),
-        Read::Refused(r) => refused(r, out),
+        Ok(n) => one(n as u64, out),
+        Err(r) => refused(r, out),
     }
 }
 
-pub fn cells(answer: Cells, out: &mut [u64]) -> u32
+pub fn cells(answer: Result<usize, Refusal>, out: &mut [u64]) -> u32
     ensures { Replies 1 (of_cells answer) out.old result out.new }
 {
     if out.len() < 1 {
         return SHORT;
     }
     match answer {
-        Cells::Found(n) => one(n as u64, out),
-        Cells::Refused(r) => refused(r, out),
+        Ok(n) => one(n as u64, out),
+        Err(r) => refused(r, out),
     }
 }
 
-pub fn built(answer: Built, out: &mut [u64]) -> u32
+pub fn built(answer: Result<Standing, Refusal>, out: &mut [u64]) -> u32
     ensures { Replies 8 (of_built answer) out.old result out.new }
 {
     if out.len() < 8 {
         return SHORT;
     }
     match answer {
-        Built::Tables(t) => {
+        Ok(t) => {
             let grid = t.grid;
             eight(
                 to_bits(grid.min_x),
@@ -150,30 +157,21 @@ pub fn built(answer: Built, out: &mut [u64]) -> u32
                 out,
             )
         },
-        Built::Refused(r) => refused(r, out),
+        Err(r) => refused(r, out),
     }
 }
 
 // A list by its place: the check that it passed or not, where its part starts, and its length.
-pub fn part(check: Check, from: u64, len: u64, out: &mut [u64]) -> u32
+pub fn part(check: Result<(), Refusal>, from: u64, len: u64, out: &mut [u64]) -> u32
     ensures { Replies 2 (of_part check from (from + len)) out.old result out.new }
 {
     if out.len() < 2 {
         return SHORT;
     }
     match check {
-        Check::Fine => two(from, len, out),
-        Check::Refused(r) => refused(r, out),
+        Ok(()) => two(from, len, out),
+        Err(r) => refused(r, out),
     }
-}
-
-fn flag(b: bool) -> u64
-    ensures { result ≡ cond b 1 0 }
-{
-    if b {
-        return 1;
-    }
-    0
 }
 
 fn made(place: Place, first: u32, second: u32, overlap: u64, out: &mut [u64]) -> u32
@@ -202,30 +200,30 @@ fn made(place: Place, first: u32, second: u32, overlap: u64, out: &mut [u64]) ->
     }
 }
 
-pub fn test(answer: TestAnswer, out: &mut [u64]) -> u32
+pub fn test(answer: Result<Option<Test>, Refusal>, out: &mut [u64]) -> u32
     ensures { Replies 6 (of_test answer) out.old result out.new }
 {
     if out.len() < 6 {
         return SHORT;
     }
     match answer {
-        TestAnswer::Made(t) => {
+        Ok(Some(t)) => {
             let place = t.place;
             made(place, t.first, t.second, flag(t.overlap), out)
         },
-        TestAnswer::End => six(2, 0, 0, 0, 0, 0, out),
-        TestAnswer::Refused(r) => refused(r, out),
+        Ok(None) => six(2, 0, 0, 0, 0, 0, out),
+        Err(r) => refused(r, out),
     }
 }
 
-pub fn batch(answer: BatchAnswer, out: &mut [u64]) -> u32
+pub fn batch(answer: Result<Tally, Refusal>, out: &mut [u64]) -> u32
     ensures { Replies 3 (of_batch answer) out.old result out.new }
 {
     if out.len() < 3 {
         return SHORT;
     }
     match answer {
-        BatchAnswer::Done(t) => three(t.tests, t.overlaps, t.bookmark, out),
-        BatchAnswer::Refused(r) => refused(r, out),
+        Ok(t) => three(t.tests, t.overlaps, t.bookmark, out),
+        Err(r) => refused(r, out),
     }
 }

@@ -25,10 +25,8 @@ fn put_all(text: &[u8], out: &mut [u8], at: usize) -> usize
     ensures { Puts text.now (page out.old at) (page out.new result) }
 {
     let mut at = at;
-    let mut i = 0;
-    while i < text.len() {
-        at = put(text[i], out, at);
-        i += 1;
+    for b in text {
+        at = put(*b, out, at);
     }
     at
 }
@@ -64,10 +62,8 @@ fn put_hex(n: u64, out: &mut [u8], at: usize) -> usize
     ensures { Puts (hex 16 n) (page out.old at) (page out.new result) }
 {
     let mut text = [0u8; 16];
-    let mut i = 16;
     let mut rest = n;
-    while 0 < i {
-        i -= 1;
+    for i in (0..16).rev() {
         text[i] = glyph(rest % 16);
         rest /= 16;
     }
@@ -95,18 +91,10 @@ fn put_list(list: &[u32], out: &mut [u8], at: usize) -> usize
     ensures { Puts (spaced list.now) (page out.old at) (page out.new result) }
 {
     let mut at = at;
-    let mut i = 0;
-    while i < list.len() {
-        at = put_number(wide(list[i]), out, at);
-        i += 1;
+    for line in list {
+        at = put_number(u64::from(*line), out, at);
     }
     at
-}
-
-fn wide(x: u32) -> u64
-    ensures { result ≡ x }
-{
-    x as u64
 }
 
 // A space and a bit pattern.
@@ -199,7 +187,7 @@ pub fn refused_line(number: u32, out: &mut [u8], at: usize) -> usize
     put(b'\n', out, at)
 }
 
-// `range`, `repeat` or `short`, after a space.
+// `range`, `repeat` or `short`, after a space. The reason is the number that stands in a slice of reasons.
 fn put_reason(reason: u32, out: &mut [u8], at: usize) -> usize
     ensures { Puts (32 ∷ reason_word reason) (page out.old at) (page out.new result) }
 {
@@ -227,9 +215,5 @@ pub fn dropped_line(member: u64, point: u64, reason: u32, out: &mut [u8], at: us
 pub fn clear(s: &mut [u8])
     ensures { s.new ≡ replicate (length s.old) 0 }
 {
-    let mut i = 0;
-    while i < s.len() {
-        s[i] = 0;
-        i += 1;
-    }
+    s.fill(0);
 }

@@ -1,4 +1,5 @@
 -- Where a value stands in a list that rises, and the cursor of the first test that is left. Assumes nothing.
+use Rattle.std.specs.Prelude.{Some, None, Option}
 use mathlib.Core.Path.{◌≡◌, refl, sym, ap, subst, ◌∙◌}
 use mathlib.Core.List.{List, [], ◌∷◌, ◌++◌}
 use Prim.Native.Nat.{ℕ, zero, suc, ◌+◌, ◌-◌, ◌*◌, ◌/◌, ◌%◌, ◌≤◌, ◌<◌, ◌^◌}
@@ -22,7 +23,6 @@ use Rattle.seek.proofs.CellRests.{pair_taken}
 use Rattle.visit.proofs.RowTurns.{numbers_some}
 use Rattle.seek.proofs.GlobalRests.{grest_run}
 use Rattle.listed.specs.declared.CellAt.{CellAt}
-use Rattle.listed.specs.declared.CellAt.TheVariants as cellat
 use Rattle.listed.specs.Lists.{list_by, tests_of_cells}
 use Rattle.listed.specs.Places.{FirstAt, LeftAt}
 use Rattle.listed.proofs.AsIs.{list_increases}
@@ -54,7 +54,7 @@ pub seeking_none : (xs : List ℕ) (v : ℕ) → Seeking xs v 0
 seeking_none xs v = record { to = omega arith; left = omega arith }
 
 module _ (xs : List ℕ) (v u : ℕ) (s : Seeking xs v u) where
-  pub seeking_over : length xs ≤ u → u ≡ index_of v xs
+  pub seeking_over : length xs ≤ u → length xs ≡ index_of v xs
   seeking_over h = let e : index_of v (drop u xs) ≡ 0 = rw (drop_of_length-le xs {i = u} h) (index_nil v) in omega (arith, s.left)
 
   module _ (h : u < length xs) where
@@ -114,11 +114,11 @@ global_begins n globals p q k g a b d stop f =
 
 module _ (t : Tables) (m : ℕ) (em : m ≡ cells_to_look t) where
   -- what was found in the cells, taken apart
-  pub cell_is : (rest : List Pair) (r : CellAt) → LeftAt t.cols t.lines m t.offsets t.items rest r → (c a b : ℕ) → r ≡ cellat.At c a b
-      → FirstAt t.cols t.lines m t.offsets t.items rest c a b
-  cell_is rest r f c a b k = subst (LeftAt t.cols t.lines m t.offsets t.items rest) k f
+  pub cell_is : (rest : List Pair) (r : (Option CellAt)) → LeftAt t.cols t.lines m t.offsets t.items rest r → (x : CellAt) → r ≡ Some x
+      → FirstAt t.cols t.lines m t.offsets t.items rest x.cell x.i x.j
+  cell_is rest r f x k = subst (LeftAt t.cols t.lines m t.offsets t.items rest) k f
 
-  pub cell_none : (rest : List Pair) (r : CellAt) → LeftAt t.cols t.lines m t.offsets t.items rest r → r ≡ cellat.Past → rest ≡ []
+  pub cell_none : (rest : List Pair) (r : (Option CellAt)) → LeftAt t.cols t.lines m t.offsets t.items rest r → r ≡ None → rest ≡ []
   cell_none rest r f k = subst (LeftAt t.cols t.lines m t.offsets t.items rest) k f
 
   spot_cell : (c a b : ℕ) → c < m → a < length (list_as t c) → b < length (list_as t c)

@@ -1,4 +1,5 @@
 -- The turns of the run through the globals. Assumes nothing.
+use Rattle.std.specs.Prelude.{Some, None, Option}
 use mathlib.Core.Path.{◌≡◌, sym, ap, subst, ◌∙◌}
 use mathlib.Core.List.{List, [], ◌∷◌, ◌++◌, append_assoc}
 use Prim.Native.Nat.{ℕ, zero, suc, ◌+◌, ◌-◌, ◌≤◌, ◌<◌, ◌^◌, min}
@@ -15,18 +16,17 @@ use Rattle.seek.proofs.Clauses.{with_nil, with_append, numbers_zero, numbers_suc
 use Rattle.seek.proofs.OtherLines.{length_numbers}
 use Rattle.seek.proofs.GlobalRests.{grest_run, stop_most, line_further}
 use Rattle.resume.specs.declared.settle.GlobalAt.{GlobalAt}
-use Rattle.resume.specs.declared.settle.GlobalAt.TheVariants as globalat
 use Rattle.resume.specs.Cursors.{globals_from}
 use Rattle.through.specs.Inside.{Goes}
 use Rattle.resume.specs.Inside.{ZeroAfter, LinesAsk, LinesScanned, Passed, GlobalFound, GlobalsAsk, GlobalsRanIs}
 use Rattle.through.proofs.Goings.{goes_none, goes_then, goes_row}
 
 -- what was found, taken apart
-module _ (n : ℕ) (globals : List ℕ) (p q k : ℕ) (r : GlobalAt) (f : GlobalFound n globals p q k r) where
-  pub global_is : (a b d e : ℕ) → r ≡ globalat.At a b d e → GlobalIs n (length globals) globals p q k a b d e
-  global_is a b d s e = subst (GlobalFound n globals p q k) e f
+module _ (n : ℕ) (globals : List ℕ) (p q k : ℕ) (r : (Option GlobalAt)) (f : GlobalFound n globals p q k r) where
+  pub global_is : (a : GlobalAt) → r ≡ Some a → GlobalIs n (length globals) globals p q k a.p a.q a.k a.stop
+  global_is a e = subst (GlobalFound n globals p q k) e f
 
-  pub global_past : r ≡ globalat.Past → globals_from n globals p k ≡ []
+  pub global_past : r ≡ None → globals_from n globals p k ≡ []
   global_past e = subst (GlobalFound n globals p q k) e f
 
 numbers_split : (a b k : ℕ) → numbers (a + b) k ≡ numbers a k ++ numbers b (k + a)
@@ -60,8 +60,8 @@ module _ (globals : List ℕ) (p k q : ℕ) (s : Passing globals p k q) where
   pub passed_here : q ≤ p → k ≤ get_or globals q 0 → Passed globals p k q
   passed_here h l = record { q_small = s.q_small; passed = s.passed; ahead = λ i j. l }
 
-  pub passed_all : p < q → Passed globals p k q
-  passed_all h = record { q_small = s.q_small; passed = s.passed; ahead = λ i j. absurd (omega arith) }
+  pub passed_all : p < q → Passed globals p k (p + 1)
+  passed_all h = record { q_small = omega arith; passed = λ a l. s.passed a (omega arith); ahead = λ i j. absurd (omega arith) }
 
 -- ---- the run
 

@@ -1,4 +1,5 @@
 -- What `next` refuses, case by case, and what both runs came to. Assumes nothing.
+use Rattle.std.specs.Prelude.{Ok, Err}
 use mathlib.Core.Path.{◌≡◌, refl, sym, ap, ◌∙◌}
 use mathlib.Core.Bool.{Bool, true, false, cond}
 use mathlib.Core.List.{List, [], ◌++◌, append-nil}
@@ -11,8 +12,6 @@ use lib.Seq.{drop-drop, length-take-le}
 use lib.Dec.{ltb}
 use borrow.Author.Tests.{lt-ltb, ltb-false}
 use Rattle.refusals.specs.declared.Refusal.{Refusal}
-use Rattle.refusals.specs.declared.Check.TheVariants.{Fine, Refused}
-use Rattle.refusals.specs.Refusals.{unless}
 use Rattle.grid.specs.Domain.{Lines, count, lengths_check, count_check}
 use Rattle.seek.specs.Tests.{Pair}
 use Rattle.visit.specs.Batches.{made, handed, firsts, seconds}
@@ -38,7 +37,6 @@ use Rattle.resume.specs.declared.Cursor.{Cursor}
 use Rattle.resume.specs.declared.Went.{Went}
 use Rattle.resume.specs.declared.nexts.Ran.{Ran}
 use Rattle.resume.specs.declared.globals.GlobalsRan.{GlobalsRan}
-use Rattle.resume.specs.declared.NextAnswer.TheVariants as next
 use Rattle.resume.specs.AsTheyAre.{cells_to_look, globals_as}
 use Rattle.resume.specs.Cursors.{globals_from, left_from, cursor_of}
 use Rattle.resume.specs.Answers.{next_tests, next_answer, NextIs}
@@ -48,7 +46,7 @@ use Rattle.resume.proofs.Zeros.{Kept, kept}
 use Rattle.resume.proofs.Bounds.{globals_few, globals_table, globals_start, clip}
 use Rattle.resume.proofs.CursorLaws.{reach_most}
 
-pub next_fine : (ls : Lines) (first second : List ℕ) → outputs_lines_check ls first second ≡ Fine → GoAsks ls first second
+pub next_fine : (ls : Lines) (first second : List ℕ) → outputs_lines_check ls first second ≡ (Ok tt) → GoAsks ls first second
 next_fine ls first second h =
     let a = lent_fine ls first second h 0 (omega arith) in
     record { fine = h; alike = a.alike; few = a.few; same = a.same }
@@ -285,15 +283,15 @@ module _ (ls : Lines) (g : Grid) (offsets items globals : List ℕ) (count_of : 
 
 module _ (ls : Lines) (t : Tables) (c : Cursor) (fs ss : List ℕ) where
   -- a refusal by 3 or 2 leaves the outputs as they were
-  pub next_refused : (r : Refusal) → outputs_lines_check ls fs ss ≡ Refused r → clears r.number ≡ false → NextIs ls t c fs ss fs ss (next.Refused r)
+  pub next_refused : (r : Refusal) → outputs_lines_check ls fs ss ≡ Err r → clears r.number ≡ false → NextIs ls t c fs ss fs ss (Err r)
   unfolding next_answer next_tests ◌then◌ answer_by pairs_left left_in refusals-words.left_by
   next_refused r e k = record { answers = rw e; first_is = rw (e, k); second_is = rw (e, k) }
 
-  pub next_went : outputs_lines_check ls fs ss ≡ Fine → (fs' ss' : List ℕ) (w : Went) → Gone ls t c fs ss fs' ss' w → NextIs ls t c fs ss fs' ss' (next.Went w)
+  pub next_went : outputs_lines_check ls fs ss ≡ (Ok tt) → (fs' ss' : List ℕ) (w : Went) → Gone ls t c fs ss fs' ss' w → NextIs ls t c fs ss fs' ss' (Ok w)
   unfolding next_answer next_tests ◌then◌ answer_by pairs_left left_in
   next_went e fs' ss' w g = record { answers = rw (e, g.is); first_is = rw e g.first_is; second_is = rw e g.second_is }
 
-pub next_clears : (ls : Lines) (fs ss : List ℕ) (r : Refusal) → outputs_lines_check ls fs ss ≡ Refused r → clears r.number ≡ false
+pub next_clears : (ls : Lines) (fs ss : List ℕ) (r : Refusal) → outputs_lines_check ls fs ss ≡ Err r → clears r.number ≡ false
 unfolding outputs_lines_check outputs_check lengths_check count_check
 next_clears ls fs ss r e =
     (clearing_then (clearing_unless _ 3 0 (numbers_below 3 (omega arith))) (clearing_then (clearing_unless _ 3 0 (numbers_below 3 (omega arith))) (clearing_unless _ 2 (count ls) (numbers_below 2 (omega arith))))).says r e

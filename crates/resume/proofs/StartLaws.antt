@@ -1,12 +1,12 @@
 -- Where each test of fit tables stands, and that `start` answers it; and the law that joins `next` to a batch. Assumes nothing.
+use Rattle.std.specs.Prelude.{Ok, Err, Some, None, Result, Option}
+use Rattle.refusals.specs.Refusals.{Check}
 use mathlib.Core.Path.{◌≡◌, refl, sym, ap, ◌∙◌}
 use mathlib.Core.List.{List, [], ◌∷◌, ◌++◌}
 use Prim.Native.Nat.{ℕ, zero, suc, ◌+◌, ◌≤◌, ◌<◌}
 use native.Mathlib.Omega.{arith}
 use lib.ListN.{length, get_or, take, drop}
 use Rattle.refusals.specs.declared.Refusal.{Refusal}
-use Rattle.refusals.specs.declared.Check.{Check}
-use Rattle.refusals.specs.declared.Check.TheVariants.{Fine, Refused}
 use Rattle.refusals.specs.Refusals.{Answer, refused, gives, ◌then◌, answer_by}
 use Rattle.grid.specs.declared.Grid.{Grid}
 use Rattle.grid.specs.Domain.{Lines}
@@ -14,14 +14,12 @@ use Rattle.tables.specs.Tables.{Tables, cells, list_in}
 use Rattle.seek.specs.declared.Place.{Place}
 use Rattle.seek.specs.declared.Place.TheVariants.{Cell, Global}
 use Rattle.visit.specs.declared.Test.{Test}
-use Rattle.visit.specs.declared.TestAnswer.{TestAnswer}
-use Rattle.visit.specs.declared.TestAnswer.TheVariants as answer
 use Rattle.seek.specs.Tests.{Pair, with_each, pairs, place_of, cell_tests, others, global_tests, tests_of}
 use Rattle.seek.specs.Bookmarks.{visit_check, bookmark_check, tests_from}
 use Rattle.visit.specs.Entries.{next_test, test_at, test_of}
 use Rattle.seek.proofs.Clauses.{cells_zero, cells_suc, with_nil, with_cons, pairs_nil, pairs_cons, globals_zero, globals_suc}
 use Rattle.seek.proofs.Standing.{stands}
-use Rattle.resume.specs.declared.StartAnswer.TheVariants as start
+use Rattle.resume.specs.declared.Cursor.{Cursor}
 use Rattle.resume.specs.AsTheyAre.{cells_to_look, globals_as}
 use Rattle.resume.specs.Cursors.{cursor, spot_of, cursor_of}
 use Rattle.resume.specs.Answers.{start_answer}
@@ -34,25 +32,30 @@ cursor_first : (t : Tables) (p : Pair) (ps : List Pair) → cursor_of t (p ∷ p
 unfolding cursor_of
 cursor_first t p ps = refl
 
-refused_by : (ls : Lines) (t : Tables) (r : Refusal) (x : Answer (List Pair)) → answer.Refused r ≡ answer_by answer.Refused (next_test ls) x
-    → start.Refused r ≡ answer_by start.Refused (λ rest. start.At (cursor_of t rest)) x
-unfolding answer_by next_test
-refused_by ls t r (refused s) h = let q : r ≡ s = cc in ap start.Refused q
+-- what one test is
+one : Lines → Answer (List Pair) → Result (Option Test) Refusal
+one ls x = answer_by Err (next_test ls) x
+
+-- the cursor of what is left
+begin : Tables → Answer (List Pair) → Result Cursor Refusal
+begin t x = answer_by Err (λ rest. Ok (cursor_of t rest)) x
+
+refused_by : (ls : Lines) (t : Tables) (r : Refusal) (x : Answer (List Pair)) → Err r ≡ one ls x → Err r ≡ begin t x
+unfolding one begin answer_by next_test
+refused_by ls t r (refused s) h = let q : r ≡ s = cc in ap (λ (s : Refusal). Err s) q
 refused_by ls t r (gives []) h = let z : ◌≡◌ {A = ℕ} 0 1 = cc in absurd (omega arith)
 refused_by ls t r (gives (p ∷ ps)) h = let z : ◌≡◌ {A = ℕ} 0 1 = cc in absurd (omega arith)
 
-made_by : (ls : Lines) (t : Tables) (x : Test) (a : Answer (List Pair)) → answer.Made x ≡ answer_by answer.Refused (next_test ls) a
-    → start.At (spot_of t x.place x.first x.second) ≡ answer_by start.Refused (λ rest. start.At (cursor_of t rest)) a
-unfolding answer_by next_test
+made_by : (ls : Lines) (t : Tables) (x : Test) (a : Answer (List Pair)) → Ok (Some x) ≡ one ls a → Ok (spot_of t x.place x.first x.second) ≡ begin t a
+unfolding one begin answer_by next_test
 made_by ls t x (refused s) h = let z : ◌≡◌ {A = ℕ} 0 1 = cc in absurd (omega arith)
 made_by ls t x (gives []) h = let z : ◌≡◌ {A = ℕ} 0 1 = cc in absurd (omega arith)
-made_by ls t x (gives (p ∷ ps)) h = let q : x ≡ test_of ls p = cc in rw q (ap start.At (sym (cursor_first t p ps)))
+made_by ls t x (gives (p ∷ ps)) h = let q : x ≡ test_of ls p = cc in rw q (ap (λ (k : Cursor). Ok k) (sym (cursor_first t p ps)))
 
-end_by : (ls : Lines) (t : Tables) (a : Answer (List Pair)) → answer.End ≡ answer_by answer.Refused (next_test ls) a
-    → start.At (cursor (cells_to_look t + length (globals_as t)) 0 0) ≡ answer_by start.Refused (λ rest. start.At (cursor_of t rest)) a
-unfolding answer_by next_test
+end_by : (ls : Lines) (t : Tables) (a : Answer (List Pair)) → Ok None ≡ one ls a → Ok (cursor (cells_to_look t + length (globals_as t)) 0 0) ≡ begin t a
+unfolding one begin answer_by next_test
 end_by ls t (refused s) h = let z : ◌≡◌ {A = ℕ} 0 1 = cc in absurd (omega arith)
-end_by ls t (gives []) h = ap start.At (sym (cursor_end t))
+end_by ls t (gives []) h = ap (λ (k : Cursor). Ok k) (sym (cursor_end t))
 end_by ls t (gives (p ∷ ps)) h = let z : ◌≡◌ {A = ℕ} 0 1 = cc in absurd (omega arith)
 
 -- ---- each test of a full visit stands in a cell or at a position within the globals
@@ -121,20 +124,20 @@ unfolding InPlace
 spot_asks globals m (Cell row col) h a = tt
 spot_asks globals m (Global p) h a = omega arith
 
-in_by : (ls : Lines) (t : Tables) (x : Test) (ps : List Pair) → answer.Made x ≡ next_test ls ps → AllIn t.global_count ps → InPlace t.global_count x.place
+in_by : (ls : Lines) (t : Tables) (x : Test) (ps : List Pair) → Ok (Some x) ≡ next_test ls ps → AllIn t.global_count ps → InPlace t.global_count x.place
 unfolding next_test AllIn
 in_by ls t x [] h a = let z : ◌≡◌ {A = ℕ} 0 1 = cc in absurd (omega arith)
 in_by ls t x (p ∷ ps) h a = let q : x ≡ test_of ls p = cc in rw q a.0
 
 -- what the tests are that are left at a bookmark that is not refused
-from_is : (v w : Check) (xs : List Pair) (x : Answer (List Pair)) → x ≡ (v then w then gives xs) → (y : List Pair) → x ≡ gives y → (v ≡ Fine) × (y ≡ xs)
+from_is : (v w : Check) (xs : List Pair) (x : Answer (List Pair)) → x ≡ (v then w then gives xs) → (y : List Pair) → x ≡ gives y → (v ≡ (Ok tt)) × (y ≡ xs)
 unfolding ◌then◌
-from_is Fine Fine xs x e y k = let q : gives y ≡ gives xs = sym k ∙ e in (refl, cc)
-from_is Fine (Refused r) xs x e y k = let q : gives y ≡ refused r = sym k ∙ e in let z : ◌≡◌ {A = ℕ} 0 1 = cc in absurd (omega arith)
-from_is (Refused r) w xs x e y k = let q : gives y ≡ refused r = sym k ∙ e in let z : ◌≡◌ {A = ℕ} 0 1 = cc in absurd (omega arith)
+from_is (Ok _) (Ok _) xs x e y k = let q : gives y ≡ gives xs = sym k ∙ e in (refl, cc)
+from_is (Ok _) (Err r) xs x e y k = let q : gives y ≡ refused r = sym k ∙ e in let z : ◌≡◌ {A = ℕ} 0 1 = cc in absurd (omega arith)
+from_is (Err r) w xs x e y k = let q : gives y ≡ refused r = sym k ∙ e in let z : ◌≡◌ {A = ℕ} 0 1 = cc in absurd (omega arith)
 
-asks_by : (ls : Lines) (g : Grid) (t : Tables) (b : ℕ) (x : Test) (a : Answer (List Pair)) → a ≡ tests_from ls g t b → answer.Made x ≡ answer_by answer.Refused (next_test ls) a → SpotAsks t.globals x.place
-unfolding answer_by tests_from
+asks_by : (ls : Lines) (g : Grid) (t : Tables) (b : ℕ) (x : Test) (a : Answer (List Pair)) → a ≡ tests_from ls g t b → Ok (Some x) ≡ one ls a → SpotAsks t.globals x.place
+unfolding one answer_by tests_from
 asks_by ls g t b x (refused s) e h = let z : ◌≡◌ {A = ℕ} 0 1 = cc in absurd (omega arith)
 asks_by ls g t b x (gives ps) e h =
     let f = from_is (visit_check ls g t) (bookmark_check t b) (drop b (tests_of t)) (gives ps) e ps refl in
@@ -143,18 +146,18 @@ asks_by ls g t b x (gives ps) e h =
     (in_by ls t x ps h (rw f.1 (all_drop t.global_count b (tests_of t) (all_tests t))))
 
 module _ (ls : Lines) (g : Grid) (t : Tables) (b : ℕ) where
-  pub start_refused : (a : TestAnswer) (r : Refusal) → a ≡ test_at ls g t b → a ≡ answer.Refused r → start.Refused r ≡ start_answer ls g t b
-  unfolding test_at start_answer
-  start_refused a r e k = refused_by ls t r (tests_from ls g t b) (sym k ∙ e)
+  pub start_refused : (r : Refusal) → Err r ≡ test_at ls g t b → Err r ≡ start_answer ls g t b
+  unfolding test_at start_answer one begin
+  start_refused r e = refused_by ls t r (tests_from ls g t b) e
 
-  pub start_made : (a : TestAnswer) (x : Test) → a ≡ test_at ls g t b → a ≡ answer.Made x → start.At (spot_of t x.place x.first x.second) ≡ start_answer ls g t b
-  unfolding test_at start_answer
-  start_made a x e k = made_by ls t x (tests_from ls g t b) (sym k ∙ e)
+  pub start_made : (x : Test) → Ok (Some x) ≡ test_at ls g t b → Ok (spot_of t x.place x.first x.second) ≡ start_answer ls g t b
+  unfolding test_at start_answer one begin
+  start_made x e = made_by ls t x (tests_from ls g t b) e
 
-  pub start_asks : (a : TestAnswer) (x : Test) → a ≡ test_at ls g t b → a ≡ answer.Made x → SpotAsks t.globals x.place
-  unfolding test_at
-  start_asks a x e k = asks_by ls g t b x (tests_from ls g t b) refl (sym k ∙ e)
+  pub start_asks : (x : Test) → Ok (Some x) ≡ test_at ls g t b → SpotAsks t.globals x.place
+  unfolding test_at one
+  start_asks x e = asks_by ls g t b x (tests_from ls g t b) refl e
 
-  pub start_end : (a : TestAnswer) → a ≡ test_at ls g t b → a ≡ answer.End → (m n : ℕ) → m ≡ cells_to_look t → n ≡ length (globals_as t) → start.At (cursor (m + n) 0 0) ≡ start_answer ls g t b
-  unfolding test_at start_answer
-  start_end a e k m n p q = rw (p, q) (end_by ls t (tests_from ls g t b) (sym k ∙ e))
+  pub start_end : Ok None ≡ test_at ls g t b → (m n : ℕ) → m ≡ cells_to_look t → n ≡ length (globals_as t) → Ok (cursor (m + n) 0 0) ≡ start_answer ls g t b
+  unfolding test_at start_answer one begin
+  start_end e m n p q = rw (p, q) (end_by ls t (tests_from ls g t b) e)

@@ -1,5 +1,6 @@
 -- What `start` and `next` answer. Definitions only.
-use Rattle.std.specs.Prelude.{ℕ, ◌≡◌, List, length, drop}
+use Rattle.std.specs.Prelude.{Ok, Err, Result, ℕ, ◌≡◌, List, length, drop}
+use Rattle.refusals.specs.declared.Refusal.{Refusal}
 use Rattle.refusals.specs.Refusals.{Answer, gives, ◌then◌, answer_by}
 use Rattle.grid.specs.declared.Grid.{Grid}
 use Rattle.grid.specs.Domain.{Lines}
@@ -11,15 +12,11 @@ use Rattle.visit.specs.Entries.{pairs_left}
 use Rattle.through.specs.Runs.{outputs_lines_check}
 use Rattle.resume.specs.declared.Cursor.{Cursor}
 use Rattle.resume.specs.declared.Went.{Went}
-use Rattle.resume.specs.declared.StartAnswer.{StartAnswer}
-use Rattle.resume.specs.declared.StartAnswer.TheVariants as start
-use Rattle.resume.specs.declared.NextAnswer.{NextAnswer}
-use Rattle.resume.specs.declared.NextAnswer.TheVariants as next
 use Rattle.resume.specs.Cursors.{left_from, cursor_of}
 
 -- START: the refusals of a batch from the bookmark, but for its outputs; else the cursor of the tests that are left there
-unfoldable pub start_answer : Lines → Grid → Tables → ℕ → StartAnswer
-start_answer ls g t b = answer_by start.Refused (λ rest. start.At (cursor_of t rest)) (tests_from ls g t b)
+unfoldable pub start_answer : Lines → Grid → Tables → ℕ → (Result Cursor Refusal)
+start_answer ls g t b = answer_by Err (λ rest. Ok (cursor_of t rest)) (tests_from ls g t b)
 
 -- what `next` goes through: the tests that are left, where lines and outputs are not refused
 unfoldable pub next_tests : Lines → Tables → Cursor → List ℕ → List ℕ → Answer (List Pair)
@@ -35,12 +32,12 @@ went_of ls t room rest =
       cursor = cursor_of t (drop (length (made ls rest room)) rest);
     }
 
-unfoldable pub next_answer : Lines → Tables → Cursor → List ℕ → List ℕ → NextAnswer
+unfoldable pub next_answer : Lines → Tables → Cursor → List ℕ → List ℕ → (Result Went Refusal)
 next_answer ls t c first second =
-    answer_by next.Refused (λ ps. next.Went (went_of ls t (length first) ps)) (next_tests ls t c first second)
+    answer_by Err (λ ps. Ok (went_of ls t (length first) ps)) (next_tests ls t c first second)
 
 -- NEXT: the answer r, and the two outputs before and after
-pub record NextIs (ls : Lines) (t : Tables) (c : Cursor) (first second first' second' : List ℕ) (r : NextAnswer) : Type 0 where
+pub record NextIs (ls : Lines) (t : Tables) (c : Cursor) (first second first' second' : List ℕ) (r : (Result Went Refusal)) : Type 0 where
   pub answers : r ≡ next_answer ls t c first second
   pub first_is : first' ≡ pairs_left ls (length first) firsts (next_tests ls t c first second) first
   pub second_is : second' ≡ pairs_left ls (length first) seconds (next_tests ls t c first second) second

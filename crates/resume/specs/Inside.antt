@@ -1,6 +1,5 @@
 -- What the private functions promise. Definitions only.
-use Rattle.std.specs.Prelude.{ℕ, ◌+◌, ◌-◌, ◌≤◌, ◌<◌, ◌^◌, ◌≡◌, cond, List, [], ◌++◌, length, get_or, take, drop, ltb}
-use Rattle.refusals.specs.declared.Check.TheVariants.{Fine}
+use Rattle.std.specs.Prelude.{Ok, Some, None, Option, ℕ, ◌+◌, ◌-◌, ◌≤◌, ◌<◌, ◌^◌, ◌≡◌, cond, List, [], ◌++◌, length, get_or, take, drop, ltb}
 use Rattle.refusals.specs.Refusals.{zero_beyond}
 use Rattle.grid.specs.Domain.{Lines, count, Alike}
 use Rattle.tables.specs.Tables.{Tables}
@@ -17,7 +16,6 @@ use Rattle.listed.specs.Places.{LeftAt}
 use Rattle.through.specs.Runs.{outputs_lines_check}
 use Rattle.through.specs.Inside.{Goes, Lent}
 use Rattle.resume.specs.declared.settle.GlobalAt.{GlobalAt}
-use Rattle.resume.specs.declared.settle.GlobalAt.TheVariants as globalat
 use Rattle.resume.specs.declared.globals.GlobalsRan.{GlobalsRan}
 use Rattle.resume.specs.declared.nexts.Ran.{Ran}
 use Rattle.resume.specs.declared.Cursor.{Cursor}
@@ -52,9 +50,9 @@ pub record LinesScanned (ls : Lines) (line from many m : ℕ) (fs ss : List ℕ)
 
 -- ---- the globals
 
-abbrev pub GlobalFound : ℕ → List ℕ → ℕ → ℕ → ℕ → GlobalAt → Type 0
-GlobalFound n globals p q k (globalat.At a b d e) = GlobalIs n (length globals) globals p q k a b d e
-GlobalFound n globals p q k globalat.Past = globals_from n globals p k ≡ []
+abbrev pub GlobalFound : ℕ → List ℕ → ℕ → ℕ → ℕ → (Option GlobalAt) → Type 0
+GlobalFound n globals p q k (Some a) = GlobalIs n (length globals) globals p q k a.p a.q a.k a.stop
+GlobalFound n globals p q k None = globals_from n globals p k ≡ []
 
 -- the globals up to position p that are below line k are those before q
 pub record Passed (globals : List ℕ) (p k q : ℕ) : Type 0 where
@@ -84,7 +82,7 @@ pub record SettleAsks (t : Tables) (m : ℕ) (globals : List ℕ) (p q k : ℕ) 
 
 -- lines and outputs that `next` does not refuse
 pub record GoAsks (ls : Lines) (fs ss : List ℕ) : Type 0 where
-  pub fine : outputs_lines_check ls fs ss ≡ Fine
+  pub fine : outputs_lines_check ls fs ss ≡ Ok tt
   pub alike : Alike ls
   pub few : count ls ≤ 65536
   pub same : length ss ≡ length fs

@@ -2,7 +2,6 @@
 ghost use Rattle.grid.specs.Domain.{lines};
 ghost use Rattle.resume.specs.Inside.{Passed, GlobalsAsk, GlobalsRanIs};
 
-use crate::settle::GlobalAt;
 use crate::{lines, settle};
 use slices::least;
 
@@ -22,14 +21,12 @@ pub(crate) fn passed(globals: &[u32], p: usize, k: u32) -> usize
     if globals.len() <= p {
         return 0;
     }
-    let mut q = 0;
-    while q <= p {
+    for q in 0..=p {
         if k <= globals[q] {
             return q;
         }
-        q = q + 1;
     }
-    q
+    p + 1
 }
 
 pub(crate) fn run_globals(
@@ -56,23 +53,26 @@ pub(crate) fn run_globals(
     let mut tests: u64 = 0;
     let mut hits = hits;
     while hits < first.len() {
-        let GlobalAt::At {
-            p: a,
-            q: b,
-            k: d,
-            stop,
-        } = settle::global_at(n, globals, p, q, k)
-        else {
+        let Some(next) = settle::global_at(n, globals, p, q, k) else {
             break;
         };
-        let count = least((stop - d) as usize, first.len() - hits) as u32;
+        let count = least((next.stop - next.k) as usize, first.len() - hits) as u32;
         hits = lines::scan_lines(
-            globals[a], d, count, start_x, start_y, end_x, end_y, first, second, hits,
+            globals[next.p],
+            next.k,
+            count,
+            start_x,
+            start_y,
+            end_x,
+            end_y,
+            first,
+            second,
+            hits,
         );
         tests = tests + (count as u64);
-        p = a;
-        q = b;
-        k = d + count;
+        p = next.p;
+        q = next.q;
+        k = next.k + count;
     }
     GlobalsRan {
         p,

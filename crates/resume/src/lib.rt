@@ -2,8 +2,6 @@
 // from a cursor, over tables as they are.
 #![tactic(auto)]
 
-use refusals::Refusal;
-
 mod globals;
 mod lines;
 mod lists;
@@ -26,16 +24,4 @@ pub struct Went {
     pub tests: u64,
     pub overlaps: u64,
     pub cursor: Cursor,
-}
-
-#[derive(Clone, Copy)]
-pub enum StartAnswer {
-    At(Cursor),
-    Refused(Refusal),
-}
-
-#[derive(Clone, Copy)]
-pub enum NextAnswer {
-    Went(Went),
-    Refused(Refusal),
 }

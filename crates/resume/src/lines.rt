@@ -44,14 +44,12 @@ pub(crate) fn scan_lines(
 {
     let bounds = box_at(start_x, start_y, end_x, end_y, line);
     let mut hits = hits;
-    let mut u = 0;
-    while u < many {
+    for u in 0..many {
         let other = box_at(start_x, start_y, end_x, end_y, from + u);
         let hit = one_if(bounds.overlaps_with(other));
         first[hits] = line;
         second[hits] = from + u;
         hits = hits + hit;
-        u = u + 1;
     }
     hits
 }

@@ -6,10 +6,10 @@ ghost use Rattle.tables.specs.Tables.{beside};
 ghost use Rattle.resume.specs.Answers.{NextIs};
 ghost use Rattle.resume.specs.Inside.{ZeroAfter, RunAsks, RunIs, GoAsks, Gone};
 
-use crate::{Cursor, NextAnswer, Went, globals, lists, settle};
+use crate::{Cursor, Went, globals, lists, settle};
 use grid::Grid;
 use listed::CellAt;
-use refusals::Check;
+use refusals::Refusal;
 use slices::{least, wide};
 use through::cells::check_lent;
 
@@ -36,7 +36,7 @@ fn line_at(lines: u32, place: usize, reach: usize, j: usize) -> u32
 // Where the runs through the cells and through the globals stopped.
 #[derive(Clone, Copy)]
 pub(crate) struct Ran {
-    pub found: CellAt,
+    pub found: Option<CellAt>,
     pub p: usize,
     pub q: usize,
     pub k: u32,
@@ -186,16 +186,13 @@ pub fn next(
     global_count: usize,
     first: &mut [u32],
     second: &mut [u32],
-) -> NextAnswer
+) -> Result<Went, Refusal>
     ensures { let ls = lines start_x.now start_y.now end_x.now end_y.now in
         let t = beside ls grid offsets.now items.now globals.now global_count in
         NextIs ls t cursor first.old second.old first.new second.new result }
 {
-    let check = check_lent(start_x, start_y, end_x, end_y, first, second);
-    if let Check::Refused(r) = check {
-        return NextAnswer::Refused(r);
-    }
-    NextAnswer::Went(go(
+    check_lent(start_x, start_y, end_x, end_y, first, second)?;
+    Ok(go(
         cursor,
         start_x,
         start_y,

@@ -13,14 +13,11 @@ use grid::Grid;
 use listed::CellAt;
 
 #[derive(Clone, Copy)]
-pub(crate) enum GlobalAt {
-    At {
-        p: usize,
-        q: usize,
-        k: u32,
-        stop: u32,
-    },
-    Past,
+pub(crate) struct GlobalAt {
+    pub p: usize,
+    pub q: usize,
+    pub k: u32,
+    pub stop: u32,
 }
 
 // The line that the next global stands at, or the number of lines where none is left to pass over.
@@ -35,17 +32,18 @@ fn stop_at(lines: u32, globals: &[u32], p: usize, q: usize) -> u32
 }
 
 // Among the globals, the next run of lines: it ends before the next global that is passed over.
-pub(crate) fn global_at(lines: u32, globals: &[u32], p: usize, q: usize, k: u32) -> GlobalAt
+pub(crate) fn global_at(lines: u32, globals: &[u32], p: usize, q: usize, k: u32) -> Option<GlobalAt>
     requires { GlobalAsks lines (length globals.now) globals.now p q k }
     ensures { GlobalFound lines globals.now p q k result }
 {
     let mut p = p;
     let mut q = q;
     let mut k = k;
+    // Past each global that k has come to, and, where no line is left for one, to the next position.
     while p < globals.len() {
         let stop = stop_at(lines, globals, p, q);
         if k < stop {
-            return GlobalAt::At { p, q, k, stop };
+            return Some(GlobalAt { p, q, k, stop });
         }
         if q <= p {
             q = q + 1;
@@ -56,7 +54,7 @@ pub(crate) fn global_at(lines: u32, globals: &[u32], p: usize, q: usize, k: u32)
             k = 0;
         }
     }
-    GlobalAt::Past
+    None
 }
 
 // The cursor of the first test that is left, by where that of the cells stands and by a place among the globals, or the end.
@@ -69,7 +67,7 @@ pub(crate) fn cursor_at(
     whole: &[u32],
     global_count: usize,
     globals: &[u32],
-    found: CellAt,
+    found: Option<CellAt>,
     p: usize,
     q: usize,
     k: u32,
@@ -79,30 +77,18 @@ pub(crate) fn cursor_at(
         ((rest : List Pair) → LeftAt grid.cols lines reach offsets.now items.now rest found
         → result ≡ cursor_of t (rest ++ globals_from lines globals.now p k)) }
 {
-    if let CellAt::At {
-        cell: c,
-        i: a,
-        j: b,
-    } = found
-    {
+    if let Some(first) = found {
         return Cursor {
-            place: c,
-            i: a,
-            j: b,
+            place: first.cell,
+            i: first.i,
+            j: first.j,
         };
     }
-    let line = global_at(lines, globals, p, q, k);
-    if let GlobalAt::At {
-        p: a,
-        q: _,
-        k: d,
-        stop: _,
-    } = line
-    {
+    if let Some(next) = global_at(lines, globals, p, q, k) {
         return Cursor {
-            place: reach + a,
+            place: reach + next.p,
             i: 0,
-            j: slices::wide(d),
+            j: slices::wide(next.k),
         };
     }
     Cursor {

@@ -6,24 +6,22 @@ ghost use Rattle.resume.specs.Cursors.{index_of, spot_of};
 ghost use Rattle.resume.specs.Inside.{SpotAsks};
 ghost use Rattle.resume.specs.Answers.{start_answer};
 
-use crate::{Cursor, StartAnswer, lists};
+use crate::{Cursor, lists};
 use grid::Grid;
+use refusals::Refusal;
 use seek::Place;
 use slices::wide;
-use visit::TestAnswer;
 
 // Where a value stands in a list first, or how long the list is.
 fn index_in(list: &[u32], v: u32) -> usize
     ensures { result ≡ index_of v list.now }
 {
-    let mut u = 0;
-    while u < list.len() {
-        if list[u] == v {
+    for (u, &entry) in list.iter().enumerate() {
+        if entry == v {
             return u;
         }
-        u = u + 1;
     }
-    u
+    list.len()
 }
 
 // Where the test of two lines at a place stands.
@@ -73,13 +71,13 @@ pub fn start(
     globals: &[u32],
     global_count: usize,
     bookmark: u64,
-) -> StartAnswer
+) -> Result<Cursor, Refusal>
     ensures { let ls = lines start_x.now start_y.now end_x.now end_y.now in
         let t = beside ls grid offsets.now items.now globals.now global_count in
         result ≡ start_answer ls grid t bookmark }
 {
     let n = start_x.len();
-    let answer = visit::visits::test_at(
+    let found = visit::visits::test_at(
         start_x,
         start_y,
         end_x,
@@ -90,32 +88,26 @@ pub fn start(
         globals,
         global_count,
         bookmark,
-    );
-    match answer {
-        TestAnswer::Refused(r) => StartAnswer::Refused(r),
-        TestAnswer::Made(test) => {
-            let place = test.place;
-            StartAnswer::At(spot_of(
-                n,
-                grid,
-                offsets,
-                items,
-                globals,
-                global_count,
-                place,
-                test.first,
-                test.second,
-            ))
-        }
-        TestAnswer::End => {
-            let cells = wide(grid.rows) * wide(grid.cols);
-            let reach = lists::reach(cells, offsets.len());
-            let listed = lists::globals_of(n, globals, global_count);
-            StartAnswer::At(Cursor {
-                place: reach + listed.len(),
-                i: 0,
-                j: 0,
-            })
-        }
+    )?;
+    if let Some(test) = found {
+        return Ok(spot_of(
+            n,
+            grid,
+            offsets,
+            items,
+            globals,
+            global_count,
+            test.place,
+            test.first,
+            test.second,
+        ));
     }
+    let cells = wide(grid.rows) * wide(grid.cols);
+    let reach = lists::reach(cells, offsets.len());
+    let listed = lists::globals_of(n, globals, global_count);
+    Ok(Cursor {
+        place: reach + listed.len(),
+        i: 0,
+        j: 0,
+    })
 }

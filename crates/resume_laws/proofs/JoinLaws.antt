@@ -1,5 +1,9 @@
 -- On tables that fit, from the cursor of a bookmark, the tests that are left are those that are left at the bookmark; so `next` makes, hands out and
 -- answers what a batch does, and cursor and bookmark stay in step. Assumes nothing.
+use Rattle.std.specs.Prelude.{Ok, Err, Result}
+use Rattle.refusals.specs.declared.Refusal.{Refusal}
+use Rattle.refusals.specs.Refusals.{Check}
+use Rattle.resume.specs.declared.Went.{Went}
 use mathlib.Core.Path.{◌≡◌, refl, sym, ap, subst, ◌∙◌}
 use mathlib.Core.Bool.{Bool, true, false}
 use mathlib.Core.List.{List, [], ◌∷◌, ◌++◌}
@@ -19,8 +23,6 @@ use Rattle.seek.specs.declared.Place.TheVariants.{Global}
 use Rattle.seek.specs.Tests.{Pair, pair, with_each, pairs, place_of, cell_tests, others, global_tests, tests_of}
 use Rattle.seek.specs.Cursors.{rest_in, globals_rest}
 use Rattle.seek.proofs.Clauses.{drop_past, with_cons, length_with, drop_with, pairs_nil, pairs_cons, cells_zero, cells_suc, globals_zero, globals_suc, grest_suc, others_zero, others_in, others_out}
-use Rattle.refusals.specs.declared.Check.{Check}
-use Rattle.refusals.specs.declared.Check.TheVariants.{Fine, Refused}
 use Rattle.refusals.specs.Refusals.{unless, and_then, Answer, gives, ◌then◌}
 use Rattle.refusals.proofs.Checks.{and_then_left, and_then_right, and_then_fine}
 use Rattle.grid.specs.declared.Grid.{Grid}
@@ -33,7 +35,6 @@ use Rattle.seek.proofs.GlobalRests.{globals_begin, globals_done}
 use Rattle.listed.specs.Lists.{list_if, list_by, list_from, tests_of_cells, cells_from}
 use Rattle.through.specs.Runs.{outputs_lines_check}
 use Rattle.resume.specs.Answers.{next_tests, NextIs}
-use Rattle.resume.specs.declared.NextAnswer.{NextAnswer}
 use Rattle.resume.specs.AsTheyAre.{cells_looked_at, cells_to_look, list_as, globals_by, globals_as}
 use Rattle.resume.specs.Cursors.{cursor, globals_from, left_from, cursor_of}
 use Rattle.resume_laws.specs.Words.{cursor_at}
@@ -322,31 +323,31 @@ module _ (t : Tables) (f : TablesFit t) (few : cells t ≤ 1002001) where
 
 -- ---- beside a batch, on tables of the cells of their grid
 
-module _ (ls : Lines) (g : Grid) (t : Tables) (b : ℕ) (same : cells t ≡ g.rows * g.cols) (fine : visit_check ls g t ≡ Fine) (within : b ≤ length (tests_of t))
+module _ (ls : Lines) (g : Grid) (t : Tables) (b : ℕ) (same : cells t ≡ g.rows * g.cols) (fine : visit_check ls g t ≡ (Ok tt)) (within : b ≤ length (tests_of t))
     (first second : List ℕ) where
   rest_is : left_from t (cursor_at t b) ≡ drop b (tests_of t)
   rest_is =
       let s = stands ls g t fine in
       left_at t s.tables (rw same (cells_few ls g t s)) b
 
-  lines_pass : and_then (lengths_check ls) (count_check (count ls)) ≡ Fine
+  lines_pass : and_then (lengths_check ls) (count_check (count ls)) ≡ Ok tt
   unfolding visit_check lines_check
   lines_pass =
-      let a : lines_check ls ≡ Fine = and_then_left _ _ fine in
-      let l : lengths_check ls ≡ Fine = and_then_left _ _ a in
-      let c : count_check (count ls) ≡ Fine = and_then_left _ _ (and_then_right _ _ a) in
+      let a : lines_check ls ≡ (Ok tt) = and_then_left _ _ fine in
+      let l : lengths_check ls ≡ (Ok tt) = and_then_left _ _ a in
+      let c : count_check (count ls) ≡ (Ok tt) = and_then_left _ _ (and_then_right _ _ a) in
       and_then_fine _ _ l ∙ c
 
-  bookmark_passes : bookmark_check t b ≡ Fine
+  bookmark_passes : bookmark_check t b ≡ Ok tt
   unfolding bookmark_check unless
   bookmark_passes = rw (le-leb b (length (tests_of t)) within)
 
-  outputs_then : (c : Check) (x y : Answer (List Pair)) → x ≡ y → (and_then c Fine then x) ≡ (c then y)
+  outputs_then : (c : Check) (x y : Answer (List Pair)) → x ≡ y → (and_then c (Ok tt) then x) ≡ (c then y)
   unfolding ◌then◌ and_then
-  outputs_then Fine x y e = e
-  outputs_then (Refused r) x y e = refl
+  outputs_then (Ok _) x y e = e
+  outputs_then (Err r) x y e = refl
 
-  passed_all : (v w : Check) (x : Answer (List Pair)) → v ≡ Fine → w ≡ Fine → (v then w then x) ≡ x
+  passed_all : (v w : Check) (x : Answer (List Pair)) → v ≡ (Ok tt) → w ≡ (Ok tt) → (v then w then x) ≡ x
   unfolding ◌then◌
   passed_all v w x p q = rw (p, q)
 
@@ -359,7 +360,7 @@ module _ (ls : Lines) (g : Grid) (t : Tables) (b : ℕ) (same : cells t ≡ g.ro
       rw lines_pass (outputs_then (outputs_check first second) _ _ e)
 
   -- both outputs hold afterwards what a batch leaves in them
-  pub join_outputs : (first' second' : List ℕ) (r : NextAnswer)
+  pub join_outputs : (first' second' : List ℕ) (r : (Result Went Refusal))
       → NextIs ls t (cursor_at t b) first second first' second' r
       → (first' ≡ pairs_left ls (length first) firsts (batch_tests ls g t b first second) first)
       × (second' ≡ pairs_left ls (length first) seconds (batch_tests ls g t b first second) second)

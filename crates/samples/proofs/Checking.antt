@@ -1,4 +1,5 @@
 -- What lines of samples say that pass the checks 3, 2 and 15, and the steps of the search for the first bad line. Assumes nothing.
+use Rattle.std.specs.Prelude.{Ok, Err}
 use mathlib.Core.Path.{◌≡◌, refl, sym, ◌∙◌}
 use mathlib.Core.Bool.{Bool, true, false, ◌&&◌}
 use Prim.Native.Nat.{ℕ, ◌+◌, ◌-◌, ◌≤◌, ◌<◌}
@@ -6,7 +7,6 @@ use native.Mathlib.Omega.{arith}
 use borrow.Author.Tests.{eqb-true, leb-true}
 use lib.Dec.{eqb}
 use lib.ListN.{length}
-use Rattle.refusals.specs.declared.Check.TheVariants.{Fine, Refused}
 use Rattle.refusals.specs.Refusals.{refusal, each_from, clears}
 use Rattle.refusals.proofs.Leaving.{Clearing, clearing_unless, clearing_then, clearing_each}
 use Rattle.refusals.proofs.Checks.{unless_fine, and_then_left, and_then_right, each_good, each_bad, each_over, each_says}
@@ -34,10 +34,10 @@ module _ {ss : Samples} {i : ℕ} (h : Searched ss i) where
   searched_more l e =
       record { at = omega arith; rest = h.rest ∙ each_good (fits ss) 15 (sample_count ss) i l (sym (sampled_raised (whole_at ss i)) ∙ e) }
 
-  pub searched_bad : i < sample_count ss → sampled (raised_at ss i) ≡ false → Refused (refusal 15 i) ≡ samples_check ss
+  pub searched_bad : i < sample_count ss → sampled (raised_at ss i) ≡ false → Err (refusal 15 i) ≡ samples_check ss
   searched_bad l e = sym (h.rest ∙ each_bad (fits ss) 15 (sample_count ss) i l (sym (sampled_raised (whole_at ss i)) ∙ e))
 
-  pub searched_over : sample_count ss ≤ i → Fine ≡ samples_check ss
+  pub searched_over : sample_count ss ≤ i → Ok tt ≡ samples_check ss
   searched_over l = sym (h.rest ∙ each_over (fits ss) 15 (sample_count ss) i l)
 
 -- ---- what lines say that pass
@@ -49,7 +49,7 @@ pub record SamplesFit (ss : Samples) : Type 0 where
   pub few : sample_count ss ≤ 65536
   pub each : (i : ℕ) → i < sample_count ss → all_samples (whole_at ss i) ≡ true
 
-pub sample_lines_fine : (ss : Samples) → sample_lines_check ss ≡ Fine → SamplesFit ss
+pub sample_lines_fine : (ss : Samples) → sample_lines_check ss ≡ Ok tt → SamplesFit ss
 unfolding sample_lines_check sample_lengths_check count_check samples_check
 sample_lines_fine ss h =
     let a = unless_fine _ _ _ (and_then_left _ _ h) in
@@ -72,7 +72,7 @@ sample_lines_fine ss h =
     ey = eqb (length ss.end_y) (sample_count ss)
 
 -- 2 has passed
-pub samples_counted : (ss : Samples) → sample_lines_check ss ≡ Fine → count_check (sample_count ss) ≡ Fine
+pub samples_counted : (ss : Samples) → sample_lines_check ss ≡ Ok tt → count_check (sample_count ss) ≡ Ok tt
 unfolding sample_lines_check
 samples_counted ss h = and_then_left _ _ (and_then_right _ _ h)
 

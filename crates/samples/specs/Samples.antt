@@ -1,7 +1,7 @@
 -- Document 02, 7: "The bench logger delivers whole numbers, magnitude up to 2^29". What a sample is, lines of samples, and their checks: 3, 2, and "15, a
 -- sample beyond 2^29 [..] (returns the first such line [..]), in the place of 1". Definitions only.
+use Rattle.refusals.specs.Refusals.{Check}
 use Rattle.std.specs.Prelude.{Bool, cond, ◌&&◌, List, ℕ, suc, ◌+◌, ◌-◌, leb, eqb, ℤ, pos, negsuc, nat_abs, length, get_or}
-use Rattle.refusals.specs.declared.Check.{Check}
 use Rattle.refusals.specs.Refusals.{unless, and_then, each_from}
 use Rattle.grid.specs.Domain.{count_check}
 use Rattle.grid.specs.Points.{WholeSegment}

@@ -3,7 +3,7 @@ ghost use Rattle.std.specs.Prelude.{◌≡◌};
 ghost use Rattle.samples.specs.Samples.{samples, sampled, sample_lengths_check, samples_check, sample_lines_check};
 
 use crate::{Raised, line_at};
-use refusals::{Check, Refusal, refuse_unless};
+use refusals::{Refusal, refuse_unless};
 
 // Whether the four numbers of a line are raised samples.
 pub(crate) fn is_sampled(a: Raised) -> bool
@@ -14,7 +14,12 @@ pub(crate) fn is_sampled(a: Raised) -> bool
 }
 
 // The slices have one length.
-fn check_lengths(start_x: &[i32], start_y: &[i32], end_x: &[i32], end_y: &[i32]) -> Check
+fn check_lengths(
+    start_x: &[i32],
+    start_y: &[i32],
+    end_x: &[i32],
+    end_y: &[i32],
+) -> Result<(), Refusal>
     ensures { result ≡ sample_lengths_check (samples start_x.now start_y.now end_x.now end_y.now) }
 {
     let n = start_x.len();
@@ -23,33 +28,35 @@ fn check_lengths(start_x: &[i32], start_y: &[i32], end_x: &[i32], end_y: &[i32])
 }
 
 // The first line with a number that is no sample. The slices have one length.
-fn check_samples(start_x: &[i32], start_y: &[i32], end_x: &[i32], end_y: &[i32]) -> Check
+fn check_samples(
+    start_x: &[i32],
+    start_y: &[i32],
+    end_x: &[i32],
+    end_y: &[i32],
+) -> Result<(), Refusal>
     ensures { result ≡ samples_check (samples start_x.now start_y.now end_x.now end_y.now) }
 {
-    let mut i = 0;
-    while i < start_x.len() {
+    for i in 0..start_x.len() {
         if !is_sampled(line_at(start_x, start_y, end_x, end_y, i)) {
-            return Check::Refused(Refusal {
+            return Err(Refusal {
                 number: 15,
                 value: i as u64,
             });
         }
-        i += 1;
     }
-    Check::Fine
+    Ok(())
 }
 
 // What a call that is lent lines of samples checks first: 3, 2, 15.
-pub fn check_sample_lines(start_x: &[i32], start_y: &[i32], end_x: &[i32], end_y: &[i32]) -> Check
+pub fn check_sample_lines(
+    start_x: &[i32],
+    start_y: &[i32],
+    end_x: &[i32],
+    end_y: &[i32],
+) -> Result<(), Refusal>
     ensures { result ≡ sample_lines_check (samples start_x.now start_y.now end_x.now end_y.now) }
 {
-    let alike = check_lengths(start_x, start_y, end_x, end_y);
-    if let Check::Refused(r) = alike {
-        return Check::Refused(r);
-    }
-    let few = grid::checks::check_count(start_x.len());
-    if let Check::Refused(r) = few {
-        return Check::Refused(r);
-    }
+    check_lengths(start_x, start_y, end_x, end_y)?;
+    grid::checks::check_count(start_x.len())?;
     check_samples(start_x, start_y, end_x, end_y)
 }

@@ -1,4 +1,5 @@
 -- The first of some tests: the cursor that stands there, and what is read there, in a cell, among the globals, and at the end. Assumes nothing.
+use Rattle.std.specs.Prelude.{Ok, Some, None}
 use mathlib.Core.Path.{◌≡◌, refl, ap, ◌∙◌}
 use mathlib.Core.List.{List, [], ◌∷◌, ◌++◌}
 use Prim.Native.Nat.{ℕ, zero, suc, ◌+◌, ◌-◌, ◌*◌, ◌/◌, ◌%◌, ◌≤◌, ◌<◌}
@@ -12,7 +13,6 @@ use Rattle.slices.proofs.Distinct.{rising_at}
 use Rattle.tables.specs.Tables.{Tables, cells, list_in, list_of}
 use Rattle.seek.specs.declared.Place.TheVariants.{Cell, Global}
 use Rattle.seek.specs.declared.Cursor.{Cursor}
-use Rattle.seek.specs.declared.PairAnswer.TheVariants as answer
 use Rattle.seek.specs.Tests.{Pair, pair, with_each, place_of, others, global_tests}
 use Rattle.seek.specs.Bookmarks.{first_of}
 use Rattle.seek.specs.Cursors.{globals_rest, LineFits, rank_of, at_test, at_first_test}
@@ -129,14 +129,14 @@ module _ (m : ℕ) (offsets items globals : List ℕ) (count : ℕ) (c : Cursor)
 
   module _ (cols : ℕ) where
     pub pair_cell : (from : ℕ) → c.cell < m → from ≡ get_or offsets c.cell 0
-        → answer.Made (Cell (c.cell / cols) (c.cell % cols)) (get_or items (from + c.i) 0) (get_or items (from + c.j) 0) ≡ pair_of m cols offsets items globals count c
+        → Ok (Some (record { place = (Cell (c.cell / cols) (c.cell % cols)); first = (get_or items (from + c.i) 0); second = (get_or items (from + c.j) 0) })) ≡ pair_of m cols offsets items globals count c
     unfolding pair_of place_of
     pair_cell from h e = rw (lt-ltb c.cell m h, e)
 
-    pub pair_line : m ≤ c.cell → c.p < count → answer.Made (Global c.p) (get_or globals c.p 0) c.k ≡ pair_of m cols offsets items globals count c
+    pub pair_line : m ≤ c.cell → c.p < count → Ok (Some (record { place = (Global c.p); first = (get_or globals c.p 0); second = c.k })) ≡ pair_of m cols offsets items globals count c
     unfolding pair_of
     pair_line h l = rw (le-ltb c.cell m h, lt-ltb c.p count l)
 
-    pub pair_over : m ≤ c.cell → count ≤ c.p → answer.End ≡ pair_of m cols offsets items globals count c
+    pub pair_over : m ≤ c.cell → count ≤ c.p → (Ok None) ≡ pair_of m cols offsets items globals count c
     unfolding pair_of
     pair_over h l = rw (le-ltb c.cell m h, le-ltb c.p count l)

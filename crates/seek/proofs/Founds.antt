@@ -1,4 +1,5 @@
 -- What a seek found is the cursor of the bookmark: in a cell, at a global, at the end; or the bookmark lies beyond. Assumes nothing.
+use Rattle.std.specs.Prelude.{Ok}
 use mathlib.Core.Path.{◌≡◌, sym, ap, ◌∙◌}
 use mathlib.Core.List.{List, [], ◌∷◌, ◌++◌, append_assoc}
 use Prim.Native.Nat.{ℕ, suc, ◌+◌, ◌-◌, ◌*◌, ◌≤◌, ◌<◌}
@@ -8,7 +9,6 @@ use native.Mathlib.Omega.{arith}
 use lib.ListN.{length, get_or, take, drop, length-append, length-drop}
 use lib.Seq.{drop-cons, drop-append-le, drop-drop, drop-nil}
 use Rattle.slices.specs.Lists.{Rising}
-use Rattle.refusals.specs.declared.Check.TheVariants.{Fine}
 use Rattle.grid.specs.declared.Grid.{Grid}
 use Rattle.grid.specs.Domain.{Lines, count}
 use Rattle.tables.specs.Tables.{Tables, cells, list_in, beside}
@@ -40,7 +40,7 @@ row_rest xs pl tail i left h =
     ∙ drop-append-le left (with_each pl (get_or xs i 0) (drop (suc i) xs)) (pairs pl (drop (suc i) xs) ++ tail) l
     ∙ ap (λ (x : List Pair). x ++ (pairs pl (drop (suc i) xs) ++ tail)) (drop_with pl (get_or xs i 0) left (drop (suc i) xs) ∙ ap (with_each pl (get_or xs i 0)) (drop-drop left (suc i) xs)))
 
-module _ (ls : Lines) (g : Grid) (offsets items globals : List ℕ) (k : ℕ) (fine : visit_check ls g (beside ls g offsets items globals k) ≡ Fine)
+module _ (ls : Lines) (g : Grid) (offsets items globals : List ℕ) (k : ℕ) (fine : visit_check ls g (beside ls g offsets items globals k) ≡ (Ok tt))
     (m : ℕ) (e : m ≡ g.rows * g.cols) (bookmark : ℕ) where
   abbrev t : Tables
   t = beside ls g offsets items globals k

@@ -1,12 +1,12 @@
 -- Both lines of a test are lines that there are. Assumes nothing.
-use mathlib.Core.Path.{◌≡◌, refl}
+use Rattle.std.specs.Prelude.{Ok, Err, Some}
+use mathlib.Core.Path.{◌≡◌, refl, ap}
 use mathlib.Core.Bool.{Bool, true, false}
 use mathlib.Core.List.{List, [], ◌∷◌, ◌++◌}
 use Prim.Native.Nat.{ℕ, zero, suc, ◌+◌, ◌<◌}
 use native.Mathlib.Omega.{arith}
 use lib.ListN.{get_or, take, drop}
 use Rattle.slices.specs.Lists.{elem, Below}
-use Rattle.refusals.specs.declared.Check.TheVariants.{Fine}
 use Rattle.refusals.specs.Refusals.{Answer, refused, gives, answer_by}
 use Rattle.refusals.proofs.Answers.{then_passed}
 use Rattle.grid.specs.declared.Grid.{Grid}
@@ -15,7 +15,7 @@ use Rattle.tables.specs.Tables.{Tables, cells, list_in}
 use Rattle.tables.specs.Fit.{TablesFit}
 use Rattle.seek.specs.declared.Place.{Place}
 use Rattle.seek.specs.declared.Place.TheVariants.{Global}
-use Rattle.seek.specs.declared.PairAnswer.TheVariants as answer
+use Rattle.seek.specs.declared.PairAt.{PairAt}
 use Rattle.seek.specs.Tests.{Pair, with_each, pairs, place_of, cell_tests, others, global_tests, tests_of}
 use Rattle.seek.specs.Bookmarks.{visit_check, bookmark_check, tests_from, first_of, pair_at}
 use Rattle.tables.specs.InsideFit.{GlobalsFit}
@@ -78,22 +78,23 @@ tests_lines t f =
 
 -- where a test stands at a bookmark, the lines passed their checks, and both of the test are among them
 pub record LinesOf (ls : Lines) (n x y : ℕ) : Type 0 where
-  pub fine : lines_check ls ≡ Fine
+  pub fine : lines_check ls ≡ Ok tt
   pub first : x < n
   pub second : y < n
 
-pub pair_lines : (ls : Lines) (g : Grid) (t : Tables) (b : ℕ) (pl : Place) (x y : ℕ) → answer.Made pl x y ≡ pair_at ls g t b → LinesOf ls t.lines x y
+pub pair_lines : (ls : Lines) (g : Grid) (t : Tables) (b : ℕ) (pl : Place) (x y : ℕ) → Ok (Some (record { place = pl; first = x; second = y })) ≡ pair_at ls g t b → LinesOf ls t.lines x y
 unfolding pair_at answer_by first_of tests_from
 pair_lines ls g t b pl x y e = go (tests_from ls g t b) refl e
   where
-    head : (ps : List Pair) → Within t.lines ps → lines_check ls ≡ Fine → answer.Made pl x y ≡ first_of ps → LinesOf ls t.lines x y
+    head : (ps : List Pair) → Within t.lines ps → lines_check ls ≡ (Ok tt) → Ok (Some (record { place = pl; first = x; second = y })) ≡ first_of ps → LinesOf ls t.lines x y
     head [] w f d = absurd (let z : ◌≡◌ {A = ℕ} 0 1 = cc in omega arith)
     head (p ∷ ps) w f d =
-        let ex : x ≡ p.first = cc in
-        let ey : y ≡ p.second = cc in
+        let same : ◌≡◌ {A = PairAt} (record { place = pl; first = x; second = y }) (record { place = p.place; first = p.first; second = p.second }) = cc in
+        let ex : x ≡ p.first = ap (λ (r : PairAt). r.first) same in
+        let ey : y ≡ p.second = ap (λ (r : PairAt). r.second) same in
         record { fine = f; first = rw ex w.0.0; second = rw ey w.0.1 }
 
-    go : (o : Answer (List Pair)) → tests_from ls g t b ≡ o → answer.Made pl x y ≡ answer_by answer.Refused first_of o → LinesOf ls t.lines x y
+    go : (o : Answer (List Pair)) → tests_from ls g t b ≡ o → Ok (Some (record { place = pl; first = x; second = y })) ≡ answer_by Err first_of o → LinesOf ls t.lines x y
     go (refused r) k d = absurd (let z : ◌≡◌ {A = ℕ} 0 1 = cc in omega arith)
     go (gives ps) k d =
         let u = then_passed (visit_check ls g t) _ k in

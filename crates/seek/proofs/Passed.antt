@@ -1,4 +1,5 @@
 -- What lines, a grid and tables say that pass the checks of a visit, as the code counts their cells. Assumes nothing.
+use Rattle.std.specs.Prelude.{Ok}
 use mathlib.Core.Path.{◌≡◌}
 use mathlib.Core.List.{List}
 use Prim.Native.Nat.{ℕ, ◌+◌, ◌*◌, ◌≤◌, ◌<◌, ◌^◌}
@@ -6,7 +7,6 @@ use native.Mathlib.Omega.{arith}
 use lib.ListN.{length, take}
 use lib.Seq.{length-take-le}
 use Rattle.slices.specs.Lists.{Below}
-use Rattle.refusals.specs.declared.Check.TheVariants.{Fine}
 use Rattle.grid.specs.declared.Grid.{Grid}
 use Rattle.grid.specs.Domain.{Lines, count}
 use Rattle.tables.specs.Tables.{list_in, beside}
@@ -17,7 +17,7 @@ use Rattle.seek.proofs.Standing.{Stands, stands, lists_below, has_columns}
 use Rattle.seek.proofs.Lengths.{length_increasing}
 
 -- what stands, for m cells as the code counts them
-module _ (ls : Lines) (g : Grid) (offsets items globals : List ℕ) (count_of : ℕ) (h : visit_check ls g (beside ls g offsets items globals count_of) ≡ Fine) where
+module _ (ls : Lines) (g : Grid) (offsets items globals : List ℕ) (count_of : ℕ) (h : visit_check ls g (beside ls g offsets items globals count_of) ≡ (Ok tt)) where
   pub here : Stands ls g (beside ls g offsets items globals count_of)
   here = stands ls g (beside ls g offsets items globals count_of) h
 

@@ -1,10 +1,10 @@
 -- What lines, a grid and tables say that pass the checks of a visit. Assumes nothing.
+use Rattle.std.specs.Prelude.{Ok}
 use mathlib.Core.Path.{◌≡◌}
 use Prim.Native.Nat.{ℕ, zero, suc, ◌*◌, ◌≤◌, ◌<◌}
 use native.Mathlib.Nat.{mul-zero}
 use native.Mathlib.Omega.{arith}
 use Rattle.slices.specs.Lists.{Below}
-use Rattle.refusals.specs.declared.Check.TheVariants.{Fine}
 use Rattle.refusals.proofs.Checks.{unless_fine, and_then_left, and_then_right}
 use Rattle.grid.specs.declared.Grid.{Grid}
 use Rattle.grid.specs.Domain.{Lines, lines_check, grid_check, fit}
@@ -19,15 +19,15 @@ pub lists_below : (t : Tables) → TablesFit t → (c : ℕ) → c < cells t →
 lists_below t f c h = (f.lists.lists c h).below
 
 pub record Stands (ls : Lines) (g : Grid) (t : Tables) : Type 0 where
-  pub lines_fine : lines_check ls ≡ Fine
+  pub lines_fine : lines_check ls ≡ Ok tt
   pub lines : LinesFit ls
   pub grid : Fit g
   pub tables : TablesFit t
 
-pub stands : (ls : Lines) (g : Grid) (t : Tables) → visit_check ls g t ≡ Fine → Stands ls g t
+pub stands : (ls : Lines) (g : Grid) (t : Tables) → visit_check ls g t ≡ (Ok tt) → Stands ls g t
 unfolding visit_check grid_check
 stands ls g t h =
-    let a : lines_check ls ≡ Fine = and_then_left _ _ h in
+    let a : lines_check ls ≡ (Ok tt) = and_then_left _ _ h in
     let b = and_then_right _ _ h in
     record {
       lines_fine = a;

@@ -1,13 +1,13 @@
 -- What a visit is refused by, and the tests that are left at a bookmark. Definitions only.
-use Rattle.std.specs.Prelude.{ℕ, List, [], ◌∷◌, length, drop, leb}
-use Rattle.refusals.specs.declared.Check.{Check}
+use Rattle.std.specs.Prelude.{Ok, Err, Some, None, Result, Option, ℕ, List, [], ◌∷◌, length, drop, leb}
+use Rattle.refusals.specs.declared.Refusal.{Refusal}
+use Rattle.refusals.specs.Refusals.{Check}
 use Rattle.refusals.specs.Refusals.{unless, and_then, Answer, gives, ◌then◌, answer_by}
 use Rattle.grid.specs.declared.Grid.{Grid}
 use Rattle.grid.specs.Domain.{Lines, lines_check, grid_check}
 use Rattle.tables.specs.Tables.{Tables}
 use Rattle.tables.specs.Fit.{tables_check}
-use Rattle.seek.specs.declared.PairAnswer.{PairAnswer}
-use Rattle.seek.specs.declared.PairAnswer.TheVariants as answer
+use Rattle.seek.specs.declared.PairAt.{PairAt}
 use Rattle.seek.specs.Tests.{Pair, tests_of}
 
 -- ---- the refusals
@@ -32,9 +32,9 @@ tests_from ls g t b = visit_check ls g t then bookmark_check t b then gives (dro
 -- ---- the test at a bookmark
 
 -- the first of some tests: its place and its two lines, or the end mark
-unfoldable pub first_of : List Pair → PairAnswer
-first_of [] = answer.End
-first_of (p ∷ ps) = answer.Made p.place p.first p.second
+unfoldable pub first_of : List Pair → (Result (Option PairAt) Refusal)
+first_of [] = Ok None
+first_of (p ∷ ps) = Ok (Some (record { place = p.place; first = p.first; second = p.second }))
 
-unfoldable pub pair_at : Lines → Grid → Tables → ℕ → PairAnswer
-pair_at ls g t b = answer_by answer.Refused first_of (tests_from ls g t b)
+unfoldable pub pair_at : Lines → Grid → Tables → ℕ → (Result (Option PairAt) Refusal)
+pair_at ls g t b = answer_by Err first_of (tests_from ls g t b)

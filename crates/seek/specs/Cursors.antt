@@ -1,15 +1,13 @@
 -- Where a visit stands. A cursor means the tests that are left from there: what is left of the cells, and then what is left of the globals.
 -- Definitions only.
-use Rattle.std.specs.Prelude.{ℕ, zero, suc, ◌+◌, ◌-◌, ◌*◌, ◌≤◌, ◌<◌, ◌≡◌, cond, List, [], ◌∷◌, ◌++◌, length, get_or, take, drop, ltb}
-use Rattle.refusals.specs.declared.Check.TheVariants.{Fine, Refused}
+use Rattle.std.specs.Prelude.{Ok, Err, Result, ℕ, zero, suc, ◌+◌, ◌-◌, ◌*◌, ◌≤◌, ◌<◌, ◌≡◌, cond, List, [], ◌∷◌, ◌++◌, length, get_or, take, drop, ltb}
+use Rattle.refusals.specs.declared.Refusal.{Refusal}
 use Rattle.grid.specs.declared.Grid.{Grid}
 use Rattle.grid.specs.Domain.{Lines}
 use Rattle.tables.specs.Tables.{Tables, cells, list_in, list_of}
 use Rattle.seek.specs.declared.Place.{Place}
 use Rattle.seek.specs.declared.Place.TheVariants.{Cell, Global}
 use Rattle.seek.specs.declared.Cursor.{Cursor}
-use Rattle.seek.specs.declared.SeekAnswer.{SeekAnswer}
-use Rattle.seek.specs.declared.SeekAnswer.TheVariants as answer
 use Rattle.seek.specs.Tests.{Pair, with_each, pairs, place_of, cell_tests, others, global_tests, tests_of}
 use Rattle.seek.specs.Bookmarks.{visit_check, from_check}
 
@@ -59,7 +57,7 @@ pub record CursorFits (t : Tables) (c : Cursor) : Type 0 where
   pub in_globals : LineFits t.lines t.global_count t.globals c.p c.q c.k
 
 pub record Ready (ls : Lines) (g : Grid) (t : Tables) (c : Cursor) : Type 0 where
-  pub fine : visit_check ls g t ≡ Fine
+  pub fine : visit_check ls g t ≡ Ok tt
   pub fits : CursorFits t c
 
 -- ---- the cursor of some tests
@@ -93,6 +91,6 @@ pub record CursorIs (ls : Lines) (g : Grid) (t : Tables) (bookmark : ℕ) (c : C
   pub at_first : c ≡ at_first_test t (drop bookmark (tests_of t))
 
 -- what is found: the cursor, or why a visit from there is refused
-abbrev pub FindIs : Lines → Grid → Tables → ℕ → SeekAnswer → Type 0
-FindIs ls g t bookmark (answer.At c) = CursorIs ls g t bookmark c
-FindIs ls g t bookmark (answer.Refused r) = from_check ls g t bookmark ≡ Refused r
+abbrev pub FindIs : Lines → Grid → Tables → ℕ → (Result Cursor Refusal) → Type 0
+FindIs ls g t bookmark (Ok c) = CursorIs ls g t bookmark c
+FindIs ls g t bookmark (Err r) = from_check ls g t bookmark ≡ Err r

@@ -1,5 +1,6 @@
 -- What the private functions promise, and words for it. Definitions only.
-use Rattle.std.specs.Prelude.{ℕ, zero, suc, ◌+◌, ◌-◌, ◌≤◌, ◌<◌, ◌^◌, ◌≡◌, Bool, true, false, cond, List, [], ◌∷◌, ◌++◌, length, get_or, take, drop, leb, ltb}
+use Rattle.std.specs.Prelude.{Ok, Some, None, Result, Option, ℕ, zero, suc, ◌+◌, ◌-◌, ◌≤◌, ◌<◌, ◌^◌, ◌≡◌, Bool, true, false, cond, List, [], ◌∷◌, ◌++◌, length, get_or, take, drop, leb, ltb}
+use Rattle.refusals.specs.declared.Refusal.{Refusal}
 use Rattle.grid.specs.declared.Grid.{Grid}
 use Rattle.grid.specs.Domain.{Lines}
 use Rattle.tables.specs.Tables.{Tables, cells}
@@ -7,10 +8,7 @@ use Rattle.tables.specs.InsideFit.{CellsFit, GlobalsFit}
 use Rattle.seek.specs.declared.Place.{Place}
 use Rattle.seek.specs.declared.Place.TheVariants.{Global}
 use Rattle.seek.specs.declared.Cursor.{Cursor}
-use Rattle.seek.specs.declared.PairAnswer.{PairAnswer}
-use Rattle.seek.specs.declared.PairAnswer.TheVariants as answer
-use Rattle.seek.specs.declared.bookmarks.Sought.{Sought}
-use Rattle.seek.specs.declared.bookmarks.Sought.TheVariants as sought
+use Rattle.seek.specs.declared.PairAt.{PairAt}
 use Rattle.seek.specs.Tests.{Pair, pairs, place_of, cell_tests, others, global_tests, tests_of}
 use Rattle.seek.specs.Bookmarks.{first_of}
 use Rattle.seek.specs.Cursors.{LineFits, CursorIs}
@@ -79,11 +77,11 @@ pub record PairAtAsks (m : ℕ) (offsets items globals : List ℕ) (count : ℕ)
   pub inside : c.cell < m → c.j < get_or offsets (suc c.cell) 0 - get_or offsets c.cell 0
 
 -- as it is read off the tables
-unfoldable pub pair_of : ℕ → ℕ → List ℕ → List ℕ → List ℕ → ℕ → Cursor → PairAnswer
+unfoldable pub pair_of : ℕ → ℕ → List ℕ → List ℕ → List ℕ → ℕ → Cursor → (Result (Option PairAt) Refusal)
 pair_of m cols offsets items globals count c =
     cond (ltb c.cell m)
-    (answer.Made (place_of cols c.cell) (get_or items (get_or offsets c.cell 0 + c.i) 0) (get_or items (get_or offsets c.cell 0 + c.j) 0))
-    (cond (ltb c.p count) (answer.Made (Global c.p) (get_or globals c.p 0) c.k) answer.End)
+    (Ok (Some (record { place = (place_of cols c.cell); first = (get_or items (get_or offsets c.cell 0 + c.i) 0); second = (get_or items (get_or offsets c.cell 0 + c.j) 0) })))
+    (cond (ltb c.p count) (Ok (Some (record { place = (Global c.p); first = (get_or globals c.p 0); second = c.k }))) (Ok None))
 
 -- the cursor of a bookmark, and the test that stands there
 pub record SoughtAt (ls : Lines) (g : Grid) (t : Tables) (bookmark : ℕ) (c : Cursor) : Type 0 where
@@ -91,6 +89,6 @@ pub record SoughtAt (ls : Lines) (g : Grid) (t : Tables) (bookmark : ℕ) (c : C
   pub asks : PairAtAsks (cells t) t.offsets t.items t.globals t.global_count c
   pub reads : pair_of (cells t) t.cols t.offsets t.items t.globals t.global_count c ≡ first_of (drop bookmark (tests_of t))
 
-abbrev pub SeekIs : Lines → Grid → Tables → ℕ → Sought → Type 0
-SeekIs ls g t bookmark (sought.At c) = SoughtAt ls g t bookmark c
-SeekIs ls g t bookmark sought.Beyond = length (tests_of t) < bookmark
+abbrev pub SeekIs : Lines → Grid → Tables → ℕ → (Option Cursor) → Type 0
+SeekIs ls g t bookmark (Some c) = SoughtAt ls g t bookmark c
+SeekIs ls g t bookmark None = length (tests_of t) < bookmark

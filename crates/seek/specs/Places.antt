@@ -1,7 +1,7 @@
 -- A list by its place: a cell's part of the items, or the globals from a position on. Definitions only.
+use Rattle.refusals.specs.Refusals.{Check}
 use Rattle.std.specs.Prelude.{ℕ, ◌+◌, ◌*◌, List, [], ltb}
 use Rattle.std.proofs.Math.Seq.{slice}
-use Rattle.refusals.specs.declared.Check.{Check}
 use Rattle.refusals.specs.Refusals.{unless, and_then, gives, ◌then◌, answer_by}
 use Rattle.grid.specs.declared.Grid.{Grid}
 use Rattle.grid.specs.Domain.{cell_check}

@@ -1,23 +1,16 @@
 // The cursor of a bookmark, after all checks of a visit: whole cells, whole rows, whole globals and runs of lines are passed by their counts, never test by test.
-ghost use Rattle.std.specs.Prelude.{◌≡◌, ◌*◌, ◌<◌};
+ghost use Rattle.std.specs.Prelude.{◌≡◌, ◌*◌, ◌<◌, Ok};
 ghost use Rattle.tables.specs.Tables.{beside};
-ghost use Rattle.refusals.specs.declared.Check.TheVariants.{Fine};
 ghost use Rattle.grid.specs.Domain.{lines};
 ghost use Rattle.seek.specs.Bookmarks.{visit_check, pair_at};
 ghost use Rattle.seek.specs.Cursors.{FindIs};
 ghost use Rattle.tables.specs.InsideFit.{CellsFit, GlobalsFit};
 ghost use Rattle.seek.specs.Inside.{tri, CellSought, RowSought, GlobalSought, SoughtAsks, LineSought, SeekIs, PairAtAsks, pair_of};
 
-use crate::{Cursor, PairAnswer, Place, SeekAnswer};
+use crate::{Cursor, PairAt, Place};
 use grid::Grid;
-use refusals::{Check, Refusal};
+use refusals::Refusal;
 use slices::wide;
-
-#[derive(Clone, Copy)]
-pub(crate) enum Sought {
-    At(Cursor),
-    Beyond,
-}
 
 // Where it was found, and how many tests of it are to be passed still.
 #[derive(Clone, Copy)]
@@ -32,17 +25,11 @@ struct FoundLine {
     k: u32,
 }
 
-fn wide64(x: u32) -> u64
-    ensures { result ≡ x }
-{
-    x as u64
-}
-
 // How many tests a list of k lines has.
 fn triangle(k: u32) -> u64
     ensures { result ≡ tri k }
 {
-    let w = wide64(k);
+    let w = u64::from(k);
     (w * w - w) / 2
 }
 
@@ -52,16 +39,14 @@ fn seek_cell(left: u64, cells: usize, offsets: &[u32], items: &[u32]) -> Found
     ensures { CellSought cells offsets.now items.now left result.at result.left }
 {
     let mut left = left;
-    let mut cell = 0;
-    while cell < cells {
+    for cell in 0..cells {
         let t = triangle(offsets[cell + 1] - offsets[cell]);
         if left < t {
             return Found { at: cell, left };
         }
-        left = left - t;
-        cell = cell + 1;
+        left -= t;
     }
-    Found { at: cell, left }
+    Found { at: cells, left }
 }
 
 // The rows of a list of `len` lines that are passed whole.
@@ -70,16 +55,17 @@ fn seek_row(left: u64, len: u32) -> Found
     ensures { RowSought len left result.at result.left }
 {
     let mut left = left;
-    let mut i = 0u32;
-    while i < len {
-        let row = wide64(len - i - 1);
+    for i in 0..len {
+        let row = u64::from(len - i - 1);
         if left < row {
             return Found { at: wide(i), left };
         }
-        left = left - row;
-        i = i + 1;
+        left -= row;
     }
-    Found { at: wide(i), left }
+    Found {
+        at: wide(len),
+        left,
+    }
 }
 
 // The globals that are passed whole.
@@ -88,17 +74,15 @@ fn seek_global(left: u64, lines: u32, count: usize, globals: &[u32]) -> Found
     ensures { GlobalSought lines count globals.now left result.at result.left }
 {
     let mut left = left;
-    let n = wide64(lines);
-    let mut p = 0;
-    while p < count {
+    let n = u64::from(lines);
+    for p in 0..count {
         let row = n - (p as u64) - 1;
         if left < row {
             return Found { at: p, left };
         }
-        left = left - row;
-        p = p + 1;
+        left -= row;
     }
-    Found { at: p, left }
+    Found { at: count, left }
 }
 
 // The lines of a global that are passed.
@@ -107,18 +91,19 @@ fn seek_line(left: u32, lines: u32, count: usize, globals: &[u32], p: usize) -> 
     ensures { LineSought lines count globals.now p left result.q result.k }
 {
     let mut left = left;
-    let mut q = 0;
     let mut k = 0u32;
-    while q <= p {
+    for q in 0..=p {
         let g = globals[q];
         if left < g - k {
             return FoundLine { q, k: k + left };
         }
         left = left - (g - k);
         k = g + 1;
-        q = q + 1;
     }
-    FoundLine { q, k: k + left }
+    FoundLine {
+        q: p + 1,
+        k: k + left,
+    }
 }
 
 // The cursor at a bookmark, or that it lies beyond the end.
@@ -133,10 +118,10 @@ fn seek(
     items: &[u32],
     globals: &[u32],
     global_count: usize,
-) -> Sought
+) -> Option<Cursor>
     requires { let ls = lines start_x.now start_y.now end_x.now end_y.now in
         let t = beside ls grid offsets.now items.now globals.now global_count in
-        visit_check ls grid t ≡ Fine }
+        visit_check ls grid t ≡ (Ok tt) }
     ensures { let ls = lines start_x.now start_y.now end_x.now end_y.now in
         let t = beside ls grid offsets.now items.now globals.now global_count in
         SeekIs ls grid t bookmark result }
@@ -148,7 +133,7 @@ fn seek(
         let row = seek_row(found.left, offsets[cell + 1] - offsets[cell]);
         let i = row.at;
         let j = i + 1 + (row.left as usize);
-        return Sought::At(Cursor {
+        return Some(Cursor {
             cell,
             i,
             j,
@@ -162,7 +147,7 @@ fn seek(
     let p = global.at;
     if p < global_count {
         let line = seek_line(global.left as u32, n, global_count, globals, p);
-        return Sought::At(Cursor {
+        return Some(Cursor {
             cell: cells,
             i: 0,
             j: 1,
@@ -172,9 +157,9 @@ fn seek(
         });
     }
     if 0 < global.left {
-        return Sought::Beyond;
+        return None;
     }
-    Sought::At(Cursor {
+    Some(Cursor {
         cell: cells,
         i: 0,
         j: 1,
@@ -195,15 +180,12 @@ fn check_visit(
     items: &[u32],
     globals: &[u32],
     global_count: usize,
-) -> Check
+) -> Result<(), Refusal>
     ensures { let ls = lines start_x.now start_y.now end_x.now end_y.now in
         let t = beside ls grid offsets.now items.now globals.now global_count in
         result ≡ visit_check ls grid t }
 {
-    let lines = grid::checks::check_lines(start_x, start_y, end_x, end_y);
-    if let Check::Refused(r) = lines {
-        return Check::Refused(r);
-    }
+    grid::checks::check_lines(start_x, start_y, end_x, end_y)?;
     tables::check_tables(grid, start_x.len(), offsets, items, globals, global_count)
 }
 
@@ -219,12 +201,12 @@ pub fn find(
     globals: &[u32],
     global_count: usize,
     bookmark: u64,
-) -> SeekAnswer
+) -> Result<Cursor, Refusal>
     ensures { let ls = lines start_x.now start_y.now end_x.now end_y.now in
         let t = beside ls grid offsets.now items.now globals.now global_count in
         FindIs ls grid t bookmark result }
 {
-    let check = check_visit(
+    check_visit(
         start_x,
         start_y,
         end_x,
@@ -234,10 +216,7 @@ pub fn find(
         items,
         globals,
         global_count,
-    );
-    if let Check::Refused(r) = check {
-        return SeekAnswer::Refused(r);
-    }
+    )?;
     let sought = seek(
         bookmark,
         start_x,
@@ -250,13 +229,13 @@ pub fn find(
         globals,
         global_count,
     );
-    let Sought::At(cursor) = sought else {
-        return SeekAnswer::Refused(Refusal {
+    let Some(cursor) = sought else {
+        return Err(Refusal {
             number: 9,
             value: bookmark,
         });
     };
-    SeekAnswer::At(cursor)
+    Ok(cursor)
 }
 
 // The test that a cursor stands at, or the end mark.
@@ -267,7 +246,7 @@ fn pair_of(
     items: &[u32],
     globals: &[u32],
     global_count: usize,
-) -> PairAnswer
+) -> Result<Option<PairAt>, Refusal>
     requires { PairAtAsks (grid.rows * grid.cols) offsets.now items.now globals.now global_count cursor }
     ensures { result ≡ pair_of (grid.rows * grid.cols) grid.cols offsets.now items.now globals.now global_count cursor }
 {
@@ -283,21 +262,21 @@ fn pair_of(
             row: n / grid.cols,
             col: n % grid.cols,
         };
-        return PairAnswer::Made {
+        return Ok(Some(PairAt {
             place,
             first: items[i],
             second: items[j],
-        };
+        }));
     }
     if p < global_count {
         let place = Place::Global(p);
-        return PairAnswer::Made {
+        return Ok(Some(PairAt {
             place,
             first: globals[p],
             second: cursor.k,
-        };
+        }));
     }
-    PairAnswer::End
+    Ok(None)
 }
 
 // The test at a bookmark, or the end mark at the total. Refusals as for `find`.
@@ -312,12 +291,12 @@ pub fn pair_at(
     globals: &[u32],
     global_count: usize,
     bookmark: u64,
-) -> PairAnswer
+) -> Result<Option<PairAt>, Refusal>
     ensures { let ls = lines start_x.now start_y.now end_x.now end_y.now in
         let t = beside ls grid offsets.now items.now globals.now global_count in
         result ≡ pair_at ls grid t bookmark }
 {
-    let check = check_visit(
+    check_visit(
         start_x,
         start_y,
         end_x,
@@ -327,10 +306,7 @@ pub fn pair_at(
         items,
         globals,
         global_count,
-    );
-    if let Check::Refused(r) = check {
-        return PairAnswer::Refused(r);
-    }
+    )?;
     let sought = seek(
         bookmark,
         start_x,
@@ -343,8 +319,8 @@ pub fn pair_at(
         globals,
         global_count,
     );
-    let Sought::At(cursor) = sought else {
-        return PairAnswer::Refused(Refusal {
+    let Some(cursor) = sought else {
+        return Err(Refusal {
             number: 9,
             value: bookmark,
         });

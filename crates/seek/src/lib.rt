@@ -1,8 +1,6 @@
 // Where a visit of standing tables stands: a list by its place, and the cursor of a bookmark.
 #![tactic(auto)]
 
-use refusals::Refusal;
-
 pub mod bookmarks;
 pub mod lists;
 
@@ -25,21 +23,10 @@ pub struct Cursor {
     pub k: u32,
 }
 
-// What is found of a bookmark: the cursor, or a refusal.
+// The test that stands at a bookmark: its place and its two lines.
 #[derive(Clone, Copy)]
-pub enum SeekAnswer {
-    At(Cursor),
-    Refused(Refusal),
-}
-
-// What stands at a bookmark: the place and the two lines of a test, the end mark, or a refusal.
-#[derive(Clone, Copy)]
-pub enum PairAnswer {
-    Made {
-        place: Place,
-        first: u32,
-        second: u32,
-    },
-    End,
-    Refused(Refusal),
+pub struct PairAt {
+    pub place: Place,
+    pub first: u32,
+    pub second: u32,
 }

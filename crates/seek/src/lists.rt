@@ -5,11 +5,11 @@ ghost use Rattle.seek.specs.Places.{place_check, list_check, part_at};
 
 use crate::Place;
 use grid::Grid;
-use refusals::Check;
+use refusals::Refusal;
 use slices::wide;
 
 // Refusal 9, of a place beyond its end.
-fn check_place(grid: Grid, global_count: usize, place: Place) -> Check
+fn check_place(grid: Grid, global_count: usize, place: Place) -> Result<(), Refusal>
     ensures { result ≡ place_check grid global_count place }
 {
     match place {
@@ -27,13 +27,10 @@ pub fn list_check(
     globals: &[u32],
     global_count: usize,
     place: Place,
-) -> Check
+) -> Result<(), Refusal>
     ensures { result ≡ list_check grid (tables grid lines offsets.now items.now globals.now global_count) place }
 {
-    let fit = tables::check_tables(grid, lines, offsets, items, globals, global_count);
-    if let Check::Refused(r) = fit {
-        return Check::Refused(r);
-    }
+    tables::check_tables(grid, lines, offsets, items, globals, global_count)?;
     check_place(grid, global_count, place)
 }
 
@@ -50,7 +47,7 @@ pub fn list_at<'a>(
     ensures { result.now ≡ part_at grid (tables grid lines offsets.now items.now globals.now global_count) place }
 {
     let check = list_check(lines, grid, offsets, items, globals, global_count, place);
-    if let Check::Refused(_) = check {
+    if let Err(_) = check {
         return &items[0..0];
     }
     match place {

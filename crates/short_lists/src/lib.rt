@@ -115,12 +115,10 @@ pub fn scan(
 {
     if fits(list.len(), marks.len(), room.len(), hits) {
         let mut hits = hits;
-        let mut i = 0;
-        while i < list.len() {
+        for i in 0..list.len() {
             hits = scan_row(
                 i, list, marks, room, starts, listing, counts, first, second, hits,
             );
-            i = i + 1;
         }
         return hits;
     }

@@ -59,13 +59,11 @@ fn span_of(starts: &[f64], ends: &[f64], n: usize) -> Span
 {
     let mut low = 1.7976931348623157e308;
     let mut high = -1.7976931348623157e308;
-    let mut i = 0;
-    while i < n {
+    for i in 0..n {
         let start = starts[i];
         let end = ends[i];
         low = least(low, least(start, end));
         high = greatest(high, greatest(start, end));
-        i += 1;
     }
     Span { low, high }
 }

@@ -1,14 +1,13 @@
 -- Document 01, "Ownership and snapping", its second paragraph, with document 02's change 13: Grid is the only strategy. Each float step rounds once,
 -- in the written order. Definitions only.
-use Rattle.std.specs.Prelude.{ℕ, Bool, cond, ◌&&◌, ◌||◌, eqb, Float}
+use Rattle.refusals.specs.declared.Refusal.{Refusal}
+use Rattle.std.specs.Prelude.{Ok, Err, Result, ℕ, Bool, cond, ◌&&◌, ◌||◌, eqb, Float}
 use Rattle.std.specs.Float.Ieee.{le, eq}
 use Rattle.numbers.specs.Arithmetic.{◌*₆₄◌, ◌/₆₄◌, decimal}
 use Rattle.numbers.specs.Away.{round_away}
-use Rattle.refusals.specs.declared.Check.{Check}
-use Rattle.refusals.specs.Refusals.{unless, gives, ◌then◌, answer_by}
+use Rattle.refusals.specs.Refusals.{Check, unless, gives, ◌then◌, answer_by}
 use Rattle.grid.specs.Domain.{point_check}
 use Rattle.snap.specs.declared.Snapped.{Snapped}
-use Rattle.snap.specs.declared.Snapped.TheVariants.{Point, Refused}
 
 -- ---- the checks, with document 01's number and value
 
@@ -37,7 +36,7 @@ unfoldable pub snap_of : Float → Float → Float
 snap_of size v = cond (eq size (decimal 0 1)) v (grid_snap size v)
 
 -- a point, after refusals 1 and 12
-unfoldable pub snap_answer : Float → Float → Float → ℕ → Snapped
+unfoldable pub snap_answer : Float → Float → Float → ℕ → Result Snapped Refusal
 snap_answer x y size strategy =
-    answer_by Refused (λ snapped. snapped)
-    (point_check x y then snap_check size strategy then gives (Point (snap_of size x) (snap_of size y)))
+    answer_by Err (λ snapped. snapped)
+    (point_check x y then snap_check size strategy then gives (Ok (record { x = (snap_of size x); y = (snap_of size y) })))

@@ -1,15 +1,14 @@
 -- Document 02, change 13: whether document 01's two strategies, Grid and GeosCompat, give a coordinate the same bits. GeosCompat snaps nothing any
 -- more, and is defined here for this question alone. Definitions only.
-use Rattle.std.specs.Prelude.{Bool, true, false, cond, eqb, Float}
+use Rattle.std.specs.Prelude.{Ok, Err, Result, Bool, cond, eqb, Float}
 use Rattle.std.specs.Float.{nan, inf, fin, binary64}
 use Rattle.std.specs.Float.Ieee.{round, eq, to_bits}
 use Rattle.numbers.specs.Arithmetic.{◌+₆₄◌, ◌*₆₄◌, ◌/₆₄◌, decimal}
 use Rattle.numbers.specs.Floor.{floor_of}
 use Rattle.numbers.specs.Order.{magnitude_of}
+use Rattle.refusals.specs.declared.Refusal.{Refusal}
 use Rattle.refusals.specs.Refusals.{gives, ◌then◌, answer_by}
 use Rattle.grid.specs.Domain.{coordinate_check}
-use Rattle.snap.specs.declared.Agreement.{Agreement}
-use Rattle.snap.specs.declared.Agreement.TheVariants.{Same, Differ, Refused}
 use Rattle.snap.specs.Snap.{snap_size_check, snap_of}
 
 -- 1 or -1 by the sign bit, negative zero giving -1; a NaN has no sign
@@ -34,11 +33,10 @@ same_bits size v = eqb (to_bits binary64 (snap_of size v)) (to_bits binary64 (ge
 
 -- ---- the answer
 
-abbrev pub agreed : Bool → Agreement
-agreed true = Same
-agreed false = Differ
+abbrev pub agreed : Bool → Result Bool Refusal
+agreed same = Ok same
 
 -- after refusals 1 and 12
-unfoldable pub agreement_answer : Float → Float → Agreement
+unfoldable pub agreement_answer : Float → Float → Result Bool Refusal
 agreement_answer v size =
-    answer_by Refused agreed (coordinate_check v then snap_size_check size then gives (same_bits size v))
+    answer_by Err agreed (coordinate_check v then snap_size_check size then gives (same_bits size v))

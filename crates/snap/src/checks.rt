@@ -1,8 +1,8 @@
-// The checks of snapping: each answers `Fine`, or the refusal that is due.
+// The checks of snapping: each finds nothing, or the refusal that is due.
 ghost use Rattle.std.specs.Prelude.{◌≡◌, ◌&&◌, eqb};
 ghost use Rattle.snap.specs.Snap.{snap_size, snap_size_check, snap_check};
 
-use refusals::{Check, refuse_unless};
+use refusals::{Refusal, refuse_unless};
 
 // A snap size is 0, or 1e-6 to 1e6. Branches, here and in `is_snap`: as one expression a snap takes longer.
 fn is_snap_size(size: f64) -> bool
@@ -17,13 +17,13 @@ fn is_snap_size(size: f64) -> bool
     false
 }
 
-pub fn check_snap_size(size: f64) -> Check
+pub fn check_snap_size(size: f64) -> Result<(), Refusal>
     ensures { result ≡ snap_size_check size }
 {
     refuse_unless(is_snap_size(size), 12, 0)
 }
 
-// 0, Grid, is the only strategy.
+// 0, Grid, is the only strategy. It is a number as C hands it over: an enum would leave nothing for refusal 12 to refuse.
 fn is_snap(size: f64, strategy: u32) -> bool
     ensures { result ≡ (snap_size size && eqb strategy 0) }
 {
@@ -33,7 +33,7 @@ fn is_snap(size: f64, strategy: u32) -> bool
     false
 }
 
-pub fn check_snap(size: f64, strategy: u32) -> Check
+pub fn check_snap(size: f64, strategy: u32) -> Result<(), Refusal>
     ensures { result ≡ snap_check size strategy }
 {
     refuse_unless(is_snap(size, strategy), 12, 0)

@@ -7,21 +7,13 @@ pub mod strategies;
 ghost use Rattle.std.specs.Prelude.{◌≡◌};
 ghost use Rattle.snap.specs.Snap.{grid_snap, snap_of, snap_answer};
 
-use refusals::{Check, Refusal};
+use refusals::Refusal;
 
-// The snapped point, or the refusal that is due.
+// A snapped point.
 #[derive(Clone, Copy)]
-pub enum Snapped {
-    Point { x: f64, y: f64 },
-    Refused(Refusal),
-}
-
-// Whether the two strategies give the same bits, or the refusal that is due.
-#[derive(Clone, Copy)]
-pub enum Agreement {
-    Same,
-    Differ,
-    Refused(Refusal),
+pub struct Snapped {
+    pub x: f64,
+    pub y: f64,
 }
 
 fn grid_snap(size: f64, v: f64) -> f64
@@ -41,19 +33,13 @@ fn snap(size: f64, v: f64) -> f64
 }
 
 // Refuses by 1, then 12.
-pub fn snap_point(x: f64, y: f64, size: f64, strategy: u32) -> Snapped
+pub fn snap_point(x: f64, y: f64, size: f64, strategy: u32) -> Result<Snapped, Refusal>
     ensures { result ≡ snap_answer x y size strategy }
 {
-    let point = grid::checks::check_point(x, y);
-    if let Check::Refused(r) = point {
-        return Snapped::Refused(r);
-    }
-    let fit = checks::check_snap(size, strategy);
-    if let Check::Refused(r) = fit {
-        return Snapped::Refused(r);
-    }
-    Snapped::Point {
+    grid::checks::check_point(x, y)?;
+    checks::check_snap(size, strategy)?;
+    Ok(Snapped {
         x: snap(size, x),
         y: snap(size, y),
-    }
+    })
 }

@@ -4,38 +4,31 @@ ghost use Rattle.grid.specs.Domain.{coordinate};
 ghost use Rattle.snap.specs.Snap.{snap_size};
 ghost use Rattle.snap.specs.Strategies.{same_bits, agreed, agreement_answer};
 
-use crate::Agreement;
 use crate::checks::check_snap_size;
-use refusals::Check;
+use refusals::Refusal;
 
 // They differ where |v / size| is the largest float below one half, and nowhere else: there the sum with 0.5 is rounded up to 1. A quotient by
 // size 0 is no finite number, so that size needs no test.
-fn compare(v: f64, size: f64) -> Agreement
+fn compare(v: f64, size: f64) -> Result<bool, Refusal>
     requires v_in_range { T (coordinate v) }
     requires size_in_range { T (snap_size size) }
     ensures { result ≡ agreed (same_bits size v) }
 {
     let scaled = v / size;
     if scaled == 0.49999999999999994 {
-        return Agreement::Differ;
+        return Ok(false);
     }
     if scaled == -0.49999999999999994 {
-        return Agreement::Differ;
+        return Ok(false);
     }
-    Agreement::Same
+    Ok(true)
 }
 
 // Refuses by 1, then 12.
-pub fn strategies_agree(v: f64, size: f64) -> Agreement
+pub fn strategies_agree(v: f64, size: f64) -> Result<bool, Refusal>
     ensures { result ≡ agreement_answer v size }
 {
-    let value = grid::checks::check_coordinate(v);
-    if let Check::Refused(r) = value {
-        return Agreement::Refused(r);
-    }
-    let fit = check_snap_size(size);
-    if let Check::Refused(r) = fit {
-        return Agreement::Refused(r);
-    }
+    grid::checks::check_coordinate(v)?;
+    check_snap_size(size)?;
     compare(v, size)
 }

@@ -1,5 +1,8 @@
 -- THE LAW OF A BUILD: where every line is parallel to an axis, no walk meets refusal 7, on any fit grid; so no build of such lines is refused with 7.
 -- `spared_by` has the step from walks that end to the build, for any lines and any mode. Assumes nothing.
+use Rattle.std.specs.Prelude.{Ok, Err, Result}
+use Rattle.refusals.specs.Refusals.{Check, refusal, unless, and_then, each_from, Answer, refused, gives, ◌then◌, ◌into◌, answer_by}
+use Rattle.build.specs.declared.Standing.{Standing}
 use mathlib.Core.Path.{◌≡◌, refl, sym, ap, ◌∙◌, subst}
 use mathlib.Core.Logic.{inl, inr}
 use Prim.Native.Nat.{ℕ, zero, suc, ◌+◌, ◌-◌, ◌*◌, ◌≤◌, ◌<◌}
@@ -11,9 +14,6 @@ use lib.ListN.{length, get_or}
 use lib.Ieee.{Float, nan, binary64, fits}
 use borrow.Author.Tests.{leb-true, leb-false, ltb-true, eqb-false}
 use Rattle.refusals.specs.declared.Refusal.{Refusal}
-use Rattle.refusals.specs.declared.Check.{Check}
-use Rattle.refusals.specs.declared.Check.TheVariants.{Fine, Refused}
-use Rattle.refusals.specs.Refusals.{refusal, unless, and_then, each_from, Answer, refused, gives, ◌then◌, ◌into◌, answer_by}
 use Rattle.refusals.proofs.Checks.{and_then_right, each_fine}
 use Rattle.grid.specs.declared.Grid.{Grid}
 use Rattle.grid.specs.Domain.{Lines, count, segment_at, line_fits, fit, scratch_check, lines_check, lengths_check, count_check, coordinates_check}
@@ -31,8 +31,6 @@ use Rattle.walk.specs.Segment.{segment_of}
 use Rattle.fill.specs.OnGrid.{grid_cells, walk_on, completes, list_on, globals_on, total}
 use Rattle.fill.specs.Checks.{room_check, turns_check, tried_check, space_check}
 use Rattle.fill.specs.Fill.{more_than}
-use Rattle.build.specs.declared.Built.{Built}
-use Rattle.build.specs.declared.Built.TheVariants as built
 use Rattle.build.specs.declared.Plan.{Plan}
 use Rattle.build.specs.Choice.{crowded, chosen, chosen_first, chosen_none, choice}
 use Rattle.build.specs.Build.{room_on, end_of, built_on, answer_of, BuildIs}
@@ -43,45 +41,45 @@ use Rattle.straight.proofs.Laws.{not_refused, same_refusal}
 
 -- a check, and an answer
 pub record Spares (c : Check) : Type 0 where
-  pub says : (value : ℕ) → c ≡ Refused (refusal 7 value) → ⊥
+  pub says : (value : ℕ) → c ≡ Err (refusal 7 value) → ⊥
 
 pub record Spared {A : Type 0} (o : Answer A) : Type 0 where
   pub says : (value : ℕ) → o ≡ refused (refusal 7 value) → ⊥
 
-unfined : {r : Refusal} → Fine ≡ Refused r → ⊥
+unfined : {r : Refusal} → ◌≡◌ {A = Check} (Ok tt) (Err r) → ⊥
 unfined h = let z : ◌≡◌ {A = ℕ} 0 1 = cc in omega arith
 
-same_number : {n m v w : ℕ} → Refused (refusal n v) ≡ Refused (refusal m w) → n ≡ m
+same_number : {n m v w : ℕ} → ◌≡◌ {A = Check} (Err (refusal n v)) (Err (refusal m w)) → n ≡ m
 same_number {n} {m} {v} {w} h = ap (λ (r : Refusal). r.number) (same h)
   where
-    same : {p q : Refusal} → Refused p ≡ Refused q → p ≡ q
+    same : {p q : Refusal} → ◌≡◌ {A = Check} (Err p) (Err q) → p ≡ q
     same d = cc
 
-spares_fine : (c : Check) → c ≡ Fine → Spares c
+spares_fine : (c : Check) → c ≡ Ok tt → Spares c
 spares_fine c e = record { says = λ v h. unfined (sym e ∙ h) }
 
 spares_unless : (ok : Bool) (n v : ℕ) → eqb n 7 ≡ false → Spares (unless ok n v)
 unfolding unless
-spares_unless true n v h = spares_fine Fine refl
+spares_unless true n v h = spares_fine (Ok tt) refl
 spares_unless false n v h = record { says = λ w e. eqb-false n 7 h (same_number e) }
 
 spares_then : (a b : Check) → Spares a → Spares b → Spares (and_then a b)
 unfolding and_then
-spares_then Fine b s t = t
-spares_then (Refused r) b s t = s
+spares_then (Ok _) b s t = t
+spares_then (Err r) b s t = s
 
 spares_each : (ok : ℕ → Bool) (n left i : ℕ) → eqb n 7 ≡ false → Spares (each_from ok n left i)
 unfolding each_from
-spares_each ok n zero i h = spares_fine Fine refl
+spares_each ok n zero i h = spares_fine (Ok tt) refl
 spares_each ok n (suc left) i h = spares_then (unless (ok i) n i) (each_from ok n left (suc i)) (spares_unless (ok i) n i h) (spares_each ok n left (suc i) h)
 
 spared_gives : {A : Type 0} (a : A) → Spared (gives a)
 spared_gives a = record { says = λ v h. let z : ◌≡◌ {A = ℕ} 0 1 = cc in omega arith }
 
-spared_then : {A : Type 0} (c : Check) (o : Answer A) → Spares c → (c ≡ Fine → Spared o) → Spared (c then o)
+spared_then : {A : Type 0} (c : Check) (o : Answer A) → Spares c → (c ≡ Ok tt → Spared o) → Spared (c then o)
 unfolding ◌then◌
-spared_then Fine o s t = t refl
-spared_then {A} (Refused r) o s t = record { says = λ v h. s.says v (ap Refused (same_refusal h)) }
+spared_then (Ok _) o s t = t refl
+spared_then {A} (Err r) o s t = record { says = λ v h. s.says v (ap Err (same_refusal h)) }
 
 spared_into : {A B : Type 0} (o : Answer A) (next : A → Answer B) → Spared o → ((a : A) → Spared (next a)) → Spared (o into next)
 unfolding ◌into◌
@@ -102,10 +100,10 @@ ends_of (gives xs) h = refl
 
 -- no walk on a grid that can be tried meets 7
 abbrev pub Ending : Plan → Lines → Type 0
-Ending plan ls = (size : Size) → fit (grid_of (extent_of ls) size) ≡ true → turns_check plan.mode (grid_of (extent_of ls) size) ls ≡ Fine
+Ending plan ls = (size : Size) → fit (grid_of (extent_of ls) size) ≡ true → turns_check plan.mode (grid_of (extent_of ls) size) ls ≡ Ok tt
 
 module _ (plan : Plan) (ls : Lines) (lines_fit : LinesFit ls) (ending : 1 ≤ count ls → Ending plan ls) where
-  tried_spares : (g : Grid) (room : ℕ) → turns_check plan.mode g ls ≡ Fine → Spares (tried_check plan.mode g ls room)
+  tried_spares : (g : Grid) (room : ℕ) → turns_check plan.mode g ls ≡ Ok tt → Spares (tried_check plan.mode g ls room)
   unfolding tried_check room_check
   tried_spares g room h =
       spares_then (room_check g room) (turns_check plan.mode g ls) (spares_unless (leb (grid_cells g + 1) room) 4 (grid_cells g + 1) refl) (spares_fine (turns_check plan.mode g ls) h)
@@ -129,7 +127,7 @@ module _ (plan : Plan) (ls : Lines) (lines_fit : LinesFit ls) (ending : 1 ≤ co
   unfolding choice chosen_first chosen_none
   choice_spared room = go (leb 1 (count ls)) refl
     where
-      none : leb 1 (count ls) ≡ false → turns_check plan.mode empty_grid ls ≡ Fine
+      none : leb 1 (count ls) ≡ false → turns_check plan.mode empty_grid ls ≡ Ok tt
       none h = unfold turns_check in each_fine (λ i. completes (walk_on plan.mode empty_grid ls i)) 7 (count ls) 0 (λ k l m. absurd (omega (arith, leb-false 1 (count ls) h)))
 
       go : (b : Bool) → leb 1 (count ls) ≡ b → Spared (cond b (chosen_first plan ls room) (chosen_none plan.mode ls room))
@@ -160,14 +158,14 @@ spared_by plan ls ending offsets items globals scratch =
     (λ h. let f = lines_fine ls (and_then_right (scratch_check scratch) (lines_check ls) h) in
     spared_into (choice plan ls offsets) (room_on plan.mode ls items globals) (choice_spared plan ls f (ending f) offsets) (room_spared plan.mode ls items globals))
 
-answer_refused : (mode : Mode) (a : Answer Grid) (ls : Lines) (why : Refusal) → answer_of mode a ls ≡ built.Refused why → a ≡ refused why
+answer_refused : (mode : Mode) (a : Answer Grid) (ls : Lines) (why : Refusal) → answer_of mode a ls ≡ Err why → a ≡ refused why
 unfolding answer_of answer_by built_on
 answer_refused mode (refused w) ls why d = let e : w ≡ why = cc in ap refused e
 answer_refused mode (gives g) ls why d = let z : ◌≡◌ {A = ℕ} 0 1 = cc in absurd (omega arith)
 
 -- from what `build::build` ensures: its answer is no refusal with 7
-pub not_7_by : (plan : Plan) {ls : Lines} {o t gs s : List ℕ} {r : Built} {o' t' gs' s' : List ℕ} → (LinesFit ls → 1 ≤ count ls → Ending plan ls)
-    → BuildIs plan.mode ls o t gs s r o' t' gs' s' (end_of plan ls (length o) (length t) (length gs) (length s)) → (value : ℕ) → r ≡ built.Refused (refusal 7 value) → ⊥
+pub not_7_by : (plan : Plan) {ls : Lines} {o t gs s : List ℕ} {r : Result Standing Refusal} {o' t' gs' s' : List ℕ} → (LinesFit ls → 1 ≤ count ls → Ending plan ls)
+    → BuildIs plan.mode ls o t gs s r o' t' gs' s' (end_of plan ls (length o) (length t) (length gs) (length s)) → (value : ℕ) → r ≡ Err (refusal 7 value) → ⊥
 not_7_by plan {ls} {o} {t} {gs} {s} {r} ending h value e =
     let a = end_of plan ls (length o) (length t) (length gs) (length s) in
     (spared_by plan ls ending (length o) (length t) (length gs) (length s)).says value (answer_refused plan.mode a ls (refusal 7 value) (sym h.answer ∙ e))
@@ -175,7 +173,7 @@ not_7_by plan {ls} {o} {t} {gs} {s} {r} ending h value e =
 -- ---- lines parallel to an axis
 
 module _ (plan : Plan) (ls : Lines) (lines_fit : LinesFit ls) (straight : AllStraight ls) (in-format : AllInFormat ls) where
-  pub turns_fine : (g : Grid) → fit g ≡ true → GridInFormat g → turns_check plan.mode g ls ≡ Fine
+  pub turns_fine : (g : Grid) → fit g ≡ true → GridInFormat g → turns_check plan.mode g ls ≡ Ok tt
   unfolding turns_check walk_on
   turns_fine g ok m =
       each_fine (λ i. completes (walk_on plan.mode g ls i)) 7 (count ls) 0
@@ -217,6 +215,6 @@ pub build_spared : (plan : Plan) (ls : Lines) → AllStraight ls → AllInFormat
 build_spared plan ls straight in-format = spared_by plan ls (λ f. straight_ending plan ls f straight in-format)
 
 -- straight from what `build::build` ensures
-pub build_not_7 : (plan : Plan) {ls : Lines} {o t gs s : List ℕ} {r : Built} {o' t' gs' s' : List ℕ} → AllStraight ls → AllInFormat ls
-    → BuildIs plan.mode ls o t gs s r o' t' gs' s' (end_of plan ls (length o) (length t) (length gs) (length s)) → (value : ℕ) → r ≡ built.Refused (refusal 7 value) → ⊥
+pub build_not_7 : (plan : Plan) {ls : Lines} {o t gs s : List ℕ} {r : Result Standing Refusal} {o' t' gs' s' : List ℕ} → AllStraight ls → AllInFormat ls
+    → BuildIs plan.mode ls o t gs s r o' t' gs' s' (end_of plan ls (length o) (length t) (length gs) (length s)) → (value : ℕ) → r ≡ Err (refusal 7 value) → ⊥
 build_not_7 plan {ls} straight in-format h value e = not_7_by plan (λ f. straight_ending plan ls f straight in-format) h value e

@@ -1,5 +1,7 @@
 -- THE LAWS OF THE WALK: a line parallel to an axis never meets refusal 7, in any mode, and its cells by turns are those of the sentence. Of the walk of a segment and of the
 -- entry, on every fit grid, for every segment of the domain whose floats are values of the format. Assumes nothing.
+use Rattle.std.specs.Prelude.{Ok, Err, Result}
+use Rattle.refusals.specs.Refusals.{Check, refusal, unless, Answer, refused, gives, ◌then◌, answer_by, clears}
 use mathlib.Core.Path.{◌≡◌, refl, sym, ap, ◌∙◌}
 use mathlib.Core.Logic.{inl, inr}
 use Prim.Native.Nat.{ℕ, ◌*◌}
@@ -11,9 +13,6 @@ use mathlib.Core.List.{List, []}
 use lib.Dec.{T}
 use lib.Ieee.{Float, binary64, fits}
 use Rattle.refusals.specs.declared.Refusal.{Refusal}
-use Rattle.refusals.specs.declared.Check.{Check}
-use Rattle.refusals.specs.declared.Check.TheVariants.{Fine, Refused}
-use Rattle.refusals.specs.Refusals.{refusal, unless, Answer, refused, gives, ◌then◌, answer_by, clears}
 use Rattle.refusals.proofs.Checks.{unless_fine, and_then_left, and_then_right}
 use Rattle.refusals.proofs.Answers.{apart}
 use Rattle.grid.specs.declared.Axis.{Axis}
@@ -27,8 +26,6 @@ use Rattle.walk.specs.declared.Mode.{Mode}
 use Rattle.walk.specs.declared.Mode.TheVariants.{Rust}
 use Rattle.turns.specs.Turns.{ray_of, start_of}
 use Rattle.turns.specs.Pushes.{Outcome, walked_of}
-use Rattle.walk.specs.declared.Cells.{Cells}
-use Rattle.walk.specs.declared.Cells.TheVariants as cells
 use Rattle.walk.specs.Segment.{answered, by_turns, unless_none, turns_of, turning, segment_of, entry_check, off_in, off_check, entry_of, reach_of, cells_of, Entered}
 use Rattle.walk.proofs.Checked.{entry_spares}
 use Rattle.walk.proofs.Reaching.{segment_turns, segment_covers, entry_turns}
@@ -142,16 +139,16 @@ module _ (g : Grid) (line : Segment) (ok : fit g ≡ true) (in-domain : segment 
 
 -- ---- the entry
 
-by_check : {A : Type 0} (c : Check) (x y : Answer A) → (c ≡ Fine → x ≡ y) → (c then x) ≡ (c then y)
+by_check : {A : Type 0} (c : Check) (x y : Answer A) → (c ≡ Ok tt → x ≡ y) → (c then x) ≡ (c then y)
 unfolding ◌then◌
-by_check Fine x y h = h refl
-by_check (Refused r) x y h = refl
+by_check (Ok _) x y h = h refl
+by_check (Err r) x y h = refl
 
 pub same_refusal : {A : Type 0} {p q : Refusal} → ◌≡◌ {A = Answer A} (refused p) (refused q) → p ≡ q
 same_refusal d = cc
 
 module _ (n : ℕ) (g : Grid) (line : Segment) (in-format : InFormat line) where
-  passed : entry_check n g line ≡ Fine → (segment line ≡ true) × (fit g ≡ true)
+  passed : entry_check n g line ≡ Ok tt → (segment line ≡ true) × (fit g ≡ true)
   unfolding entry_check segment_check grid_check
   passed h =
       let rest = and_then_right _ _ h in
@@ -171,21 +168,21 @@ module _ (n : ℕ) (g : Grid) (line : Segment) (in-format : InFormat line) where
   unfolding entry_of off_check
   entry_not_7 mode m e value r = go (entry_check n g line) refl r
     where
-      behind : (b : Bool) → entry_check n g line ≡ Fine → (unless (not b) 16 0 then segment_of mode g line) ≡ refused (refusal 7 value) → ⊥
+      behind : (b : Bool) → entry_check n g line ≡ Ok tt → (unless (not b) 16 0 then segment_of mode g line) ≡ refused (refusal 7 value) → ⊥
       behind false h k = unfold ◌then◌ unless in not_refused mode g line (passed h).1 (passed h).0 in-format m e (refusal 7 value) k
       behind true h k = unfold ◌then◌ unless in let z : ◌≡◌ {A = ℕ} 16 7 = ap (λ (r : Refusal). r.number) (same_refusal k) in omega arith
 
       go : (c : Check) → entry_check n g line ≡ c → (c then off_check mode g line then segment_of mode g line) ≡ refused (refusal 7 value) → ⊥
-      go Fine h k = unfold ◌then◌ in behind (off_in mode g line) h k
-      go (Refused s) h k = unfold ◌then◌ clears in true≢false ((entry_spares g line n).says (refusal 7 value) (h ∙ ap Refused (same_refusal k)))
+      go (Ok _) h k = unfold ◌then◌ in behind (off_in mode g line) h k
+      go (Err s) h k = unfold ◌then◌ clears in true≢false ((entry_spares g line n).says (refusal 7 value) (h ∙ ap Err (same_refusal k)))
 
-cells_refused : (o : Outcome) (why : Refusal) → cells_of o ≡ cells.Refused why → o ≡ refused why
+cells_refused : (o : Outcome) (why : Refusal) → cells_of o ≡ Err why → o ≡ refused why
 unfolding cells_of answer_by
 cells_refused (refused w) why d = let e : w ≡ why = cc in ap refused e
 cells_refused (gives xs) why d = let z : ◌≡◌ {A = ℕ} 0 1 = cc in absurd (omega arith)
 
 -- straight from what `walk::cells_of_segment` ensures: its answer is no refusal with 7
-pub entered_not_7 : (mode : Mode) (n : ℕ) {g : Grid} {line : Segment} {was : List ℕ} {r : Cells} {now : List ℕ} → straight line ≡ true → InFormat line → GridInFormat g
-    → Entered (entry_of mode n g line) was r now → (value : ℕ) → r ≡ cells.Refused (refusal 7 value) → ⊥
+pub entered_not_7 : (mode : Mode) (n : ℕ) {g : Grid} {line : Segment} {was : List ℕ} {r : Result ℕ Refusal} {now : List ℕ} → straight line ≡ true → InFormat line → GridInFormat g
+    → Entered (entry_of mode n g line) was r now → (value : ℕ) → r ≡ Err (refusal 7 value) → ⊥
 entered_not_7 mode n {g} {line} e in-format m h value k =
     entry_not_7 n g line in-format mode m e value (cells_refused (entry_of mode n g line) (refusal 7 value) (sym h.answer ∙ k))

@@ -1,4 +1,5 @@
 -- The test of tables is true exactly where the facts hold, and what the facts say besides. Assumes nothing.
+use Rattle.std.specs.Prelude.{Ok}
 use mathlib.Core.Path.{◌≡◌, refl}
 use mathlib.Core.Bool.{Bool, true, false, ◌&&◌}
 use mathlib.Core.List.{List, [], ◌∷◌}
@@ -10,7 +11,6 @@ use lib.ListN.{length, get_or, take, drop}
 use lib.Seq.{slice, take-nil, drop-nil}
 use lib.Dec.{leb, ltb, eqb}
 use borrow.Author.Tests.{leb-true, ltb-true, eqb-true, le-leb, lt-ltb, eq-eqb}
-use Rattle.refusals.specs.declared.Check.TheVariants.{Fine}
 use Rattle.refusals.proofs.Checks.{unless_fine}
 use Rattle.grid.proofs.Bools.{and_left, and_right, and_both}
 use Rattle.slices.specs.Lists.{Below, Rising}
@@ -154,11 +154,11 @@ module _ (t : Tables) where
       )
 
   -- a check that finds nothing
-  pub check_facts : tables_check t ≡ Fine → TablesFit t
+  pub check_facts : tables_check t ≡ (Ok tt) → TablesFit t
   unfolding tables_check
   check_facts h = fit_facts (unless_fine (tables_fit t) 10 0 h)
 
-  pub facts_check : TablesFit t → tables_check t ≡ Fine
+  pub facts_check : TablesFit t → tables_check t ≡ Ok tt
   unfolding tables_check Rattle.refusals.specs.Refusals.unless
   facts_check f = rw (facts_fit f)
 

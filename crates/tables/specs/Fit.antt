@@ -2,8 +2,8 @@
 -- the last is within items, each list and the globals strictly increase below the number of lines, and the global count is within its slice."
 -- Said once as facts, `TablesFit`, and once as a test that computes, `tables_fit`. The laws `fit_facts` and `facts_fit` join the two.
 -- Definitions only.
+use Rattle.refusals.specs.Refusals.{Check}
 use Rattle.std.specs.Prelude.{ℕ, zero, suc, ◌+◌, ◌≤◌, ◌<◌, ◌≡◌, Bool, true, ◌&&◌, List, [], ◌∷◌, length, get_or, leb, ltb, eqb}
-use Rattle.refusals.specs.declared.Check.{Check}
 use Rattle.refusals.specs.Refusals.{unless, and_then}
 use Rattle.grid.specs.declared.Grid.{Grid}
 use Rattle.grid.specs.Domain.{count_check, grid_check}

@@ -6,7 +6,7 @@ ghost use Rattle.tables.specs.Tables.{tables, part_in};
 ghost use Rattle.tables.specs.Fit.{increases, lists_fit, tables_fit, standing_check};
 
 use grid::Grid;
-use refusals::Check;
+use refusals::Refusal;
 use slices::wide;
 
 mod rising;
@@ -18,10 +18,8 @@ fn rises(list: &[u32]) -> bool
     ensures { let xs = list.now in ((n : ℕ) → increases 0 n xs ≡ (result && ltb (get_or xs (length xs - 1) 0) n)) }
 {
     let mut all = true;
-    let mut i = 1;
-    while i < list.len() {
+    for i in 1..list.len() {
         all = all & (list[i - 1] < list[i]);
-        i = i + 1;
     }
     all
 }
@@ -115,17 +113,11 @@ pub fn check_tables(
     items: &[u32],
     globals: &[u32],
     global_count: usize,
-) -> Check
+) -> Result<(), Refusal>
     ensures { result ≡ standing_check grid (tables grid lines offsets.now items.now globals.now global_count) }
 {
-    let many = grid::checks::check_count(lines);
-    if let Check::Refused(r) = many {
-        return Check::Refused(r);
-    }
-    let shape = grid::checks::check_grid(grid);
-    if let Check::Refused(r) = shape {
-        return Check::Refused(r);
-    }
+    grid::checks::check_count(lines)?;
+    grid::checks::check_grid(grid)?;
     refusals::refuse_unless(
         is_fit(grid, lines, offsets, items, globals, global_count),
         10,

@@ -22,10 +22,8 @@ pub(crate) fn never_fall(cells: usize, offsets: &[u32]) -> bool
     ensures { let o = offsets.now in result ≡ every cells (λ c. leb (get_or o c 0) (get_or o (suc c) 0)) }
 {
     let mut all = true;
-    let mut c = 0;
-    while c < cells {
+    for c in 0..cells {
         all = all & (offsets[c] <= offsets[c + 1]);
-        c = c + 1;
     }
     all
 }
@@ -37,10 +35,8 @@ fn count_breaks(most: u32, items: &[u32], from: usize, to: usize, many: u32) -> 
     ensures { BreaksTo most items.now result to }
 {
     let mut many = many;
-    let mut k = from;
-    while k < to {
+    for k in from..to {
         many = many + one_if((items[k] <= items[k - 1]) | (most < items[k]));
-        k = k + 1;
     }
     many
 }
@@ -78,11 +74,9 @@ fn count_begins(
     ensures { BeginsTo most cells offsets.now items.now result to }
 {
     let mut many = many;
-    let mut c = from;
-    while c < to {
+    for c in from..to {
         let one = begins(offsets[c], offsets[c + 1], most, items);
         many = many + (one as usize);
-        c = c + 1;
     }
     many
 }

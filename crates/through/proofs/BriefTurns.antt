@@ -132,14 +132,14 @@ module _ (ls : Lines) (xs : List ℕ) (flat : List Float) (fs ss : List ℕ) (hi
   pub brief_second_long : length ss' ≡ length ss
   brief_second_long = (s.goes (Global 0) []).moved.second_long
 
-  pub brief_end : length xs ≤ i → ListRanIs ls xs 0 1 fs ss hits₀ fs' ss' (record { i = i; j = i; tests = tests; hits = hits })
+  pub brief_end : length xs ≤ i → ListRanIs ls xs 0 1 fs ss hits₀ fs' ss' (record { i = length xs; j = length xs; tests = tests; hits = hits })
   brief_end h =
       record {
         goes = λ pl later.
-            let e = row_past (length xs) i i h pl xs refl in
+            let e = row_past (length xs) (length xs) (length xs) (omega arith) pl xs refl in
             let d = drop_of_length-le xs {i = i} h in
             rw (sym (from_begin pl xs), e) (rw (d, pairs_nil pl) at (s.goes pl later));
-        ends = λ l pl. row_past (length xs) i i h pl xs refl;
+        ends = λ l pl. row_past (length xs) (length xs) (length xs) (omega arith) pl xs refl;
       }
 
   module _ (l : i < length xs) where

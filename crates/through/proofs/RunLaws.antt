@@ -1,4 +1,6 @@
 -- What a run is refused for, case by case, and what it comes to. Assumes nothing.
+use Rattle.std.specs.Prelude.{Ok, Err, None, Option}
+use Rattle.refusals.specs.Refusals.{Check}
 use mathlib.Core.Path.{◌≡◌, refl, sym, ap, ◌∙◌}
 use mathlib.Core.Bool.{true, false}
 use mathlib.Core.List.{List, [], append-nil}
@@ -11,8 +13,6 @@ use lib.Ieee.{Float}
 use lib.Dec.{eqb, leb}
 use borrow.Author.Tests.{eqb-true, leb-true, lt-ltb, le-ltb}
 use Rattle.refusals.specs.declared.Refusal.{Refusal}
-use Rattle.refusals.specs.declared.Check.{Check}
-use Rattle.refusals.specs.declared.Check.TheVariants.{Fine, Refused}
 use Rattle.refusals.specs.Refusals.{unless, zero_beyond}
 use Rattle.refusals.proofs.Checks.{unless_fine, and_then_refused, and_then_fine, and_then_left, and_then_right}
 use Rattle.slices.specs.Slices.{cleared_from}
@@ -24,7 +24,6 @@ use Rattle.visit.specs.Entries.{outputs_check}
 use Rattle.visit.proofs.Clauses.{made_none, handed_none}
 use Rattle.visit.proofs.Moves.{none_made, none_handed}
 use Rattle.listed.specs.declared.CellAt.{CellAt}
-use Rattle.listed.specs.declared.CellAt.TheVariants as cellat
 use Rattle.through.specs.declared.CellsMade.{CellsMade}
 use Rattle.through.specs.declared.rows.CellsRan.{CellsRan}
 use Rattle.listed.specs.Lists.{list_by, cells_from}
@@ -36,20 +35,20 @@ use Rattle.through.proofs.Bounds.{cells_few}
 -- ---- the check
 
 module _ (ls : Lines) (first second : List ℕ) where
-  pub lent_outputs : (r : Refusal) → unless (eqb (length first) (length second)) 3 0 ≡ Refused r → Refused r ≡ outputs_lines_check ls first second
+  pub lent_outputs : (r : Refusal) → unless (eqb (length first) (length second)) 3 0 ≡ Err r → Err r ≡ outputs_lines_check ls first second
   unfolding outputs_lines_check outputs_check
   lent_outputs r e = sym (and_then_refused _ _ r e)
 
-  module _ (a : unless (eqb (length first) (length second)) 3 0 ≡ Fine) where
-    pub lent_lengths : (r : Refusal) → lengths_check ls ≡ Refused r → Refused r ≡ outputs_lines_check ls first second
+  module _ (a : unless (eqb (length first) (length second)) 3 0 ≡ (Ok tt)) where
+    pub lent_lengths : (r : Refusal) → lengths_check ls ≡ Err r → Err r ≡ outputs_lines_check ls first second
     unfolding outputs_lines_check outputs_check
     lent_lengths r e = sym (and_then_fine _ _ a ∙ and_then_refused _ _ r e)
 
-    pub lent_count : lengths_check ls ≡ Fine → count_check (count ls) ≡ outputs_lines_check ls first second
+    pub lent_count : lengths_check ls ≡ (Ok tt) → count_check (count ls) ≡ outputs_lines_check ls first second
     unfolding outputs_lines_check outputs_check
     lent_count e = sym (and_then_fine _ _ a ∙ and_then_fine _ _ e)
 
-  pub lent_fine : outputs_lines_check ls first second ≡ Fine → (m : ℕ) → m ≤ 1002001 → GoAsks ls m first second
+  pub lent_fine : outputs_lines_check ls first second ≡ (Ok tt) → (m : ℕ) → m ≤ 1002001 → GoAsks ls m first second
   unfolding outputs_lines_check outputs_check count_check
   lent_fine h m most =
       let o = and_then_left _ _ h in
@@ -117,7 +116,7 @@ module _ (ls : Lines) (cols m : ℕ) (offsets items : List ℕ) (cell i j : ℕ)
     pub go_second_long : length ss₁ ≡ length ss
     go_second_long = goes.moved.second_long
 
-    pub go_is : (fs₂ ss₂ : List ℕ) (n : ℕ) (at : CellAt) → fs₂ ≡ cleared_from r.hits fs₁ → ss₂ ≡ cleared_from r.hits ss₁ → n ≡ count ls
+    pub go_is : (fs₂ ss₂ : List ℕ) (n : ℕ) (at : (Option CellAt)) → fs₂ ≡ cleared_from r.hits fs₁ → ss₂ ≡ cleared_from r.hits ss₁ → n ≡ count ls
         → ((cs : ℕ) → LeftAt cs n m offsets items (cells_from cs (list_by n offsets items) (m - r.cell) r.cell r.i r.j) at)
         → GoneIs ls cols m offsets items cell i j fs ss fs₂ ss₂ (record { tests = r.tests; overlaps = r.hits; at = at })
     unfolding C C'
@@ -137,23 +136,23 @@ module _ (ls : Lines) (cols m : ℕ) (offsets items : List ℕ) (cell i j : ℕ)
 
 also_none : (k : Check) → also_if k false ≡ false
 unfolding also_if
-also_none Fine = refl
-also_none (Refused r) = refl
+also_none (Ok _) = refl
+also_none (Err r) = refl
 
 module _ (ls : Lines) (cols m : ℕ) (offsets items : List ℕ) (cell i j : ℕ) (fs ss : List ℕ) where
   pub runs_beyond : within_fit m ≤ cell → runs ls m cell fs ss ≡ false
   unfolding runs
   runs_beyond h = rw (le-ltb cell (within_fit m) h) (also_none (outputs_lines_check ls fs ss))
 
-  pub runs_refused : (r : Refusal) → outputs_lines_check ls fs ss ≡ Refused r → runs ls m cell fs ss ≡ false
+  pub runs_refused : (r : Refusal) → outputs_lines_check ls fs ss ≡ Err r → runs ls m cell fs ss ≡ false
   unfolding runs also_if
   runs_refused r e = rw e
 
-  pub runs_fine : outputs_lines_check ls fs ss ≡ Fine → cell < within_fit m → runs ls m cell fs ss ≡ true
+  pub runs_fine : outputs_lines_check ls fs ss ≡ (Ok tt) → cell < within_fit m → runs ls m cell fs ss ≡ true
   unfolding runs also_if
   runs_fine e h = rw (e, lt-ltb cell (within_fit m) h)
 
-  none_is : runs ls m cell fs ss ≡ false → CellsMadeIs ls cols m offsets items cell i j fs ss fs ss (record { tests = 0; overlaps = 0; at = cellat.Past })
+  none_is : runs ls m cell fs ss ≡ false → CellsMadeIs ls cols m offsets items cell i j fs ss fs ss (record { tests = 0; overlaps = 0; at = None })
   unfolding run_tests
   none_is b =
       record {
@@ -164,13 +163,13 @@ module _ (ls : Lines) (cols m : ℕ) (offsets items : List ℕ) (cell i j : ℕ)
         second_is = rw b;
       }
 
-  pub none_beyond : (most : ℕ) → most ≡ min m 1002001 → most ≤ cell → CellsMadeIs ls cols m offsets items cell i j fs ss fs ss (record { tests = 0; overlaps = 0; at = cellat.Past })
+  pub none_beyond : (most : ℕ) → most ≡ min m 1002001 → most ≤ cell → CellsMadeIs ls cols m offsets items cell i j fs ss fs ss (record { tests = 0; overlaps = 0; at = None })
   none_beyond most e h = none_is (runs_beyond (omega arith))
 
-  pub none_refused : (r : Refusal) → outputs_lines_check ls fs ss ≡ Refused r → CellsMadeIs ls cols m offsets items cell i j fs ss fs ss (record { tests = 0; overlaps = 0; at = cellat.Past })
+  pub none_refused : (r : Refusal) → outputs_lines_check ls fs ss ≡ Err r → CellsMadeIs ls cols m offsets items cell i j fs ss fs ss (record { tests = 0; overlaps = 0; at = None })
   none_refused r e = none_is (runs_refused r e)
 
-  pub run_gone : outputs_lines_check ls fs ss ≡ Fine → (most : ℕ) → most ≡ min m 1002001 → cell < most → (fs' ss' : List ℕ) (r : CellsMade) → GoneIs ls cols most offsets items cell i j fs ss fs' ss' r
+  pub run_gone : outputs_lines_check ls fs ss ≡ (Ok tt) → (most : ℕ) → most ≡ min m 1002001 → cell < most → (fs' ss' : List ℕ) (r : CellsMade) → GoneIs ls cols most offsets items cell i j fs ss fs' ss' r
       → CellsMadeIs ls cols m offsets items cell i j fs ss fs' ss' r
   unfolding run_tests
   run_gone k most e h fs' ss' r g =

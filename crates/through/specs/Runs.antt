@@ -1,7 +1,6 @@
 -- What a run through the cells does. Definitions only.
-use Rattle.std.specs.Prelude.{ℕ, ◌-◌, min, ◌≡◌, Bool, false, cond, List, [], length, drop, ltb}
-use Rattle.refusals.specs.declared.Check.{Check}
-use Rattle.refusals.specs.declared.Check.TheVariants.{Fine, Refused}
+use Rattle.std.specs.Prelude.{Ok, Err, ℕ, ◌-◌, min, ◌≡◌, Bool, false, cond, List, [], length, drop, ltb}
+use Rattle.refusals.specs.Refusals.{Check}
 use Rattle.refusals.specs.Refusals.{and_then, zero_beyond}
 use Rattle.grid.specs.Domain.{Lines, count, lengths_check, count_check}
 use Rattle.seek.specs.Tests.{Pair}
@@ -23,8 +22,8 @@ within_fit m = min m 1002001
 
 -- where a check is fine: what a test says
 unfoldable pub also_if : Check → Bool → Bool
-also_if Fine b = b
-also_if (Refused r) b = false
+also_if (Ok _) b = b
+also_if (Err r) b = false
 
 -- a run is made where what is lent passes the check, and the cell is among those that are looked at
 unfoldable pub runs : Lines → ℕ → ℕ → List ℕ → List ℕ → Bool

@@ -60,15 +60,13 @@ fn gather(
     let mut ay = 0.0 - 1.0 / 0.0;
     let mut bx = 1.0 / 0.0;
     let mut by = 1.0 / 0.0;
-    let mut u = 0;
-    while u < list.len() {
+    for u in 0..list.len() {
         let bounds = box_at(start_x, start_y, end_x, end_y, list[u]);
         ax = higher(ax, bounds.min_x);
         ay = higher(ay, bounds.min_y);
         bx = lower(bx, bounds.max_x);
         by = lower(by, bounds.max_y);
         put_box(room, u, bounds);
-        u = u + 1;
     }
     let ends = Box {
         min_x: ax,
@@ -93,15 +91,13 @@ pub(crate) fn gather_flat(
     ensures { let ls = lines start_x.now start_y.now end_x.now end_y.now in
         FlatFilled ls list.now (length list.now) flat.old flat.new }
 {
-    let mut u = 0;
-    while u < list.len() {
+    for u in 0..list.len() {
         let bounds = box_at(start_x, start_y, end_x, end_y, list[u]);
         let at = 4 * u;
         flat[at] = bounds.min_x;
         flat[at + 1] = bounds.min_y;
         flat[at + 2] = bounds.max_x;
         flat[at + 3] = bounds.max_y;
-        u = u + 1;
     }
 }
 

@@ -5,8 +5,8 @@ ghost use Rattle.through.specs.Runs.{outputs_lines_check, CellsMadeIs};
 ghost use Rattle.through.specs.Inside.{GoAsks, GoneIs};
 
 use crate::{CellsMade, rows};
-use listed::{CellAt, settle};
-use refusals::Check;
+use listed::settle;
+use refusals::Refusal;
 use slices::least;
 
 // Refusals 3, of the outputs and of the lines, and 2.
@@ -17,18 +17,12 @@ pub fn check_lent(
     end_y: &[f64],
     first: &[u32],
     second: &[u32],
-) -> Check
+) -> Result<(), Refusal>
     ensures { let ls = lines start_x.now start_y.now end_x.now end_y.now in
         result ≡ outputs_lines_check ls first.now second.now }
 {
-    let lent = refusals::refuse_unless(first.len() == second.len(), 3, 0);
-    if let Check::Refused(_) = lent {
-        return lent;
-    }
-    let alike = grid::checks::check_lengths(start_x, start_y, end_x, end_y);
-    if let Check::Refused(_) = alike {
-        return alike;
-    }
+    refusals::refuse_unless(first.len() == second.len(), 3, 0)?;
+    grid::checks::check_lengths(start_x, start_y, end_x, end_y)?;
     grid::checks::check_count(start_x.len())
 }
 
@@ -95,15 +89,15 @@ pub fn run(
         return CellsMade {
             tests: 0,
             overlaps: 0,
-            at: CellAt::Past,
+            at: None,
         };
     }
     let check = check_lent(start_x, start_y, end_x, end_y, first, second);
-    if let Check::Refused(_) = check {
+    if let Err(_) = check {
         return CellsMade {
             tests: 0,
             overlaps: 0,
-            at: CellAt::Past,
+            at: None,
         };
     }
     go(

@@ -8,10 +8,10 @@ mod scan;
 
 use listed::CellAt;
 
-// What a run through the cells did: the tests made, the overlaps among them, and where it stopped.
+// What a run through the cells did: the tests made, the overlaps among them, and where the first test that is left stands, if one is left.
 #[derive(Clone, Copy)]
 pub struct CellsMade {
     pub tests: u64,
     pub overlaps: usize,
-    pub at: CellAt,
+    pub at: Option<CellAt>,
 }

@@ -98,19 +98,26 @@ fn run_brief(
     ensures same_length { length flat.new ≡ length flat.old }
 {
     boxes::gather_flat(list, start_x, start_y, end_x, end_y, flat);
-    let mut i = 0;
     let mut tests: u64 = 0;
     let mut hits = hits;
-    while i < list.len() {
-        let line = list[i];
+    for i in 0..list.len() {
         let bounds = boxes::flat_at(flat, i);
-        i = i + 1;
-        tests = tests + ((list.len() - i) as u64);
-        hits = scan::scan_few(line, bounds, &list[i..], flat, i, first, second, hits);
+        let next = i + 1;
+        tests = tests + ((list.len() - next) as u64);
+        hits = scan::scan_few(
+            list[i],
+            bounds,
+            &list[next..],
+            flat,
+            next,
+            first,
+            second,
+            hits,
+        );
     }
     ListRan {
-        i,
-        j: i,
+        i: list.len(),
+        j: list.len(),
         tests,
         hits,
     }
@@ -147,7 +154,7 @@ fn run_list(
     let mut tests: u64 = 0;
     let mut hits = hits;
     while hits < first.len() {
-        let RowAt::At { i: a, j: b } = settle::row_at(list.len(), i, j) else {
+        let Some(RowAt { i: a, j: b }) = settle::row_at(list.len(), i, j) else {
             break;
         };
         let part = scan_part(

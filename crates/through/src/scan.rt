@@ -18,13 +18,11 @@ fn mark(bounds: Box, room: &[f64], at: usize, many: usize, marks: &mut [u8])
     let ay = bounds.min_y;
     let bx = bounds.max_x;
     let by = bounds.max_y;
-    let mut u = 0;
-    while u < many {
+    for u in 0..many {
         let k = at + u;
         let hit = (room[k] <= bx)
             & ((ax <= room[1026 + k]) & ((room[513 + k] <= by) & (ay <= room[1539 + k])));
         marks[u] = byte_of(hit);
-        u = u + 1;
     }
 }
 
@@ -37,10 +35,8 @@ fn whole(many: usize, marks: &[u8]) -> bool
         return false;
     }
     let mut all = true;
-    let mut u = 0;
-    while u < many {
+    for u in 0..many {
         all = all & (marks[u] == 1);
-        u = u + 1;
     }
     all
 }
@@ -72,12 +68,10 @@ fn put_some(
     ensures { PairsPut line list.now marks.now (length list.now) first.old second.old hits first.new second.new result }
 {
     let mut hits = hits;
-    let mut u = 0;
-    while u < list.len() {
+    for u in 0..list.len() {
         first[hits] = line;
         second[hits] = list[u];
         hits = hits + (marks[u] as usize);
-        u = u + 1;
     }
     hits
 }
@@ -88,12 +82,10 @@ fn put_whole(line: u32, list: &[u32], first: &mut [u32], second: &mut [u32], hit
     ensures { PutWhole line list.now (length list.now) first.old second.old hits first.new second.new result }
 {
     let mut hits = hits;
-    let mut u = 0;
-    while u < list.len() {
+    for u in 0..list.len() {
         first[hits] = line;
         second[hits] = list[u];
         hits = hits + 1;
-        u = u + 1;
     }
     hits
 }
@@ -114,14 +106,12 @@ pub(crate) fn scan_few(
         PairsPut line list.now marks (length list.now) first.old second.old hits first.new second.new result }
 {
     let mut hits = hits;
-    let mut u = 0;
-    while u < list.len() {
+    for u in 0..list.len() {
         let other = boxes::flat_at(flat, at + u);
         let hit = byte_of(meets(bounds, other)) as usize;
         first[hits] = line;
         second[hits] = list[u];
         hits = hits + hit;
-        u = u + 1;
     }
     hits
 }

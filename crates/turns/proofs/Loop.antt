@@ -1,4 +1,5 @@
 -- The turns of the loop. Assumes nothing.
+use Rattle.std.specs.Prelude.{Some, None, Option}
 use Rattle.std.proofs.Common.{◌≡◌, ℕ, zero, suc, ◌+◌, ◌-◌, ◌*◌, ◌<◌, ◌≤◌, Bool, true, false, cond, ◌&&◌, ◌⊎◌, List, [], ◌++◌, length, take, sym, refl, ap, ◌∙◌, subst, inl, inr, append_assoc, append-nil, arith, length-append}
 use lib.Ieee.{Float, inf, binary64, add, sub, lt, le}
 use Rattle.numbers.specs.Order.{least_of, magnitude_of}
@@ -9,8 +10,6 @@ use Rattle.turns.specs.declared.Position.{Position}
 use Rattle.turns.specs.declared.Turn.{Turn}
 use Rattle.turns.specs.declared.Walk.{Walk}
 use Rattle.turns.specs.declared.Way.{Way}
-use Rattle.turns.specs.declared.Ran.{Ran}
-use Rattle.turns.specs.declared.Ran.TheVariants.{Done, Over}
 use Rattle.turns.specs.Turns.{one, finite_of, tolerance_of, near_of, stop, both, single, further_of, goes_of}
 use Rattle.cover.specs.Inside.{Appended}
 use Rattle.cover.proofs.Growing.{none, then}
@@ -182,20 +181,20 @@ module _ {goal : Outcome} {n cols rows : ℕ} {way : Way} {left : ℕ} {w : Walk
       subst (λ (v : Walk). Going goal n cols rows way (left - 1) v r.count s') (sym (next_is way w r.at k e p.0))
       (more (going_is way w k b e f ∙ t) h (subst (λ (z : Turn). Appended s s' m r.count (pushed_by z cols rows way w)) e p.1))
 
-  pub done : going_by way w ≡ false → Runs goal n (Done m) s
+  pub done : going_by way w ≡ false → Runs goal n (Some m) s
   unfolding before ◌into◌
   done e = record {
     ran =
-        subst (λ (o : Outcome). RanTo o (Done m) s) (sym (g.is ∙ ap (before (take m s)) (turns_stop cols rows way w left e)))
+        subst (λ (o : Outcome). RanTo o (Some m) s) (sym (g.is ∙ ap (before (take m s)) (turns_stop cols rows way w left e)))
         (omega (arith, g.room, g.size), sym (append-nil (take m s)));
     all = omega (arith, g.room);
   }
 
-  pub over : going_by way w ≡ true → left ≡ 0 → Runs goal n Over s
+  pub over : going_by way w ≡ true → left ≡ 0 → Runs goal n None s
   unfolding before ◌into◌
   over e z = record {
     ran =
-        subst (λ (o : Outcome). RanTo o Over s)
+        subst (λ (o : Outcome). RanTo o None s)
         (sym (g.is ∙ ap (λ (l : ℕ). before (take m s) (turns_by l cols rows way w)) z ∙ ap (before (take m s)) (turns_over cols rows way w e)))
         refl;
     all = tt;
@@ -203,30 +202,30 @@ module _ {goal : Outcome} {n cols rows : ℕ} {way : Way} {left : ℕ} {w : Walk
 
 -- ---- the walk with its first and last cell
 
-pub within_done : (R : Ran) (m b : ℕ) → R ≡ Done m → RanWithin R b → m ≤ b
-within_done R m b e p = subst (λ (q : Ran). RanWithin q b) e p
+pub within_done : (R : Option ℕ) (m b : ℕ) → R ≡ Some m → RanWithin R b → m ≤ b
+within_done R m b e p = subst (λ (q : Option ℕ). RanWithin q b) e p
 
-ran_on : (o : Outcome) (m r : ℕ) (s t ys : List ℕ) → RanTo o (Done m) s → Appended s t m r (unless_there (take m s) ys) → RanTo (ended_in o ys) (Done r) t
+ran_on : (o : Outcome) (m r : ℕ) (s t ys : List ℕ) → RanTo o (Some m) s → Appended s t m r (unless_there (take m s) ys) → RanTo (ended_in o ys) (Some r) t
 unfolding ended_in ◌into◌
 ran_on (refused why) m r s t ys p g = absurd p
 ran_on (gives xs) m r s t ys p g = (g.within, g.is ∙ ap (λ (l : List ℕ). l ++ unless_there l ys) p.1)
 
-over_on : (o : Outcome) (s ys : List ℕ) → RanTo o Over s → RanTo (ended_in o ys) Over s
+over_on : (o : Outcome) (s ys : List ℕ) → RanTo o None s → RanTo (ended_in o ys) None s
 unfolding ended_in ◌into◌
 over_on (refused why) s ys p = p
 over_on (gives xs) s ys p = absurd p
 
-module _ (cols rows : ℕ) (way : Way) (w : Walk) {s₀ s₁ s₂ : List ℕ} {n : ℕ} {R : Ran}
+module _ (cols rows : ℕ) (way : Way) (w : Walk) {s₀ s₁ s₂ : List ℕ} {n : ℕ} {R : Option ℕ}
     (g : Appended s₀ s₁ 0 n (push_by cols rows w.x.index w.y.index))
     (p : Runs (before (take n s₁) (turns_by 5000 cols rows way w)) n R s₂) where
-  ran : (r : Ran) → R ≡ r → RanTo (onward_by cols rows way w) r s₂
-  ran r e = subst (λ (k : Ran). RanTo (onward_by cols rows way w) k s₂) e (rw g.is at p.ran)
+  ran : (r : Option ℕ) → R ≡ r → RanTo (onward_by cols rows way w) r s₂
+  ran r e = subst (λ (k : Option ℕ). RanTo (onward_by cols rows way w) k s₂) e (rw g.is at p.ran)
 
-  pub walked_done : {s₃ : List ℕ} {m r : ℕ} → R ≡ Done m → Appended s₂ s₃ m r (unless_there (take m s₂) (push_by cols rows way.x.end way.y.end))
-      → RanTo (trodden_by cols rows way w) (Done r) s₃
+  pub walked_done : {s₃ : List ℕ} {m r : ℕ} → R ≡ Some m → Appended s₂ s₃ m r (unless_there (take m s₂) (push_by cols rows way.x.end way.y.end))
+      → RanTo (trodden_by cols rows way w) (Some r) s₃
   unfolding trodden_by
-  walked_done {s₃} {m} {r} e h = ran_on (onward_by cols rows way w) m r s₂ s₃ (push_by cols rows way.x.end way.y.end) (ran (Done m) e) h
+  walked_done {s₃} {m} {r} e h = ran_on (onward_by cols rows way w) m r s₂ s₃ (push_by cols rows way.x.end way.y.end) (ran (Some m) e) h
 
-  pub walked_over : R ≡ Over → RanTo (trodden_by cols rows way w) Over s₂
+  pub walked_over : R ≡ None → RanTo (trodden_by cols rows way w) None s₂
   unfolding trodden_by
-  walked_over e = over_on (onward_by cols rows way w) s₂ (push_by cols rows way.x.end way.y.end) (ran Over e)
+  walked_over e = over_on (onward_by cols rows way w) s₂ (push_by cols rows way.x.end way.y.end) (ran None e)

@@ -1,5 +1,5 @@
 -- What the private functions of a walk by turns promise to one another, and what their laws speak of. Definitions only.
-use Rattle.std.specs.Prelude.{◌≡◌, ℕ, ◌+◌, ◌≤◌, Bool, true, false, cond, ◌&&◌, ◌⊎◌, List, length, take, negsuc, Float}
+use Rattle.std.specs.Prelude.{◌≡◌, ℕ, ◌+◌, ◌≤◌, Bool, true, false, cond, ◌&&◌, ◌⊎◌, List, length, take, negsuc, Float, Option, Some, None}
 use Rattle.std.specs.Float.{fin}
 use Rattle.std.specs.Float.Ieee.{lt, le, eq}
 use Rattle.numbers.specs.Arithmetic.{◌+₆₄◌, ◌*₆₄◌}
@@ -9,8 +9,6 @@ use Rattle.turns.specs.declared.Course.{Course}
 use Rattle.turns.specs.declared.Position.{Position}
 use Rattle.turns.specs.declared.Walk.{Walk}
 use Rattle.turns.specs.declared.Way.{Way}
-use Rattle.turns.specs.declared.Ran.{Ran}
-use Rattle.turns.specs.declared.Ran.TheVariants.{Done, Over}
 use Rattle.turns.specs.Turns.{nought, one, infinite}
 use Rattle.turns.specs.Pushes.{Outcome}
 use Rattle.turns.specs.InsideModular.{advanced_by}
@@ -24,18 +22,18 @@ unfoldable pub plainly : Float → Float → Float → Bool
 plainly near far gap = lt nought near && cond (lt (wide far) gap) (le near (one +₆₄ wide far)) (eq far infinite)
 
 -- what a run leaves: the cells at the front of s, or refusal 7
-abbrev pub RanTo : Outcome → Ran → List ℕ → Type 0
-RanTo (refused why) (Done r) s = ⊥
-RanTo (refused why) Over s = why ≡ refusal 7 0
-RanTo (gives xs) (Done r) s = (r ≤ length s) × (take r s ≡ xs)
-RanTo (gives xs) Over s = ⊥
+abbrev pub RanTo : Outcome → Option ℕ → List ℕ → Type 0
+RanTo (refused why) (Some r) s = ⊥
+RanTo (refused why) None s = why ≡ refusal 7 0
+RanTo (gives xs) (Some r) s = (r ≤ length s) × (take r s ≡ xs)
+RanTo (gives xs) None s = ⊥
 
-abbrev pub RanWithin : Ran → ℕ → Type 0
-RanWithin (Done r) b = r ≤ b
-RanWithin Over b = Unit {0}
+abbrev pub RanWithin : Option ℕ → ℕ → Type 0
+RanWithin (Some r) b = r ≤ b
+RanWithin None b = Unit {0}
 
 -- a run, and how much it pushes behind the n that were there: at most three a turn
-pub record Runs (o : Outcome) (n : ℕ) (r : Ran) (s : List ℕ) : Type 0 where
+pub record Runs (o : Outcome) (n : ℕ) (r : Option ℕ) (s : List ℕ) : Type 0 where
   pub ran : RanTo o r s
   pub all : RanWithin r (n + 15000)
 

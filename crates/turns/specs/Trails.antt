@@ -1,13 +1,12 @@
 -- The walk by turns as a call: the cells that it leaves in the scratch, the answer and the refusals. Definitions only.
-use Rattle.std.specs.Prelude.{◌≡◌, ℕ, zero, suc, Bool, false, cond, List, [], ◌∷◌, ◌++◌, length, take, ◌==◌, slice_index}
+use Rattle.std.specs.Prelude.{◌≡◌, ℕ, zero, suc, Bool, false, cond, List, [], ◌∷◌, ◌++◌, length, take, ◌==◌, slice_index, Result, Ok, Err}
+use Rattle.refusals.specs.declared.Refusal.{Refusal}
 use Rattle.refusals.specs.Refusals.{refused, gives, ◌then◌, ◌into◌, answer_by, left_by}
 use Rattle.grid.specs.declared.Grid.{Grid}
 use Rattle.grid.specs.declared.Segment.{Segment}
 use Rattle.grid.specs.Axes.{x_axis, y_axis, index_on}
 use Rattle.cover.specs.Covering.{scratch_shape_check}
 use Rattle.turns.specs.declared.Trod.{Trod}
-use Rattle.turns.specs.declared.Trail.{Trail}
-use Rattle.turns.specs.declared.Trail.TheVariants as trail
 use Rattle.turns.specs.Turns.{Ray, State, ray_of, start_of}
 use Rattle.turns.specs.Pushes.{push_of, Outcome, onward_of}
 
@@ -48,8 +47,8 @@ trod_by g line xs = record {
 }
 
 -- these, or the refusal
-unfoldable pub trail_of : Grid → Segment → Outcome → Trail
-trail_of g line o = answer_by trail.Refused (λ xs. trail.Walked (trod_by g line xs)) o
+unfoldable pub trail_of : Grid → Segment → Outcome → Result Trod Refusal
+trail_of g line o = answer_by Err (λ xs. Ok (trod_by g line xs)) o
 
 -- the scratch: the cells at its start (what is beyond them is open), or what the refusal leaves
 abbrev pub TrailLeft : Outcome → List ℕ → List ℕ → Type 0
@@ -57,7 +56,7 @@ TrailLeft (refused why) was now = now ≡ left_by 0 why was
 TrailLeft (gives xs) was now = take (length xs) now ≡ xs
 
 -- what the walk by turns promises
-pub record TrailIs (g : Grid) (line : Segment) (was : List ℕ) (r : Trail) (now : List ℕ) : Type 0 where
+pub record TrailIs (g : Grid) (line : Segment) (was : List ℕ) (r : Result Trod Refusal) (now : List ℕ) : Type 0 where
   pub answer : r ≡ trail_of g line (tread_of (length was) g line)
   pub size : length now ≡ length was
   pub left : TrailLeft (tread_of (length was) g line) was now

@@ -9,7 +9,7 @@ ghost use Rattle.turns.specs.Trails.{TrailIs};
 use grid::{Grid, Segment};
 use moves::{started, way_of};
 use pushes::walked;
-use refusals::{Check, Refusal};
+use refusals::Refusal;
 
 // One axis of the line: what a move adds to the index, modulo 2^32, and to t_max; and the index of the end.
 #[derive(Clone, Copy)]
@@ -52,13 +52,6 @@ pub(crate) struct Next {
     pub count: usize,
 }
 
-// How a run of turns ends: at a stop, with so many pushed, or with no turn left.
-#[derive(Clone, Copy)]
-pub(crate) enum Ran {
-    Done(usize),
-    Over,
-}
-
 // What was walked: how many cells stand in the lent scratch, and where the ends of the line are.
 #[derive(Clone, Copy)]
 pub struct Trod {
@@ -69,36 +62,26 @@ pub struct Trod {
     pub end_row: u32,
 }
 
-// A walk, or a refusal.
-#[derive(Clone, Copy)]
-pub enum Trail {
-    Walked(Trod),
-    Refused(Refusal),
-}
-
 // The walk of a segment by turns, on a grid as it is: its cells at the start of the scratch, as they are pushed. Refusals 3, and 8 by the counts of the grid
 // alone, and 7.
-pub fn walk_by_turns(grid: Grid, line: Segment, scratch: &mut [u32]) -> Trail
+pub fn walk_by_turns(grid: Grid, line: Segment, scratch: &mut [u32]) -> Result<Trod, Refusal>
     ensures { TrailIs grid line scratch.old result scratch.new }
 {
-    let check = cover::check_room(grid, scratch.len());
-    if let Check::Refused(r) = check {
-        return Trail::Refused(r);
-    }
+    cover::check_room(grid, scratch.len())?;
     let way = way_of(grid, line);
     let start = started(grid, line);
     let ran = walked(scratch, grid.cols, grid.rows, way, start);
     match ran {
-        Ran::Done(n) => Trail::Walked(Trod {
+        Some(n) => Ok(Trod {
             count: n,
             start_col: start.x.index,
             start_row: start.y.index,
             end_col: way.x.end,
             end_row: way.y.end,
         }),
-        Ran::Over => {
+        None => {
             slices::clear_from(scratch, 0);
-            Trail::Refused(Refusal {
+            Err(Refusal {
                 number: 7,
                 value: 0,
             })

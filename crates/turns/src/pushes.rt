@@ -6,7 +6,7 @@ ghost use Rattle.turns.specs.InsideModular.{moved_by, push_by, sides_by, pushed_
 ghost use Rattle.turns.specs.Trails.{last_is, unless_there};
 ghost use Rattle.turns.specs.Inside.{RanTo, Runs};
 
-use crate::{Next, Ran, Turn, Walk, Way};
+use crate::{Next, Turn, Walk, Way};
 
 // Pushes the cell, where it is inside the grid.
 fn put(s: &mut [u32], n: usize, cols: u32, rows: u32, col: u32, row: u32) -> usize
@@ -90,8 +90,8 @@ fn stride(s: &mut [u32], n: usize, cols: u32, rows: u32, way: Way, w: Walk, k: T
     arrive(s, n, cols, rows, w.moved(k, way))
 }
 
-// The turns from a state on, 5,000 of them allowed.
-fn run(s: &mut [u32], n: usize, cols: u32, rows: u32, way: Way, start: Walk) -> Ran
+// The turns from a state on, 5,000 of them allowed: up to a stop, with so many pushed, or with no turn left.
+fn run(s: &mut [u32], n: usize, cols: u32, rows: u32, way: Way, start: Walk) -> Option<usize>
     requires room { n + 15000 ≤ length s.old }
     requires few_cells { rows * cols ≤ 1002001 }
     ensures { Runs (before (take n s.old) (turns_by 5000 cols rows way start)) n result s.new }
@@ -102,10 +102,10 @@ fn run(s: &mut [u32], n: usize, cols: u32, rows: u32, way: Way, start: Walk) -> 
     loop {
         let k = w.turn(way);
         if !k.goes() {
-            return Ran::Done(m);
+            return Some(m);
         }
         if left == 0 {
-            return Ran::Over;
+            return None;
         }
         left -= 1;
         let next = stride(s, m, cols, rows, way, w, k);
@@ -115,15 +115,12 @@ fn run(s: &mut [u32], n: usize, cols: u32, rows: u32, way: Way, start: Walk) -> 
 }
 
 // The start cell, the turns, the end cell.
-pub(crate) fn walked(s: &mut [u32], cols: u32, rows: u32, way: Way, start: Walk) -> Ran
+pub(crate) fn walked(s: &mut [u32], cols: u32, rows: u32, way: Way, start: Walk) -> Option<usize>
     requires room { 16384 ≤ length s.old }
     requires few_cells { rows * cols ≤ 1002001 }
     ensures { RanTo (trodden_by cols rows way start) result s.new }
 {
     let n = put(s, 0, cols, rows, start.x.index, start.y.index);
-    let r = run(s, n, cols, rows, way, start);
-    match r {
-        Ran::Done(m) => Ran::Done(put_other(s, m, cols, rows, way.x.end, way.y.end)),
-        Ran::Over => Ran::Over,
-    }
+    let m = run(s, n, cols, rows, way, start)?;
+    Some(put_other(s, m, cols, rows, way.x.end, way.y.end))
 }

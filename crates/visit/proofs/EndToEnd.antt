@@ -1,5 +1,6 @@
 -- Batches laid end to end hand out exactly what one whole visit hands out, in that order, however large each output was, and their counts
 -- add up. The one test at a bookmark is the test that a batch makes there. Assumes nothing.
+use Rattle.std.specs.Prelude.{Ok, Some}
 use mathlib.Core.Path.{◌≡◌, refl, sym, ap, ◌∙◌}
 use mathlib.Core.Bool.{Bool, true, false}
 use mathlib.Core.List.{List, [], ◌∷◌, ◌++◌, append_assoc, append-nil}
@@ -10,7 +11,6 @@ use lib.ListN.{length, take, drop, get_or, take-append-drop, length-take, length
 use lib.Seq.{drop-drop, drop-cons, get_or-take}
 use Rattle.grid.specs.Domain.{Lines}
 use Rattle.tables.specs.Tables.{Tables}
-use Rattle.visit.specs.declared.TestAnswer.TheVariants as answer
 use Rattle.seek.specs.Tests.{Pair, tests_of}
 use Rattle.visit.specs.Overlap.{overlap}
 use Rattle.visit.specs.Batches.{made, overlapping, handed}
@@ -81,7 +81,7 @@ module _ (ls : Lines) (t : Tables) where
 
   -- THE ONE TEST at a bookmark within a batch is the test that the batch makes there, the k-th of its tests
   pub one_test : (b room k : ℕ) (p : Pair) → k < length (made ls (drop b (tests_of t)) room)
-      → next_test ls (drop (b + k) (tests_of t)) ≡ answer.Made (test_of ls (get_or (made ls (drop b (tests_of t)) room) k p))
+      → next_test ls (drop (b + k) (tests_of t)) ≡ Ok (Some (test_of ls (get_or (made ls (drop b (tests_of t)) room) k p)))
   unfolding next_test
   one_test b room k p h =
       let rest = drop b (tests_of t) in

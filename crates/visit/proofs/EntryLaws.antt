@@ -1,4 +1,5 @@
 -- The entries case by case: each refusal in its order, and the result. Assumes nothing.
+use Rattle.std.specs.Prelude.{Ok, Err, Some, None, Result, Option}
 use mathlib.Core.Path.{◌≡◌, refl, sym, ap, ◌∙◌}
 use mathlib.Core.Bool.{false}
 use mathlib.Core.List.{List, [], ◌∷◌}
@@ -8,7 +9,6 @@ use lib.ListN.{length, take, drop, length-drop, length-map}
 use borrow.Author.Tests.{eqb-true, eq-eqb, ne_eqb}
 use Rattle.slices.specs.Slices.{cleared_from}
 use Rattle.refusals.specs.declared.Refusal.{Refusal}
-use Rattle.refusals.specs.declared.Check.TheVariants.{Fine, Refused}
 use Rattle.refusals.specs.Refusals.{refusal, unless, Answer, refused, gives, answer_by, clears, left_in, zero_beyond}
 use Rattle.refusals.proofs.Checks.{unless_fine}
 use Rattle.refusals.proofs.Answers.{then_refused, then_fine, then_passed}
@@ -17,15 +17,10 @@ use Rattle.grid.specs.declared.Grid.{Grid}
 use Rattle.grid.specs.Domain.{Lines, count}
 use Rattle.tables.specs.Tables.{Tables, beside}
 use Rattle.visit.specs.declared.Test.{Test}
-use Rattle.visit.specs.declared.TestAnswer.{TestAnswer}
-use Rattle.visit.specs.declared.TestAnswer.TheVariants as answer
 use Rattle.visit.specs.declared.Tally.{Tally}
-use Rattle.visit.specs.declared.BatchAnswer.{BatchAnswer}
-use Rattle.visit.specs.declared.BatchAnswer.TheVariants as batch
 use Rattle.seek.specs.declared.Cursor.{Cursor}
 use Rattle.seek.specs.declared.Place.{Place}
-use Rattle.seek.specs.declared.PairAnswer.{PairAnswer}
-use Rattle.seek.specs.declared.PairAnswer.TheVariants as one
+use Rattle.seek.specs.declared.PairAt.{PairAt}
 use Rattle.visit.specs.declared.scan.Row.{Row}
 use Rattle.visit.specs.declared.scan.Ran.{Ran}
 use Rattle.seek.specs.Tests.{Pair, pair, tests_of}
@@ -43,30 +38,30 @@ use Rattle.seek.proofs.PairLines.{pair_lines}
 -- ---- one test
 
 -- the test of a pair
-test_by : Lines → PairAnswer → TestAnswer
-test_by ls (one.Made pl a b) = answer.Made (test_of ls (pair pl a b))
-test_by ls one.End = answer.End
-test_by ls (one.Refused r) = answer.Refused r
+test_by : Lines → (Result (Option PairAt) Refusal) → (Result (Option Test) Refusal)
+test_by ls (Ok (Some p)) = Ok (Some (test_of ls (pair p.place p.first p.second)))
+test_by ls (Ok None) = Ok None
+test_by ls (Err r) = Err r
 
 module _ (ls : Lines) (g : Grid) (t : Tables) (b : ℕ) where
   test_by_lem : test_by ls (pair_at ls g t b) ≡ test_at ls g t b
   unfolding test_by test_at pair_at answer_by first_of next_test
   test_by_lem = go (tests_from ls g t b)
     where
-      go : (o : Answer (List Pair)) → test_by ls (answer_by one.Refused first_of o) ≡ answer_by answer.Refused (next_test ls) o
+      go : (o : Answer (List Pair)) → test_by ls (answer_by Err first_of o) ≡ answer_by Err (next_test ls) o
       go (refused r) = refl
       go (gives []) = refl
       go (gives (p ∷ ps)) = refl
 
-  pub test_refused : (r : Refusal) → one.Refused r ≡ pair_at ls g t b → answer.Refused r ≡ test_at ls g t b
+  pub test_refused : (r : Refusal) → Err r ≡ pair_at ls g t b → Err r ≡ test_at ls g t b
   unfolding test_by
   test_refused r e = ap (test_by ls) e ∙ test_by_lem
 
-  pub test_end : one.End ≡ pair_at ls g t b → answer.End ≡ test_at ls g t b
+  pub test_end : (Ok None) ≡ pair_at ls g t b → (Ok None) ≡ test_at ls g t b
   unfolding test_by
   test_end e = ap (test_by ls) e ∙ test_by_lem
 
-  module _ (pl : Place) (x y : ℕ) (e : one.Made pl x y ≡ pair_at ls g t b) where
+  module _ (pl : Place) (x y : ℕ) (e : Ok (Some (record { place = pl; first = x; second = y })) ≡ pair_at ls g t b) where
     pub first_asks : t.lines ≡ count ls → LineAsks ls x
     first_asks l = let k = pair_lines ls g t b pl x y e in record { fine = k.fine; one = rw l at k.first }
 
@@ -76,32 +71,32 @@ module _ (ls : Lines) (g : Grid) (t : Tables) (b : ℕ) where
           let k = pair_lines ls g t b pl x y e in
           record { row_fits = record { fine = k.fine; held = rw er }; one = rw l at k.second }
 
-      pub test_made : (v : Test) → v ≡ test_of ls (pair row.place row.first y) → answer.Made v ≡ test_at ls g t b
+      pub test_made : (v : Test) → v ≡ test_of ls (pair row.place row.first y) → Ok (Some v) ≡ test_at ls g t b
       unfolding test_by
-      test_made v d = ap answer.Made (d ∙ rw er) ∙ ap (test_by ls) e ∙ test_by_lem
+      test_made v d = ap {B = Result (Option Test) Refusal} (λ (w : Test). Ok (Some w)) (d ∙ rw er) ∙ ap (test_by ls) e ∙ test_by_lem
 
 -- ---- a batch
 
 -- two slices of one length, and of two
 module _ (xs ys : List ℕ) where
-  pub outputs_alike : length xs ≡ length ys → outputs_check xs ys ≡ Fine
+  pub outputs_alike : length xs ≡ length ys → outputs_check xs ys ≡ Ok tt
   unfolding outputs_check unless
   outputs_alike e = rw (eq-eqb (length xs) (length ys) e)
 
-  pub outputs_unlike : (length xs ≡ length ys → ⊥) → outputs_check xs ys ≡ Refused (refusal 3 0)
+  pub outputs_unlike : (length xs ≡ length ys → ⊥) → outputs_check xs ys ≡ Err (refusal 3 0)
   unfolding outputs_check unless
   outputs_unlike e = rw (ne_eqb (length xs) (length ys) e)
 
-  pub places_alike : length xs ≡ length ys → places_check xs ys ≡ Fine
+  pub places_alike : length xs ≡ length ys → places_check xs ys ≡ Ok tt
   unfolding places_check unless
   places_alike e = rw (eq-eqb (length xs) (length ys) e)
 
-  pub places_unlike : (length xs ≡ length ys → ⊥) → places_check xs ys ≡ Refused (refusal 3 0)
+  pub places_unlike : (length xs ≡ length ys → ⊥) → places_check xs ys ≡ Err (refusal 3 0)
   unfolding places_check unless
   places_unlike e = rw (ne_eqb (length xs) (length ys) e)
 
 -- a batch that was made: its tests are those from the bookmark on
-module _ {ls : Lines} {g : Grid} {t : Tables} {b : ℕ} {fs ss fs' ss' : List ℕ} {a : Tally} (h : BatchIs ls g t b fs ss fs' ss' (batch.Done a)) where
+module _ {ls : Lines} {g : Grid} {t : Tables} {b : ℕ} {fs ss fs' ss' : List ℕ} {a : Tally} (h : BatchIs ls g t b fs ss fs' ss' (Ok a)) where
   rest_is : (ps : List Pair) → batch_tests ls g t b fs ss ≡ gives ps → batch_tests ls g t b fs ss ≡ gives (drop b (tests_of t))
   unfolding batch_tests tests_from
   rest_is ps e =
@@ -114,7 +109,7 @@ module _ {ls : Lines} {g : Grid} {t : Tables} {b : ℕ} {fs ss fs' ss' : List �
   unfolding batch_answer batch_of answer_by
   batch_given = go (batch_tests ls g t b fs ss) refl h.answers
     where
-      go : (o : Answer (List Pair)) → batch_tests ls g t b fs ss ≡ o → batch.Done a ≡ batch_of ls b (length fs) o → batch_tests ls g t b fs ss ≡ gives (drop b (tests_of t))
+      go : (o : Answer (List Pair)) → batch_tests ls g t b fs ss ≡ o → Ok a ≡ batch_of ls b (length fs) o → batch_tests ls g t b fs ss ≡ gives (drop b (tests_of t))
       go (refused r) e d = absurd (let z : ◌≡◌ {A = ℕ} 0 1 = cc in omega arith)
       go (gives ps) e d = rest_is ps e
 
@@ -122,11 +117,11 @@ module _ {ls : Lines} {g : Grid} {t : Tables} {b : ℕ} {fs ss fs' ss' : List �
   unfolding batch_answer batch_of answer_by
   tally_given = same (h.answers ∙ rw batch_given)
     where
-      same : {x y : Tally} → batch.Done x ≡ batch.Done y → x ≡ y
+      same : {x y : Tally} → ◌≡◌ {A = Result Tally Refusal} (Ok x) (Ok y) → x ≡ y
       same e = cc
 
 module _ (ls : Lines) (g : Grid) (t : Tables) (b : ℕ) (fs ss ps : List ℕ) where
-  none : (r : Refusal) → batch_tests ls g t b fs ss ≡ refused r → clears r.number ≡ false → BatchMade ls g t b fs ss ps fs ss ps (batch.Refused r)
+  none : (r : Refusal) → batch_tests ls g t b fs ss ≡ refused r → clears r.number ≡ false → BatchMade ls g t b fs ss ps fs ss ps (Err r)
   unfolding batch_answer batch_of pairs_left answer_by left_in
   none r e k =
       record {
@@ -134,16 +129,16 @@ module _ (ls : Lines) (g : Grid) (t : Tables) (b : ℕ) (fs ss ps : List ℕ) wh
         places_are = λ l. rw e (sym (left_same 0 r ps k));
       }
 
-  pub batch_unlike : (r : Refusal) → outputs_check fs ss ≡ Refused r → BatchMade ls g t b fs ss ps fs ss ps (batch.Refused r)
+  pub batch_unlike : (r : Refusal) → outputs_check fs ss ≡ Err r → BatchMade ls g t b fs ss ps fs ss ps (Err r)
   unfolding batch_tests outputs_check clears
   batch_unlike r e = none r (then_refused _ _ r e) ((clearing_unless _ 3 0 refl).says r e)
 
-  module _ (same : outputs_check fs ss ≡ Fine) where
+  module _ (same : outputs_check fs ss ≡ (Ok tt)) where
     tests : batch_tests ls g t b fs ss ≡ tests_from ls g t b
     unfolding batch_tests
     tests = then_fine _ _ same
 
-    pub batch_refused : (r : Refusal) → from_check ls g t b ≡ Refused r → BatchMade ls g t b fs ss ps fs ss ps (batch.Refused r)
+    pub batch_refused : (r : Refusal) → from_check ls g t b ≡ Err r → BatchMade ls g t b fs ss ps fs ss ps (Err r)
     batch_refused r e = none r (tests ∙ from_none ls g t b r e) ((from_spares ls g t b).says r e)
 
     module _ (c : Cursor) (k : CursorIs ls g t b c) (fs₁ ss₁ ps₁ : List ℕ) (r : Ran) (w : RanAll ls t c fs ss ps fs₁ ss₁ ps₁ r) where
@@ -181,7 +176,7 @@ module _ (ls : Lines) (g : Grid) (t : Tables) (b : ℕ) (fs ss ps : List ℕ) wh
       cleared xs ys out n e p l h = e ∙ rw (p, l, h)
 
       pub batch_done : (fs₂ ss₂ ps₂ : List ℕ) → fs₂ ≡ cleared_from r.hits fs₁ → ss₂ ≡ cleared_from r.hits ss₁ → ps₂ ≡ cleared_from r.hits ps₁
-          → BatchMade ls g t b fs ss ps fs₂ ss₂ ps₂ (batch.Done (record { tests = r.tests; overlaps = r.hits; bookmark = b + r.tests }))
+          → BatchMade ls g t b fs ss ps fs₂ ss₂ ps₂ (Ok (record { tests = r.tests; overlaps = r.hits; bookmark = b + r.tests }))
       unfolding batch_answer batch_of pairs_left answer_by left_in rest
       batch_done fs₂ ss₂ ps₂ p q o =
           record {
@@ -195,14 +190,14 @@ module _ (ls : Lines) (g : Grid) (t : Tables) (b : ℕ) (fs ss ps : List ℕ) wh
 
   -- ---- a batch with places: 3 where their slice has another length, and else the batch that was made
 
-  pub placed_unlike : (r : Refusal) → places_check fs ps ≡ Refused r → PlacedBatchIs ls g t b fs ss ps fs ss ps (batch.Refused r)
+  pub placed_unlike : (r : Refusal) → places_check fs ps ≡ Err r → PlacedBatchIs ls g t b fs ss ps fs ss ps (Err r)
   unfolding placed_tests places_check batch_of pairs_left answer_by left_in clears
   placed_unlike r e =
       let x : placed_tests ls g t b fs ss ps ≡ refused r = then_refused _ _ r e in
       let k : clears r.number ≡ false = (clearing_unless _ 3 0 refl).says r e in
       record { answers = rw x; first_is = rw x (sym (left_same 0 r fs k)); second_is = rw x (sym (left_same 0 r ss k)); places_are = rw x (sym (left_same 0 r ps k)) }
 
-  pub placed_made : places_check fs ps ≡ Fine → (fs' ss' ps' : List ℕ) (r : BatchAnswer) → BatchMade ls g t b fs ss ps fs' ss' ps' r → PlacedBatchIs ls g t b fs ss ps fs' ss' ps' r
+  pub placed_made : places_check fs ps ≡ (Ok tt) → (fs' ss' ps' : List ℕ) (r : (Result Tally Refusal)) → BatchMade ls g t b fs ss ps fs' ss' ps' r → PlacedBatchIs ls g t b fs ss ps fs' ss' ps' r
   unfolding placed_tests places_check batch_answer
   placed_made e fs' ss' ps' r m =
       let x : placed_tests ls g t b fs ss ps ≡ batch_tests ls g t b fs ss = then_fine _ _ e in
@@ -217,7 +212,7 @@ module _ (ls : Lines) (g : Grid) (offsets items globals : List ℕ) (m : ℕ) (b
   left : length (rest_of (beside ls g offsets items globals m) c) ≡ length (tests_of (beside ls g offsets items globals m)) - b
   left = ap length k.rest ∙ length-drop b (tests_of (beside ls g offsets items globals m))
 
-  pub run_asks : outputs_check fs ss ≡ Fine → RunAsks ls g (beside ls g offsets items globals m) c fs ss
+  pub run_asks : outputs_check fs ss ≡ (Ok tt) → RunAsks ls g (beside ls g offsets items globals m) c fs ss
   unfolding outputs_check
   run_asks e = record { ready = k.ready; same = sym (eqb-true (length fs) (length ss) (unless_fine _ _ _ e)); small = omega (arith, left, total) }
 

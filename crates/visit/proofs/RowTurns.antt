@@ -1,4 +1,5 @@
 -- A row: its tests one by one, and the turns of the two scans. Assumes nothing.
+use Rattle.std.specs.Prelude.{Some, None}
 use mathlib.Core.Path.{◌≡◌, refl, sym, ap, ◌∙◌}
 use mathlib.Core.Bool.{Bool, true, false}
 use mathlib.Core.List.{List, [], ◌∷◌, ◌++◌}
@@ -13,7 +14,6 @@ use Rattle.grid.specs.Domain.{Lines, segment_at}
 use Rattle.grid.specs.Boxes.{box_of, overlaps}
 use Rattle.seek.specs.declared.Place.{Place}
 use Rattle.visit.specs.declared.Test.{Test}
-use Rattle.visit.specs.declared.scan.Step.TheVariants as step
 use Rattle.visit.specs.declared.scan.Row.{Row}
 use Rattle.seek.specs.Tests.{Pair, pair, with_each}
 use Rattle.visit.specs.Overlap.{overlap}
@@ -32,11 +32,11 @@ unfolding overlap
 row_test ls row second a other o e m = rw (m, a.held, e)
 
 -- the head of a row, or its end
-pub next_end : (ls : Lines) (pl : Place) (a : ℕ) (xs : List ℕ) → xs ≡ [] → step.End ≡ next_step ls (with_each pl a xs)
+pub next_end : (ls : Lines) (pl : Place) (a : ℕ) (xs : List ℕ) → xs ≡ [] → None ≡ next_step ls (with_each pl a xs)
 unfolding next_step with_each
 next_end ls pl a xs e = rw e
 
-pub next_made : (ls : Lines) (pl : Place) (a b : ℕ) (xs bs : List ℕ) → xs ≡ b ∷ bs → step.Made (test_of ls (pair pl a b)) ≡ next_step ls (with_each pl a xs)
+pub next_made : (ls : Lines) (pl : Place) (a b : ℕ) (xs bs : List ℕ) → xs ≡ b ∷ bs → Some (test_of ls (pair pl a b)) ≡ next_step ls (with_each pl a xs)
 unfolding next_step with_each
 next_made ls pl a b xs bs e = rw e
 
@@ -50,16 +50,16 @@ numbers_some stop k h = rw (left_suc stop k h, add-one) (numbers_suc (stop - suc
 -- ---- a step, taken apart by what it is
 
 module _ (ls : Lines) (pl : Place) (a : ℕ) where
-  made_is : (t : Test) (ys : List ℕ) (b : ℕ) (bs : List ℕ) → ys ≡ b ∷ bs → step.Made t ≡ next_step ls (with_each pl a ys) → t ≡ test_of ls (pair pl a b)
+  made_is : (t : Test) (ys : List ℕ) (b : ℕ) (bs : List ℕ) → ys ≡ b ∷ bs → Some t ≡ next_step ls (with_each pl a ys) → t ≡ test_of ls (pair pl a b)
   made_is t ys b bs e m = let m₁ = m ∙ ap (λ (l : List ℕ). next_step ls (with_each pl a l)) e ∙ sym (next_made ls pl a b (b ∷ bs) bs refl) in cc
 
-  made_some : (t : Test) (ys : List ℕ) → step.Made t ≡ next_step ls (with_each pl a ys) → ys ≡ [] → ⊥
-  made_some t ys m e = let m₁ : step.Made t ≡ step.End = m ∙ sym (next_end ls pl a ys e) in let z : ◌≡◌ {A = ℕ} 0 1 = cc in omega arith
+  made_some : (t : Test) (ys : List ℕ) → Some t ≡ next_step ls (with_each pl a ys) → ys ≡ [] → ⊥
+  made_some t ys m e = let m₁ : Some t ≡ None = m ∙ sym (next_end ls pl a ys e) in let z : ◌≡◌ {A = ℕ} 0 1 = cc in omega arith
 
-  end_none : (ys : List ℕ) → step.End ≡ next_step ls (with_each pl a ys) → ys ≡ []
+  end_none : (ys : List ℕ) → None ≡ next_step ls (with_each pl a ys) → ys ≡ []
   end_none [] m = refl
   end_none (b ∷ bs) m =
-      let m₁ : step.End ≡ step.Made (test_of ls (pair pl a b)) = m ∙ sym (next_made ls pl a b (b ∷ bs) bs refl) in
+      let m₁ : None ≡ Some (test_of ls (pair pl a b)) = m ∙ sym (next_made ls pl a b (b ∷ bs) bs refl) in
       let z : ◌≡◌ {A = ℕ} 0 1 = cc in
       absurd (omega arith)
 
@@ -85,7 +85,7 @@ scanning_none ls row ys fs ss hits e h =
     }
 
 module _ (ls : Lines) (row : Row) (ys₀ ys : List ℕ) (steps : ℕ) (fs ss : List ℕ) (hits : ℕ) (fs' ss' : List ℕ) (hits' : ℕ) (s : Scanning ls row ys₀ ys steps fs ss hits fs' ss' hits')
-    (h : hits' < length fs) (b : ℕ) (bs : List ℕ) (e : ys ≡ b ∷ bs) (t : Test) (m : step.Made t ≡ next_step ls (with_each row.place row.first ys)) where
+    (h : hits' < length fs) (b : ℕ) (bs : List ℕ) (e : ys ≡ b ∷ bs) (t : Test) (m : Some t ≡ next_step ls (with_each row.place row.first ys)) where
   one : Pair
   one = pair row.place row.first b
 
@@ -146,7 +146,7 @@ list_scan ls row xs j fs ss hits a =
     }
 
 module _ (ls : Lines) (row : Row) (xs : List ℕ) (j₀ j : ℕ) (fs ss : List ℕ) (hits : ℕ) (fs' ss' : List ℕ) (hits' : ℕ) (s : ListScan ls row xs j₀ j fs ss hits fs' ss' hits') where
-  module _ (t : Test) (m : step.Made t ≡ next_step ls (with_each row.place row.first (drop j xs))) where
+  module _ (t : Test) (m : Some t ≡ next_step ls (with_each row.place row.first (drop j xs))) where
     pub list_some : j < length xs
     list_some = go (dec_lt j (length xs))
       where
@@ -195,7 +195,7 @@ module _ (ls : Lines) (row : Row) (xs : List ℕ) (j₀ j : ℕ) (fs ss : List �
       go h (no e) = omega (arith, s.from)
 
   -- the list is done
-  pub list_over : step.End ≡ next_step ls (with_each row.place row.first (drop j xs)) → InList ls row xs j₀ fs ss hits fs' ss' (record { j = j; hits = hits' })
+  pub list_over : None ≡ next_step ls (with_each row.place row.first (drop j xs)) → InList ls row xs j₀ fs ss hits fs' ss' (record { j = j; hits = hits' })
   list_over m =
       let z : length (drop j xs) ≡ 0 = ap length (end_none ls row.place row.first (drop j xs) m) in
       record {
@@ -223,7 +223,7 @@ lines_scan ls row k stop fs ss hits a =
     }
 
 module _ (ls : Lines) (row : Row) (stop k₀ k : ℕ) (fs ss : List ℕ) (hits : ℕ) (fs' ss' : List ℕ) (hits' : ℕ) (s : LinesScan ls row stop k₀ k fs ss hits fs' ss' hits') where
-  module _ (t : Test) (m : step.Made t ≡ next_step ls (with_each row.place row.first (numbers (stop - k) k))) where
+  module _ (t : Test) (m : Some t ≡ next_step ls (with_each row.place row.first (numbers (stop - k) k))) where
     pub lines_some : k < stop
     lines_some = go (dec_lt k stop)
       where
@@ -266,7 +266,7 @@ module _ (ls : Lines) (row : Row) (stop k₀ k : ℕ) (fs ss : List ℕ) (hits :
       go h (no e) = omega (arith, s.from)
 
   -- the run is done
-  pub lines_over : step.End ≡ next_step ls (with_each row.place row.first (numbers (stop - k) k)) → InLines ls row k₀ stop fs ss hits fs' ss' (record { k = k; hits = hits' })
+  pub lines_over : None ≡ next_step ls (with_each row.place row.first (numbers (stop - k) k)) → InLines ls row k₀ stop fs ss hits fs' ss' (record { k = k; hits = hits' })
   lines_over m =
       let z : length (numbers (stop - k) k) ≡ 0 = ap length (end_none ls row.place row.first (numbers (stop - k) k) m) in
       record {

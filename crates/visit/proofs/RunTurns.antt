@@ -1,4 +1,5 @@
 -- The scan of a row, and the turns of the runs through the cells and through the globals: a place is settled, its row is scanned. Assumes nothing.
+use Rattle.std.specs.Prelude.{Some, None, Option}
 use mathlib.Core.Path.{◌≡◌, refl, sym, ap, subst, ◌∙◌}
 use mathlib.Core.List.{List, [], ◌++◌, append-nil}
 use Prim.Native.Nat.{ℕ, suc, ◌+◌, ◌-◌, ◌≤◌, ◌<◌, ◌^◌}
@@ -11,9 +12,7 @@ use Rattle.tables.proofs.Facts.{part_slice}
 use Rattle.seek.specs.declared.Place.{Place}
 use Rattle.seek.specs.declared.Place.TheVariants.{Global}
 use Rattle.visit.specs.declared.cursor.CellAt.{CellAt}
-use Rattle.visit.specs.declared.cursor.CellAt.TheVariants as cellat
 use Rattle.visit.specs.declared.cursor.GlobalAt.{GlobalAt}
-use Rattle.visit.specs.declared.cursor.GlobalAt.TheVariants as globalat
 use Rattle.visit.specs.declared.scan.Row.{Row}
 use Rattle.visit.specs.declared.scan.ListEnd.{ListEnd}
 use Rattle.visit.specs.declared.scan.LinesEnd.{LinesEnd}
@@ -29,10 +28,10 @@ use Rattle.visit.proofs.Moves.{moved_none, moved_then}
 use Rattle.visit.proofs.Placing.{number_of_cell, placed_none, placed_then, placed_row}
 
 -- what was found, where it is a place
-pub cell_at : {m : ℕ} {offsets items : List ℕ} {cell i j a b d from to : ℕ} {r : CellAt} → r ≡ cellat.At a b d from to → CellFound m offsets items cell i j r → CellIs m offsets items cell i j a b d from to
+pub cell_at : {m : ℕ} {offsets items : List ℕ} {cell i j : ℕ} {a : CellAt} {r : Option CellAt} → r ≡ Some a → CellFound m offsets items cell i j r → CellIs m offsets items cell i j a.cell a.i a.j a.from a.to
 cell_at {m} {offsets} {items} {cell} {i} {j} e f = subst (CellFound m offsets items cell i j) e f
 
-pub global_at : {n m : ℕ} {globals : List ℕ} {p q k a b d stop : ℕ} {r : GlobalAt} → r ≡ globalat.At a b d stop → GlobalFound n m globals p q k r → GlobalIs n m globals p q k a b d stop
+pub global_at : {n m : ℕ} {globals : List ℕ} {p q k : ℕ} {a : GlobalAt} {r : Option GlobalAt} → r ≡ Some a → GlobalFound n m globals p q k r → GlobalIs n m globals p q k a.p a.q a.k a.stop
 global_at {n} {m} {globals} {p} {q} {k} e f = subst (GlobalFound n m globals p q k) e f
 
 -- ---- a row of a cell's list, which is a part of the items
@@ -89,7 +88,7 @@ module _ {ls : Lines} {cols m : ℕ} {offsets items : List ℕ} {cell₀ i₀ j�
   pub cells_full : length fs' ≤ hits → CellsRan ls cols m offsets items cell₀ i₀ j₀ fs ss ps fs' ss' ps' (record { tests = tests; hits = hits })
   cells_full h = record { rest = cells_rest cols offsets items (m - cell) cell i j; moved = s.moved; placed = s.placed; ends = λ l. absurd (omega (arith, first_long)) }
 
-  pub cells_over : {r : CellAt} → r ≡ cellat.Past → CellFound m offsets items cell i j r → CellsRan ls cols m offsets items cell₀ i₀ j₀ fs ss ps fs' ss' ps' (record { tests = tests; hits = hits })
+  pub cells_over : {r : (Option CellAt)} → r ≡ None → CellFound m offsets items cell i j r → CellsRan ls cols m offsets items cell₀ i₀ j₀ fs ss ps fs' ss' ps' (record { tests = tests; hits = hits })
   cells_over e f = record { rest = cells_rest cols offsets items (m - cell) cell i j; moved = s.moved; placed = s.placed; ends = λ l. subst (CellFound m offsets items cell i j) e f cols }
 
   module _ {a b d from to : ℕ} (f : CellIs m offsets items cell i j a b d from to) where
@@ -195,7 +194,7 @@ module _ {ls : Lines} {cells m : ℕ} {globals : List ℕ} {p₀ q₀ k₀ : ℕ
   pub globals_full : length fs' ≤ hits → GlobalsRan ls cells m globals p₀ k₀ fs ss ps hits₀ fs' ss' ps' (record { tests = tests; hits = hits })
   globals_full h = record { rest = globals_rest (count ls) globals (m - p) p k; moved = s.moved; placed = s.placed; ends = λ l. absurd (omega (arith, firsts_long)) }
 
-  pub globals_over : {r : GlobalAt} → r ≡ globalat.Past → GlobalFound (count ls) m globals p q k r → GlobalsRan ls cells m globals p₀ k₀ fs ss ps hits₀ fs' ss' ps' (record { tests = tests; hits = hits })
+  pub globals_over : {r : (Option GlobalAt)} → r ≡ None → GlobalFound (count ls) m globals p q k r → GlobalsRan ls cells m globals p₀ k₀ fs ss ps hits₀ fs' ss' ps' (record { tests = tests; hits = hits })
   globals_over e f = record { rest = globals_rest (count ls) globals (m - p) p k; moved = s.moved; placed = s.placed; ends = λ l. subst (GlobalFound (count ls) m globals p q k) e f }
 
   module _ {a b d stop : ℕ} (f : GlobalIs (count ls) m globals p q k a b d stop) where

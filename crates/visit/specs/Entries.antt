@@ -1,7 +1,8 @@
 -- What the entries of a visit answer: one test by its bookmark, and a batch from a bookmark, without and with the places of its pairs.
 -- Definitions only.
-use Rattle.std.specs.Prelude.{ℕ, ◌+◌, ◌≡◌, List, [], ◌∷◌, length, eqb}
-use Rattle.refusals.specs.declared.Check.{Check}
+use Rattle.std.specs.Prelude.{Ok, Err, Some, None, Result, Option, ℕ, ◌+◌, ◌≡◌, List, [], ◌∷◌, length, eqb}
+use Rattle.refusals.specs.declared.Refusal.{Refusal}
+use Rattle.refusals.specs.Refusals.{Check}
 use Rattle.refusals.specs.Refusals.{unless, Answer, ◌then◌, answer_by, left_in, zero_beyond}
 use Rattle.grid.specs.declared.Grid.{Grid}
 use Rattle.grid.specs.Domain.{Lines}
@@ -10,11 +11,7 @@ use Rattle.seek.specs.Tests.{Pair}
 use Rattle.visit.specs.Places.{number_of}
 use Rattle.seek.specs.Bookmarks.{tests_from}
 use Rattle.visit.specs.declared.Test.{Test}
-use Rattle.visit.specs.declared.TestAnswer.{TestAnswer}
-use Rattle.visit.specs.declared.TestAnswer.TheVariants as answer
 use Rattle.visit.specs.declared.Tally.{Tally}
-use Rattle.visit.specs.declared.BatchAnswer.{BatchAnswer}
-use Rattle.visit.specs.declared.BatchAnswer.TheVariants as batch
 use Rattle.visit.specs.Overlap.{overlap}
 use Rattle.visit.specs.Batches.{made, handed, firsts, seconds, place_numbers}
 
@@ -31,12 +28,12 @@ abbrev pub test_of : Lines → Pair → Test
 test_of ls p = record { place = p.place; first = p.first; second = p.second; overlap = overlap ls p.first p.second }
 
 -- the first of the tests that are left, or the end mark
-unfoldable pub next_test : Lines → List Pair → TestAnswer
-next_test ls [] = answer.End
-next_test ls (p ∷ ps) = answer.Made (test_of ls p)
+unfoldable pub next_test : Lines → List Pair → (Result (Option Test) Refusal)
+next_test ls [] = Ok None
+next_test ls (p ∷ ps) = Ok (Some (test_of ls p))
 
-unfoldable pub test_at : Lines → Grid → Tables → ℕ → TestAnswer
-test_at ls g t b = answer_by answer.Refused (next_test ls) (tests_from ls g t b)
+unfoldable pub test_at : Lines → Grid → Tables → ℕ → (Result (Option Test) Refusal)
+test_at ls g t b = answer_by Err (next_test ls) (tests_from ls g t b)
 
 -- ---- a batch
 
@@ -49,10 +46,10 @@ abbrev pub tally_of : Lines → List Pair → ℕ → ℕ → Tally
 tally_of ls rest b room =
     record { tests = length (made ls rest room); overlaps = length (handed ls rest room); bookmark = b + length (made ls rest room) }
 
-unfoldable pub batch_of : Lines → ℕ → ℕ → Answer (List Pair) → BatchAnswer
-batch_of ls b room rest = answer_by batch.Refused (λ ps. batch.Done (tally_of ls ps b room)) rest
+unfoldable pub batch_of : Lines → ℕ → ℕ → Answer (List Pair) → (Result Tally Refusal)
+batch_of ls b room rest = answer_by Err (λ ps. Ok (tally_of ls ps b room)) rest
 
-unfoldable pub batch_answer : Lines → Grid → Tables → ℕ → List ℕ → List ℕ → BatchAnswer
+unfoldable pub batch_answer : Lines → Grid → Tables → ℕ → List ℕ → List ℕ → (Result Tally Refusal)
 batch_answer ls g t b first second = batch_of ls b (length first) (batch_tests ls g t b first second)
 
 -- what an output holds afterwards: one side of the pairs that overlap
@@ -60,7 +57,7 @@ unfoldable pub pairs_left : Lines → ℕ → (List Pair → List ℕ) → Answe
 pairs_left ls room side rest was = left_in 0 was rest (λ ps. zero_beyond 0 (length was) (side (handed ls ps room)))
 
 -- the answer r, and the two outputs before and after
-pub record BatchIs (ls : Lines) (g : Grid) (t : Tables) (b : ℕ) (first second first' second' : List ℕ) (r : BatchAnswer) : Type 0 where
+pub record BatchIs (ls : Lines) (g : Grid) (t : Tables) (b : ℕ) (first second first' second' : List ℕ) (r : (Result Tally Refusal)) : Type 0 where
   pub answers : r ≡ batch_answer ls g t b first second
   pub first_is : first' ≡ pairs_left ls (length first) firsts (batch_tests ls g t b first second) first
   pub second_is : second' ≡ pairs_left ls (length first) seconds (batch_tests ls g t b first second) second
@@ -75,7 +72,7 @@ unfoldable pub placed_tests : Lines → Grid → Tables → ℕ → List ℕ →
 placed_tests ls g t b first second places = places_check first places then batch_tests ls g t b first second
 
 -- the answer r, the two outputs and the places before and after: all as a batch leaves it, and beside each pair the number of its place
-pub record PlacedBatchIs (ls : Lines) (g : Grid) (t : Tables) (b : ℕ) (first second places first' second' places' : List ℕ) (r : BatchAnswer) : Type 0 where
+pub record PlacedBatchIs (ls : Lines) (g : Grid) (t : Tables) (b : ℕ) (first second places first' second' places' : List ℕ) (r : (Result Tally Refusal)) : Type 0 where
   pub answers : r ≡ batch_of ls b (length first) (placed_tests ls g t b first second places)
   pub first_is : first' ≡ pairs_left ls (length first) firsts (placed_tests ls g t b first second places) first
   pub second_is : second' ≡ pairs_left ls (length first) seconds (placed_tests ls g t b first second places) second

@@ -1,7 +1,9 @@
 -- What the private functions promise. Definitions only.
-use Rattle.std.specs.Prelude.{ℕ, suc, ◌+◌, ◌-◌, ◌≤◌, ◌<◌, ◌^◌, ◌≡◌, List, [], ◌∷◌, ◌++◌, length, get_or, take, drop, replicate}
+use Rattle.std.specs.Prelude.{Ok, Some, None, Result, Option, ℕ, suc, ◌+◌, ◌-◌, ◌≤◌, ◌<◌, ◌^◌, ◌≡◌, List, [], ◌∷◌, ◌++◌, length, get_or, take, drop, replicate}
+use Rattle.refusals.specs.declared.Refusal.{Refusal}
+use Rattle.visit.specs.declared.Test.{Test}
+use Rattle.visit.specs.declared.Tally.{Tally}
 use Rattle.slices.specs.Lists.{Below}
-use Rattle.refusals.specs.declared.Check.TheVariants.{Fine}
 use Rattle.grid.specs.declared.Grid.{Grid}
 use Rattle.grid.specs.Domain.{Lines, count, segment_at, lines_check}
 use Rattle.grid.specs.Boxes.{box_of}
@@ -15,16 +17,11 @@ use Rattle.seek.specs.Cursors.{cells_rest, globals_rest, rest_of, PlaceFits, Lin
 use Rattle.tables.specs.InsideFit.{CellsFit, GlobalsFit}
 use Rattle.seek.specs.Inside.{numbers, stop_of}
 use Rattle.visit.specs.declared.cursor.CellAt.{CellAt}
-use Rattle.visit.specs.declared.cursor.CellAt.TheVariants as cellat
 use Rattle.visit.specs.declared.cursor.GlobalAt.{GlobalAt}
-use Rattle.visit.specs.declared.cursor.GlobalAt.TheVariants as globalat
 use Rattle.visit.specs.declared.scan.Row.{Row}
-use Rattle.visit.specs.declared.scan.Step.{Step}
-use Rattle.visit.specs.declared.scan.Step.TheVariants as step
 use Rattle.visit.specs.declared.scan.ListEnd.{ListEnd}
 use Rattle.visit.specs.declared.scan.LinesEnd.{LinesEnd}
 use Rattle.visit.specs.declared.scan.Ran.{Ran}
-use Rattle.visit.specs.declared.BatchAnswer.{BatchAnswer}
 use Rattle.visit.specs.Batches.{made, handed, firsts, seconds, place_numbers}
 use Rattle.visit.specs.Entries.{test_of, batch_tests, pairs_left, BatchIs}
 
@@ -32,7 +29,7 @@ use Rattle.visit.specs.Entries.{test_of, batch_tests, pairs_left, BatchIs}
 
 -- lines that pass their checks, and one of them
 pub record LineAsks (ls : Lines) (i : ℕ) : Type 0 where
-  pub fine : lines_check ls ≡ Fine
+  pub fine : lines_check ls ≡ Ok tt
   pub one : i < count ls
 
 -- ---- places in the cells
@@ -50,9 +47,9 @@ pub record CellIs (m : ℕ) (offsets items : List ℕ) (cell i j cell' i' j' fro
   pub ends : to ≡ get_or offsets (suc cell') 0
   pub one : j' < to - from
 
-abbrev pub CellFound : ℕ → List ℕ → List ℕ → ℕ → ℕ → ℕ → CellAt → Type 0
-CellFound m offsets items cell i j (cellat.At c a b from to) = CellIs m offsets items cell i j c a b from to
-CellFound m offsets items cell i j cellat.Past = (cols : ℕ) → cells_rest cols offsets items (m - cell) cell i j ≡ []
+abbrev pub CellFound : ℕ → List ℕ → List ℕ → ℕ → ℕ → ℕ → (Option CellAt) → Type 0
+CellFound m offsets items cell i j (Some a) = CellIs m offsets items cell i j a.cell a.i a.j a.from a.to
+CellFound m offsets items cell i j None = (cols : ℕ) → cells_rest cols offsets items (m - cell) cell i j ≡ []
 
 -- ---- places among the globals
 
@@ -71,9 +68,9 @@ pub record GlobalIs (n m : ℕ) (globals : List ℕ) (p q k p' q' k' stop : ℕ)
   pub one : k' < stop
   pub stops : stop ≡ stop_of n globals p' q'
 
-abbrev pub GlobalFound : ℕ → ℕ → List ℕ → ℕ → ℕ → ℕ → GlobalAt → Type 0
-GlobalFound n m globals p q k (globalat.At a b d e) = GlobalIs n m globals p q k a b d e
-GlobalFound n m globals p q k globalat.Past = globals_rest n globals (m - p) p k ≡ []
+abbrev pub GlobalFound : ℕ → ℕ → List ℕ → ℕ → ℕ → ℕ → (Option GlobalAt) → Type 0
+GlobalFound n m globals p q k (Some a) = GlobalIs n m globals p q k a.p a.q a.k a.stop
+GlobalFound n m globals p q k None = globals_rest n globals (m - p) p k ≡ []
 
 -- ---- rows
 
@@ -82,13 +79,13 @@ row_of ls pl a = record { place = pl; first = a; bounds = box_of (segment_at ls 
 
 -- a row holds its first line's box
 pub record RowAsks (ls : Lines) (row : Row) : Type 0 where
-  pub fine : lines_check ls ≡ Fine
+  pub fine : lines_check ls ≡ Ok tt
   pub held : row.bounds ≡ box_of (segment_at ls row.first)
 
 -- the first of the tests that are left, or the end mark
-unfoldable pub next_step : Lines → List Pair → Step
-next_step ls [] = step.End
-next_step ls (p ∷ ps) = step.Made (test_of ls p)
+unfoldable pub next_step : Lines → List Pair → (Option Test)
+next_step ls [] = None
+next_step ls (p ∷ ps) = Some (test_of ls p)
 
 pub record TestAsks (ls : Lines) (row : Row) (second : ℕ) : Type 0 where
   pub row_fits : RowAsks ls row
@@ -177,7 +174,7 @@ part xs from to = take (to - from) (drop from xs)
 
 -- a list as a part of the items, and two of its entries
 pub record CellRowAsks (ls : Lines) (cols cell : ℕ) (items : List ℕ) (from to i j : ℕ) (fs ss : List ℕ) (hits : ℕ) : Type 0 where
-  pub fine : lines_check ls ≡ Fine
+  pub fine : lines_check ls ≡ Ok tt
   pub wide : 0 < cols
   pub few : cell < 2 ^ 32
   pub rises : from ≤ to
@@ -214,7 +211,7 @@ pub record RunAsks (ls : Lines) (g : Grid) (t : Tables) (c : Cursor) (fs ss : Li
 
 -- m cells in rows of `cols`, and a place in them
 pub record CellsAsk (ls : Lines) (cols m : ℕ) (offsets items : List ℕ) (cell i j : ℕ) (fs ss : List ℕ) : Type 0 where
-  pub fine : lines_check ls ≡ Fine
+  pub fine : lines_check ls ≡ Ok tt
   pub table : CellsFit m offsets items
   pub below : (c : ℕ) → c < m → Below (count ls) (list_in offsets items c)
   pub wide : 0 < m → 0 < cols
@@ -232,7 +229,7 @@ pub record CellsRan (ls : Lines) (cols m : ℕ) (offsets items : List ℕ) (cell
 
 -- m globals after `cells` cells, and a place among them
 pub record GlobalsAsk (ls : Lines) (cells m : ℕ) (globals : List ℕ) (p q k : ℕ) (fs ss : List ℕ) (hits : ℕ) : Type 0 where
-  pub fine : lines_check ls ≡ Fine
+  pub fine : lines_check ls ≡ Ok tt
   pub place : GlobalAsks (count ls) m globals p q k
   pub outputs : OutputsAsk fs ss hits
   pub small : length (globals_rest (count ls) globals (m - p) p k) < 2 ^ 64
@@ -258,6 +255,6 @@ pub record RanAll (ls : Lines) (t : Tables) (c : Cursor) (fs ss ps fs' ss' ps' :
   pub place_long : length ps' ≡ length ps
 
 -- what both batches make: a batch, and the places of its pairs in a slice that is as long as the outputs
-pub record BatchMade (ls : Lines) (g : Grid) (t : Tables) (b : ℕ) (first second places first' second' places' : List ℕ) (r : BatchAnswer) : Type 0 where
+pub record BatchMade (ls : Lines) (g : Grid) (t : Tables) (b : ℕ) (first second places first' second' places' : List ℕ) (r : (Result Tally Refusal)) : Type 0 where
   pub is : BatchIs ls g t b first second first' second' r
   pub places_are : length places ≡ length first → places' ≡ pairs_left ls (length first) (place_numbers (number_of t)) (batch_tests ls g t b first second) places

@@ -5,26 +5,20 @@ ghost use Rattle.visit.specs.Inside.{CellAsks, CellFound, GlobalAsks, GlobalFoun
 
 // A pair of a cell's list, and where the list stands in the items.
 #[derive(Clone, Copy)]
-pub(crate) enum CellAt {
-    At {
-        cell: usize,
-        i: usize,
-        j: usize,
-        from: usize,
-        to: usize,
-    },
-    Past,
+pub(crate) struct CellAt {
+    pub cell: usize,
+    pub i: usize,
+    pub j: usize,
+    pub from: usize,
+    pub to: usize,
 }
 
 #[derive(Clone, Copy)]
-pub(crate) enum GlobalAt {
-    At {
-        p: usize,
-        q: usize,
-        k: u32,
-        stop: u32,
-    },
-    Past,
+pub(crate) struct GlobalAt {
+    pub p: usize,
+    pub q: usize,
+    pub k: u32,
+    pub stop: u32,
 }
 
 // The next pair of the cells' lists, from a place on: a row that is done, and lists that are done, are passed over.
@@ -32,42 +26,41 @@ pub(crate) fn settle_cell(
     cells: usize,
     offsets: &[u32],
     items: &[u32],
-    mut cell: usize,
+    cell: usize,
     mut i: usize,
     mut j: usize,
-) -> CellAt
+) -> Option<CellAt>
     requires { CellAsks cells offsets.now items.now cell i j }
     ensures { CellFound cells offsets.now items.now cell i j result }
 {
-    while cell < cells {
-        let from = offsets[cell] as usize;
-        let to = offsets[cell + 1] as usize;
+    for c in cell..cells {
+        let from = offsets[c] as usize;
+        let to = offsets[c + 1] as usize;
         let len = to - from;
         if j < len {
-            return CellAt::At {
-                cell,
+            return Some(CellAt {
+                cell: c,
                 i,
                 j,
                 from,
                 to,
-            };
+            });
         }
         let next = i + 1;
         let after = i + 2;
         if after < len {
-            return CellAt::At {
-                cell,
+            return Some(CellAt {
+                cell: c,
                 i: next,
                 j: after,
                 from,
                 to,
-            };
+            });
         }
-        cell = cell + 1;
         i = 0;
         j = 1;
     }
-    CellAt::Past
+    None
 }
 
 // The line that the next global stands at, or the number of lines where none is left to pass over.
@@ -89,14 +82,15 @@ pub(crate) fn settle_global(
     mut p: usize,
     mut q: usize,
     mut k: u32,
-) -> GlobalAt
+) -> Option<GlobalAt>
     requires { GlobalAsks lines count globals.now p q k }
     ensures { GlobalFound lines count globals.now p q k result }
 {
+    // Each step goes to the next q or, once q is beyond p, to the next p.
     while p < count {
         let stop = stop_at(lines, globals, p, q);
         if k < stop {
-            return GlobalAt::At { p, q, k, stop };
+            return Some(GlobalAt { p, q, k, stop });
         }
         if q <= p {
             q = q + 1;
@@ -107,5 +101,5 @@ pub(crate) fn settle_global(
             k = 0;
         }
     }
-    GlobalAt::Past
+    None
 }

@@ -1,7 +1,6 @@
 // A visit of standing tables: one test by its bookmark, and batches of tests from a bookmark.
 #![tactic(auto)]
 
-use refusals::Refusal;
 use seek::Place;
 
 mod boxes;
@@ -18,24 +17,10 @@ pub struct Test {
     pub overlap: bool,
 }
 
-// What a bookmark stands at: a test, the end mark, or a refusal.
-#[derive(Clone, Copy)]
-pub enum TestAnswer {
-    Made(Test),
-    End,
-    Refused(Refusal),
-}
-
 // What a batch did: the tests made, the overlaps among them, and the new bookmark.
 #[derive(Clone, Copy)]
 pub struct Tally {
     pub tests: u64,
     pub overlaps: u64,
     pub bookmark: u64,
-}
-
-#[derive(Clone, Copy)]
-pub enum BatchAnswer {
-    Done(Tally),
-    Refused(Refusal),
 }

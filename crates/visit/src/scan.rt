@@ -7,7 +7,6 @@ ghost use Rattle.visit.specs.Entries.{test_of};
 ghost use Rattle.seek.specs.Inside.{numbers};
 ghost use Rattle.visit.specs.Inside.{LineAsks, row_of, next_step, TestAsks, TestInAsks, TestBeforeAsks, ListAsks, InList, LinesAsk, InLines, PutIs, part, CellRowAsks, InCellRow, GlobalRowAsks, InGlobalRow, CellsAsk, CellsRan, GlobalsAsk, GlobalsRan};
 
-use crate::cursor::{CellAt, GlobalAt};
 use crate::{Test, boxes, cursor};
 use grid::Box;
 use seek::Place;
@@ -18,13 +17,6 @@ pub(crate) struct Row {
     pub place: Place,
     pub first: u32,
     pub bounds: Box,
-}
-
-// One test, or the end mark.
-#[derive(Clone, Copy)]
-pub(crate) enum Step {
-    Made(Test),
-    End,
 }
 
 #[derive(Clone, Copy)]
@@ -108,15 +100,15 @@ fn test_in(
     start_y: &[f64],
     end_x: &[f64],
     end_y: &[f64],
-) -> Step
+) -> Option<Test>
     requires { TestInAsks (lines start_x.now start_y.now end_x.now end_y.now) row list.now }
     ensures { let ls = lines start_x.now start_y.now end_x.now end_y.now in
         result ≡ next_step ls (with_each row.place row.first (drop j list.now)) }
 {
     if list.len() <= j {
-        return Step::End;
+        return None;
     }
-    Step::Made(test_with(row, list[j], start_x, start_y, end_x, end_y))
+    Some(test_with(row, list[j], start_x, start_y, end_x, end_y))
 }
 
 // The test with line k, or the end mark from `stop` on.
@@ -128,15 +120,15 @@ fn test_before(
     start_y: &[f64],
     end_x: &[f64],
     end_y: &[f64],
-) -> Step
+) -> Option<Test>
     requires { TestBeforeAsks (lines start_x.now start_y.now end_x.now end_y.now) row stop }
     ensures { let ls = lines start_x.now start_y.now end_x.now end_y.now in
         result ≡ next_step ls (with_each row.place row.first (numbers (stop - k) k)) }
 {
     if stop <= k {
-        return Step::End;
+        return None;
     }
-    Step::Made(test_with(row, k, start_x, start_y, end_x, end_y))
+    Some(test_with(row, k, start_x, start_y, end_x, end_y))
 }
 
 // The row of a list from its entry j on. Each pair is written; one that does not overlap is written over.
@@ -157,7 +149,7 @@ fn scan_list(
         InList ls row list.now j first.old second.old hits first.new second.new result }
 {
     while hits < first.len() {
-        let Step::Made(test) = test_in(list, j, row, start_x, start_y, end_x, end_y) else {
+        let Some(test) = test_in(list, j, row, start_x, start_y, end_x, end_y) else {
             break;
         };
         first[hits] = test.first;
@@ -188,7 +180,7 @@ fn scan_lines(
         InLines ls row k stop first.old second.old hits first.new second.new result }
 {
     while hits < first.len() {
-        let Step::Made(test) = test_before(stop, k, row, start_x, start_y, end_x, end_y) else {
+        let Some(test) = test_before(stop, k, row, start_x, start_y, end_x, end_y) else {
             break;
         };
         first[hits] = test.first;
@@ -203,15 +195,14 @@ fn scan_lines(
 
 // The number of a row's place, beside each pair that it handed out. A slice that ends before is left alone: a batch without places lends an
 // empty one.
-fn put_places(places: &mut [u32], mut from: usize, to: usize, number: u32)
+fn put_places(places: &mut [u32], from: usize, to: usize, number: u32)
     ensures { PutIs places.old «from» to number places.new }
 {
     if places.len() < to {
         return;
     }
-    while from < to {
-        places[from] = number;
-        from = from + 1;
+    for i in from..to {
+        places[i] = number;
     }
 }
 
@@ -316,24 +307,17 @@ pub(crate) fn run_cells(
     let mut tests: u64 = 0;
     let mut hits: usize = 0;
     while hits < first.len() {
-        let CellAt::At {
-            cell: c,
-            i: a,
-            j: b,
-            from,
-            to,
-        } = cursor::settle_cell(cells, offsets, items, cell, i, j)
-        else {
+        let Some(next) = cursor::settle_cell(cells, offsets, items, cell, i, j) else {
             break;
         };
         let end = scan_cell_row(
-            cols, c, items, from, to, a, b, start_x, start_y, end_x, end_y, first, second, places,
-            hits,
+            cols, next.cell, items, next.from, next.to, next.i, next.j, start_x, start_y, end_x,
+            end_y, first, second, places, hits,
         );
-        tests = tests + ((end.j - b) as u64);
+        tests = tests + ((end.j - next.j) as u64);
         hits = end.hits;
-        cell = c;
-        i = a;
+        cell = next.cell;
+        i = next.i;
         j = end.j;
     }
     Ran { tests, hits }
@@ -366,22 +350,17 @@ pub(crate) fn run_globals(
     let n = start_x.len() as u32;
     let mut tests: u64 = 0;
     while hits < first.len() {
-        let GlobalAt::At {
-            p: a,
-            q: b,
-            k: d,
-            stop,
-        } = cursor::settle_global(n, count, globals, p, q, k)
-        else {
+        let Some(next) = cursor::settle_global(n, count, globals, p, q, k) else {
             break;
         };
         let end = scan_global_row(
-            cells, globals, a, d, stop, start_x, start_y, end_x, end_y, first, second, places, hits,
+            cells, globals, next.p, next.k, next.stop, start_x, start_y, end_x, end_y, first,
+            second, places, hits,
         );
-        tests = tests + ((end.k - d) as u64);
+        tests = tests + ((end.k - next.k) as u64);
         hits = end.hits;
-        p = a;
-        q = b;
+        p = next.p;
+        q = next.q;
         k = end.k;
     }
     Ran { tests, hits }

@@ -7,10 +7,9 @@ ghost use Rattle.seek.specs.Bookmarks.{visit_check};
 ghost use Rattle.visit.specs.Entries.{test_at, BatchIs, PlacedBatchIs};
 ghost use Rattle.visit.specs.Inside.{BatchMade};
 
-use crate::{BatchAnswer, Tally, TestAnswer, scan};
+use crate::{Tally, Test, scan};
 use grid::Grid;
 use refusals::Refusal;
-use seek::{PairAnswer, SeekAnswer};
 
 // The test that stands at a bookmark, or the end mark at the total.
 pub fn test_at(
@@ -24,7 +23,7 @@ pub fn test_at(
     globals: &[u32],
     global_count: usize,
     bookmark: u64,
-) -> TestAnswer
+) -> Result<Option<Test>, Refusal>
     ensures { let ls = lines start_x.now start_y.now end_x.now end_y.now in
         let t = beside ls grid offsets.now items.now globals.now global_count in
         result ≡ test_at ls grid t bookmark }
@@ -40,19 +39,12 @@ pub fn test_at(
         globals,
         global_count,
         bookmark,
-    );
-    match pair {
-        PairAnswer::Refused(r) => TestAnswer::Refused(r),
-        PairAnswer::End => TestAnswer::End,
-        PairAnswer::Made {
-            place,
-            first,
-            second,
-        } => {
-            let row = scan::row_of(place, first, start_x, start_y, end_x, end_y);
-            TestAnswer::Made(scan::test_with(row, second, start_x, start_y, end_x, end_y))
-        }
-    }
+    )?;
+    let Some(found) = pair else {
+        return Ok(None);
+    };
+    let row = scan::row_of(found.place, found.first, start_x, start_y, end_x, end_y);
+    Ok(Some(scan::test_with(row, found.second, start_x, start_y, end_x, end_y)))
 }
 
 // What both batches do: the tests from a bookmark on, of the cells and then of the globals, until the outputs are full or the end comes. The places are written where their slice is
@@ -71,18 +63,18 @@ fn make_batch(
     first: &mut [u32],
     second: &mut [u32],
     places: &mut [u32],
-) -> BatchAnswer
+) -> Result<Tally, Refusal>
     ensures { let ls = lines start_x.now start_y.now end_x.now end_y.now in
         let t = beside ls grid offsets.now items.now globals.now global_count in
         BatchMade ls grid t bookmark first.old second.old places.old first.new second.new places.new result }
 {
     if first.len() != second.len() {
-        return BatchAnswer::Refused(Refusal {
+        return Err(Refusal {
             number: 3,
             value: 0,
         });
     }
-    let found = seek::bookmarks::find(
+    let cursor = seek::bookmarks::find(
         start_x,
         start_y,
         end_x,
@@ -93,55 +85,50 @@ fn make_batch(
         globals,
         global_count,
         bookmark,
+    )?;
+    let cells = grid.rows as usize * grid.cols as usize;
+    let listed = scan::run_cells(
+        grid.cols,
+        cells,
+        offsets,
+        items,
+        cursor.cell,
+        cursor.i,
+        cursor.j,
+        start_x,
+        start_y,
+        end_x,
+        end_y,
+        first,
+        second,
+        places,
     );
-    match found {
-        SeekAnswer::Refused(r) => BatchAnswer::Refused(r),
-        SeekAnswer::At(cursor) => {
-            let cells = grid.rows as usize * grid.cols as usize;
-            let listed = scan::run_cells(
-                grid.cols,
-                cells,
-                offsets,
-                items,
-                cursor.cell,
-                cursor.i,
-                cursor.j,
-                start_x,
-                start_y,
-                end_x,
-                end_y,
-                first,
-                second,
-                places,
-            );
-            let global = scan::run_globals(
-                cells,
-                globals,
-                global_count,
-                cursor.p,
-                cursor.q,
-                cursor.k,
-                start_x,
-                start_y,
-                end_x,
-                end_y,
-                first,
-                second,
-                places,
-                listed.hits,
-            );
-            let hits = global.hits;
-            slices::clear_from(first, hits);
-            slices::clear_from(second, hits);
-            slices::clear_from(places, hits);
-            let made = listed.tests + global.tests;
-            BatchAnswer::Done(Tally {
-                tests: made,
-                overlaps: hits as u64,
-                bookmark: bookmark + made,
-            })
-        }
-    }
+    let global = scan::run_globals(
+        cells,
+        globals,
+        global_count,
+        cursor.p,
+        cursor.q,
+        cursor.k,
+        start_x,
+        start_y,
+        end_x,
+        end_y,
+        first,
+        second,
+        places,
+        listed.hits,
+    );
+    let hits = global.hits;
+    slices::clear_from(first, hits);
+    slices::clear_from(second, hits);
+    slices::clear_from(places, hits);
+    let made = listed.tests + global.tests;
+    Ok(Tally {
+        tests: made,
+        overlaps: hits as u64,
+        bookmark: bookmark + made,
+    })
 }
 
 // The tests from a bookmark on, until the outputs are full or the end comes: the pairs that overlap, with zero beyond them.
@@ -158,7 +145,7 @@ pub fn batch(
     bookmark: u64,
     first: &mut [u32],
     second: &mut [u32],
-) -> BatchAnswer
+) -> Result<Tally, Refusal>
     ensures { let ls = lines start_x.now start_y.now end_x.now end_y.now in
         let t = beside ls grid offsets.now items.now globals.now global_count in
         BatchIs ls grid t bookmark first.old second.old first.new second.new result }
@@ -197,13 +184,13 @@ pub fn batch_with_places(
     first: &mut [u32],
     second: &mut [u32],
     places: &mut [u32],
-) -> BatchAnswer
+) -> Result<Tally, Refusal>
     ensures { let ls = lines start_x.now start_y.now end_x.now end_y.now in
         let t = beside ls grid offsets.now items.now globals.now global_count in
         PlacedBatchIs ls grid t bookmark first.old second.old places.old first.new second.new places.new result }
 {
     if first.len() != places.len() {
-        return BatchAnswer::Refused(Refusal {
+        return Err(Refusal {
             number: 3,
             value: 0,
         });

@@ -1,4 +1,6 @@
 -- The whole answer from its parts. Assumes nothing.
+use Rattle.std.specs.Prelude.{Ok, Err, Result}
+use Rattle.refusals.specs.Refusals.{Check, unless, and_then, refused, gives, ◌then◌, ◌into◌, answer_by, left_by}
 use mathlib.Core.Path.{◌≡◌, refl, sym, ap, ◌∙◌}
 use Prim.Native.Nat.{ℕ, zero, suc, ◌+◌, ◌*◌, ◌≤◌}
 use native.Mathlib.Omega.{arith}
@@ -13,10 +15,6 @@ use Rattle.slices.specs.Slices.{sorted, distinct_of, OneOfEach}
 use Rattle.slices.proofs.Members.{below_elem, below_of}
 use Rattle.slices.proofs.Distinct.{same_members}
 use Rattle.refusals.specs.declared.Refusal.{Refusal}
-use Rattle.refusals.specs.declared.Check.{Check}
-use Rattle.refusals.specs.declared.Check.TheVariants.{Fine}
-use Rattle.refusals.specs.declared.Check.TheVariants as check
-use Rattle.refusals.specs.Refusals.{unless, and_then, refused, gives, ◌then◌, ◌into◌, answer_by, left_by}
 use Rattle.refusals.proofs.Answers.{then_refused, then_fine}
 use Rattle.refusals.proofs.Leaving.{left_same, Clearing}
 use Rattle.grid.specs.declared.Grid.{Grid}
@@ -27,10 +25,8 @@ use Rattle.grid.proofs.Shapes.{Shape}
 use Rattle.walk.specs.declared.Mode.{Mode}
 use Rattle.walk.specs.declared.Neighbour.{Neighbour}
 use Rattle.walk.specs.declared.Reached.{Reached}
-use Rattle.walk.specs.declared.Reached.TheVariants.{Found, Refused}
+use Rattle.walk.specs.declared.Reached.TheVariants.{Found}
 use Rattle.turns.specs.declared.Trod.{Trod}
-use Rattle.turns.specs.declared.Trail.{Trail}
-use Rattle.turns.specs.declared.Trail.TheVariants as trail
 use Rattle.turns.specs.Turns.{ray_of, start_of}
 use Rattle.turns.specs.Pushes.{Outcome, walked_of}
 use Rattle.turns.specs.Trails.{TrailIs}
@@ -87,43 +83,43 @@ module _ (mode : Mode) (g : Grid) (line : Segment) where
 
 -- ---- the answers
 
-refused_walked : {all : Bool} (o : Outcome) (why : Refusal) (was now : List ℕ) → o ≡ refused why → length now ≡ length was → now ≡ left_by 0 why was → Walked all o was (Refused why) now
+refused_walked : {all : Bool} (o : Outcome) (why : Refusal) (was now : List ℕ) → o ≡ refused why → length now ≡ length was → now ≡ left_by 0 why was → Walked all o was (Err why) now
 unfolding reached_of answer_by
 refused_walked o why was now e l h = rw e (record { answer = refl; size = l; left = h })
 
-found_walked : (o : Outcome) (xs was now : List ℕ) (r : ℕ) → o ≡ gives xs → length now ≡ length was → r ≡ length xs → take (length xs) now ≡ xs → Walked false o was (Found r) now
+found_walked : (o : Outcome) (xs was now : List ℕ) (r : ℕ) → o ≡ gives xs → length now ≡ length was → r ≡ length xs → take (length xs) now ≡ xs → Walked false o was (Ok (Found r)) now
 unfolding reached_of answer_by
 found_walked o xs was now r e l c h = rw (e, c) (record { answer = refl; size = l; left = h })
 
 -- on a grid of 0 columns
 module _ (n : ℕ) (g : Grid) where
-  pub none_refused : (r : Refusal) → scratch_shape_check n g ≡ check.Refused r → Refused r ≡ reached_of false (scratch_shape_check n g then gives [])
+  pub none_refused : (r : Refusal) → scratch_shape_check n g ≡ Err r → Err r ≡ reached_of false (scratch_shape_check n g then gives [])
   unfolding reached_of answer_by ◌then◌
   none_refused r e = rw e
 
-  pub none_found : scratch_shape_check n g ≡ Fine → Found 0 ≡ reached_of false (scratch_shape_check n g then gives [])
+  pub none_found : scratch_shape_check n g ≡ Ok tt → Ok (Found 0) ≡ reached_of false (scratch_shape_check n g then gives [])
   unfolding reached_of answer_by ◌then◌
   none_found e = rw e
 
-pub none_answer : (mode : Mode) (g : Grid) (line : Segment) (was : List ℕ) (r : Reached) → g.cols ≡ 0 → r ≡ reached_of false (scratch_shape_check (length was) g then gives [])
+pub none_answer : (mode : Mode) (g : Grid) (line : Segment) (was : List ℕ) (r : Result Reached Refusal) → g.cols ≡ 0 → r ≡ reached_of false (scratch_shape_check (length was) g then gives [])
     → Walked false (scratch_shape_check (length was) g then turns_of mode g line) was r was
 unfolding ◌then◌ reached_of answer_by
 none_answer mode g line was r e h = rw (none_is mode g line e, h) (go (scratch_shape_check (length was) g) (room_spares (length was) g))
   where
     go : (c : Check) → Clearing false c → Walked false (c then gives []) was (reached_of false (c then gives [])) was
-    go (check.Refused y) s = record { answer = refl; size = refl; left = sym (left_same 0 y was (s.says y refl)) }
-    go Fine s = record { answer = refl; size = refl; left = refl }
+    go (Err y) s = record { answer = refl; size = refl; left = sym (left_same 0 y was (s.says y refl)) }
+    go (Ok _) s = record { answer = refl; size = refl; left = refl }
 
 -- behind the walk by turns
-module _ (mode : Mode) (g : Grid) (line : Segment) {was now : List ℕ} {T : Trail} (some : g.cols ≡ 0 → ⊥) (p : TrailIs g line was T now) where
+module _ (mode : Mode) (g : Grid) (line : Segment) {was now : List ℕ} {T : Result Trod Refusal} (some : g.cols ≡ 0 → ⊥) (p : TrailIs g line was T now) where
   abbrev o : Outcome
   o = scratch_shape_check (length was) g then turns_of mode g line
 
   abbrev w : Outcome
   w = walked_of g.cols g.rows (ray_of g line) (start_of g line)
 
-  module _ (t : Trod) (e : T ≡ trail.Walked t) where
-    fine : scratch_shape_check (length was) g ≡ Fine
+  module _ (t : Trod) (e : T ≡ Ok t) where
+    fine : scratch_shape_check (length was) g ≡ Ok tt
     fine = (trodden p t e).0
 
     trod : Trodden g line t.count now
@@ -153,7 +149,7 @@ module _ (mode : Mode) (g : Grid) (line : Segment) {was now : List ℕ} {T : Tra
 
     pub found_answer : (m r : ℕ) (s u : List ℕ) → Complete s m (pushes_of mode g line (take t.count now)) → length u ≡ length was
         → OneOfEach (sorted (take m s)) (sorted (take m s) ++ drop m s) u r
-        → Walked false o was (Found r) u
+        → Walked false o was (Ok (Found r)) u
     found_answer m r s u q l k =
         found_walked _ (distinct_of (sorted (take m s))) was u r
         (walks_on ∙ some_is mode g line some ∙ ordered (take m s) q.same)
@@ -166,20 +162,20 @@ module _ (mode : Mode) (g : Grid) (line : Segment) {was now : List ℕ} {T : Tra
 
     out : (c : Check) → (c then w) ≡ refused why → (c then turns_of mode g line) ≡ refused why
     unfolding ◌then◌
-    out (check.Refused r) e = e
-    out Fine e = seven e
+    out (Err r) e = e
+    out (Ok _) e = seven e
 
-    pub refused_answer : T ≡ trail.Refused why → Walked false o was (Refused why) now
+    pub refused_answer : T ≡ Err why → Walked false o was (Err why) now
     refused_answer e =
         let u = untrodden p why e in
         refused_walked _ why was now (out (scratch_shape_check (length was) g) u.0) p.size u.1
 
 -- behind 3, 1 and 8
 module _ (mode : Mode) (g : Grid) (line : Segment) {was : List ℕ} where
-  pub reach_refused : (r : Refusal) → entry_check (length was) g line ≡ check.Refused r → Walked (everywhere_in mode g line) (reach_of mode (length was) g line) was (Refused r) was
+  pub reach_refused : (r : Refusal) → entry_check (length was) g line ≡ Err r → Walked (everywhere_in mode g line) (reach_of mode (length was) g line) was (Err r) was
   unfolding reach_of
   reach_refused r e = refused_walked _ r was was (then_refused _ _ r e) refl (sym (left_same 0 r was ((entry_spares g line (length was)).says r e)))
 
-  pub reach_walked : {now : List ℕ} {R : Reached} → entry_check (length was) g line ≡ Fine → Walked (everywhere_in mode g line) (as_is_of mode (length was) g line) was R now
+  pub reach_walked : {now : List ℕ} {R : Result Reached Refusal} → entry_check (length was) g line ≡ Ok tt → Walked (everywhere_in mode g line) (as_is_of mode (length was) g line) was R now
       → Walked (everywhere_in mode g line) (reach_of mode (length was) g line) was R now
   reach_walked h w = rw (as_is_checked g line (length was) mode h) at w

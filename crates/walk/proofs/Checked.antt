@@ -1,9 +1,9 @@
 -- The checks before the walk: which refusals they are, and what a scratch and a grid say that pass them. Assumes nothing.
+use Rattle.std.specs.Prelude.{Ok}
 use mathlib.Core.Path.{◌≡◌, refl, sym, ◌∙◌}
 use Prim.Native.Nat.{ℕ, ◌≤◌}
 use mathlib.Core.Bool.{true, false}
 use borrow.Author.Tests.{le-leb, leb-true}
-use Rattle.refusals.specs.declared.Check.TheVariants.{Fine}
 use Rattle.refusals.specs.Refusals.{unless, and_then, clears}
 use Rattle.refusals.proofs.Checks.{unless_fine, and_then_left, and_then_right}
 use Rattle.refusals.proofs.Answers.{then_fine}
@@ -20,7 +20,7 @@ use Rattle.walk.specs.Segment.{segment_of, entry_check, reach_of, as_is_of}
 -- ---- 3, and 8 by the counts alone
 
 module _ (n : ℕ) (g : Grid) where
-  room_fine : 16384 ≤ n → shape g.cols g.rows ≡ true → scratch_shape_check n g ≡ Fine
+  room_fine : 16384 ≤ n → shape g.cols g.rows ≡ true → scratch_shape_check n g ≡ Ok tt
   unfolding scratch_shape_check scratch_check and_then unless
   room_fine h k = rw (le-leb 16384 n h, k)
 
@@ -39,15 +39,15 @@ module _ (g : Grid) (line : Segment) where
     entry_spares = clearing_then (scratch_spares n) (clearing_then (clearing_unless _ 1 0 refl) (grid_spares g))
 
     -- what a scratch and a grid say that pass them
-    pub entry_room : entry_check n g line ≡ Fine → 16384 ≤ n
+    pub entry_room : entry_check n g line ≡ Ok tt → 16384 ≤ n
     unfolding entry_check scratch_check
     entry_room h = leb-true 16384 n (unless_fine _ 3 0 (and_then_left _ _ h))
 
-    pub entry_fit : entry_check n g line ≡ Fine → fit g ≡ true
+    pub entry_fit : entry_check n g line ≡ Ok tt → fit g ≡ true
     unfolding entry_check grid_check
     entry_fit h = unless_fine (fit g) 8 0 (and_then_right _ _ (and_then_right _ _ h))
 
     -- where they pass, the walk of a grid and a segment as they are is the one that checks them
-    pub as_is_checked : (mode : Mode) → entry_check n g line ≡ Fine → as_is_of mode n g line ≡ reach_of mode n g line
+    pub as_is_checked : (mode : Mode) → entry_check n g line ≡ Ok tt → as_is_of mode n g line ≡ reach_of mode n g line
     unfolding reach_of
     as_is_checked mode h = as_is n g mode line (entry_room h) (entry_fit h) ∙ sym (then_fine _ _ h)

@@ -1,8 +1,8 @@
 -- Document 01, "The walk": the cells of one segment in a mode of walk, the answer and the refusals; and the mode that does not walk by turns. Definitions only.
-use Rattle.std.specs.Prelude.{ℕ, zero, suc, ◌≡◌, Bool, true, false, cond, not, ◌&&◌, List, [], ◌++◌, length, take}
+use Rattle.std.specs.Prelude.{ℕ, zero, suc, ◌≡◌, Bool, true, false, cond, not, ◌&&◌, List, [], ◌++◌, length, take, Result, Ok, Err}
+use Rattle.refusals.specs.declared.Refusal.{Refusal}
+use Rattle.refusals.specs.Refusals.{Check, unless, and_then, refused, gives, ◌then◌, ◌into◌, answer_by, left_by, left_in, zero_beyond}
 use Rattle.slices.specs.Slices.{sorted, distinct_of}
-use Rattle.refusals.specs.declared.Check.{Check}
-use Rattle.refusals.specs.Refusals.{unless, and_then, refused, gives, ◌then◌, ◌into◌, answer_by, left_by, left_in, zero_beyond}
 use Rattle.grid.specs.declared.Grid.{Grid}
 use Rattle.grid.specs.declared.Segment.{Segment}
 use Rattle.grid.specs.Domain.{scratch_check, segment_check, grid_check}
@@ -11,8 +11,6 @@ use Rattle.turns.specs.Turns.{ray_of, start_of}
 use Rattle.turns.specs.Pushes.{Outcome, walked_of}
 use Rattle.walk.specs.declared.Mode.{Mode}
 use Rattle.walk.specs.declared.Mode.TheVariants.{Rust, Sided, Covering}
-use Rattle.walk.specs.declared.Cells.{Cells}
-use Rattle.walk.specs.declared.Cells.TheVariants as cells
 use Rattle.walk.specs.declared.Reached.{Reached}
 use Rattle.walk.specs.declared.Reached.TheVariants as reached
 use Rattle.walk.specs.Neighbours.{line_of, endpoint_of}
@@ -84,16 +82,16 @@ as_is_of mode n g line = scratch_shape_check n g then segment_of mode g line
 -- ---- what is handed back
 
 -- the number of cells, or the refusal
-unfoldable pub cells_of : Outcome → Cells
-cells_of o = answer_by cells.Refused (λ xs. cells.Found (length xs)) o
+unfoldable pub cells_of : Outcome → Result ℕ Refusal
+cells_of o = answer_by Err (λ xs. Ok (length xs)) o
 
 -- the scratch of one segment's walk: the cells at its start, and zero beyond them
 unfoldable pub scratch_of : Outcome → List ℕ → List ℕ
 scratch_of o was = left_in 0 was o (λ xs. zero_beyond 0 (length was) xs)
 
 -- inside a larger call, by whether the line is everywhere: the number of cells, or that they are all, or the refusal
-unfoldable pub reached_of : Bool → Outcome → Reached
-reached_of all o = answer_by reached.Refused (λ xs. cond all reached.Everywhere (reached.Found (length xs))) o
+unfoldable pub reached_of : Bool → Outcome → Result Reached Refusal
+reached_of all o = answer_by Err (λ xs. cond all (Ok reached.Everywhere) (Ok (reached.Found (length xs)))) o
 
 -- the scratch of a walk inside a larger call: the cells at its start (what is beyond them is open), or what the refusal leaves; a line that is everywhere
 -- changes nothing
@@ -103,12 +101,12 @@ Left (gives xs) true was now = now ≡ was
 Left (gives xs) false was now = take (length xs) now ≡ xs
 
 -- what a walk inside a larger call promises
-pub record Walked (all : Bool) (o : Outcome) (was : List ℕ) (r : Reached) (now : List ℕ) : Type 0 where
+pub record Walked (all : Bool) (o : Outcome) (was : List ℕ) (r : Result Reached Refusal) (now : List ℕ) : Type 0 where
   pub answer : r ≡ reached_of all o
   pub size : length now ≡ length was
   pub left : Left o all was now
 
 -- what the walk of one segment promises
-pub record Entered (o : Outcome) (was : List ℕ) (r : Cells) (now : List ℕ) : Type 0 where
+pub record Entered (o : Outcome) (was : List ℕ) (r : Result ℕ Refusal) (now : List ℕ) : Type 0 where
   pub answer : r ≡ cells_of o
   pub left : now ≡ scratch_of o was

@@ -155,10 +155,8 @@ fn besides(s: &mut [u32], n: usize, x: Neighbour, y: Neighbour, cols: u32, cells
     ensures { Appended s.old s.new n result (flat_map (beside_of x y cols cells) (take n s.old)) }
 {
     let mut m = n;
-    let mut i = 0;
-    while i < n {
+    for i in 0..n {
         let c = s[i];
-        i += 1;
         m = beside(s, m, x, y, cols, cells, c);
     }
     m
@@ -171,10 +169,8 @@ fn rows(s: &mut [u32], n: usize, y: Neighbour, cols: u32, cells: u32) -> usize
     ensures { Appended s.old s.new n result (flat_map (row_of y cols cells) (take n s.old)) }
 {
     let mut m = n;
-    let mut i = 0;
-    while i < n {
+    for i in 0..n {
         let c = s[i];
-        i += 1;
         m = row(s, m, y, cols, cells, c);
     }
     m
@@ -196,9 +192,7 @@ fn spread(s: &mut [u32], n: usize, cols: u32) -> usize
     requires some_columns { 0 < cols }
     ensures { Covers s.old s.new n result n (flat_map (low_col_of cols) (take n s.old)) }
 {
-    let mut i = n;
-    while 0 < i {
-        i -= 1;
+    for i in (0..n).rev() {
         let c = s[i];
         let k = i + i;
         s[k + 1] = c;

@@ -12,8 +12,7 @@ ghost use Rattle.walk.specs.Segment.{turns_of, turning, everywhere_in, entry_che
 use beside::completed;
 use cover::Covered;
 use grid::{Grid, Segment};
-use refusals::{Check, Refusal};
-use turns::Trail;
+use refusals::Refusal;
 
 // Which cells a line visits. By turns, and beside a boundary those that the Rust adds, or by the side of the boundary that a value lies on; or those of the
 // covering walk, so that two lines with a common exact point share a cell.
@@ -32,77 +31,60 @@ pub enum Neighbour {
     Upper,
 }
 
-// The number of cells, which stand in the lent scratch, or a refusal.
-#[derive(Clone, Copy)]
-pub enum Cells {
-    Found(usize),
-    Refused(Refusal),
-}
-
-// The same inside a larger call; or that the line is in every cell of a grid of more than 2,048. Their number is then the grid's, and they are not listed.
+// What a walk inside a larger call reaches: the number of cells, which stand in the lent scratch; or that the line is in every cell of a grid of more than
+// 2,048. Their number is then the grid's, and they are not listed. As in `cover`, no `Option`: a `None` would have to say "every cell".
 #[derive(Clone, Copy)]
 pub enum Reached {
     Found(usize),
     Everywhere,
-    Refused(Refusal),
 }
 
 // Refusals 3, 1 and 8, of n entries of scratch.
-fn check_entry(grid: Grid, line: Segment, n: usize) -> Check
+fn check_entry(grid: Grid, line: Segment, n: usize) -> Result<(), Refusal>
     ensures { result ≡ entry_check n grid line }
 {
-    let lent = grid::checks::check_scratch(n);
-    if let Check::Refused(r) = lent {
-        return Check::Refused(r);
-    }
-    let inside = grid::checks::check_segment(line);
-    if let Check::Refused(r) = inside {
-        return Check::Refused(r);
-    }
+    grid::checks::check_scratch(n)?;
+    grid::checks::check_segment(line)?;
     grid::checks::check_grid(grid)
 }
 
 // A grid of 0 columns visits nothing, behind refusals 3 and 8.
-fn none_reached(grid: Grid, n: usize) -> Reached
+fn none_reached(grid: Grid, n: usize) -> Result<Reached, Refusal>
     ensures { result ≡ reached_of false (scratch_shape_check n grid then gives []) }
 {
-    let check = cover::check_room(grid, n);
-    if let Check::Refused(r) = check {
-        return Reached::Refused(r);
-    }
-    Reached::Found(0)
+    cover::check_room(grid, n)?;
+    Ok(Reached::Found(0))
 }
 
 // The walk by turns, with the cells that its mode adds, on a grid as it is: refusals 3, and 8 by the counts of the grid alone, and 7. That there are columns is
 // asked first: then no index asks for it again.
-fn cells_by_turns(mode: Mode, grid: Grid, line: Segment, scratch: &mut [u32]) -> Reached
+fn cells_by_turns(
+    mode: Mode,
+    grid: Grid,
+    line: Segment,
+    scratch: &mut [u32],
+) -> Result<Reached, Refusal>
     ensures { let o = scratch_shape_check (length scratch.old) grid then turns_of mode grid line in
         Walked false o scratch.old result scratch.new }
 {
     if grid.cols == 0 {
         return none_reached(grid, scratch.len());
     }
-    let trail = turns::walk_by_turns(grid, line, scratch);
-    match trail {
-        Trail::Walked(trod) => {
-            let m = completed(scratch, mode, grid, line, trod);
-            let count = ordering::order_and_keep(scratch, m);
-            Reached::Found(count)
-        },
-        Trail::Refused(r) => Reached::Refused(r),
-    }
+    let trod = turns::walk_by_turns(grid, line, scratch)?;
+    let m = completed(scratch, mode, grid, line, trod);
+    let count = ordering::order_and_keep(scratch, m);
+    Ok(Reached::Found(count))
 }
 
 // The covering walk on a grid as it is, which makes the same checks itself.
-fn cells_covered(grid: Grid, line: Segment, scratch: &mut [u32]) -> Reached
+fn cells_covered(grid: Grid, line: Segment, scratch: &mut [u32]) -> Result<Reached, Refusal>
     ensures { let o = scratch_shape_check (length scratch.old) grid then gives (covering_of grid line) in
         Walked (everywhere grid line) o scratch.old result scratch.new }
 {
-    let cells = cover::cover_segment(grid, line, scratch);
+    let cells = cover::cover_segment(grid, line, scratch)?;
     match cells {
-        Covered::Found(n) => Reached::Found(n),
-        Covered::Everywhere => Reached::Everywhere,
-        Covered::Refused(r) => Reached::Refused(r),
+        Covered::Found(n) => Ok(Reached::Found(n)),
+        Covered::Everywhere => Ok(Reached::Everywhere),
     }
 }
 
@@ -128,7 +110,7 @@ pub fn cells_between(
     end_x: f64,
     end_y: f64,
     scratch: &mut [u32],
-) -> Reached
+) -> Result<Reached, Refusal>
     ensures { let line = segment_by start_x start_y end_x end_y in
         let o = as_is_of mode (length scratch.old) grid line in
         Walked (everywhere_in mode grid line) o scratch.old result scratch.new }
@@ -147,14 +129,16 @@ pub fn cells_between(
 
 // The walk of one line inside a larger call: its cells, increasing, none twice, at the start of the scratch. What is beyond them there is not zeroed.
 // Refusals 3, 1, 8 and 7.
-pub fn segment_cells(mode: Mode, grid: Grid, line: Segment, scratch: &mut [u32]) -> Reached
+pub fn segment_cells(
+    mode: Mode,
+    grid: Grid,
+    line: Segment,
+    scratch: &mut [u32],
+) -> Result<Reached, Refusal>
     ensures { let o = reach_of mode (length scratch.old) grid line in
         Walked (everywhere_in mode grid line) o scratch.old result scratch.new }
 {
-    let check = check_entry(grid, line, scratch.len());
-    if let Check::Refused(r) = check {
-        return Reached::Refused(r);
-    }
+    check_entry(grid, line, scratch.len())?;
     cells_between(
         mode,
         grid,
@@ -176,21 +160,23 @@ fn is_off(mode: Mode, grid: Grid, line: Segment) -> bool
     cover::is_off(grid, line)
 }
 
-// The walk of one segment: the same, and zero beyond the cells. In the covering mode a line with an end off the grid is refused by 16.
-pub fn cells_of_segment(mode: Mode, grid: Grid, line: Segment, scratch: &mut [u32]) -> Cells
+// The walk of one segment: the number of its cells, which stand at the start of the scratch, and zero beyond them. In the covering mode a line with an end off the grid is refused by 16.
+pub fn cells_of_segment(
+    mode: Mode,
+    grid: Grid,
+    line: Segment,
+    scratch: &mut [u32],
+) -> Result<usize, Refusal>
     ensures { Entered (entry_of mode (length scratch.old) grid line) scratch.old result scratch.new }
 {
-    let check = check_entry(grid, line, scratch.len());
-    if let Check::Refused(r) = check {
-        return Cells::Refused(r);
-    }
+    check_entry(grid, line, scratch.len())?;
     if is_off(mode, grid, line) {
-        return Cells::Refused(Refusal {
+        return Err(Refusal {
             number: 16,
             value: 0,
         });
     }
-    let r = cells_between(
+    let reached = cells_between(
         mode,
         grid,
         line.start_x,
@@ -198,17 +184,16 @@ pub fn cells_of_segment(mode: Mode, grid: Grid, line: Segment, scratch: &mut [u3
         line.end_x,
         line.end_y,
         scratch,
-    );
-    match r {
+    )?;
+    match reached {
         Reached::Found(n) => {
             slices::clear_from(scratch, n);
-            Cells::Found(n)
+            Ok(n)
         },
         // a line that is everywhere is off the grid, and was refused above
-        Reached::Everywhere => Cells::Refused(Refusal {
+        Reached::Everywhere => Err(Refusal {
             number: 16,
             value: 0,
         }),
-        Reached::Refused(why) => Cells::Refused(why),
     }
 }

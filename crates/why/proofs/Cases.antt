@@ -1,4 +1,5 @@
 -- The refusal, case by case of what the calls answered. Assumes nothing.
+use Rattle.std.specs.Prelude.{Ok, Err, Result}
 use mathlib.Core.Path.{◌≡◌, refl}
 use mathlib.Core.List.{List}
 use Prim.Native.Nat.{ℕ}
@@ -11,19 +12,17 @@ use Rattle.wkb.specs.Reading.{found}
 use Rattle.build.specs.declared.Plan.{Plan}
 use Rattle.build.specs.Build.{end_of, built_on, answer_of, BuildIs}
 use Rattle.build.specs.declared.Standing.{Standing}
-use Rattle.build.specs.declared.Built.{Built}
-use Rattle.build.specs.declared.Built.TheVariants as built
 use Rattle.chain.proofs.Chains.{lines_of}
 use Rattle.why.specs.Why.{nothing, of_lines, of_points, refusal_of}
 
 -- ---- the build
 
 -- what an answer of a build has of a refusal
-refusal_in : Built → Refusal
-refusal_in (built.Refused q) = q
-refusal_in (built.Tables st) = nothing
+refusal_in : Result Standing Refusal → Refusal
+refusal_in (Err q) = q
+refusal_in (Ok st) = nothing
 
-module _ (plan : Plan) (ls : Lines) {o i gs s o' i' gs' s' : List ℕ} {r : Built} (eo : length o ≡ 4096) (ei : length i ≡ 4096) (eg : length gs ≡ 64) (es : length s ≡ 16384) where
+module _ (plan : Plan) (ls : Lines) {o i gs s o' i' gs' s' : List ℕ} {r : Result Standing Refusal} (eo : length o ≡ 4096) (ei : length i ≡ 4096) (eg : length gs ≡ 64) (es : length s ≡ 16384) where
   in_answer : (e : Answer Grid) → BuildIs plan.mode ls o i gs s r o' i' gs' s' e → refusal_in r ≡ answer_by (λ q. q) (λ g. nothing) e
   unfolding answer_of answer_by built_on refusal_in
   in_answer (refused p) b = rw b.answer
@@ -33,11 +32,11 @@ module _ (plan : Plan) (ls : Lines) {o i gs s o' i' gs' s' : List ℕ} {r : Buil
   unfolding of_lines
   in_build b = rw (eo, ei, eg, es) at (in_answer _ b)
 
-  pub build_refused : BuildIs plan.mode ls o i gs s r o' i' gs' s' (end_of plan ls (length o) (length i) (length gs) (length s)) → {q : Refusal} → r ≡ built.Refused q → q ≡ of_lines plan ls
+  pub build_refused : BuildIs plan.mode ls o i gs s r o' i' gs' s' (end_of plan ls (length o) (length i) (length gs) (length s)) → {q : Refusal} → r ≡ Err q → q ≡ of_lines plan ls
   unfolding refusal_in
   build_refused b x = rw x at (in_build b)
 
-  pub build_made : BuildIs plan.mode ls o i gs s r o' i' gs' s' (end_of plan ls (length o) (length i) (length gs) (length s)) → {st : Standing} → r ≡ built.Tables st → nothing ≡ of_lines plan ls
+  pub build_made : BuildIs plan.mode ls o i gs s r o' i' gs' s' (end_of plan ls (length o) (length i) (length gs) (length s)) → {st : Standing} → r ≡ Ok st → nothing ≡ of_lines plan ls
   unfolding refusal_in
   build_made b x = rw x at (in_build b)
 

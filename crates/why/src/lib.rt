@@ -6,9 +6,8 @@ ghost use Rattle.grid.specs.Domain.{lines};
 ghost use Rattle.chain.specs.Printed.{chain_of};
 ghost use Rattle.why.specs.Why.{of_lines, refusal_of};
 
-use build::{Built, Plan};
+use build::Plan;
 use refusals::Refusal;
-use wkb::Read;
 
 // The refusal of a build of lines in document 01's buffers; number and value 0 where it has none.
 fn of_lines(start_x: &[f64], start_y: &[f64], end_x: &[f64], end_y: &[f64], plan: Plan) -> Refusal
@@ -31,8 +30,8 @@ fn of_lines(start_x: &[f64], start_y: &[f64], end_x: &[f64], end_y: &[f64], plan
         &mut scratch,
     );
     match built {
-        Built::Refused(r) => r,
-        Built::Tables(_) => Refusal {
+        Err(r) => r,
+        Ok(_) => Refusal {
             number: 0,
             value: 0,
         },
@@ -56,7 +55,7 @@ pub fn refusal_of(bytes: &[u8], plan: Plan) -> Refusal
     let mut y = [0.0f64; 1024];
     let read = wkb::read_line_string(bytes, &mut x, &mut y);
     match read {
-        Read::Refused(r) => r,
-        Read::Points(n) => of_points(&x, &y, n, plan),
+        Err(r) => r,
+        Ok(n) => of_points(&x, &y, n, plan),
     }
 }

@@ -1,4 +1,5 @@
 -- The query case by case: its checks in their order, which lines are met, and the answer. Assumes nothing.
+use Rattle.std.specs.Prelude.{Ok, Err}
 use mathlib.Core.Path.{◌≡◌, refl, sym, ap, subst, ◌∙◌}
 use mathlib.Core.Bool.{Bool, true, false, cond, ◌&&◌, ◌||◌}
 use mathlib.Core.List.{List, []}
@@ -12,11 +13,7 @@ use Rattle.slices.specs.Slices.{cleared_from}
 use Rattle.slices.specs.Lists.{elem, Below}
 use Rattle.slices.proofs.Members.{below_elem, below_of}
 use Rattle.refusals.specs.declared.Refusal.{Refusal}
-use Rattle.refusals.specs.declared.Check.{Check}
-use Rattle.refusals.specs.declared.Check.TheVariants.{Fine}
-use Rattle.refusals.specs.declared.Check.TheVariants as check
-use Rattle.refusals.specs.Refusals.{refusal, unless, and_then, Answer, refused, gives, ◌then◌, answer_by, clears, left_in, zero_beyond}
-use Rattle.refusals.proofs.Checks.{and_then_refused, and_then_fine, and_then_left, and_then_right}
+use Rattle.refusals.specs.Refusals.{Check, refusal, unless, and_then, Answer, refused, gives, ◌then◌, answer_by, clears, left_in, zero_beyond}
 use Rattle.refusals.proofs.Answers.{then_refused, then_fine, then_and_then}
 use Rattle.refusals.proofs.Leaving.{left_zero, left_same, Clearing, clearing_unless, clearing_then, numbers_clear}
 use Rattle.grid.specs.declared.Grid.{Grid}
@@ -24,11 +21,10 @@ use Rattle.grid.specs.declared.Box.{Box}
 use Rattle.grid.specs.Boxes.{box_of, overlaps}
 use Rattle.grid.specs.Domain.{Lines, count, segment_at, fit, lines_check, grid_check}
 use Rattle.grid.proofs.Fine.{lines_fine, lines_counted, lines_spare, grid_spares}
-use Rattle.refusals.proofs.Checks.{unless_fine}
+use Rattle.refusals.proofs.Checks.{and_then_refused, and_then_fine, and_then_left, and_then_right, unless_fine}
 use Rattle.tables.specs.Tables.{Tables, globals_of}
 use Rattle.tables.specs.Fit.{TablesFit, tables_check, standing_check}
 use Rattle.tables.proofs.Facts.{check_facts}
-use Rattle.window.specs.declared.Listing.TheVariants.{Listed, Refused}
 use Rattle.window.specs.Window.{in_order, listed, may_enter, those, lines_in, window_check, output_room_check, window_end, window_answer, WindowIs}
 use Rattle.window.specs.Inside.{marked_with, LinesMarked, met, Wrote, WindowChecked}
 use Rattle.window.proofs.Marking.{marked_length, marked_at}
@@ -45,18 +41,18 @@ abbrev pub checks : Lines → Grid → Tables → Box → Check
 checks ls g t w = and_then (lines_check ls) (and_then (window_check w) (and_then (grid_check g) (tables_check t)))
 
 module _ (ls : Lines) (g : Grid) (t : Tables) (w : Box) where
-  pub lines_refused : (r : Refusal) → lines_check ls ≡ check.Refused r → check.Refused r ≡ checks ls g t w
+  pub lines_refused : (r : Refusal) → lines_check ls ≡ Err r → Err r ≡ checks ls g t w
   lines_refused r e = sym (and_then_refused _ _ r e)
 
-  pub window_refused : (r : Refusal) → lines_check ls ≡ Fine → window_check w ≡ check.Refused r → check.Refused r ≡ checks ls g t w
+  pub window_refused : (r : Refusal) → lines_check ls ≡ Ok tt → window_check w ≡ Err r → Err r ≡ checks ls g t w
   window_refused r f e = sym (and_then_fine _ _ f ∙ and_then_refused _ _ r e)
 
   -- 2 has passed with the lines: what is left of the tables' check is 8 and 10
-  pub tables_checked : lines_check ls ≡ Fine → window_check w ≡ Fine → t.lines ≡ count ls → standing_check g t ≡ checks ls g t w
+  pub tables_checked : lines_check ls ≡ Ok tt → window_check w ≡ Ok tt → t.lines ≡ count ls → standing_check g t ≡ checks ls g t w
   unfolding standing_check
   tables_checked f h e = and_then_fine _ _ (rw e (lines_counted ls f)) ∙ sym (and_then_fine _ _ f ∙ and_then_fine _ _ h)
 
-  pub checked : checks ls g t w ≡ Fine → WindowChecked ls g t
+  pub checked : checks ls g t w ≡ Ok tt → WindowChecked ls g t
   unfolding grid_check
   checked e =
       let l = lines_fine ls (and_then_left _ _ e) in
@@ -86,13 +82,13 @@ module _ (ls : Lines) (g : Grid) (t : Tables) (w : Box) where
       ∙ ap (λ (a : Answer (List ℕ)). window_check w then a) (then_and_then _ _ _)))
 
   module _ (was : List ℕ) where
-    pub refused_first : (r : Refusal) → checks ls g t w ≡ check.Refused r → WindowIs ls g t w was (Refused r) was
+    pub refused_first : (r : Refusal) → checks ls g t w ≡ Err r → WindowIs ls g t w was (Err r) was
     unfolding window_answer answer_by left_in
     refused_first r e =
         let d = end_is (length was) ∙ then_refused _ _ r e in
         record { answer = rw d; left = rw d (sym (left_same 0 r was (checks_spare.says r e))) }
 
-    module _ (f : checks ls g t w ≡ Fine) where
+    module _ (f : checks ls g t w ≡ Ok tt) where
       past_checks : window_end ls g t w (length was) ≡ (output_room_check found (length was) then gives found)
       past_checks = end_is (length was) ∙ then_fine _ _ f
 
@@ -104,34 +100,34 @@ module _ (ls : Lines) (g : Grid) (t : Tables) (w : Box) where
       unfolding output_room_check unless
       without_room l = past_checks ∙ then_refused _ _ _ (rw (lt-leb (length found) (length was) l))
 
-      pub none_in : found ≡ [] → (now : List ℕ) → now ≡ replicate {A = ℕ} (length was) 0 → WindowIs ls g t w was (Listed 0) now
+      pub none_in : found ≡ [] → (now : List ℕ) → now ≡ replicate {A = ℕ} (length was) 0 → WindowIs ls g t w was (Ok 0) now
       unfolding window_answer answer_by left_in zero_beyond
       none_in e now h =
           let n : length found ≡ 0 = rw e in
           let d = with_room (omega (arith, n)) in
-          record { answer = rw d (ap Listed (sym n)); left = rw d (h ∙ sym (ap (zero_beyond 0 (length was)) e ∙ nothing_beyond (length was))) }
+          record { answer = rw d (ap Ok (sym n)); left = rw d (h ∙ sym (ap (zero_beyond 0 (length was)) e ∙ nothing_beyond (length was))) }
 
       module _ (n : ℕ) (mid : List ℕ) (h : Wrote found was n mid) where
         same_length : length mid ≡ length was
         same_length = ap (λ (xs : List ℕ). length xs) h.left ∙ written_length found was
 
-        pub too_many : length mid < n → (now : List ℕ) → now ≡ replicate {A = ℕ} (length mid) 0 → WindowIs ls g t w was (Refused (refusal 5 n)) now
+        pub too_many : length mid < n → (now : List ℕ) → now ≡ replicate {A = ℕ} (length mid) 0 → WindowIs ls g t w was (Err (refusal 5 n)) now
         unfolding window_answer answer_by left_in
         too_many l now e =
             let m = same_length in
             let d = without_room (omega (arith, h.counted)) in
             record {
-              answer = rw d (ap (λ (k : ℕ). Refused (refusal 5 k)) h.counted);
+              answer = rw d (ap (λ (k : ℕ). Err (refusal 5 k)) h.counted);
               left = rw d (e ∙ ap (λ (k : ℕ). replicate {A = ℕ} k 0) m ∙ sym (left_zero 0 (refusal 5 (length found)) was (numbers_clear 5 (omega arith) (omega arith))));
             }
 
-        pub all_in : n ≤ length mid → (now : List ℕ) → now ≡ cleared_from n mid → WindowIs ls g t w was (Listed n) now
+        pub all_in : n ≤ length mid → (now : List ℕ) → now ≡ cleared_from n mid → WindowIs ls g t w was (Ok n) now
         unfolding window_answer answer_by left_in
         all_in l now e =
             let m = same_length in
             let d = with_room (omega (arith, h.counted)) in
             record {
-              answer = rw d (ap Listed h.counted);
+              answer = rw d (ap Ok h.counted);
               left = rw d (cleared_beyond found was mid now n h.counted h.left l e);
             }
 

@@ -1,11 +1,11 @@
 -- Document 02, 3: a query over standing tables that "lists exactly the lines whose own boxes overlap the window (equality counts) and which are
 -- global, or listed in a cell of the block from the cell of the window's lower corner to that of its upper corner, each once, increasing. On a
 -- 0 by 0 grid the block is empty. A window with a corner out of order matches nothing." Definitions only.
-use Rattle.std.specs.Prelude.{◌≡◌, Bool, false, ◌&&◌, ◌||◌, List, [], ◌++◌, ℕ, zero, suc, ◌/◌, ◌%◌, leb, length}
+use Rattle.refusals.specs.declared.Refusal.{Refusal}
+use Rattle.std.specs.Prelude.{Ok, Err, Result, ◌≡◌, Bool, false, ◌&&◌, ◌||◌, List, [], ◌++◌, ℕ, zero, suc, ◌/◌, ◌%◌, leb, length}
 use Rattle.std.specs.Float.Ieee.{le}
 use Rattle.slices.specs.Lists.{elem}
-use Rattle.refusals.specs.declared.Check.{Check}
-use Rattle.refusals.specs.Refusals.{unless, Answer, gives, ◌then◌, answer_by, left_in, zero_beyond}
+use Rattle.refusals.specs.Refusals.{Check, unless, Answer, gives, ◌then◌, answer_by, left_in, zero_beyond}
 use Rattle.grid.specs.declared.Grid.{Grid}
 use Rattle.grid.specs.declared.Box.{Box}
 use Rattle.grid.specs.Axes.{x_axis, y_axis, index_on}
@@ -14,8 +14,6 @@ use Rattle.grid.specs.Domain.{Lines, count, segment_at, point, lines_check, grid
 use Rattle.tables.specs.Tables.{Tables, cells, list_of, globals_of}
 use Rattle.tables.specs.Lists.{only}
 use Rattle.tables.specs.Fit.{tables_check}
-use Rattle.window.specs.declared.Listing.{Listing}
-use Rattle.window.specs.declared.Listing.TheVariants.{Listed, Refused}
 
 -- ---- which lines
 
@@ -74,10 +72,10 @@ window_end ls g t w room =
     then gives (lines_in ls g t w)
 
 -- how many there are, or the refusal that is due
-unfoldable pub window_answer : Answer (List ℕ) → Listing
-window_answer end = answer_by Refused (λ found. Listed (length found)) end
+unfoldable pub window_answer : Answer (List ℕ) → Result ℕ Refusal
+window_answer end = answer_by Err (λ found. Ok (length found)) end
 
 -- The promise: the answer, and what the output holds: the lines and zero beyond them, or what a refusal leaves.
-pub record WindowIs (ls : Lines) (g : Grid) (t : Tables) (w : Box) (was : List ℕ) (r : Listing) (now : List ℕ) : Type 0 where
+pub record WindowIs (ls : Lines) (g : Grid) (t : Tables) (w : Box) (was : List ℕ) (r : Result ℕ Refusal) (now : List ℕ) : Type 0 where
   pub answer : r ≡ window_answer (window_end ls g t w (length was))
   pub left : now ≡ left_in 0 was (window_end ls g t w (length was)) (λ found. zero_beyond 0 (length was) found)

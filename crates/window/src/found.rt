@@ -75,11 +75,9 @@ pub(crate) fn write_lines(
     ensures { let ls = lines start_x.now start_y.now end_x.now end_y.now in
         Wrote (those (met ls window marks.now) (count ls)) out.old result out.new }
 {
-    let mut i = 0;
     let mut n = 0;
-    while i < start_x.len() {
+    for i in 0..start_x.len() {
         n = write_line(start_x, start_y, end_x, end_y, window, marks, out, i, n);
-        i += 1;
     }
     n
 }

@@ -14,14 +14,7 @@ ghost use Rattle.window.specs.Window.{in_order, window_check, lines_in, WindowIs
 ghost use Rattle.window.specs.Inside.{WindowChecked, Wrote};
 
 use grid::{Box, Grid};
-use refusals::{Check, Refusal};
-
-// How many lines are in the window, or the refusal that is due.
-#[derive(Clone, Copy)]
-pub enum Listing {
-    Listed(usize),
-    Refused(Refusal),
-}
+use refusals::Refusal;
 
 fn is_window(window: Box) -> bool
     ensures { result ≡ (point window.min_x window.min_y && point window.max_x window.max_y) }
@@ -30,7 +23,7 @@ fn is_window(window: Box) -> bool
         & grid::checks::is_point(window.max_x, window.max_y)
 }
 
-fn check_window(window: Box) -> Check
+fn check_window(window: Box) -> Result<(), Refusal>
     ensures { result ≡ window_check window }
 {
     refusals::refuse_unless(is_window(window), 1, 0)
@@ -55,19 +48,13 @@ fn check_all(
     globals: &[u32],
     global_count: usize,
     window: Box,
-) -> Check
+) -> Result<(), Refusal>
     ensures { let ls = lines start_x.now start_y.now end_x.now end_y.now in
         let t = beside ls grid offsets.now items.now globals.now global_count in
         result ≡ and_then (lines_check ls) (and_then (window_check window) (and_then (grid_check grid) (tables_check t))) }
 {
-    let lines = grid::checks::check_lines(start_x, start_y, end_x, end_y);
-    if let Check::Refused(r) = lines {
-        return Check::Refused(r);
-    }
-    let corners = check_window(window);
-    if let Check::Refused(r) = corners {
-        return Check::Refused(r);
-    }
+    grid::checks::check_lines(start_x, start_y, end_x, end_y)?;
+    check_window(window)?;
     tables::check_tables(grid, start_x.len(), offsets, items, globals, global_count)
 }
 
@@ -125,12 +112,12 @@ pub fn lines_in(
     global_count: usize,
     window: Box,
     out: &mut [u32],
-) -> Listing
+) -> Result<usize, Refusal>
     ensures { let ls = lines start_x.now start_y.now end_x.now end_y.now in
         let t = beside ls grid offsets.now items.now globals.now global_count in
         WindowIs ls grid t window out.old result out.new }
 {
-    let check = check_all(
+    check_all(
         start_x,
         start_y,
         end_x,
@@ -141,13 +128,10 @@ pub fn lines_in(
         globals,
         global_count,
         window,
-    );
-    if let Check::Refused(r) = check {
-        return Listing::Refused(r);
-    }
+    )?;
     if !is_in_order(window) {
         slices::clear(out);
-        return Listing::Listed(0);
+        return Ok(0);
     }
     let n = write_found(
         start_x,
@@ -164,11 +148,11 @@ pub fn lines_in(
     );
     if out.len() < n {
         slices::clear(out);
-        return Listing::Refused(Refusal {
+        return Err(Refusal {
             number: 5,
             value: n as u64,
         });
     }
     slices::clear_from(out, n);
-    Listing::Listed(n)
+    Ok(n)
 }

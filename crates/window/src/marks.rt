@@ -15,10 +15,8 @@ pub(crate) fn mark_list(marks: &mut [u8], list: &[u32])
     requires { Below (length marks.old) list.now }
     ensures { marks.new ≡ marked_with list.now marks.old }
 {
-    let mut k = 0;
-    while k < list.len() {
-        marks[wide(list[k])] = 1;
-        k += 1;
+    for &line in list {
+        marks[wide(line)] = 1;
     }
 }
 
@@ -37,13 +35,11 @@ fn mark_rows(
     requires { Block cols offsets.now items.now first last below marks.old }
     ensures { marks.new ≡ marked_rows cols offsets.now items.now first last (below - from) from marks.old }
 {
-    let mut row = from;
-    while row < below {
+    for row in from..below {
         let at = row * cols;
         let low = wide(offsets[at + first]);
         let high = wide(offsets[at + last + 1]);
         mark_list(marks, &items[low..high]);
-        row += 1;
     }
 }
 

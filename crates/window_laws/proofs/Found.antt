@@ -1,5 +1,7 @@
 -- What a query finds: a line whose cells meet the block of the window and whose box overlaps it. And what stands in the output of a query that was not
 -- refused. Assumes nothing.
+use Rattle.std.specs.Prelude.{Ok, Result}
+use Rattle.refusals.specs.declared.Refusal.{Refusal}
 use mathlib.Core.Path.{◌≡◌, refl, sym, ap, ap₂, ◌∙◌}
 use mathlib.Core.Bool.{Bool, true, false, ◌&&◌, ◌||◌}
 use mathlib.Core.List.{List, [], ◌++◌}
@@ -11,7 +13,6 @@ use lib.ListN.{length, take, replicate}
 use lib.Seq.{take-append_seam}
 use Rattle.slices.specs.Lists.{elem}
 use Rattle.slices.proofs.Members.{elem_head, elem_left, elem_right}
-use Rattle.refusals.specs.declared.Check.TheVariants.{Fine}
 use Rattle.refusals.specs.Refusals.{Answer, refused, gives, answer_by, left_in, zero_beyond}
 use Rattle.refusals.proofs.Answers.{then_passed}
 use Rattle.grid.specs.declared.Grid.{Grid}
@@ -26,8 +27,6 @@ use Rattle.tables.specs.Lists.{long, only}
 use Rattle.tables.specs.Fit.{tables_check}
 use Rattle.tables.specs.Stands.{Stands}
 use Rattle.tables.proofs.Standing as standing
-use Rattle.window.specs.declared.Listing.{Listing}
-use Rattle.window.specs.declared.Listing.TheVariants.{Listed}
 use Rattle.window.specs.Window.{in_order, within, in_block, listed, may_enter, those, lines_in, window_check, output_room_check, window_end, window_answer, WindowIs}
 use Rattle.window.proofs.Blocks.{some_has, within_has, row_fits}
 
@@ -99,10 +98,10 @@ module _ (W : ℕ → List ℕ) (ls : Lines) (g : Grid) (t : Tables) (s : Stands
 -- ---- a query that was not refused
 
 pub record Answered (ls : Lines) (g : Grid) (t : Tables) (w : Box) (k : ℕ) (now : List ℕ) : Type 0 where
-  pub window : window_check w ≡ Fine
+  pub window : window_check w ≡ Ok tt
   pub is : take k now ≡ lines_in ls g t w
 
-end_says : (ls : Lines) (g : Grid) (t : Tables) (w : Box) (room : ℕ) (xs : List ℕ) → window_end ls g t w room ≡ gives xs → (window_check w ≡ Fine) × (lines_in ls g t w ≡ xs)
+end_says : (ls : Lines) (g : Grid) (t : Tables) (w : Box) (room : ℕ) (xs : List ℕ) → window_end ls g t w room ≡ gives xs → (window_check w ≡ (Ok tt)) × (lines_in ls g t w ≡ xs)
 unfolding window_end
 end_says ls g t w room xs h =
     let a = then_passed (lines_check ls) _ h in
@@ -114,7 +113,7 @@ end_says ls g t w room xs h =
     (b.0, cc)
 
 module _ (ls : Lines) (g : Grid) (t : Tables) (w : Box) (was now : List ℕ) (k : ℕ) where
-  by_end : (e : Answer (List ℕ)) → window_end ls g t w (length was) ≡ e → window_answer e ≡ Listed k → now ≡ left_in 0 was e (λ xs. zero_beyond 0 (length was) xs) → Answered ls g t w k now
+  by_end : (e : Answer (List ℕ)) → window_end ls g t w (length was) ≡ e → window_answer e ≡ Ok k → now ≡ left_in 0 was e (λ xs. zero_beyond 0 (length was) xs) → Answered ls g t w k now
   unfolding window_answer answer_by left_in zero_beyond
   by_end (refused r) d a n = let z : ◌≡◌ {A = ℕ} 0 1 = cc in absurd (omega arith)
   by_end (gives xs) d a n =
@@ -122,5 +121,5 @@ module _ (ls : Lines) (g : Grid) (t : Tables) (w : Box) (was now : List ℕ) (k 
       let z : length xs ≡ k = cc in
       record { window = s.0; is = ap₂ (λ (j : ℕ) (ys : List ℕ). take j ys) (sym z) n ∙ take-append_seam xs (replicate (length was - length xs) 0) ∙ sym s.1 }
 
-  pub answered : {r : Listing} → WindowIs ls g t w was r now → r ≡ Listed k → Answered ls g t w k now
+  pub answered : {r : (Result ℕ Refusal)} → WindowIs ls g t w was r now → r ≡ Ok k → Answered ls g t w k now
   answered h e = by_end (window_end ls g t w (length was)) refl (sym h.answer ∙ e) h.left

@@ -1,5 +1,7 @@
 -- The cell sizes of the grid that a build of some lines settles on are values of the format: its size is the first one of its sizing, or a half or a quarter of
 -- that. Assumes nothing.
+use Rattle.std.specs.Prelude.{Ok, Result}
+use Rattle.refusals.specs.declared.Refusal.{Refusal}
 use mathlib.Core.Path.{◌≡◌, refl, sym, ◌∙◌}
 use mathlib.Core.Bool.{Bool, true, false, cond}
 use mathlib.Core.List.{List}
@@ -24,8 +26,6 @@ use Rattle.sizing.proofs.FitLaws.{Within, Tried, lines_within, first_tried, agai
 use Rattle.fill.specs.Checks.{tried_check, space_check}
 use Rattle.build.specs.declared.Plan.{Plan}
 use Rattle.build.specs.declared.Standing.{Standing}
-use Rattle.build.specs.declared.Built.{Built}
-use Rattle.build.specs.declared.Built.TheVariants as built
 use Rattle.build.specs.Choice.{crowded, chosen, chosen_first, choice}
 use Rattle.build.specs.Build.{room_on, end_of, BuildIs}
 use Rattle.build.proofs.Settled.{crowded_few}
@@ -68,8 +68,8 @@ end_held plan ls offsets items globals scratch g f N h =
     into_passed (choice plan ls offsets) (room_on plan.mode ls items globals) (then_passed (and_then (scratch_check scratch) (lines_check ls)) (choice plan ls offsets into room_on plan.mode ls items globals) h).1
     (λ k c d. held_here k g (choice_held plan ls offsets k f N c) (then_passed (space_check plan.mode k ls items globals) (gives k) d).1)
 
-pub build_held : (plan : Plan) {ls : Lines} {o t gs s : List ℕ} {r : Built} {o' t' gs' s' : List ℕ} {st : Standing}
-    → BuildIs plan.mode ls o t gs s r o' t' gs' s' (end_of plan ls (length o) (length t) (length gs) (length s)) → r ≡ built.Tables st → 1 ≤ count ls → Held st.grid
+pub build_held : (plan : Plan) {ls : Lines} {o t gs s : List ℕ} {r : (Result Standing Refusal)} {o' t' gs' s' : List ℕ} {st : Standing}
+    → BuildIs plan.mode ls o t gs s r o' t' gs' s' (end_of plan ls (length o) (length t) (length gs) (length s)) → r ≡ Ok st → 1 ≤ count ls → Held st.grid
 build_held plan {ls} {o} {t} {gs} {s} {st = st} h ok N =
     end_held plan ls (length o) (length t) (length gs) (length s) st.grid (lines_fine ls (lines_passed plan h ok)) N
     (answer_made plan.mode (end_of plan ls (length o) (length t) (length gs) (length s)) ls st (sym h.answer ∙ ok)).0

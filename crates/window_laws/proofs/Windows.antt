@@ -1,5 +1,7 @@
 -- WHICH LINES A QUERY LISTS FOR SURE, after a build that succeeded, straight from what `build::build` and `window::lines_in` ensure, where the query was not
 -- refused. In the covering mode every line that has an exact point inside the window; in every mode every line that has an end in it. Assumes nothing.
+use Rattle.std.specs.Prelude.{Ok, Result}
+use Rattle.refusals.specs.declared.Refusal.{Refusal}
 use mathlib.Core.Path.{◌≡◌, refl, sym, ap, ◌∙◌, subst}
 use mathlib.Core.Logic.{inl, inr}
 use mathlib.Core.Bool.{Bool, true, false, ◌&&◌}
@@ -18,7 +20,6 @@ use Rattle.numbers.proofs.Extremes.{least_one, greatest_one, least_under, greate
 use Rattle.numbers.proofs.Tests.{holds}
 use Rattle.numbers.proofs.FloatOrder.{finite_number}
 use Rattle.slices.specs.Lists.{elem}
-use Rattle.refusals.specs.declared.Check.TheVariants.{Fine}
 use Rattle.refusals.specs.Refusals.{gives}
 use Rattle.refusals.proofs.Checks.{unless_fine}
 use Rattle.grid.specs.declared.Grid.{Grid}
@@ -42,13 +43,9 @@ use Rattle.walk.proofs.Reaching.{segment_covers}
 use Rattle.fill.specs.OnGrid.{walk_on, cells_on}
 use Rattle.build.specs.declared.Plan.{Plan}
 use Rattle.build.specs.declared.Standing.{Standing}
-use Rattle.build.specs.declared.Built.{Built}
-use Rattle.build.specs.declared.Built.TheVariants as built
 use Rattle.build.specs.Build.{end_of, BuildIs}
 use Rattle.build.proofs.Theorems.{build_stands, walks_end, grid_fits, lines_passed}
 use Rattle.straight.proofs.Coordinates.{index_mono}
-use Rattle.window.specs.declared.Listing.{Listing}
-use Rattle.window.specs.declared.Listing.TheVariants.{Listed}
 use Rattle.window.specs.Window.{in_order, window_check, WindowIs}
 use Rattle.window.proofs.Blocks.{row_fits}
 use Rattle.window.proofs.Corners.{index_below}
@@ -85,7 +82,7 @@ record Window (w : Box) : Type 0 where
   max_x : coordinate w.max_x ≡ true
   max_y : coordinate w.max_y ≡ true
 
-window_says : (w : Box) → window_check w ≡ Fine → Window w
+window_says : (w : Box) → window_check w ≡ (Ok tt) → Window w
 unfolding window_check point
 window_says w h =
     let p = unless_fine (point w.min_x w.min_y && point w.max_x w.max_y) 1 0 h in
@@ -292,9 +289,9 @@ module _ (g : Grid) (ok : fit g ≡ true) (C : 0 < g.cols) (w : Box) (c : Window
 
 -- ---- THE THEOREMS
 
-module _ (plan : Plan) {ls : Lines} {o t gs s : List ℕ} {r : Built} {o' t' gs' s' : List ℕ} {st : Standing}
-    (h : BuildIs plan.mode ls o t gs s r o' t' gs' s' (end_of plan ls (length o) (length t) (length gs) (length s))) (ok : r ≡ built.Tables st)
-    (w : Box) {was now : List ℕ} {l : Listing} (q : WindowIs ls st.grid (beside ls st.grid o' t' gs' st.globals) w was l now) (n : ℕ) (listed : l ≡ Listed n) where
+module _ (plan : Plan) {ls : Lines} {o t gs s : List ℕ} {r : (Result Standing Refusal)} {o' t' gs' s' : List ℕ} {st : Standing}
+    (h : BuildIs plan.mode ls o t gs s r o' t' gs' s' (end_of plan ls (length o) (length t) (length gs) (length s))) (ok : r ≡ Ok st)
+    (w : Box) {was now : List ℕ} {l : (Result ℕ Refusal)} (q : WindowIs ls st.grid (beside ls st.grid o' t' gs' st.globals) w was l now) (n : ℕ) (listed : l ≡ Ok n) where
   abbrev g : Grid
   g = st.grid
 

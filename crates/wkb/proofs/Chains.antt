@@ -1,11 +1,11 @@
 -- Laws of points held member by member: which of a part of them are starts and ends of lines, and how many lines they make. Assumes nothing.
+use Rattle.std.specs.Prelude.{Ok}
 use mathlib.Core.Path.{◌≡◌, refl, sym}
 use mathlib.Core.List.{List, [], ◌∷◌, flatten, flat_map}
 use Prim.Native.Nat.{ℕ, zero, suc, ◌+◌, ◌-◌, ◌≤◌}
 use native.Mathlib.Omega.{arith}
 use lib.ListN.{length, take, drop, length-append}
 use lib.Seq.{length-take-le, take-take, take-nil}
-use Rattle.refusals.specs.declared.Check.TheVariants.{Fine}
 use Rattle.wkb.specs.Reading.{end_at}
 use Rattle.wkb.specs.Multi.{starts, ends, starts_of, members_check, chains_at}
 use Rattle.wkb.proofs.Fields.{line_passed}
@@ -37,7 +37,7 @@ length_starts (ps ∷ pss) s =
     let ih = length_starts pss s.1 in
     simp length-append (omega (arith, s.0))
 
-pub chains_some : (m at : ℕ) (bs : List ℕ) → members_check m at bs ≡ Fine → Some (chains_at m at bs)
+pub chains_some : (m at : ℕ) (bs : List ℕ) → members_check m at bs ≡ (Ok tt) → Some (chains_at m at bs)
 unfolding chains_at
 chains_some zero at bs h = tt
 chains_some (suc m) at bs h =

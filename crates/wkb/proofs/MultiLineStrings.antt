@@ -1,5 +1,6 @@
 -- Members are found exactly in the bytes of a MultiLineString: `multi_sound` and `multi_complete`; and what the look at its fields comes to.
 -- Assumes nothing.
+use Rattle.std.specs.Prelude.{Ok, Err, Result}
 use mathlib.Core.Path.{◌≡◌, refl, sym, ap, ◌∙◌, subst}
 use mathlib.Core.Bool.{true}
 use mathlib.Core.List.{List, [], ◌∷◌, ◌++◌, append_assoc}
@@ -7,7 +8,6 @@ use Prim.Native.Nat.{ℕ, zero, suc, ◌+◌, ◌*◌, ◌^◌, ◌≤◌, ◌<�
 use native.Mathlib.Omega.{arith}
 use lib.ListN.{length, take, drop, take-append-drop, drop_of_length-le}
 use lib.Seq.{drop-drop}
-use Rattle.refusals.specs.declared.Check.TheVariants.{Fine, Refused}
 use Rattle.refusals.specs.Refusals.{refusal, gives}
 use Rattle.refusals.proofs.Checks.{and_then_refused, and_then_fine, and_then_left, and_then_right}
 use Rattle.refusals.proofs.Answers.{then_passed, then_fine}
@@ -16,7 +16,6 @@ use Rattle.wkb.specs.Reading.{field_check, order_at, count_at, line_at, end_at, 
 use Rattle.wkb.specs.Multi.{members_check, multi_check, chains_at, found_multi}
 use Rattle.wkb.specs.Inside.{MembersAs, LookedAs}
 use Rattle.wkb.specs.declared.Looked.{Looked}
-use Rattle.wkb.specs.declared.Looked.TheVariants.{Whole, Fault}
 use Rattle.wkb.proofs.Words.{Small, at_below}
 use Rattle.wkb.proofs.Fields.{field_cut, field_right, field_passed, head_right, head_passed, line_right, line_passed, end_right, end_passed}
 use Rattle.wkb.proofs.LineStrings.{none_left, gives_same, head_bytes, HeadStands, head_stands, line_there, line_stands}
@@ -25,22 +24,22 @@ use Rattle.wkb.proofs.Walks.{members_line, members_rest, length_chains}
 -- ---- the look at the fields
 
 module _ (bs : List ℕ) where
-  pub multi_head_lem : (f : ℕ) → head_check 5 0 bs ≡ Refused (refusal 11 f) → multi_check bs ≡ Refused (refusal 11 f)
+  pub multi_head_lem : (f : ℕ) → head_check 5 0 bs ≡ Err (refusal 11 f) → multi_check bs ≡ Err (refusal 11 f)
   unfolding multi_check
   multi_head_lem f h = and_then_refused _ _ _ h
 
-  pub multi_cut : head_check 5 0 bs ≡ Fine → length bs < 9 → multi_check bs ≡ Refused (refusal 11 (length bs))
+  pub multi_cut : head_check 5 0 bs ≡ (Ok tt) → length bs < 9 → multi_check bs ≡ Err (refusal 11 (length bs))
   unfolding multi_check
   multi_cut h l = and_then_fine _ _ h ∙ and_then_refused _ _ _ (field_cut bs 5 9 true l)
 
-  pub to_members : head_check 5 0 bs ≡ Fine → 9 ≤ length bs → multi_check bs ≡ members_check (count_at 0 bs) 9 bs
+  pub to_members : head_check 5 0 bs ≡ (Ok tt) → 9 ≤ length bs → multi_check bs ≡ members_check (count_at 0 bs) 9 bs
   unfolding multi_check
   to_members h l = and_then_fine _ _ h ∙ and_then_fine _ _ (field_right bs 5 9 true l refl)
 
-  pub looked_members : (m : ℕ) (r : Looked) → MembersAs bs m r → m ≡ count_at 0 bs → multi_check bs ≡ members_check (count_at 0 bs) 9 bs → LookedAs bs r
-  looked_members m (Whole k p) h e s =
+  pub looked_members : (m : ℕ) (r : Result Looked ℕ) → MembersAs bs m r → m ≡ count_at 0 bs → multi_check bs ≡ members_check (count_at 0 bs) 9 bs → LookedAs bs r
+  looked_members m (Ok l) h e s =
       record { fine = s ∙ ap (λ (i : ℕ). members_check i 9 bs) (sym e) ∙ h.1.fine; count = h.0 ∙ e; members = rw h.0 h.1 }
-  looked_members m (Fault f) h e s = s ∙ ap (λ (i : ℕ). members_check i 9 bs) (sym e) ∙ h
+  looked_members m (Err f) h e s = s ∙ ap (λ (i : ℕ). members_check i 9 bs) (sym e) ∙ h
 
 -- ---- the members
 
@@ -48,7 +47,7 @@ end_of : (at : ℕ) (bs : List ℕ) → at + (9 + 16 * count_at at bs) ≡ end_a
 unfolding end_at
 end_of at bs = omega arith
 
-pub members_sound : (m at : ℕ) (bs : List ℕ) → Small bs → members_check m at bs ≡ Fine → Members (drop at bs) (chains_at m at bs)
+pub members_sound : (m at : ℕ) (bs : List ℕ) → Small bs → members_check m at bs ≡ (Ok tt) → Members (drop at bs) (chains_at m at bs)
 unfolding members_check chains_at
 members_sound zero at bs s h =
     subst (λ (b : List ℕ). Members b []) (sym (drop_of_length-le bs (end_passed at bs h))) none
@@ -63,7 +62,7 @@ members_sound (suc m) at bs s h =
 
 -- what is found in members whose bytes stand at a position
 pub record Found (at : ℕ) (bs : List ℕ) (pss : List (List Point)) : Type 0 where
-  pub fine : members_check (length pss) at bs ≡ Fine
+  pub fine : members_check (length pss) at bs ≡ Ok tt
   pub are : chains_at (length pss) at bs ≡ pss
 
 pub members_complete : {rest : List ℕ} {pss : List (List Point)} → Members rest pss → (at : ℕ) (bs : List ℕ) → drop at bs ≡ rest → Found at bs pss

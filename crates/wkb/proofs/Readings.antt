@@ -1,4 +1,5 @@
 -- The reader's promise from its parts: after a refusal, and after points were read. Assumes nothing.
+use Rattle.std.specs.Prelude.{Ok, Err}
 use mathlib.Core.Path.{◌≡◌, refl, sym, ◌∙◌}
 use mathlib.Core.Bool.{false, ◌&&◌}
 use mathlib.Core.List.{List, map}
@@ -8,7 +9,6 @@ use lib.Ieee.{Float, binary64, of_bits}
 use lib.ListN.{length}
 use borrow.Author.Tests.{leb-true, eqb-true}
 use Rattle.refusals.specs.declared.Refusal.{Refusal}
-use Rattle.refusals.specs.declared.Check.TheVariants as check
 use Rattle.refusals.specs.Refusals.{refusal, refused, gives, answer_by, clears, left_in, zero_beyond}
 use Rattle.refusals.proofs.Checks.{unless_fine}
 use Rattle.refusals.proofs.Answers.{then_refused, then_fine}
@@ -18,7 +18,6 @@ use Rattle.wkb.specs.Bytes.{points_at}
 use Rattle.wkb.specs.Reading.{line_at, end_at, line_check, found, slices_check, outcome, read_of, points_left, nought, ReadAs}
 use Rattle.wkb.specs.Inside.{numbers_at, LineAt}
 use Rattle.wkb.specs.declared.Order.{Order}
-use Rattle.wkb.specs.declared.Read.TheVariants.{Points, Refused}
 use Rattle.wkb.proofs.Words.{Small}
 use Rattle.wkb.proofs.Axes.{length_points, axis_x, axis_y}
 use Rattle.wkb.proofs.Fields.{end_right, end_more}
@@ -27,7 +26,7 @@ use Rattle.wkb.proofs.LineStrings.{sound, complete}
 -- ---- refusal 3 comes first
 
 -- slices that pass it have one length, and room
-pub slices_fine : (m n : ℕ) → slices_check m n ≡ check.Fine → (m ≡ n) × (1024 ≤ m)
+pub slices_fine : (m n : ℕ) → slices_check m n ≡ (Ok tt) → (m ≡ n) × (1024 ≤ m)
 unfolding slices_check
 slices_fine m n h =
     let a = and_says (eqb m n) (leb 1024 m) (unless_fine _ _ _ h) in
@@ -36,7 +35,7 @@ slices_fine m n h =
 -- ---- what the look at the fields found
 
 module _ (bs : List ℕ) where
-  pub found_fault : (at : ℕ) → line_check 0 bs ≡ check.Refused (refusal 11 at) → found bs ≡ refused (refusal 11 at)
+  pub found_fault : (at : ℕ) → line_check 0 bs ≡ Err (refusal 11 at) → found bs ≡ refused (refusal 11 at)
   unfolding found
   found_fault at e = then_refused _ _ _ e
 
@@ -54,7 +53,7 @@ module _ (bs : List ℕ) where
 
 module _ (bs : List ℕ) (x₀ y₀ : List Float) (small : Small bs) where
   -- a refusal that is none of 4 to 7
-  none : (r : Refusal) → outcome (length x₀) (length y₀) bs ≡ refused r → clears r.number ≡ false → ReadAs bs x₀ y₀ (Refused r) x₀ y₀
+  none : (r : Refusal) → outcome (length x₀) (length y₀) bs ≡ refused r → clears r.number ≡ false → ReadAs bs x₀ y₀ (Err r) x₀ y₀
   unfolding read_of points_left answer_by left_in
   none r e k = record {
     answer = rw e;
@@ -64,20 +63,20 @@ module _ (bs : List ℕ) (x₀ y₀ : List Float) (small : Small bs) where
     every = complete bs;
   }
 
-  pub read_lent : (r : Refusal) → slices_check (length x₀) (length y₀) ≡ check.Refused r → ReadAs bs x₀ y₀ (Refused r) x₀ y₀
+  pub read_lent : (r : Refusal) → slices_check (length x₀) (length y₀) ≡ Err r → ReadAs bs x₀ y₀ (Err r) x₀ y₀
   unfolding outcome slices_check clears
   read_lent r e = none r (then_refused _ _ r e) ((clearing_unless (eqb (length x₀) (length y₀) && leb 1024 (length x₀)) 3 0 refl).says r e)
 
-  module _ (h : slices_check (length x₀) (length y₀) ≡ check.Fine) where
+  module _ (h : slices_check (length x₀) (length y₀) ≡ (Ok tt)) where
     finds : outcome (length x₀) (length y₀) bs ≡ found bs
     unfolding outcome
     finds = then_fine _ _ h
 
-    pub read_none : (at : ℕ) → found bs ≡ refused (refusal 11 at) → ReadAs bs x₀ y₀ (Refused (refusal 11 at)) x₀ y₀
+    pub read_none : (at : ℕ) → found bs ≡ refused (refusal 11 at) → ReadAs bs x₀ y₀ (Err (refusal 11 at)) x₀ y₀
     unfolding clears
     read_none at e = none (refusal 11 at) (finds ∙ e) refl
 
-    pub read_all : {x₁ y₁ : List Float} (o : Order) (n : ℕ) → found bs ≡ gives (points_at o n 9 bs) → x₁ ≡ zero_beyond nought (length x₀) (map (of_bits binary64) (numbers_at o n 9 bs)) → y₁ ≡ zero_beyond nought (length y₀) (map (of_bits binary64) (numbers_at o n 17 bs)) → ReadAs bs x₀ y₀ (Points n) x₁ y₁
+    pub read_all : {x₁ y₁ : List Float} (o : Order) (n : ℕ) → found bs ≡ gives (points_at o n 9 bs) → x₁ ≡ zero_beyond nought (length x₀) (map (of_bits binary64) (numbers_at o n 9 bs)) → y₁ ≡ zero_beyond nought (length y₀) (map (of_bits binary64) (numbers_at o n 17 bs)) → ReadAs bs x₀ y₀ (Ok n) x₁ y₁
     unfolding read_of points_left answer_by left_in
     read_all o n l p q =
         let e : outcome (length x₀) (length y₀) bs ≡ gives (points_at o n 9 bs) = finds ∙ l in

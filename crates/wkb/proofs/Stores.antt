@@ -1,12 +1,11 @@
--- Laws of a slice that something is put into at a position: nothing, one entry more, one thing after another, zeros to the end; and of one that is
--- filled part after part. Assumes nothing.
+-- Laws of a slice that something is put into at a position: nothing, one entry more, one thing after another; and of one that is filled
+-- part after part. Assumes nothing.
 use mathlib.Core.Path.{◌≡◌, refl, sym, ap, ◌∙◌, subst}
 use mathlib.Core.List.{List, [], ◌∷◌, ◌++◌, append_assoc, append-nil}
 use Prim.Native.Nat.{ℕ, suc, ◌+◌, ◌-◌, ◌≤◌, ◌<◌}
 use native.Mathlib.Omega.{arith}
-use native.Mathlib.Decide.{dec_le}
-use lib.ListN.{length, take, drop, set, replicate, length-append, length-drop, length-replicate, replicate-append-replicate, take-append-drop, drop_of_length-le}
-use lib.Seq.{set_split, length-take-le, take_all, take_at, drop_at, drop-drop}
+use lib.ListN.{length, take, drop, set, replicate, length-append, length-drop, take-append-drop}
+use lib.Seq.{set_split, length-take-le, take_at, drop_at, drop-drop}
 use Rattle.refusals.specs.Refusals.{zero_beyond}
 use Rattle.wkb.specs.Inside.{PutIn}
 
@@ -55,46 +54,6 @@ module _ {A : Type 0} where
 
   pub put_more : {at i : ℕ} {xs s₀ s₁ : List A} (a : A) → PutIn at xs s₀ s₁ → i ≡ at + length xs → i < length s₀ → PutIn at (xs ++ (a ∷ [])) s₀ (set s₁ i a)
   put_more {at} {i} {xs} {s₀} {s₁} a p e h = put_then p (put_one i a s₁ (rw (put_length p) h)) e
-
-  -- ---- zeros, from a position to the end
-
-  -- zeros stand from `from` up to i; where `from` is beyond the end, nothing changed
-  pub record Zeroed (z : A) (from i : ℕ) (s₀ s : List A) : Type 0 where
-    pub len : length s ≡ length s₀
-    pub put : from ≤ length s₀ → PutIn from (replicate (i - from) z) s₀ s
-    pub up : from ≤ length s₀ → i ≤ length s₀
-    pub same : length s₀ < from → s ≡ s₀
-
-  pub zero_none : (z : A) (from : ℕ) (s : List A) → Zeroed z from from s s
-  zero_none z from s =
-      let e : from - from ≡ 0 = omega arith in
-      record { len = refl; put = λ h. rw e (put_none from s h); up = λ h. h; same = λ h. refl }
-
-  pub zero_more : {z : A} {from i : ℕ} {s₀ s : List A} → from ≤ i → i < length s₀ → Zeroed z from i s₀ s → Zeroed z from (i + 1) s₀ (set s i z)
-  zero_more {z} {from} {i} {s₀} {s} h l w =
-      let e : i - from + 1 ≡ i + 1 - from = omega arith in
-      let n : replicate (i - from) z ++ (z ∷ []) ≡ replicate (i + 1 - from) z =
-      replicate-append-replicate (i - from) 1 z ∙ ap (λ (k : ℕ). replicate k z) e in
-      let p : PutIn from (replicate (i - from) z) s₀ s = w.put (omega arith) in
-      let q : PutIn from (replicate (i + 1 - from) z) s₀ (set s i z) =
-      rw (← n) (put_more z p (rw (length-replicate (i - from) z) (omega arith)) l) in
-      record { len = put_length q; put = λ k. q; up = λ k. omega arith; same = λ k. absurd (omega arith) }
-
-  pub zero_all : {z : A} {from i : ℕ} {s₀ s : List A} → length s₀ ≤ i → Zeroed z from i s₀ s → s ≡ take from s₀ ++ replicate (length s₀ - from) z
-  zero_all {z} {from} {i} {s₀} {s} l w = elim (dec_le from (length s₀)) [ yes h ↦ within h | no h ↦ beyond (omega arith) ]
-    where
-      within : from ≤ length s₀ → s ≡ take from s₀ ++ replicate (length s₀ - from) z
-      within h =
-          let e : i ≡ length s₀ = let u = w.up h in omega arith in
-          let q : PutIn from (replicate (length s₀ - from) z) s₀ s = rw (← e) (w.put h) in
-          let k : length s₀ ≤ from + length (replicate (length s₀ - from) z) = rw (length-replicate (length s₀ - from) z) (omega arith) in
-          q.is ∙ rw (drop_of_length-le s₀ k, append-nil)
-
-      beyond : length s₀ < from → s ≡ take from s₀ ++ replicate (length s₀ - from) z
-      beyond h =
-          let e : length s₀ - from ≡ 0 = omega arith in
-          let f : length s₀ ≤ from = omega arith in
-          w.same h ∙ rw (e, take_all from s₀ f, append-nil)
 
   -- ---- a slice that is filled, part after part
 

@@ -1,11 +1,11 @@
 -- Laws of the two ways over the members of a MultiLineString: the look at all of them, and the reading of a slice, member by member; and what the
 -- slices are to hold. Assumes nothing.
+use Rattle.std.specs.Prelude.{Ok, Err}
 use mathlib.Core.Path.{◌≡◌, refl, sym, ap, ◌∙◌}
 use mathlib.Core.List.{List, [], ◌∷◌, ◌++◌, map, map-append, flatten}
 use Prim.Native.Nat.{ℕ, zero, suc, ◌+◌, ◌*◌, ◌-◌, ◌≤◌, ◌<◌}
 use native.Mathlib.Omega.{arith}
 use lib.ListN.{length, length-append}
-use Rattle.refusals.specs.declared.Check.TheVariants.{Fine, Refused}
 use Rattle.refusals.specs.Refusals.{refusal}
 use Rattle.refusals.proofs.Checks.{and_then_refused, and_then_fine, and_then_left, and_then_right}
 use Rattle.wkb.specs.declared.Order.{Order}
@@ -27,19 +27,19 @@ unfolding line_at
 length_line_at at bs = length_points (order_at at bs) bs (count_at at bs) (at + 9)
 
 module _ (m at : ℕ) (bs : List ℕ) where
-  members_next : line_check at bs ≡ Fine → members_check (suc m) at bs ≡ members_check m (end_at at bs) bs
+  members_next : line_check at bs ≡ (Ok tt) → members_check (suc m) at bs ≡ members_check m (end_at at bs) bs
   unfolding members_check
   members_next h = and_then_fine _ _ h
 
-  members_refused : (f : ℕ) → line_check at bs ≡ Refused (refusal 11 f) → members_check (suc m) at bs ≡ Refused (refusal 11 f)
+  members_refused : (f : ℕ) → line_check at bs ≡ Err (refusal 11 f) → members_check (suc m) at bs ≡ Err (refusal 11 f)
   unfolding members_check
   members_refused f h = and_then_refused _ _ _ h
 
-  pub members_line : members_check (suc m) at bs ≡ Fine → line_check at bs ≡ Fine
+  pub members_line : members_check (suc m) at bs ≡ (Ok tt) → line_check at bs ≡ Ok tt
   unfolding members_check
   members_line h = and_then_left _ _ h
 
-  pub members_rest : members_check (suc m) at bs ≡ Fine → members_check m (end_at at bs) bs ≡ Fine
+  pub members_rest : members_check (suc m) at bs ≡ (Ok tt) → members_check m (end_at at bs) bs ≡ Ok tt
   unfolding members_check
   members_rest h = and_then_right (line_check at bs) _ h
 
@@ -79,7 +79,7 @@ module _ {bs : List ℕ} {m at left points : ℕ} (p : Passed bs m at left point
         within = l.within;
       }
 
-  pub passed_fault : (f : ℕ) → 0 < left → line_check at bs ≡ Refused (refusal 11 f) → members_check m 9 bs ≡ Refused (refusal 11 f)
+  pub passed_fault : (f : ℕ) → 0 < left → line_check at bs ≡ Err (refusal 11 f) → members_check m 9 bs ≡ Err (refusal 11 f)
   passed_fault f h e =
       let k : left ≡ suc (left - 1) = omega arith in
       p.same ∙ ap (λ (i : ℕ). members_check i at bs) k ∙ members_refused (left - 1) at bs f e
@@ -88,7 +88,7 @@ module _ {bs : List ℕ} {m at left points : ℕ} (p : Passed bs m at left point
   unfolding members_check
   over h = let z : left ≡ 0 = omega arith in p.same ∙ ap (λ (i : ℕ). members_check i at bs) z
 
-  pub passed_over : left ≤ 0 → at < length bs → members_check m 9 bs ≡ Refused (refusal 11 at)
+  pub passed_over : left ≤ 0 → at < length bs → members_check m 9 bs ≡ Err (refusal 11 at)
   passed_over h l = over h ∙ end_more at bs l
 
   pub passed_all : left ≤ 0 → length bs ≤ at → MembersIn bs m points
@@ -106,11 +106,11 @@ module _ {bs : List ℕ} {m at left points : ℕ} (p : Passed bs m at left point
 -- ---- the reading
 
 -- the first of members that are right is right, and so are those after it
-module _ (left at : ℕ) (bs : List ℕ) (h : 0 < left) (fine : members_check left at bs ≡ Fine) where
+module _ (left at : ℕ) (bs : List ℕ) (h : 0 < left) (fine : members_check left at bs ≡ (Ok tt)) where
   pub left_line : LineFits at bs
   left_line = let k : left ≡ suc (left - 1) = omega arith in line_passed at bs (members_line (left - 1) at bs (rw k at fine))
 
-  pub left_rest : (n : ℕ) → n ≡ count_at at bs → members_check (left - 1) (at + 9 + 16 * n) bs ≡ Fine
+  pub left_rest : (n : ℕ) → n ≡ count_at at bs → members_check (left - 1) (at + 9 + 16 * n) bs ≡ Ok tt
   left_rest n c =
       let k : left ≡ suc (left - 1) = omega arith in
       rw (← end_is at n bs c) (members_rest (left - 1) at bs (rw k at fine))

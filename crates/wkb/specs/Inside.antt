@@ -1,64 +1,59 @@
 -- What the readers' private functions promise: the look at all fields, and the reading of one coordinate of each point. Definitions only.
-use Rattle.std.specs.Prelude.{ℕ, zero, suc, ◌+◌, ◌*◌, ◌≤◌, ◌≡◌, length, take, drop}
+use Rattle.std.specs.Prelude.{Ok, Err, Result, ℕ, zero, suc, ◌+◌, ◌*◌, ◌≤◌, ◌≡◌, length, take, drop}
 use mathlib.Core.List.{List, [], ◌∷◌, ◌++◌, flatten}
-use Rattle.refusals.specs.declared.Check.TheVariants.{Fine, Refused}
 use Rattle.refusals.specs.Refusals.{refusal}
 use Rattle.wkb.specs.Bytes.{number_at}
 use Rattle.wkb.specs.Reading.{order_at, count_at, end_at, head_check, line_check}
 use Rattle.wkb.specs.Multi.{members_check, chains_at, multi_check}
 use Rattle.wkb.specs.declared.Order.{Order}
-use Rattle.wkb.specs.declared.Head.{Head}
-use Rattle.wkb.specs.declared.Head.TheVariants as head
 use Rattle.wkb.specs.declared.Checked.{Checked}
-use Rattle.wkb.specs.declared.Checked.TheVariants.{Line, Fault}
 use Rattle.wkb.specs.declared.Looked.{Looked}
-use Rattle.wkb.specs.declared.Looked.TheVariants as looked
 
 -- ---- the look at the fields
 
 -- a head of a type, in the order o
 pub record HeadAt (bs : List ℕ) (type at : ℕ) (o : Order) : Type 0 where
-  pub fine : head_check type at bs ≡ Fine
+  pub fine : head_check type at bs ≡ Ok tt
   pub order : o ≡ order_at at bs
   pub within : at + 5 ≤ length bs
 
-abbrev pub HeadAs : List ℕ → ℕ → ℕ → Head → Type 0
-HeadAs bs type at (head.Named o) = HeadAt bs type at o
-HeadAs bs type at (head.Fault f) = head_check type at bs ≡ Refused (refusal 11 f)
+abbrev pub HeadAs : List ℕ → ℕ → ℕ → Result Order ℕ → Type 0
+HeadAs bs type at (Ok o) = HeadAt bs type at o
+HeadAs bs type at (Err f) = head_check type at bs ≡ Err (refusal 11 f)
 
 -- a LineString of n points in the order o
 pub record LineAt (bs : List ℕ) (at : ℕ) (o : Order) (n : ℕ) : Type 0 where
-  pub fine : line_check at bs ≡ Fine
+  pub fine : line_check at bs ≡ Ok tt
   pub order : o ≡ order_at at bs
   pub count : n ≡ count_at at bs
   pub some : 1 ≤ n
   pub most : n ≤ 1024
   pub within : at + 9 + 16 * n ≤ length bs
 
-abbrev pub CheckedAs : List ℕ → ℕ → Checked → Type 0
-CheckedAs bs at (Line o n) = LineAt bs at o n
-CheckedAs bs at (Fault f) = line_check at bs ≡ Refused (refusal 11 f)
+abbrev pub CheckedAs : List ℕ → ℕ → Result Checked ℕ → Type 0
+CheckedAs bs at (Ok l) = LineAt bs at l.order l.count
+CheckedAs bs at (Err f) = line_check at bs ≡ Err (refusal 11 f)
 
 -- m members from byte 9 on, with p points in all
 pub record MembersIn (bs : List ℕ) (m p : ℕ) : Type 0 where
-  pub fine : members_check m 9 bs ≡ Fine
+  pub fine : members_check m 9 bs ≡ Ok tt
   pub points : p ≡ length (flatten (chains_at m 9 bs))
   pub some : m ≤ p
   pub within : p ≤ length bs
 
-abbrev pub MembersAs : List ℕ → ℕ → Looked → Type 0
-MembersAs bs m (looked.Whole k p) = (k ≡ m) × MembersIn bs m p
-MembersAs bs m (looked.Fault f) = members_check m 9 bs ≡ Refused (refusal 11 f)
+abbrev pub MembersAs : List ℕ → ℕ → Result Looked ℕ → Type 0
+MembersAs bs m (Ok l) = (l.members ≡ m) × MembersIn bs m l.points
+MembersAs bs m (Err f) = members_check m 9 bs ≡ Err (refusal 11 f)
 
 -- a MultiLineString of them
 pub record MultiAt (bs : List ℕ) (m p : ℕ) : Type 0 where
-  pub fine : multi_check bs ≡ Fine
+  pub fine : multi_check bs ≡ Ok tt
   pub count : m ≡ count_at 0 bs
   pub members : MembersIn bs m p
 
-abbrev pub LookedAs : List ℕ → Looked → Type 0
-LookedAs bs (looked.Whole m p) = MultiAt bs m p
-LookedAs bs (looked.Fault f) = multi_check bs ≡ Refused (refusal 11 f)
+abbrev pub LookedAs : List ℕ → Result Looked ℕ → Type 0
+LookedAs bs (Ok l) = MultiAt bs l.members l.points
+LookedAs bs (Err f) = multi_check bs ≡ Err (refusal 11 f)
 
 -- ---- reading
 

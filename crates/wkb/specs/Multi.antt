@@ -1,14 +1,14 @@
 -- What a reader of one MultiLineString finds in bytes, answers and leaves (document 02, 1, with document 01's refusals 3, 11, 2 and 5).
 -- Points are bit patterns, so that a NaN keeps all its bits. Definitions only.
-use Rattle.std.specs.Prelude.{ℕ, zero, suc, ◌-◌, ◌≡◌, true, leb, eqb, length, take, drop}
+use Rattle.std.specs.Prelude.{Ok, Err, Result, ℕ, zero, suc, ◌-◌, ◌≡◌, true, leb, eqb, length, take, drop}
+use Rattle.refusals.specs.declared.Refusal.{Refusal}
+use Rattle.refusals.specs.Refusals.{Check}
 use mathlib.Core.List.{List, [], ◌∷◌, map, flatten, flat_map}
-use Rattle.refusals.specs.declared.Check.{Check}
 use Rattle.refusals.specs.Refusals.{unless, and_then, Answer, gives, ◌then◌, ◌into◌, answer_by, left_in, zero_beyond}
 use Rattle.grid.specs.Domain.{count_check}
 use Rattle.wkb.specs.Bytes.{Point, MultiLineString}
 use Rattle.wkb.specs.Reading.{field_check, count_at, line_at, end_at, head_check, line_check, end_check}
 use Rattle.wkb.specs.declared.MultiRead.{MultiRead}
-use Rattle.wkb.specs.declared.MultiRead.TheVariants.{Members, Refused}
 
 -- ---- lines
 
@@ -62,8 +62,8 @@ multi_outcome m n k bs =
     pair_check m n then found_multi bs into (λ pss. count_check (length (starts_of pss)) then members_room_check m k (length (flatten pss)) (length pss) then gives pss)
 
 -- the answer: how many points and members, or the refusal
-unfoldable pub multi_read_of : Answer (List (List Point)) → MultiRead
-multi_read_of o = answer_by Refused (λ pss. Members (length (flatten pss)) (length pss)) o
+unfoldable pub multi_read_of : Answer (List (List Point)) → Result MultiRead Refusal
+multi_read_of o = answer_by Err (λ pss. Ok (record { points = (length (flatten pss)); members = (length pss) })) o
 
 -- what a point slice holds then, f being its coordinate
 unfoldable pub axis_left : (Point → ℕ) → Answer (List (List Point)) → List ℕ → List ℕ
@@ -75,7 +75,7 @@ lengths_left o was = left_in 0 was o (λ pss. zero_beyond 0 (length was) (map le
 
 -- The promise of the reader: its answer, what the slices hold then, and both ways that members are found in the bytes of a MultiLineString, its
 -- own members, and in no others.
-pub record MultiReadAs (bs x₀ y₀ l₀ : List ℕ) (r : MultiRead) (x₁ y₁ l₁ : List ℕ) : Type 0 where
+pub record MultiReadAs (bs x₀ y₀ l₀ : List ℕ) (r : Result MultiRead Refusal) (x₁ y₁ l₁ : List ℕ) : Type 0 where
   pub answer : r ≡ multi_read_of (multi_outcome (length x₀) (length y₀) (length l₀) bs)
   pub in_x : x₁ ≡ axis_left (λ p. p.x) (multi_outcome (length x₀) (length y₀) (length l₀) bs) x₀
   pub in_y : y₁ ≡ axis_left (λ p. p.y) (multi_outcome (length x₀) (length y₀) (length l₀) bs) y₀

@@ -1,14 +1,13 @@
 -- What a reader of one LineString finds in bytes, answers and leaves (document 01, "The program" and refusals 3 and 11). Definitions only.
-use Rattle.std.specs.Prelude.{ℕ, zero, suc, ◌+◌, ◌*◌, Bool, true, false, ◌&&◌, ◌≡◌, List, map, pos, leb, eqb, Float, length, get_or}
+use Rattle.std.specs.Prelude.{Ok, Err, Result, ℕ, zero, suc, ◌+◌, ◌*◌, Bool, true, false, ◌&&◌, ◌≡◌, List, map, pos, leb, eqb, Float, length, get_or}
+use Rattle.refusals.specs.declared.Refusal.{Refusal}
+use Rattle.refusals.specs.Refusals.{Check}
 use Rattle.std.specs.Float.{fin, binary64}
 use Rattle.std.specs.Float.Ieee.{of_bits}
-use Rattle.refusals.specs.declared.Check.{Check}
 use Rattle.refusals.specs.Refusals.{unless, and_then, Answer, gives, ◌then◌, answer_by, left_in, zero_beyond}
 use Rattle.wkb.specs.Bytes.{Point, LineString, number_at, points_at}
 use Rattle.wkb.specs.declared.Order.{Order}
 use Rattle.wkb.specs.declared.Order.TheVariants.{Big, Little}
-use Rattle.wkb.specs.declared.Read.{Read}
-use Rattle.wkb.specs.declared.Read.TheVariants.{Points, Refused}
 
 -- 11: a field from `start` up to `end`. Cut, it is refused at the end of input; wrong, at its first byte.
 unfoldable pub field_check : List ℕ → ℕ → ℕ → Bool → Check
@@ -69,8 +68,8 @@ unfoldable pub outcome : ℕ → ℕ → List ℕ → Answer (List Point)
 outcome m n bs = slices_check m n then found bs
 
 -- the answer: how many points, or the refusal
-unfoldable pub read_of : Answer (List Point) → Read
-read_of o = answer_by Refused (λ ps. Points (length ps)) o
+unfoldable pub read_of : Answer (List Point) → Result ℕ Refusal
+read_of o = answer_by Err (λ ps. Ok (length ps)) o
 
 abbrev pub nought : Float
 nought = fin false 0 (pos 0)
@@ -81,7 +80,7 @@ points_left f o was = left_in nought was o (λ ps. zero_beyond nought (length wa
 
 -- The promise of the reader: its answer, what the slices hold then, and both ways that points are found in the bytes of a LineString, its
 -- own points, and in no others.
-pub record ReadAs (bs : List ℕ) (x₀ y₀ : List Float) (r : Read) (x₁ y₁ : List Float) : Type 0 where
+pub record ReadAs (bs : List ℕ) (x₀ y₀ : List Float) (r : Result ℕ Refusal) (x₁ y₁ : List Float) : Type 0 where
   pub answer : r ≡ read_of (outcome (length x₀) (length y₀) bs)
   pub in_x : x₁ ≡ points_left (λ p. p.x) (outcome (length x₀) (length y₀) bs) x₀
   pub in_y : y₁ ≡ points_left (λ p. p.y) (outcome (length x₀) (length y₀) bs) y₀

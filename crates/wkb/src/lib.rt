@@ -12,7 +12,7 @@ ghost use Rattle.wkb.specs.Bytes.{little_number, number_at};
 ghost use Rattle.wkb.specs.Reading.{order_of, slices_check, nought, ReadAs};
 ghost use Rattle.wkb.specs.Inside.{numbers_at, HeadAs, CheckedAs};
 
-use refusals::{Check, Refusal};
+use refusals::Refusal;
 
 // Which byte of a number comes first: the most significant one, or the least significant one.
 #[derive(Clone, Copy)]
@@ -21,52 +21,32 @@ pub enum Order {
     Little,
 }
 
-// What the reader of a LineString answers: how many points it read, or why it read none.
+// How many points and members the reader of a MultiLineString read.
 #[derive(Clone, Copy)]
-pub enum Read {
-    Points(usize),
-    Refused(Refusal),
+pub struct MultiRead {
+    pub points: usize,
+    pub members: usize,
 }
 
-// What the reader of a MultiLineString answers: how many points and members it read, or why it read none.
+// What a look at all fields of a LineString finds where they are right: its order and how many points it has.
 #[derive(Clone, Copy)]
-pub enum MultiRead {
-    Members { points: usize, members: usize },
-    Refused(Refusal),
+struct Checked {
+    pub order: Order,
+    pub count: usize,
 }
 
-// What a look at a byte order and a type finds: the order, or the byte position of the first fault.
+// What a look at all fields of a MultiLineString finds where they are right: how many members and points it has.
 #[derive(Clone, Copy)]
-enum Head {
-    Named(Order),
-    Fault(usize),
-}
-
-// What a look at all fields of a LineString finds: its order and its points, or the byte position of the first fault.
-#[derive(Clone, Copy)]
-enum Checked {
-    Line { order: Order, count: usize },
-    Fault(usize),
-}
-
-// What a look at all fields of a MultiLineString finds: how many members and points it has, or the byte position of the first fault.
-#[derive(Clone, Copy)]
-enum Looked {
-    Whole { members: usize, points: usize },
-    Fault(usize),
-}
-
-fn wide(b: u8) -> u64
-    ensures { result ≡ b }
-{
-    b as u64
+struct Looked {
+    pub members: usize,
+    pub points: usize,
 }
 
 // The number whose bytes, the least significant first, are these.
 fn number_of_4(a: u8, b: u8, c: u8, d: u8) -> u64
     ensures { (result ≡ little_number (a ∷ b ∷ c ∷ d ∷ [])) × (result < 2 ^ 32) }
 {
-    wide(a) + 256 * (wide(b) + 256 * (wide(c) + 256 * wide(d)))
+    u64::from(a) + 256 * (u64::from(b) + 256 * (u64::from(c) + 256 * u64::from(d)))
 }
 
 // The number in the 4 bytes from `at` on.
@@ -100,67 +80,60 @@ fn order_of(b: u8) -> Order
     if b == 0 { Order::Big } else { Order::Little }
 }
 
-// Looks at the byte order and the type at a position. A field that the input does not hold whole is a fault at the end of input, and one
-// that is wrong at its first byte.
-fn check_head(bytes: &[u8], kind: u64, at: usize) -> Head
+// Looks at the byte order and the type at a position: the order, or the byte position of the first fault. A field that the input does not hold whole
+// is a fault at the end of input, and one that is wrong at its first byte. The type is the number of the format that the bytes are compared with.
+fn check_head(bytes: &[u8], kind: u64, at: usize) -> Result<Order, usize>
     requires { at ≤ length bytes.now }
     ensures { HeadAs bytes.now kind at result }
 {
     let len = bytes.len();
     if len - at < 1 {
-        return Head::Fault(len);
+        return Err(len);
     }
     let b = bytes[at];
     if b > 1 {
-        return Head::Fault(at);
+        return Err(at);
     }
     let order = order_of(b);
     if len - at < 5 {
-        return Head::Fault(len);
+        return Err(len);
     }
     let found = number_at_4(bytes, at + 1, order);
     if found != kind {
-        return Head::Fault(at + 1);
+        return Err(at + 1);
     }
-    Head::Named(order)
+    Ok(order)
 }
 
-// Looks at the fields of a LineString at a position, in order, and writes nothing.
-fn check_line(bytes: &[u8], at: usize) -> Checked
+// Looks at the fields of a LineString at a position, in order, and writes nothing. The error is the byte position of the first fault.
+fn check_line(bytes: &[u8], at: usize) -> Result<Checked, usize>
     requires { at ≤ length bytes.now }
     ensures { CheckedAs bytes.now at result }
 {
     let len = bytes.len();
-    match check_head(bytes, 2, at) {
-        Head::Fault(f) => Checked::Fault(f),
-        Head::Named(order) => {
-            if len - at < 9 {
-                return Checked::Fault(len);
-            }
-            let count = number_at_4(bytes, at + 5, order) as usize;
-            if count < 1 {
-                return Checked::Fault(at + 5);
-            }
-            if count > 1024 {
-                return Checked::Fault(at + 5);
-            }
-            if len - at < 9 + 16 * count {
-                return Checked::Fault(len);
-            }
-            Checked::Line { order, count }
-        }
+    let order = check_head(bytes, 2, at)?;
+    if len - at < 9 {
+        return Err(len);
     }
+    let count = number_at_4(bytes, at + 5, order) as usize;
+    if count < 1 {
+        return Err(at + 5);
+    }
+    if count > 1024 {
+        return Err(at + 5);
+    }
+    if len - at < 9 + 16 * count {
+        return Err(len);
+    }
+    Ok(Checked { order, count })
 }
 
 // Writes zero from `from` on. Where that is beyond the end, nothing changes.
 pub fn zero_from(s: &mut [f64], from: usize)
     ensures { s.new ≡ take from s.old ++ replicate (length s.old - from) nought }
 {
-    let mut i = from;
-    while i < s.len() {
-        s[i] = 0.0;
-        i += 1;
-    }
+    let a = slices::least(s.len(), from);
+    s[a..].fill(0.0);
 }
 
 // Writes one coordinate of each of n points, whose first one stands at `at`; zero beyond.
@@ -168,16 +141,14 @@ fn read_axis(bytes: &[u8], at: usize, order: Order, n: usize, s: &mut [f64])
     requires { (at + 16 * n ≤ length bytes.now + 8) × (n ≤ length s.old) }
     ensures { s.new ≡ zero_beyond nought (length s.old) (map (of_bits binary64) (numbers_at order n at bytes.now)) }
 {
-    let mut i = 0;
-    while i < n {
+    for i in 0..n {
         s[i] = numbers::bits::from_bits(number_at_8(bytes, at + 16 * i, order));
-        i += 1;
     }
     zero_from(s, n);
 }
 
 // The point slices have one length, and room for 1,024 points.
-fn check_slices(m: usize, n: usize) -> Check
+fn check_slices(m: usize, n: usize) -> Result<(), Refusal>
     ensures { result ≡ slices_check m n }
 {
     refusals::refuse_unless((m == n) & (1024 <= m), 3, 0)
@@ -193,25 +164,18 @@ fn fault(at: usize) -> Refusal
     }
 }
 
-// Reads one LineString of 1 to 1,024 points, with no bytes after it, into x and y; zero beyond. A
+// Reads one LineString of 1 to 1,024 points, with no bytes after it, into x and y; zero beyond. The answer is how many points it read. A
 // refusal changes nothing.
-pub fn read_line_string(bytes: &[u8], x: &mut [f64], y: &mut [f64]) -> Read
+pub fn read_line_string(bytes: &[u8], x: &mut [f64], y: &mut [f64]) -> Result<usize, Refusal>
     ensures { ReadAs bytes.now x.old y.old result x.new y.new }
 {
-    let lent = check_slices(x.len(), y.len());
-    if let Check::Refused(r) = lent {
-        return Read::Refused(r);
+    check_slices(x.len(), y.len())?;
+    let line = check_line(bytes, 0).map_err(fault)?;
+    let end = 9 + 16 * line.count;
+    if end < bytes.len() {
+        return Err(fault(end));
     }
-    match check_line(bytes, 0) {
-        Checked::Line { order, count } => {
-            let end = 9 + 16 * count;
-            if end < bytes.len() {
-                return Read::Refused(fault(end));
-            }
-            read_axis(bytes, 9, order, count, x);
-            read_axis(bytes, 17, order, count, y);
-            Read::Points(count)
-        }
-        Checked::Fault(at) => Read::Refused(fault(at)),
-    }
+    read_axis(bytes, 9, line.order, line.count, x);
+    read_axis(bytes, 17, line.order, line.count, y);
+    Ok(line.count)
 }

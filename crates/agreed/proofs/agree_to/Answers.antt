@@ -1,6 +1,6 @@
 -- `agreed::agree_to` meets its contract. The invariant: the records so far agree, and what follows goes on from there. Assumes nothing.
 use mathlib.Core.Path.{refl, sym, ◌∙◌}
-use Prim.Native.Nat.{ℕ, ◌+◌, ◌-◌}
+use Prim.Native.Nat.{ℕ, ◌+◌}
 use native.Mathlib.Omega.{arith}
 use lib.ListN.{get_or, length-replicate}
 use borrow.Author.Tests.{not-false, not-true}

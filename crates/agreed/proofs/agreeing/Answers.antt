@@ -1,6 +1,6 @@
 -- `agreed::agreeing` meets its contract. The invariant: the records that agree so far, and those that follow, make up the whole. Assumes nothing.
 use mathlib.Core.Path.{refl, sym, ◌∙◌}
-use Prim.Native.Nat.{ℕ, ◌+◌, ◌-◌}
+use Prim.Native.Nat.{ℕ, ◌+◌}
 use native.Mathlib.Omega.{arith}
 use lib.ListN.{get_or, length-replicate}
 use Rattle.agreed.proofs.Tallying.{tally_none, tally_more, tally_all, of_parts, ended, at_most}

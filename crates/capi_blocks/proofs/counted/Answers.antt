@@ -4,10 +4,10 @@ use Rattle.replies.specs.Answers.{of_cells}
 use Rattle.capi_blocks.specs.Lent.{of_count}
 use Rattle.capi_blocks.proofs.counted.Goals as goal
 
-pub returns-in-Items : goal.returns-in-Items
+pub returns-in-Ok : goal.returns-in-Ok
 unfolding of_cells of_count
-returns-in-Items c = ap of_count (sym c.in-Items.is)
+returns-in-Ok c = ap of_count (sym c.in-Ok.is)
 
-pub returns-in-Refused : goal.returns-in-Refused
+pub returns-in-Err : goal.returns-in-Err
 unfolding of_cells of_count
-returns-in-Refused c = ap of_count (sym c.in-Refused.is)
+returns-in-Err c = ap of_count (sym c.in-Err.is)

@@ -9,16 +9,16 @@ use Rattle.capi_blocks_added.proofs.added_line.Goals as goal
 pub bounds-out-1 : goal.bounds-out-1
 bounds-out-1 c = simp length-set (omega arith)
 
-pub returns-in-Tables : goal.returns-in-Tables
+pub returns-in-Ok : goal.returns-in-Ok
 unfolding of_added
-returns-in-Tables c =
+returns-in-Ok c =
     let h = c.requires in
-    replied 3 (ap of_added (sym c.in-Tables.is))
-    (handed_replies 3 h (record { number = refl; words = stored_three c.args.out.now c.in-Tables.items c.in-Tables.globals c.in-Tables.cells h }))
+    replied 3 (ap of_added (sym c.in-Ok.is))
+    (handed_replies 3 h (record { number = refl; words = stored_three c.args.out.now c.in-Ok.field-0.items c.in-Ok.field-0.globals c.in-Ok.field-0.cells h }))
 
-pub returns-in-Refused : goal.returns-in-Refused
+pub returns-in-Err : goal.returns-in-Err
 unfolding of_added
-returns-in-Refused c =
+returns-in-Err c =
     let h = c.requires in
-    replied 3 (ap of_added (sym c.in-Refused.is))
+    replied 3 (ap of_added (sym c.in-Err.is))
     (handed_replies 3 h (record { number = refl; words = stored_one c.args.out.now _ (omega arith) }))

@@ -6,10 +6,10 @@ use Rattle.replies.proofs.Handing.{replied, wider}
 use Rattle.capi_clean.specs.Lent.{of_cleaned}
 use Rattle.capi_clean.proofs.kept.Goals as goal
 
-pub returns-in-Kept : goal.returns-in-Kept
+pub returns-in-Ok : goal.returns-in-Ok
 unfolding of_cleaned
-returns-in-Kept c = replied 2 (ap of_cleaned (sym c.in-Kept.is)) c.counts.ensures
+returns-in-Ok c = replied 2 (ap of_cleaned (sym c.in-Ok.is)) c.counts.ensures
 
-pub returns-in-Refused : goal.returns-in-Refused
+pub returns-in-Err : goal.returns-in-Err
 unfolding of_cleaned of_check
-returns-in-Refused c = replied 2 (ap of_cleaned (sym c.in-Refused.is)) (wider 1 2 (omega arith) c.requires c.checked.ensures)
+returns-in-Err c = replied 2 (ap of_cleaned (sym c.in-Err.is)) (wider 1 2 (omega arith) c.requires c.checked.ensures)

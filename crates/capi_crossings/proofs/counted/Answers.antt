@@ -4,10 +4,10 @@ use Rattle.replies.specs.Answers.{of_cells}
 use Rattle.capi_pairs.specs.Answers.{of_once}
 use Rattle.capi_crossings.proofs.counted.Goals as goal
 
-pub returns-in-Pairs : goal.returns-in-Pairs
+pub returns-in-Ok : goal.returns-in-Ok
 unfolding of_cells of_once
-returns-in-Pairs c = ap of_once (sym c.in-Pairs.is)
+returns-in-Ok c = ap of_once (sym c.in-Ok.is)
 
-pub returns-in-Refused : goal.returns-in-Refused
+pub returns-in-Err : goal.returns-in-Err
 unfolding of_cells of_once
-returns-in-Refused c = ap of_once (sym c.in-Refused.is)
+returns-in-Err c = ap of_once (sym c.in-Err.is)

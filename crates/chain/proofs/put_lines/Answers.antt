@@ -5,14 +5,14 @@ use Rattle.report.proofs.Putting.{puts_text}
 use Rattle.chain.proofs.Answers.{lines_refused, lines_made}
 use Rattle.chain.proofs.put_lines.Goals as goal
 
-pub returns-in-Refused : goal.returns-in-Refused
-returns-in-Refused c =
+pub returns-in-Err : goal.returns-in-Err
+returns-in-Err c =
     puts_text
-    (lines_refused _ _ (length-replicate {A = ℕ} 4096 0) (length-replicate {A = ℕ} 4096 0) (length-replicate {A = ℕ} 64 0) (length-replicate {A = ℕ} 16384 0) c.build-built.ensures c.in-Refused.is)
+    (lines_refused _ _ (length-replicate {A = ℕ} 4096 0) (length-replicate {A = ℕ} 4096 0) (length-replicate {A = ℕ} 64 0) (length-replicate {A = ℕ} 16384 0) c.build-built.ensures c.in-Err.is)
     c.refused_line.ensures
 
-pub returns-in-Tables : goal.returns-in-Tables
-returns-in-Tables c =
+pub returns-in-Ok : goal.returns-in-Ok
+returns-in-Ok c =
     puts_text
-    (lines_made _ _ (length-replicate {A = ℕ} 4096 0) (length-replicate {A = ℕ} 4096 0) (length-replicate {A = ℕ} 64 0) (length-replicate {A = ℕ} 16384 0) c.build-built.ensures c.in-Tables.is)
+    (lines_made _ _ (length-replicate {A = ℕ} 4096 0) (length-replicate {A = ℕ} 4096 0) (length-replicate {A = ℕ} 64 0) (length-replicate {A = ℕ} 16384 0) c.build-built.ensures c.in-Ok.is)
     c.put_tables.ensures

@@ -7,11 +7,11 @@ use Rattle.clean_bytes.proofs.put_multi.Goals as goal
 
 pub put_part-requires : goal.put_part-requires
 put_part-requires c =
-    let q = members_read c.read_multi_line_string-read.ensures (length-replicate {A = ℕ} 4096 0) (length-replicate {A = ℕ} 4096 0) (length-replicate {A = ℕ} 4096 0) c.requires.0 c.in-Members.is in
+    let q = members_read c.read_multi_line_string-read.ensures (length-replicate {A = ℕ} 4096 0) (length-replicate {A = ℕ} 4096 0) (length-replicate {A = ℕ} 4096 0) c.requires.0 c.in-Ok.is in
     (q.load.parts, asked q.load q.few c.requires.1)
 
-pub returns-in-Refused : goal.returns-in-Refused
-returns-in-Refused c = unread_refused c.read_multi_line_string-read.ensures (length-replicate {A = ℕ} 4096 0) (length-replicate {A = ℕ} 4096 0) (length-replicate {A = ℕ} 4096 0) c.requires.0 c.in-Refused.is c.refuse.ensures
+pub returns-in-Err : goal.returns-in-Err
+returns-in-Err c = unread_refused c.read_multi_line_string-read.ensures (length-replicate {A = ℕ} 4096 0) (length-replicate {A = ℕ} 4096 0) (length-replicate {A = ℕ} 4096 0) c.requires.0 c.in-Err.is c.refuse.ensures
 
-pub returns-in-Members : goal.returns-in-Members
-returns-in-Members c = read_cleaned c.read_multi_line_string-read.ensures (length-replicate {A = ℕ} 4096 0) (length-replicate {A = ℕ} 4096 0) (length-replicate {A = ℕ} 4096 0) c.requires.0 c.in-Members.is c.put_part.ensures
+pub returns-in-Ok : goal.returns-in-Ok
+returns-in-Ok c = read_cleaned c.read_multi_line_string-read.ensures (length-replicate {A = ℕ} 4096 0) (length-replicate {A = ℕ} 4096 0) (length-replicate {A = ℕ} 4096 0) c.requires.0 c.in-Ok.is c.put_part.ensures

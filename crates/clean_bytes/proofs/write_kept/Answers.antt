@@ -16,8 +16,8 @@ pub slice_bounds-write_multi_line_string-end-3 : goal.slice_bounds-write_multi_l
 slice_bounds-write_multi_line_string-end-3 c =
     sym (length-take-le _ c.args.lengths.now c.requires.0.in_lengths)
 
-pub returns-in-Bytes : goal.returns-in-Bytes
-returns-in-Bytes c = wrote c.write_multi_line_string-written.ensures c.requires.1 c.in-Bytes.is
+pub returns-in-Ok : goal.returns-in-Ok
+returns-in-Ok c = wrote c.write_multi_line_string-written.ensures c.requires.1 c.in-Ok.is
 
-pub returns-in-Refused : goal.returns-in-Refused
-returns-in-Refused c = not_refused c.write_multi_line_string-written.ensures c.requires.1 c.in-Refused.is
+pub returns-in-Err : goal.returns-in-Err
+returns-in-Err c = not_refused c.write_multi_line_string-written.ensures c.requires.1 c.in-Err.is

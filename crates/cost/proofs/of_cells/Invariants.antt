@@ -1,10 +1,6 @@
 -- `cost::of_cells` meets its contract. Assumes nothing.
-use Prim.Native.Nat.{◌-◌}
 use Rattle.cost.proofs.Costs.{Adding}
 use Rattle.cost.proofs.of_cells.Given as goal
 
 abbrev pub invariant-loop-cell : goal.invariant-loop-cell
 invariant-loop-cell l = Adding l.cells l.offsets l.cell l.tests l.longest
-
-abbrev pub decreases-loop-cell : goal.decreases-loop-cell
-decreases-loop-cell l = l.cells - l.cell

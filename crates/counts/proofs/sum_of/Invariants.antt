@@ -5,6 +5,3 @@ use Rattle.counts.proofs.sum_of.Given as goal
 
 abbrev pub invariant-loop-c : goal.invariant-loop-c
 invariant-loop-c l = Summing l.counts l.cells l.total l.c
-
-abbrev pub decreases-loop-c : goal.decreases-loop-c
-decreases-loop-c l = l.cells - l.c

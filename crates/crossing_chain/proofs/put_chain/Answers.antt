@@ -12,20 +12,20 @@ use Rattle.crossing_chain.proofs.put_chain.Goals as goal
 pub put_points-requires : goal.put_points-requires
 put_points-requires c =
     let r = c.read_line_string-read in
-    let p = points_read _ _ _ _ _ (length-replicate 1024 nought) (length-replicate 1024 nought) _ (rw c.in-Points.is at r.ensures) in
+    let p = points_read _ _ _ _ _ (length-replicate 1024 nought) (length-replicate 1024 nought) _ (rw c.in-Ok.is at r.ensures) in
     let l = p.in_x in
     let k = r.auto.x in
     let e = length-replicate 1024 nought in
     (p.some, omega arith, p.in_x, p.in_y)
 
-pub returns-in-Refused : goal.returns-in-Refused
-returns-in-Refused c =
+pub returns-in-Err : goal.returns-in-Err
+returns-in-Err c =
     puts_text
-    (refused_read _ _ _ _ _ (length-replicate 1024 nought) (length-replicate 1024 nought) _ (rw c.in-Refused.is at c.read_line_string-read.ensures) refused_text _ ∙ printed_by _ _)
+    (refused_read _ _ _ _ _ (length-replicate 1024 nought) (length-replicate 1024 nought) _ (rw c.in-Err.is at c.read_line_string-read.ensures) refused_text _ ∙ printed_by _ _)
     c.refused_line.ensures
 
-pub returns-in-Points : goal.returns-in-Points
-returns-in-Points c =
+pub returns-in-Ok : goal.returns-in-Ok
+returns-in-Ok c =
     puts_text
-    ((points_read _ _ _ _ _ (length-replicate 1024 nought) (length-replicate 1024 nought) _ (rw c.in-Points.is at c.read_line_string-read.ensures)).said refused_text (crossings_of_lines _) ∙ printed_by _ _)
+    ((points_read _ _ _ _ _ (length-replicate 1024 nought) (length-replicate 1024 nought) _ (rw c.in-Ok.is at c.read_line_string-read.ensures)).said refused_text (crossings_of_lines _) ∙ printed_by _ _)
     c.put_points.ensures

@@ -5,17 +5,17 @@ use Rattle.report.proofs.Putting.{puts_text}
 use Rattle.crossing_chain.proofs.Answers.{samples_refused, build_refused, build_made}
 use Rattle.crossing_chain.proofs.put_samples.Goals as goal
 
-pub returns-in-Refused : goal.returns-in-Refused
-returns-in-Refused c = puts_text (samples_refused _ _ _ (sym c.check_sample_lines-sampled.ensures ∙ c.in-Refused.is)) c.refused_line.ensures
+pub returns-in-Err : goal.returns-in-Err
+returns-in-Err c = puts_text (samples_refused _ _ _ (sym c.check_sample_lines-sampled.ensures ∙ c.in-Err.is)) c.refused_line.ensures
 
-pub returns-in-Refused-built : goal.returns-in-Refused-built
-returns-in-Refused-built c =
+pub returns-in-Err-built : goal.returns-in-Err-built
+returns-in-Err-built c =
     puts_text
-    (build_refused _ _ (length-replicate {A = ℕ} 4096 0) (length-replicate {A = ℕ} 4096 0) (length-replicate {A = ℕ} 64 0) (length-replicate {A = ℕ} 16384 0) _ (sym c.check_sample_lines-sampled.ensures ∙ c.in_default.is) c.build-built.ensures c.in-Refused-built.is)
-    c.refused_line-in-Refused-built.ensures
+    (build_refused _ _ (length-replicate {A = ℕ} 4096 0) (length-replicate {A = ℕ} 4096 0) (length-replicate {A = ℕ} 64 0) (length-replicate {A = ℕ} 16384 0) _ (sym c.check_sample_lines-sampled.ensures ∙ c.in_default.is) c.build-built.ensures c.in-Err-built.is)
+    c.refused_line-in-Err-built.ensures
 
-pub returns-in-Tables : goal.returns-in-Tables
-returns-in-Tables c =
+pub returns-in-Ok : goal.returns-in-Ok
+returns-in-Ok c =
     puts_text
-    (build_made _ _ (length-replicate {A = ℕ} 4096 0) (length-replicate {A = ℕ} 4096 0) (length-replicate {A = ℕ} 64 0) (length-replicate {A = ℕ} 16384 0) _ (sym c.check_sample_lines-sampled.ensures ∙ c.in_default.is) c.build-built.ensures c.in-Tables.is)
+    (build_made _ _ (length-replicate {A = ℕ} 4096 0) (length-replicate {A = ℕ} 4096 0) (length-replicate {A = ℕ} 64 0) (length-replicate {A = ℕ} 16384 0) _ (sym c.check_sample_lines-sampled.ensures ∙ c.in_default.is) c.build-built.ensures c.in-Ok.is)
     c.put_tables.ensures

@@ -6,13 +6,13 @@ use Rattle.crossing_chain.proofs.put_tables.Goals as goal
 
 pub put_crossings-requires : goal.put_crossings-requires
 put_crossings-requires c =
-    let p = listed_pairs c.list_crossings-listed.ensures c.in-Pairs.is in
+    let p = listed_pairs c.list_crossings-listed.ensures c.in-Ok.is in
     record { first_lent = p.in_first; second_lent = p.in_second }
 
-pub returns-in-Refused : goal.returns-in-Refused
+pub returns-in-Err : goal.returns-in-Err
 unfolding crossings_of_tables crossings_in
-returns-in-Refused c = puts_text (listed_refused c.list_crossings-listed.ensures c.in-Refused.is) c.refused_line.ensures
+returns-in-Err c = puts_text (listed_refused c.list_crossings-listed.ensures c.in-Err.is) c.refused_line.ensures
 
-pub returns-in-Pairs : goal.returns-in-Pairs
+pub returns-in-Ok : goal.returns-in-Ok
 unfolding crossings_of_tables crossings_in
-returns-in-Pairs c = puts_text (listed_pairs c.list_crossings-listed.ensures c.in-Pairs.is).text c.put_crossings.ensures
+returns-in-Ok c = puts_text (listed_pairs c.list_crossings-listed.ensures c.in-Ok.is).text c.put_crossings.ensures

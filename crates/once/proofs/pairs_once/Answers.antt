@@ -1,22 +1,27 @@
 -- `once::pairs_once` meets its contract: each refusal in its order, then the pairs. Assumes nothing.
-use mathlib.Core.Path.{sym, ◌∙◌}
+use Rattle.std.proofs.lemmas.Result.{err_from_is_err_and}
+use mathlib.Core.Path.{refl, sym, ◌∙◌}
 use Rattle.grid.specs.Domain.{lines}
 use Rattle.lent.proofs.Beginning.{begun_passed}
 use Rattle.first_tests.proofs.MadeLists.{run_asks}
 use Rattle.once.proofs.Entry.{once_stopped, once_done}
 use Rattle.once.proofs.pairs_once.Goals as goal
 
-pub returns-in-Refused : goal.returns-in-Refused
-returns-in-Refused c =
+pub returns-in_err-begin : goal.returns-in_err-begin
+returns-in_err-begin c =
     let a = c.args in
     let ls = lines a.start_x.now a.start_y.now a.end_x.now a.end_y.now in
-    once_stopped ls a.grid a.offsets.now a.items.now a.globals.now a.global_count a.first.now a.second.now a.starts.now a.listing.now a.counts.now c.check_lines-lines.ensures c.begin-begun.ensures _ c.in-Refused.is
+    let p = err_from_is_err_and c.from_residual.result c.from_residual.ensures.1 in
+    rw (p.1, p.2)
+    (once_stopped ls a.grid a.offsets.now a.items.now a.globals.now a.global_count a.first.now a.second.now a.starts.now a.listing.now a.counts.now c.check_lines-lines.ensures c.in_err-begin.ensures _ refl)
 
 pub run-hits-requires : goal.run-hits-requires
 run-hits-requires c =
-    let w = c.begin-begun in
-    let e = c.in_default.is in
-    record { fine = sym c.check_lines-lines.ensures ∙ (begun_passed w.ensures e).lines_fine; asks = run_asks w.ensures e w.auto.starts w.auto.listing w.auto.counts }
+    let w = c.begin in
+    record {
+      fine = sym c.check_lines-lines.ensures ∙ (begun_passed c.in_ok-begin.ensures refl).lines_fine;
+      asks = run_asks c.in_ok-begin.ensures refl w.auto.starts w.auto.listing w.auto.counts;
+    }
 
 pub shape_of-first : goal.shape_of-first
 shape_of-first c = c.finish.auto.first ∙ c.run-hits.auto.first
@@ -25,18 +30,18 @@ pub shape_of-second : goal.shape_of-second
 shape_of-second c = c.finish.auto.second ∙ c.run-hits.auto.second
 
 pub shape_of-starts : goal.shape_of-starts
-shape_of-starts c = c.finish.auto.starts ∙ c.begin-begun.auto.starts
+shape_of-starts c = c.finish.auto.starts ∙ c.begin.auto.starts
 
 pub shape_of-listing : goal.shape_of-listing
-shape_of-listing c = c.finish.auto.listing ∙ c.begin-begun.auto.listing
+shape_of-listing c = c.finish.auto.listing ∙ c.begin.auto.listing
 
 pub shape_of-counts : goal.shape_of-counts
-shape_of-counts c = c.finish.auto.counts ∙ c.run-hits.auto.counts ∙ c.begin-begun.auto.counts
+shape_of-counts c = c.finish.auto.counts ∙ c.run-hits.auto.counts ∙ c.begin.auto.counts
 
 pub returns : goal.returns
 returns c =
     let a = c.args in
     let ls = lines a.start_x.now a.start_y.now a.end_x.now a.end_y.now in
-    let w = c.begin-begun in
+    let w = c.begin in
     let v = c.run-hits in
-    once_done ls a.grid a.offsets.now a.items.now a.globals.now a.global_count a.first.now a.second.now a.starts.now a.listing.now a.counts.now c.check_lines-lines.ensures w.ensures c.in_default.is v.ensures w.auto.starts w.auto.listing (v.auto.counts ∙ w.auto.counts) c.finish.ensures
+    once_done ls a.grid a.offsets.now a.items.now a.globals.now a.global_count a.first.now a.second.now a.starts.now a.listing.now a.counts.now c.check_lines-lines.ensures c.in_ok-begin.ensures refl v.ensures w.auto.starts w.auto.listing (v.auto.counts ∙ w.auto.counts) c.finish.ensures

@@ -16,4 +16,4 @@ pub returns-in_default-along : goal.returns-in_default-along
 returns-in_default-along c = c.seam_or_outside-in_default-along.ensures ∙ no_row_owns _ _ _ (answered _ _ _ _ _ c.first-along.ensures c.y_axis.ensures c.in_default-along.is)
 
 pub returns : goal.returns
-returns c = both_own _ _ _ _ _ (answered _ _ _ _ _ c.first-across.ensures c.x_axis.ensures c.in-At.is) (answered _ _ _ _ _ c.first-along.ensures c.y_axis.ensures c.in-At-along.is)
+returns c = both_own _ _ _ _ _ (answered _ _ _ _ _ c.first-across.ensures c.x_axis.ensures c.in-Some.is) (answered _ _ _ _ _ c.first-along.ensures c.y_axis.ensures c.in-Some-along.is)

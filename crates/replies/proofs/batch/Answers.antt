@@ -7,10 +7,10 @@ use Rattle.replies.proofs.batch.Goals as goal
 pub returns-then-out-lt3 : goal.returns-then-out-lt3
 returns-then-out-lt3 c = short_replies 3 _ _ c.if-out-lt3.true
 
-pub returns-in-Done : goal.returns-in-Done
+pub returns-in-Ok : goal.returns-in-Ok
 unfolding of_batch
-returns-in-Done c = handed 3 c.if-out-lt3.false (ap of_batch (sym c.in-Done.is)) c.three.ensures
+returns-in-Ok c = handed 3 c.if-out-lt3.false (ap of_batch (sym c.in-Ok.is)) c.three.ensures
 
-pub returns-in-Refused : goal.returns-in-Refused
+pub returns-in-Err : goal.returns-in-Err
 unfolding of_batch
-returns-in-Refused c = handed 3 c.if-out-lt3.false (ap of_batch (sym c.in-Refused.is)) c.refused.ensures
+returns-in-Err c = handed 3 c.if-out-lt3.false (ap of_batch (sym c.in-Err.is)) c.refused.ensures

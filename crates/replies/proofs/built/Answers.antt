@@ -28,14 +28,14 @@ of_grid t p q w h a b c d = rw (a, b, c, d)
 pub returns-then-out-lt8 : goal.returns-then-out-lt8
 returns-then-out-lt8 c = short_replies 8 _ _ c.if-out-lt8.true
 
-pub returns-in-Tables : goal.returns-in-Tables
+pub returns-in-Ok : goal.returns-in-Ok
 unfolding of_built
-returns-in-Tables c =
+returns-in-Ok c =
     handed 8 c.if-out-lt8.false
-    (of_grid _ _ _ _ _ c.to_bits.ensures c.to_bits-in-Tables.ensures c.to_bits-in-Tables-2.ensures c.to_bits-in-Tables-3.ensures
-    ∙ ap of_built (sym c.in-Tables.is))
+    (of_grid _ _ _ _ _ c.to_bits.ensures c.to_bits-in-Ok.ensures c.to_bits-in-Ok-2.ensures c.to_bits-in-Ok-3.ensures
+    ∙ ap of_built (sym c.in-Ok.is))
     c.eight.ensures
 
-pub returns-in-Refused : goal.returns-in-Refused
+pub returns-in-Err : goal.returns-in-Err
 unfolding of_built
-returns-in-Refused c = handed 8 c.if-out-lt8.false (ap of_built (sym c.in-Refused.is)) c.refused.ensures
+returns-in-Err c = handed 8 c.if-out-lt8.false (ap of_built (sym c.in-Err.is)) c.refused.ensures

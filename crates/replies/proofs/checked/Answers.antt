@@ -7,10 +7,10 @@ use Rattle.replies.proofs.checked.Goals as goal
 pub returns-then-out-lt1 : goal.returns-then-out-lt1
 returns-then-out-lt1 c = short_replies 1 _ _ c.if-out-lt1.true
 
-pub returns-in-Fine : goal.returns-in-Fine
+pub returns-in-Ok : goal.returns-in-Ok
 unfolding of_check
-returns-in-Fine c = handed 1 c.if-out-lt1.false (ap of_check (sym c.in-Fine.is)) (record { number = refl; words = refl })
+returns-in-Ok c = handed 1 c.if-out-lt1.false (ap of_check (sym c.in-Ok.is)) (record { number = refl; words = refl })
 
-pub returns-in-Refused : goal.returns-in-Refused
+pub returns-in-Err : goal.returns-in-Err
 unfolding of_check
-returns-in-Refused c = handed 1 c.if-out-lt1.false (ap of_check (sym c.in-Refused.is)) c.refused.ensures
+returns-in-Err c = handed 1 c.if-out-lt1.false (ap of_check (sym c.in-Err.is)) c.refused.ensures

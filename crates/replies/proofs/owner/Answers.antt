@@ -7,10 +7,10 @@ use Rattle.replies.proofs.owner.Goals as goal
 pub returns-then-out-lt3 : goal.returns-then-out-lt3
 returns-then-out-lt3 c = short_replies 3 _ _ c.if-out-lt3.true
 
-pub returns-in-Found : goal.returns-in-Found
+pub returns-in-Ok : goal.returns-in-Ok
 unfolding of_owner_answer
-returns-in-Found c = handed 3 c.if-out-lt3.false (ap of_owner_answer (sym c.in-Found.is)) c.whose.ensures
+returns-in-Ok c = handed 3 c.if-out-lt3.false (ap of_owner_answer (sym c.in-Ok.is)) c.whose.ensures
 
-pub returns-in-Refused : goal.returns-in-Refused
+pub returns-in-Err : goal.returns-in-Err
 unfolding of_owner_answer
-returns-in-Refused c = handed 3 c.if-out-lt3.false (ap of_owner_answer (sym c.in-Refused.is)) c.refused.ensures
+returns-in-Err c = handed 3 c.if-out-lt3.false (ap of_owner_answer (sym c.in-Err.is)) c.refused.ensures

@@ -7,10 +7,10 @@ use Rattle.replies.specs.Replies.{success}
 use Rattle.replies.proofs.Handing.{answered}
 use Rattle.replies.proofs.point.Goals as goal
 
-pub returns-in-Point : goal.returns-in-Point
+pub returns-in-Ok : goal.returns-in-Ok
 unfolding of_snap
-returns-in-Point c = answered (ap₂ (λ (p q : ℕ). success (p ∷ q ∷ [])) c.to_bits.ensures c.to_bits-in-Point.ensures ∙ ap of_snap (sym c.in-Point.is)) c.two.ensures
+returns-in-Ok c = answered (ap₂ (λ (p q : ℕ). success (p ∷ q ∷ [])) c.to_bits.ensures c.to_bits-in-Ok.ensures ∙ ap of_snap (sym c.in-Ok.is)) c.two.ensures
 
-pub returns-in-Refused : goal.returns-in-Refused
+pub returns-in-Err : goal.returns-in-Err
 unfolding of_snap
-returns-in-Refused c = answered (ap of_snap (sym c.in-Refused.is)) c.refused.ensures
+returns-in-Err c = answered (ap of_snap (sym c.in-Err.is)) c.refused.ensures

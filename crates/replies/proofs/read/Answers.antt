@@ -7,10 +7,10 @@ use Rattle.replies.proofs.read.Goals as goal
 pub returns-then-out-lt1 : goal.returns-then-out-lt1
 returns-then-out-lt1 c = short_replies 1 _ _ c.if-out-lt1.true
 
-pub returns-in-Points : goal.returns-in-Points
+pub returns-in-Ok : goal.returns-in-Ok
 unfolding of_read
-returns-in-Points c = handed 1 c.if-out-lt1.false (ap of_read (sym c.in-Points.is)) c.one.ensures
+returns-in-Ok c = handed 1 c.if-out-lt1.false (ap of_read (sym c.in-Ok.is)) c.one.ensures
 
-pub returns-in-Refused : goal.returns-in-Refused
+pub returns-in-Err : goal.returns-in-Err
 unfolding of_read
-returns-in-Refused c = handed 1 c.if-out-lt1.false (ap of_read (sym c.in-Refused.is)) c.refused.ensures
+returns-in-Err c = handed 1 c.if-out-lt1.false (ap of_read (sym c.in-Err.is)) c.refused.ensures

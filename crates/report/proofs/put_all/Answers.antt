@@ -4,20 +4,20 @@ use native.Mathlib.Omega.{arith}
 use Rattle.report.proofs.Putting.{puts_none, puts_more, puts_all}
 use Rattle.report.proofs.put_all.Goals as goal
 
-pub loop-i-init : goal.loop-i-init
-loop-i-init c = (omega arith, refl, puts_none _)
+pub loop-b-init : goal.loop-b-init
+loop-b-init c = (omega arith, refl, puts_none _)
 
-pub loop-i-preserved : goal.loop-i-preserved
-loop-i-preserved c =
-    let l = c.loop-i in
+pub loop-b-preserved : goal.loop-b-preserved
+loop-b-preserved c =
+    let l = c.loop-b in
     let text = c.args.text.now in (
       omega arith,
       c.put-at.auto.out ∙ l.invariant.1,
-      puts_more text l.i (omega arith) l.invariant.2 c.put-at.ensures,
+      puts_more text l.b-index (omega arith) l.invariant.2 c.put-at.ensures,
     )
 
 pub shape_of-out : goal.shape_of-out
-shape_of-out c = c.loop-i.invariant.1
+shape_of-out c = c.loop-b.invariant.1
 
 pub returns : goal.returns
-returns c = puts_all c.args.text.now c.loop-i.i (omega arith) c.loop-i.invariant.2
+returns c = puts_all c.args.text.now c.loop-b.b-index (omega arith) c.loop-b.invariant.2

@@ -5,6 +5,3 @@ use Rattle.sizing.proofs.span_of.Given as goal
 
 abbrev pub invariant-loop-i : goal.invariant-loop-i
 invariant-loop-i l = (l.i ≤ l.n) × (l.n ≤ length l.starts) × (l.n ≤ length l.ends) × (l.low ≡ lowest l.starts l.ends l.i) × (l.high ≡ highest l.starts l.ends l.i)
-
-abbrev pub decreases-loop-i : goal.decreases-loop-i
-decreases-loop-i l = l.n - l.i

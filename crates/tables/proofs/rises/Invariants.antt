@@ -1,11 +1,7 @@
 -- `tables::rises` meets its contract. The invariant: the entries before `i` were looked at, and `all` says whether they rise. Assumes nothing.
 use Prim.Native.Nat.{◌-◌}
-use lib.ListN.{length}
 use Rattle.tables.proofs.Climbing.{Climbed}
 use Rattle.tables.proofs.rises.Given as goal
 
 abbrev pub invariant-loop-i : goal.invariant-loop-i
 invariant-loop-i l = Climbed l.list l.all l.i
-
-abbrev pub decreases-loop-i : goal.decreases-loop-i
-decreases-loop-i l = length l.list - l.i

@@ -4,9 +4,9 @@ use Rattle.why.specs.Why.{nothing}
 use Rattle.why.proofs.Cases.{build_refused, build_made}
 use Rattle.why.proofs.of_lines.Goals as goal
 
-pub returns-in-Refused : goal.returns-in-Refused
-returns-in-Refused c = build_refused _ _ (length-replicate {A = ℕ} 4096 0) (length-replicate {A = ℕ} 4096 0) (length-replicate {A = ℕ} 64 0) (length-replicate {A = ℕ} 16384 0) c.build-built.ensures c.in-Refused.is
+pub returns-in-Err : goal.returns-in-Err
+returns-in-Err c = build_refused _ _ (length-replicate {A = ℕ} 4096 0) (length-replicate {A = ℕ} 4096 0) (length-replicate {A = ℕ} 64 0) (length-replicate {A = ℕ} 16384 0) c.build-built.ensures c.in-Err.is
 
-pub returns-in-Tables : goal.returns-in-Tables
+pub returns-in-Ok : goal.returns-in-Ok
 unfolding nothing
-returns-in-Tables c = build_made _ _ (length-replicate {A = ℕ} 4096 0) (length-replicate {A = ℕ} 4096 0) (length-replicate {A = ℕ} 64 0) (length-replicate {A = ℕ} 16384 0) c.build-built.ensures c.in-Tables.is
+returns-in-Ok c = build_made _ _ (length-replicate {A = ℕ} 4096 0) (length-replicate {A = ℕ} 4096 0) (length-replicate {A = ℕ} 64 0) (length-replicate {A = ℕ} 16384 0) c.build-built.ensures c.in-Ok.is

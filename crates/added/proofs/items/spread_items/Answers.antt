@@ -1,5 +1,4 @@
 -- `added::items::spread_items` meets its contract. Assumes nothing.
-use Prim.Native.Nat.{◌+◌, ◌-◌}
 use native.Mathlib.Omega.{arith}
 use Rattle.added.proofs.Spreads.{spreading_none, spreading_cell, spreading_read, spreading_asks, spreading_more, spreading_done}
 use Rattle.added.proofs.items.spread_items.Goals as goal
@@ -24,9 +23,6 @@ offset_bounds-offsets-visited c = let l = c.loop-j.invariant.asks.few in let h =
 
 pub bounds-offsets-visited : goal.bounds-offsets-visited
 bounds-offsets-visited c = spreading_read c.loop-j.invariant c.loop-j-test.true
-
-pub overflow_cast-from-in-loop-j : goal.overflow_cast-from-in-loop-j
-overflow_cast-from-in-loop-j c = omega (arith, c.shared_slice_known-in-loop-j-2-1.given (lib.ListN.get_or c.args.visited.now (c.loop-j.j - 1) 0 + 1))
 
 pub open_gap-requires : goal.open_gap-requires
 open_gap-requires c = spreading_asks c.loop-j.invariant c.loop-j-test.true

@@ -4,6 +4,3 @@ use Rattle.added.proofs.items.spread_items.Given as goal
 
 abbrev pub invariant-loop-j : goal.invariant-loop-j
 invariant-loop-j l = Spreading l.n l.visited l.offsets l.total l.initial.items l.items l.end l.j
-
-abbrev pub decreases-loop-j : goal.decreases-loop-j
-decreases-loop-j l = l.j

@@ -1,10 +1,6 @@
 -- `added::offsets::raise` meets its contract. Assumes nothing.
-use Prim.Native.Nat.{◌-◌}
 use Rattle.added.proofs.Parts.{Raising}
 use Rattle.added.proofs.offsets.raise.Given as goal
 
 abbrev pub invariant-loop-i : goal.invariant-loop-i
 invariant-loop-i l = Raising l.from l.to l.by l.initial.offsets l.offsets l.i
-
-abbrev pub decreases-loop-i : goal.decreases-loop-i
-decreases-loop-i l = l.to - l.i

@@ -1,4 +1,6 @@
 -- `added::offsets::raise_offsets` meets its contract. Assumes nothing.
+use mathlib.Core.Path.{◌≡◌}
+use Prim.Native.Nat.{◌+◌, ◌-◌}
 use native.Mathlib.Omega.{arith}
 use Rattle.added.proofs.Spreads.{lifting_none, lifting_small, lifting_cell, lifting_asks, lifting_more, lifting_done}
 use Rattle.added.proofs.offsets.raise_offsets.Goals as goal
@@ -19,19 +21,16 @@ pub overflow_add-from : goal.overflow_add-from
 overflow_add-from c = let l = c.loop-j.invariant.asks.few in let h = lifting_cell c.loop-j.invariant c.loop-j-test.true in omega arith
 
 pub overflow_cast-j : goal.overflow_cast-j
-overflow_cast-j c = record { fits = lifting_small c.loop-j.invariant }
+overflow_cast-j c = let k = c.loop-j-test.true in let h = lifting_small c.loop-j.invariant in omega arith
 
 pub raise-requires : goal.raise-requires
-raise-requires c = lifting_asks c.loop-j.invariant c.loop-j-test.true
-
-pub overflow_sub-j : goal.overflow_sub-j
-overflow_sub-j c = let l = c.loop-j-test.true in omega arith
-
-pub loop-j-smaller : goal.loop-j-smaller
-loop-j-smaller c = let l = c.loop-j-test.true in omega arith
+raise-requires c = let k = c.loop-j-test.true in let e : c.loop-j.j - 1 + 1 ≡ c.loop-j.j = omega arith in rw e (lifting_asks c.loop-j.invariant c.loop-j-test.true)
 
 pub loop-j-preserved : goal.loop-j-preserved
-loop-j-preserved c = lifting_more c.loop-j.invariant c.loop-j-test.true c.raise.ensures c.raise.auto.offsets
+loop-j-preserved c =
+    let k = c.loop-j-test.true in
+    let e : c.loop-j.j - 1 + 1 ≡ c.loop-j.j = omega arith in
+    lifting_more c.loop-j.invariant c.loop-j-test.true (rw e at c.raise.ensures) c.raise.auto.offsets
 
 pub shape_of-offsets : goal.shape_of-offsets
 shape_of-offsets c = c.loop-j.invariant.len

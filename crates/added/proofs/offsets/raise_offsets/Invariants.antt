@@ -4,6 +4,3 @@ use Rattle.added.proofs.offsets.raise_offsets.Given as goal
 
 abbrev pub invariant-loop-j : goal.invariant-loop-j
 invariant-loop-j l = Lifting l.visited l.initial.offsets l.end l.offsets l.to l.j
-
-abbrev pub decreases-loop-j : goal.decreases-loop-j
-decreases-loop-j l = l.j

@@ -8,8 +8,8 @@ use Rattle.added.proofs.placing.put_in.Goals as goal
 pub overflow_add-found : goal.overflow_add-found
 overflow_add-found c = let h = put_more c.requires in let l = put_count c.requires in omega arith
 
-pub returns-in-Refused : goal.returns-in-Refused
-returns-in-Refused c h = put_refused h c.check_room-room.ensures c.in-Refused.is c.clear.ensures
+pub returns-in-Err : goal.returns-in-Err
+returns-in-Err c h = put_refused h c.check_room-room.ensures c.in-Err.is c.clear.ensures
 
 pub slice_bounds-insert-end-2 : goal.slice_bounds-insert-end-2
 slice_bounds-insert-end-2 c = sym (length-take-le _ c.args.scratch.now c.requires.within)

@@ -15,9 +15,6 @@ bounds-summary-block c = omega (arith, c.loop-block.invariant.asks.room)
 pub overflow_add-sum : goal.overflow_add-sum
 overflow_add-sum c = omega (arith, c.number-sum.ensures, along_fits c.loop-block.invariant (omega arith) (omega (arith, c.shared_slice_known-in-loop-block-1.given c.loop-block.block)))
 
-pub overflow_add-block : goal.overflow_add-block
-overflow_add-block c = omega (arith, c.loop-block.invariant.asks.few)
-
 pub loop-block-preserved : goal.loop-block-preserved
 loop-block-preserved c = rw c.number-sum.ensures (along_more c.loop-block.invariant (omega arith) (omega (arith, c.shared_slice_known-in-loop-block-1.given c.loop-block.block)))
 

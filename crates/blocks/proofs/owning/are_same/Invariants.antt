@@ -1,5 +1,4 @@
 -- `blocks::owning::are_same` meets its contract: no number before b differs. Assumes nothing.
-use Prim.Native.Nat.{◌-◌}
 use lib.Dec.{eqb}
 use lib.ListN.{get_or}
 use Rattle.blocks.proofs.Owns.{Testing}
@@ -7,6 +6,3 @@ use Rattle.blocks.proofs.owning.are_same.Given as goal
 
 abbrev pub invariant-loop-b : goal.invariant-loop-b
 invariant-loop-b l = Testing (λ k. eqb (get_or l.summary k 0) (get_or l.numbers k 0)) l.n l.b
-
-abbrev pub decreases-loop-b : goal.decreases-loop-b
-decreases-loop-b l = l.n - l.b

@@ -1,11 +1,6 @@
--- `blocks_added::raising::raise` meets its contract: the first k cells are added. Assumes nothing.
-use Prim.Native.Nat.{◌-◌}
-use lib.ListN.{length}
+-- `blocks_added::raising::raise` meets its contract: the first cells are added. Assumes nothing.
 use Rattle.blocks_added.proofs.Raises.{Raising}
 use Rattle.blocks_added.proofs.raising.raise.Given as goal
 
-abbrev pub invariant-loop-k : goal.invariant-loop-k
-invariant-loop-k l = Raising l.grid.cols l.cells l.initial.summary l.summary l.k
-
-abbrev pub decreases-loop-k : goal.decreases-loop-k
-decreases-loop-k l = length l.cells - l.k
+abbrev pub invariant-loop-cell : goal.invariant-loop-cell
+invariant-loop-cell l = Raising l.grid.cols l.cells l.initial.summary l.summary l.cell-index

@@ -10,21 +10,21 @@ loop-built-init c = choosing_first _ c.requires c.serial_bounds-extent.ensures c
 pub attempt_size-tried-requires : goal.attempt_size-tried-requires
 attempt_size-tried-requires c = choosing_asks c.loop-built.invariant
 
-pub shape_of-offsets-in-Ended : goal.shape_of-offsets-in-Ended
-shape_of-offsets-in-Ended c = c.attempt_size-tried.auto.offsets ∙ c.loop-built.invariant.len
+pub shape_of-offsets-in-Some : goal.shape_of-offsets-in-Some
+shape_of-offsets-in-Some c = c.attempt_size-tried.auto.offsets ∙ c.loop-built.invariant.len
 
-pub shape_of-items-in-Ended : goal.shape_of-items-in-Ended
-shape_of-items-in-Ended c = c.attempt_size-tried.auto.items ∙ c.loop-built.invariant.len_items
+pub shape_of-items-in-Some : goal.shape_of-items-in-Some
+shape_of-items-in-Some c = c.attempt_size-tried.auto.items ∙ c.loop-built.invariant.len_items
 
-pub shape_of-globals-in-Ended : goal.shape_of-globals-in-Ended
-shape_of-globals-in-Ended c = c.attempt_size-tried.auto.globals ∙ c.loop-built.invariant.len_globals
+pub shape_of-globals-in-Some : goal.shape_of-globals-in-Some
+shape_of-globals-in-Some c = c.attempt_size-tried.auto.globals ∙ c.loop-built.invariant.len_globals
 
-pub shape_of-scratch-in-Ended : goal.shape_of-scratch-in-Ended
-shape_of-scratch-in-Ended c = c.attempt_size-tried.auto.scratch ∙ c.loop-built.invariant.len_scratch
+pub shape_of-scratch-in-Some : goal.shape_of-scratch-in-Some
+shape_of-scratch-in-Some c = c.attempt_size-tried.auto.scratch ∙ c.loop-built.invariant.len_scratch
 
-pub returns-in-Ended : goal.returns-in-Ended
-returns-in-Ended c =
-    choosing_done c.loop-built.invariant (rw c.in-Ended.is at c.attempt_size-tried.ensures)
+pub returns-in-Some : goal.returns-in-Some
+returns-in-Some c =
+    choosing_done c.loop-built.invariant (rw c.in-Some.is at c.attempt_size-tried.ensures)
     (end_first _ _ _ _ _ _ c.requires c.serial_bounds-extent.ensures c.first_size-size.ensures)
 
 pub overflow_sub-left : goal.overflow_sub-left

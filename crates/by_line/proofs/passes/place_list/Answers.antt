@@ -2,56 +2,47 @@
 use native.Mathlib.Nat.{lt_trans}
 use mathlib.Core.Path.{refl}
 use native.Mathlib.Omega.{arith}
-use Rattle.fill.proofs.Visits.{placing_none, placing_read, placing_cell, placing_item, placing_fits, placing_more, placing_done}
+use Rattle.fill.proofs.Visits.{placing_none, placing_cell, placing_item, placing_fits, placing_more, placing_done}
 use Rattle.by_line.proofs.passes.place_list.Goals as goal
 
 pub overflow_cast-number : goal.overflow_cast-number
 overflow_cast-number c = record { fits = lt_trans c.requires.line.in_lines c.requires.line.lines_small }
 
-pub loop-j-init : goal.loop-j-init
-loop-j-init c = placing_none refl c.requires
+pub loop-line-init : goal.loop-line-init
+loop-line-init c = placing_none refl c.requires
 
-pub offset_bounds-list-j : goal.offset_bounds-list-j
-offset_bounds-list-j c = let h = placing_read c.loop-j.invariant c.loop-j-test.true in omega arith
+pub offset_bounds-starts-i : goal.offset_bounds-starts-i
+offset_bounds-starts-i c = let h = placing_cell c.loop-line.invariant c.loop-line-test.true in let l = c.loop-line.invariant.len in omega arith
 
-pub bounds-list-j : goal.bounds-list-j
-bounds-list-j c = placing_read c.loop-j.invariant c.loop-j-test.true
-
-pub overflow_cast-line : goal.overflow_cast-line
-overflow_cast-line c = let h = placing_cell c.loop-j.invariant c.loop-j-test.true in omega arith
-
-pub offset_bounds-starts-line : goal.offset_bounds-starts-line
-offset_bounds-starts-line c = let h = placing_cell c.loop-j.invariant c.loop-j-test.true in let l = c.loop-j.invariant.len in omega arith
-
-pub bounds-starts-line : goal.bounds-starts-line
-bounds-starts-line c = placing_cell c.loop-j.invariant c.loop-j-test.true
+pub bounds-starts-i : goal.bounds-starts-i
+bounds-starts-i c = placing_cell c.loop-line.invariant c.loop-line-test.true
 
 pub overflow_cast-listing : goal.overflow_cast-listing
-overflow_cast-listing c = let h = placing_item c.loop-j.invariant c.loop-j-test.true in omega arith
+overflow_cast-listing c = let h = placing_item c.loop-line.invariant c.loop-line-test.true in omega arith
 
 pub offset_bounds-listing-at : goal.offset_bounds-listing-at
-offset_bounds-listing-at c = let h = placing_item c.loop-j.invariant c.loop-j-test.true in let l = c.loop-j.invariant.len_items in omega arith
+offset_bounds-listing-at c = let h = placing_item c.loop-line.invariant c.loop-line-test.true in let l = c.loop-line.invariant.len_items in omega arith
 
 pub bounds-listing-at : goal.bounds-listing-at
-bounds-listing-at c = placing_item c.loop-j.invariant c.loop-j-test.true
+bounds-listing-at c = placing_item c.loop-line.invariant c.loop-line-test.true
 
 pub overflow_add-starts : goal.overflow_add-starts
-overflow_add-starts c = record { fits = placing_fits c.loop-j.invariant c.loop-j-test.true }
+overflow_add-starts c = record { fits = placing_fits c.loop-line.invariant c.loop-line-test.true }
 
-pub offset_bounds-starts-line-in-loop-j : goal.offset_bounds-starts-line-in-loop-j
-offset_bounds-starts-line-in-loop-j c = let h = placing_cell c.loop-j.invariant c.loop-j-test.true in let l = c.loop-j.invariant.len in omega arith
+pub offset_bounds-starts-i-in-loop-line : goal.offset_bounds-starts-i-in-loop-line
+offset_bounds-starts-i-in-loop-line c = let h = placing_cell c.loop-line.invariant c.loop-line-test.true in let l = c.loop-line.invariant.len in omega arith
 
-pub bounds-starts-line-in-loop-j : goal.bounds-starts-line-in-loop-j
-bounds-starts-line-in-loop-j c = placing_cell c.loop-j.invariant c.loop-j-test.true
+pub bounds-starts-i-in-loop-line : goal.bounds-starts-i-in-loop-line
+bounds-starts-i-in-loop-line c = placing_cell c.loop-line.invariant c.loop-line-test.true
 
-pub loop-j-preserved : goal.loop-j-preserved
-loop-j-preserved c = placing_more c.loop-j.invariant c.loop-j-test.true
+pub loop-line-preserved : goal.loop-line-preserved
+loop-line-preserved c = placing_more c.loop-line.invariant c.loop-line-test.true
 
 pub shape_of-starts : goal.shape_of-starts
-shape_of-starts c = c.loop-j.invariant.len
+shape_of-starts c = c.loop-line.invariant.len
 
 pub shape_of-listing : goal.shape_of-listing
-shape_of-listing c = c.loop-j.invariant.len_items
+shape_of-listing c = c.loop-line.invariant.len_items
 
 pub returns : goal.returns
-returns c = placing_done c.loop-j.invariant c.loop-j-test.false
+returns c = placing_done c.loop-line.invariant c.loop-line-test.false

@@ -4,6 +4,3 @@ use Rattle.by_line.proofs.sums.shift_back.Given as goal
 
 abbrev pub invariant-loop-i : goal.invariant-loop-i
 invariant-loop-i l = Shifting l.initial.starts l.lines l.starts l.i
-
-abbrev pub decreases-loop-i : goal.decreases-loop-i
-decreases-loop-i l = l.i

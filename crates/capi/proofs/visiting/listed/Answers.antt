@@ -1,8 +1,8 @@
 -- `capi::visiting::listed` meets its contract: a list that has lines, and one that is empty or refused. Assumes nothing.
+use Rattle.refusals.specs.Refusals.{Check}
 use mathlib.Core.Path.{ap, ◌∙◌}
 use lib.ListN.{length}
 use Prim.Native.Nat.{◌+◌}
-use Rattle.refusals.specs.declared.Check.{Check}
 use Rattle.tables.specs.Tables.{tables}
 use Rattle.seek.specs.Places.{list_check, list_at}
 use Rattle.seek.proofs.PlaceLaws.{part_is}

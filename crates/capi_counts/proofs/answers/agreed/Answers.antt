@@ -6,10 +6,10 @@ use Rattle.replies.proofs.Handing.{replied, wider}
 use Rattle.capi_counts.specs.Answers.{of_grid_answer}
 use Rattle.capi_counts.proofs.answers.agreed.Goals as goal
 
-pub returns-in-On : goal.returns-in-On
+pub returns-in-Ok : goal.returns-in-Ok
 unfolding of_grid_answer
-returns-in-On c = replied 6 (ap of_grid_answer (sym c.in-On.is)) c.gridded.ensures
+returns-in-Ok c = replied 6 (ap of_grid_answer (sym c.in-Ok.is)) c.gridded.ensures
 
-pub returns-in-Refused : goal.returns-in-Refused
+pub returns-in-Err : goal.returns-in-Err
 unfolding of_grid_answer of_check
-returns-in-Refused c = replied 6 (ap of_grid_answer (sym c.in-Refused.is)) (wider 1 6 (omega arith) c.requires c.checked.ensures)
+returns-in-Err c = replied 6 (ap of_grid_answer (sym c.in-Err.is)) (wider 1 6 (omega arith) c.requires c.checked.ensures)

@@ -6,10 +6,10 @@ use Rattle.replies.proofs.Handing.{replied, wider}
 use Rattle.capi_counts.specs.Answers.{of_counted}
 use Rattle.capi_counts.proofs.answers.counted.Goals as goal
 
-pub returns-in-Of : goal.returns-in-Of
+pub returns-in-Ok : goal.returns-in-Ok
 unfolding of_counted
-returns-in-Of c = replied 2 (ap of_counted (sym c.in-Of.is)) c.two.ensures
+returns-in-Ok c = replied 2 (ap of_counted (sym c.in-Ok.is)) c.two.ensures
 
-pub returns-in-Refused : goal.returns-in-Refused
+pub returns-in-Err : goal.returns-in-Err
 unfolding of_counted of_check
-returns-in-Refused c = replied 2 (ap of_counted (sym c.in-Refused.is)) (wider 1 2 (omega arith) c.requires c.checked.ensures)
+returns-in-Err c = replied 2 (ap of_counted (sym c.in-Err.is)) (wider 1 2 (omega arith) c.requires c.checked.ensures)

@@ -6,10 +6,10 @@ use Rattle.replies.proofs.Handing.{replied, wider}
 use Rattle.capi_counts.specs.Answers.{of_tabled}
 use Rattle.capi_counts.proofs.answers.tabled.Goals as goal
 
-pub returns-in-Tables : goal.returns-in-Tables
+pub returns-in-Ok : goal.returns-in-Ok
 unfolding of_tabled
-returns-in-Tables c = replied 2 (ap of_tabled (sym c.in-Tables.is)) c.two.ensures
+returns-in-Ok c = replied 2 (ap of_tabled (sym c.in-Ok.is)) c.two.ensures
 
-pub returns-in-Refused : goal.returns-in-Refused
+pub returns-in-Err : goal.returns-in-Err
 unfolding of_tabled of_check
-returns-in-Refused c = replied 2 (ap of_tabled (sym c.in-Refused.is)) (wider 1 2 (omega arith) c.requires c.checked.ensures)
+returns-in-Err c = replied 2 (ap of_tabled (sym c.in-Err.is)) (wider 1 2 (omega arith) c.requires c.checked.ensures)

@@ -5,10 +5,10 @@ use Rattle.replies.proofs.Handing.{replied}
 use Rattle.capi_members.specs.Answers.{of_lined}
 use Rattle.capi_members.proofs.answers.lined.Goals as goal
 
-pub returns-in-Lines : goal.returns-in-Lines
+pub returns-in-Ok : goal.returns-in-Ok
 unfolding of_lined
-returns-in-Lines c = replied 1 (ap of_lined (sym c.in-Lines.is)) c.count.ensures
+returns-in-Ok c = replied 1 (ap of_lined (sym c.in-Ok.is)) c.count.ensures
 
-pub returns-in-Refused : goal.returns-in-Refused
+pub returns-in-Err : goal.returns-in-Err
 unfolding of_lined of_check
-returns-in-Refused c = replied 1 (ap of_lined (sym c.in-Refused.is)) c.checked.ensures
+returns-in-Err c = replied 1 (ap of_lined (sym c.in-Err.is)) c.checked.ensures

@@ -6,10 +6,10 @@ use Rattle.replies.proofs.Handing.{replied, wider}
 use Rattle.capi_members.specs.Answers.{of_multi_read}
 use Rattle.capi_members.proofs.answers.multi_read.Goals as goal
 
-pub returns-in-Members : goal.returns-in-Members
+pub returns-in-Ok : goal.returns-in-Ok
 unfolding of_multi_read
-returns-in-Members c = replied 2 (ap of_multi_read (sym c.in-Members.is)) c.counts.ensures
+returns-in-Ok c = replied 2 (ap of_multi_read (sym c.in-Ok.is)) c.counts.ensures
 
-pub returns-in-Refused : goal.returns-in-Refused
+pub returns-in-Err : goal.returns-in-Err
 unfolding of_multi_read of_check
-returns-in-Refused c = replied 2 (ap of_multi_read (sym c.in-Refused.is)) (wider 1 2 (omega arith) c.requires c.checked.ensures)
+returns-in-Err c = replied 2 (ap of_multi_read (sym c.in-Err.is)) (wider 1 2 (omega arith) c.requires c.checked.ensures)

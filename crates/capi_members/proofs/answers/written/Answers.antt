@@ -5,10 +5,10 @@ use Rattle.replies.proofs.Handing.{replied}
 use Rattle.capi_members.specs.Answers.{of_written}
 use Rattle.capi_members.proofs.answers.written.Goals as goal
 
-pub returns-in-Bytes : goal.returns-in-Bytes
+pub returns-in-Ok : goal.returns-in-Ok
 unfolding of_written
-returns-in-Bytes c = replied 1 (ap of_written (sym c.in-Bytes.is)) c.count.ensures
+returns-in-Ok c = replied 1 (ap of_written (sym c.in-Ok.is)) c.count.ensures
 
-pub returns-in-Refused : goal.returns-in-Refused
+pub returns-in-Err : goal.returns-in-Err
 unfolding of_written of_check
-returns-in-Refused c = replied 1 (ap of_written (sym c.in-Refused.is)) c.checked.ensures
+returns-in-Err c = replied 1 (ap of_written (sym c.in-Err.is)) c.checked.ensures

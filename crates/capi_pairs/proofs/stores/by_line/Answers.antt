@@ -4,10 +4,10 @@ use Rattle.replies.proofs.Handing.{answered}
 use Rattle.capi_pairs.specs.Answers.{of_by_line}
 use Rattle.capi_pairs.proofs.stores.by_line.Goals as goal
 
-pub returns-in-Listed : goal.returns-in-Listed
+pub returns-in-Ok : goal.returns-in-Ok
 unfolding of_by_line
-returns-in-Listed c = answered (ap of_by_line (sym c.in-Listed.is)) c.one.ensures
+returns-in-Ok c = answered (ap of_by_line (sym c.in-Ok.is)) c.one.ensures
 
-pub returns-in-Refused : goal.returns-in-Refused
+pub returns-in-Err : goal.returns-in-Err
 unfolding of_by_line
-returns-in-Refused c = answered (ap of_by_line (sym c.in-Refused.is)) c.refused.ensures
+returns-in-Err c = answered (ap of_by_line (sym c.in-Err.is)) c.refused.ensures

@@ -4,10 +4,10 @@ use Rattle.replies.proofs.Handing.{answered}
 use Rattle.capi_pairs.specs.Answers.{of_cost}
 use Rattle.capi_pairs.proofs.stores.cost.Goals as goal
 
-pub returns-in-Costs : goal.returns-in-Costs
+pub returns-in-Ok : goal.returns-in-Ok
 unfolding of_cost
-returns-in-Costs c = answered (ap of_cost (sym c.in-Costs.is)) c.two.ensures
+returns-in-Ok c = answered (ap of_cost (sym c.in-Ok.is)) c.two.ensures
 
-pub returns-in-Refused : goal.returns-in-Refused
+pub returns-in-Err : goal.returns-in-Err
 unfolding of_cost
-returns-in-Refused c = answered (ap of_cost (sym c.in-Refused.is)) c.refused.ensures
+returns-in-Err c = answered (ap of_cost (sym c.in-Err.is)) c.refused.ensures

@@ -4,10 +4,10 @@ use Rattle.replies.proofs.Handing.{answered}
 use Rattle.capi_pairs.specs.Answers.{of_once}
 use Rattle.capi_pairs.proofs.stores.pairs_once.Goals as goal
 
-pub returns-in-Pairs : goal.returns-in-Pairs
+pub returns-in-Ok : goal.returns-in-Ok
 unfolding of_once
-returns-in-Pairs c = answered (ap of_once (sym c.in-Pairs.is)) c.one.ensures
+returns-in-Ok c = answered (ap of_once (sym c.in-Ok.is)) c.one.ensures
 
-pub returns-in-Refused : goal.returns-in-Refused
+pub returns-in-Err : goal.returns-in-Err
 unfolding of_once
-returns-in-Refused c = answered (ap of_once (sym c.in-Refused.is)) c.refused.ensures
+returns-in-Err c = answered (ap of_once (sym c.in-Err.is)) c.refused.ensures

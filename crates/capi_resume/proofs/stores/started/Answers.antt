@@ -4,10 +4,10 @@ use Rattle.replies.proofs.Handing.{answered}
 use Rattle.capi_resume.specs.Answers.{of_start}
 use Rattle.capi_resume.proofs.stores.started.Goals as goal
 
-pub returns-in-At : goal.returns-in-At
+pub returns-in-Ok : goal.returns-in-Ok
 unfolding of_start
-returns-in-At c = answered (ap of_start (sym c.in-At.is)) c.three.ensures
+returns-in-Ok c = answered (ap of_start (sym c.in-Ok.is)) c.three.ensures
 
-pub returns-in-Refused : goal.returns-in-Refused
+pub returns-in-Err : goal.returns-in-Err
 unfolding of_start
-returns-in-Refused c = answered (ap of_start (sym c.in-Refused.is)) c.refused.ensures
+returns-in-Err c = answered (ap of_start (sym c.in-Err.is)) c.refused.ensures

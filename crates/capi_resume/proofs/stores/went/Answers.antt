@@ -4,10 +4,10 @@ use Rattle.replies.proofs.Handing.{answered}
 use Rattle.capi_resume.specs.Answers.{of_next}
 use Rattle.capi_resume.proofs.stores.went.Goals as goal
 
-pub returns-in-Went : goal.returns-in-Went
+pub returns-in-Ok : goal.returns-in-Ok
 unfolding of_next
-returns-in-Went c = answered (ap of_next (sym c.in-Went.is)) c.five.ensures
+returns-in-Ok c = answered (ap of_next (sym c.in-Ok.is)) c.five.ensures
 
-pub returns-in-Refused : goal.returns-in-Refused
+pub returns-in-Err : goal.returns-in-Err
 unfolding of_next
-returns-in-Refused c = answered (ap of_next (sym c.in-Refused.is)) c.refused.ensures
+returns-in-Err c = answered (ap of_next (sym c.in-Err.is)) c.refused.ensures

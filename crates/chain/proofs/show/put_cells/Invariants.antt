@@ -11,6 +11,3 @@ abbrev pub invariant-loop-cell : goal.invariant-loop-cell
 invariant-loop-cell l =
     (l.cell ≤ l.cells) × (l.cells ≡ l.grid.rows * l.grid.cols) × (l.cells < 2 ^ 32) × (length l.out ≡ length l.initial.out)
     × Puts (cell_lines (tables l.grid l.lines l.offsets l.items l.globals l.global_count) l.cell) (page l.initial.out l.at-2) (page l.out l.at)
-
-abbrev pub decreases-loop-cell : goal.decreases-loop-cell
-decreases-loop-cell l = l.cells - l.cell

@@ -7,8 +7,8 @@ use Rattle.tables.specs.Tables.{beside}
 use Rattle.chain.proofs.Visiting.{Visiting}
 use Rattle.chain.proofs.whole.visit.Given as goal
 
-abbrev pub invariant-loop-r : goal.invariant-loop-r
-invariant-loop-r l = Visiting (lines l.start_x l.start_y l.end_x l.end_y) (beside (lines l.start_x l.start_y l.end_x l.end_y) l.grid l.offsets l.items l.globals l.global_count) l.tests l.overlaps
+abbrev pub invariant-loop-t : goal.invariant-loop-t
+invariant-loop-t l = Visiting (lines l.start_x l.start_y l.end_x l.end_y) (beside (lines l.start_x l.start_y l.end_x l.end_y) l.grid l.offsets l.items l.globals l.global_count) l.tests l.overlaps
 
-abbrev pub decreases-loop-r : goal.decreases-loop-r
-decreases-loop-r l = length (tests_of (beside (lines l.start_x l.start_y l.end_x l.end_y) l.grid l.offsets l.items l.globals l.global_count)) - l.tests
+abbrev pub decreases-loop-t : goal.decreases-loop-t
+decreases-loop-t l = length (tests_of (beside (lines l.start_x l.start_y l.end_x l.end_y) l.grid l.offsets l.items l.globals l.global_count)) - l.tests

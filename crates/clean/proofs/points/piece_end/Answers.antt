@@ -11,10 +11,10 @@ pub is_good-requires : goal.is_good-requires
 is_good-requires c = let p = c.loop-i.invariant.lies in (omega arith, omega arith)
 
 pub loop-i-preserved : goal.loop-i-preserved
-loop-i-preserved c = ending_more c.loop-i.invariant c.loop-i-test.true (sym c.is_good.ensures ∙ c.if-is_good.true)
+loop-i-preserved c = ending_more c.loop-i.invariant c.loop-i-test.true (sym c.is_good.ensures ∙ c.if-not-is_good.false)
 
-pub returns-else-is_good : goal.returns-else-is_good
-returns-else-is_good c = ending_bad c.loop-i.invariant (sym c.is_good.ensures ∙ c.if-is_good.false)
+pub returns-then-not-is_good : goal.returns-then-not-is_good
+returns-then-not-is_good c = ending_bad c.loop-i.invariant (sym c.is_good.ensures ∙ c.if-not-is_good.true)
 
 pub returns : goal.returns
 returns c = ending_all c.loop-i.invariant c.loop-i-test.false

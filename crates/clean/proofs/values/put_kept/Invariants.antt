@@ -1,11 +1,6 @@
 -- `clean::values::put_kept` meets its contract. The invariant: of the first i values, those that are kept stand at the start. Assumes nothing.
-use Prim.Native.Nat.{◌-◌}
-use lib.ListN.{length}
 use Rattle.clean.proofs.Parts.{Keeping}
 use Rattle.clean.proofs.values.put_kept.Given as goal
 
 abbrev pub invariant-loop-i : goal.invariant-loop-i
 invariant-loop-i l = Keeping l.values l.reasons l.initial.kept l.kept l.at l.i
-
-abbrev pub decreases-loop-i : goal.decreases-loop-i
-decreases-loop-i l = length l.values - l.i

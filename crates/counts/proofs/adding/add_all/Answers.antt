@@ -10,9 +10,6 @@ loop-c-init c = writing_none _ _ c.requires.0 c.requires.1
 pub overflow_add-into : goal.overflow_add-into
 overflow_add-into c = record { fits = omega (arith, writing_sum c.loop-c.invariant (omega arith)) }
 
-pub loop-c-smaller : goal.loop-c-smaller
-loop-c-smaller c = simp length-set (omega arith)
-
 pub loop-c-preserved : goal.loop-c-preserved
 loop-c-preserved c = writing_more c.loop-c.invariant (omega arith)
 

@@ -6,6 +6,3 @@ use Rattle.counts.proofs.adding.add_all.Given as goal
 
 abbrev pub invariant-loop-c : goal.invariant-loop-c
 invariant-loop-c l = Writing l.initial.into l.from l.into l.c
-
-abbrev pub decreases-loop-c : goal.decreases-loop-c
-decreases-loop-c l = length l.into - l.c

@@ -6,6 +6,3 @@ use Rattle.counts.proofs.adding.check_sums.Given as goal
 
 abbrev pub invariant-loop-c : goal.invariant-loop-c
 invariant-loop-c l = Searching l.into l.from l.c
-
-abbrev pub decreases-loop-c : goal.decreases-loop-c
-decreases-loop-c l = length l.into - l.c

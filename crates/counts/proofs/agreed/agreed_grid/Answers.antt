@@ -1,4 +1,5 @@
 -- `counts::agreed::agreed_grid` meets its contract. Assumes nothing.
+use Rattle.refusals.proofs.Answers.{at_exit}
 use mathlib.Core.Path.{◌≡◌, refl, sym, ◌∙◌}
 use Prim.Native.Nat.{ℕ, zero, suc}
 use Rattle.sizing.specs.declared.Sizing.{Sizing}
@@ -18,13 +19,13 @@ unfolding agreed_on
 some z e zero h = absurd (h refl)
 some z e (suc n) h = refl
 
-pub returns-in-Refused : goal.returns-in-Refused
-returns-in-Refused c = agreed_refused _ _ _ _ (sym c.check_segment-checked.ensures ∙ c.in-Refused.is)
+pub returns-in_err-check_segment : goal.returns-in_err-check_segment
+returns-in_err-check_segment c = at_exit c.from_residual.ensures.1 (agreed_refused _ _ _ _ (sym c.in_err-check_segment.ensures))
 
 pub returns-then-lines-eq0 : goal.returns-then-lines-eq0
-returns-then-lines-eq0 c = agreed_on_lem _ _ _ _ (sym c.check_segment-checked.ensures ∙ c.in_default.is) (c.empty_grid.ensures ∙ none _ _ _ c.if-lines-eq0.true)
+returns-then-lines-eq0 c = agreed_on_lem _ _ _ _ (sym c.in_ok-check_segment.ensures) (c.empty_grid.ensures ∙ none _ _ _ c.if-lines-eq0.true)
 
 pub returns : goal.returns
 returns c =
-    agreed_on_lem _ _ _ _ (sym c.check_segment-checked.ensures ∙ c.in_default.is)
+    agreed_on_lem _ _ _ _ (sym c.in_ok-check_segment.ensures)
     (rw (c.grid_of.ensures, c.first_size-size.ensures, c.bounds_of-extent.ensures) (some _ _ _ c.if-lines-eq0.false))

@@ -19,9 +19,6 @@ put_row-n-requires c =
     let h = p.rises in
     climbing_room (climbing_start c.args.scratch.now p c.slope-s.ensures) (omega arith) c.start_columns.ensures
 
-pub overflow_add-r : goal.overflow_add-r
-overflow_add-r c = let h = c.requires.rises in omega arith
-
 pub loop-r-init : goal.loop-r-init
 loop-r-init c =
     let p = c.requires in

@@ -1,5 +1,5 @@
 -- `crossing_chain::show::put_pairs` meets its contract. The invariant: the lines of the first i pairs are put. Assumes nothing.
-use Rattle.std.proofs.Common.{◌≡◌, ℕ, ◌-◌, take, refl, ap, ◌∙◌, arith}
+use Rattle.std.proofs.Common.{◌≡◌, ℕ, take, refl, ap, ◌∙◌, arith}
 use Rattle.report.proofs.Putting.{puts_text}
 use Rattle.crossing_chain.specs.Printed.{pair_lines}
 use Rattle.crossing_chain.proofs.Answers.{pairs_none, puts_pair}

@@ -6,6 +6,3 @@ use Rattle.crossing_chain.proofs.show.put_pairs.Given as goal
 
 abbrev pub invariant-loop-i : goal.invariant-loop-i
 invariant-loop-i l = (l.i ≤ l.n) × (l.n ≤ length l.first) × (l.n ≤ length l.second) × (length l.out ≡ length l.initial.out) × Puts (pair_lines (take l.i l.first) (take l.i l.second)) (page l.initial.out l.at-2) (page l.out l.at)
-
-abbrev pub decreases-loop-i : goal.decreases-loop-i
-decreases-loop-i l = l.n - l.i

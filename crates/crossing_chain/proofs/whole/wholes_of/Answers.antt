@@ -1,6 +1,5 @@
 -- `crossing_chain::whole::wholes_of` meets its contract. The invariant: the first i entries are the whole numbers, and the others as they were. Assumes nothing.
-use Rattle.std.proofs.Common.{◌≡◌, ◌-◌, List, length, set, ℤ, refl, ap, ◌∙◌, zero-le, arith, length-set, take_all, to_z-of_z, w32, to_z, of_z}
-use Rattle.crossing_chain.specs.Whole.{whole_of}
+use Rattle.std.proofs.Common.{◌≡◌, List, length, set, ℤ, refl, ap, ◌∙◌, zero-le, arith, length-set, take_all, to_z-of_z, w32, to_z, of_z}
 use Rattle.crossing_chain.proofs.Wholes.{store_more}
 use Rattle.crossing_chain.proofs.whole.wholes_of.Goals as goal
 

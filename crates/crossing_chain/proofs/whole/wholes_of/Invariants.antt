@@ -5,6 +5,3 @@ use Rattle.crossing_chain.proofs.whole.wholes_of.Given as goal
 
 abbrev pub invariant-loop-i : goal.invariant-loop-i
 invariant-loop-i l = (l.to ≡ map whole_of (take l.i l.from) ++ drop l.i l.initial.to) × (l.i ≤ length l.from) × (length l.to ≡ length l.initial.to)
-
-abbrev pub decreases-loop-i : goal.decreases-loop-i
-decreases-loop-i l = length l.from - l.i

@@ -4,8 +4,5 @@ use lib.ListN.{length}
 use Rattle.fill.proofs.Visits.{Counting}
 use Rattle.crossings.proofs.cells.count_list.Given as goal
 
-abbrev pub invariant-loop-j : goal.invariant-loop-j
-invariant-loop-j l = Counting l.list (length l.list) l.initial.counts l.counts l.j
-
-abbrev pub decreases-loop-j : goal.decreases-loop-j
-decreases-loop-j l = length l.list - l.j
+abbrev pub invariant-loop-line : goal.invariant-loop-line
+invariant-loop-line l = Counting l.list (length l.list) l.initial.counts l.counts l.line-index

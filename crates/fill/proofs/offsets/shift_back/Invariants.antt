@@ -4,6 +4,3 @@ use Rattle.fill.proofs.offsets.shift_back.Given as goal
 
 abbrev pub invariant-loop-c : goal.invariant-loop-c
 invariant-loop-c l = Shifting l.initial.offsets l.cells l.offsets l.c
-
-abbrev pub decreases-loop-c : goal.decreases-loop-c
-decreases-loop-c l = l.c

@@ -1,5 +1,4 @@
 -- `fill::passes::count_lines` meets its contract. Assumes nothing.
-use native.Mathlib.Omega.{arith}
 use mathlib.Core.Path.{◌∙◌}
 use Rattle.fill.proofs.Counts.{counting_all, counting_walk, counting_can, counting_most, counting_next, counting_over, counting_end}
 use Rattle.fill.proofs.passes.count_lines.Goals as goal
@@ -24,9 +23,6 @@ count_visits-globals-requires c = counting_can c.loop-i.invariant c.loop-i-test.
 
 pub overflow_add-globals : goal.overflow_add-globals
 overflow_add-globals c = counting_most c.loop-i.invariant c.loop-i-test.true c.walk_line-walked.ensures c.if-walked.false c.count_visits-globals.ensures c.count_visits-globals.auto.offsets
-
-pub loop-i-smaller : goal.loop-i-smaller
-loop-i-smaller c = let l = c.loop-i-test.true in omega arith
 
 pub loop-i-preserved : goal.loop-i-preserved
 loop-i-preserved c = counting_next c.loop-i.invariant c.loop-i-test.true c.walk_line-walked.ensures c.if-walked.false c.count_visits-globals.ensures c.count_visits-globals.auto.offsets c.walk_line-walked.auto.scratch

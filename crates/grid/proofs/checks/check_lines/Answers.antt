@@ -1,26 +1,27 @@
 -- `grid::checks::check_lines` meets its contract: the first check that refuses, or the search. Assumes nothing.
+use Rattle.refusals.proofs.Answers.{at_exit}
 use mathlib.Core.Path.{sym, ◌∙◌}
 use Rattle.refusals.proofs.Checks.{and_then_refused, and_then_fine}
 use Rattle.grid.specs.Domain.{lines_check}
 use Rattle.grid.proofs.Fine.{lengths_fine}
 use Rattle.grid.proofs.checks.check_lines.Goals as goal
 
-pub returns-in-Refused : goal.returns-in-Refused
+pub returns-in_err-check_lengths : goal.returns-in_err-check_lengths
 unfolding lines_check
-returns-in-Refused c = sym (and_then_refused _ _ _ (sym c.check_lengths-alike.ensures ∙ c.in-Refused.is))
+returns-in_err-check_lengths c = at_exit c.from_residual.ensures.1 (sym (and_then_refused _ _ _ (sym c.in_err-check_lengths.ensures)))
 
-pub returns-in-Refused-few : goal.returns-in-Refused-few
+pub returns-in_err-check_count : goal.returns-in_err-check_count
 unfolding lines_check
-returns-in-Refused-few c =
-    let p = sym c.check_lengths-alike.ensures ∙ c.in_default.is in
-    sym (and_then_fine _ _ p ∙ and_then_refused _ _ _ (sym c.check_count-few.ensures ∙ c.in-Refused-few.is))
+returns-in_err-check_count c =
+    let p = sym c.in_ok-check_lengths.ensures in
+    at_exit c.from_residual-in_err-check_count.ensures.1 (sym (and_then_fine _ _ p ∙ and_then_refused _ _ _ (sym c.in_err-check_count.ensures)))
 
 pub check_coordinates-requires : goal.check_coordinates-requires
-check_coordinates-requires c = lengths_fine _ (sym c.check_lengths-alike.ensures ∙ c.in_default.is)
+check_coordinates-requires c = lengths_fine _ (sym c.in_ok-check_lengths.ensures)
 
 pub returns : goal.returns
 unfolding lines_check
 returns c =
-    let p = sym c.check_lengths-alike.ensures ∙ c.in_default.is in
-    let q = sym c.check_count-few.ensures ∙ c.in_default-few.is in
+    let p = sym c.in_ok-check_lengths.ensures in
+    let q = sym c.in_ok-check_count.ensures in
     c.check_coordinates.ensures ∙ sym (and_then_fine _ _ p ∙ and_then_fine _ _ q)

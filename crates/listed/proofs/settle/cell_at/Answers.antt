@@ -7,8 +7,8 @@ use Rattle.listed.proofs.settle.cell_at.Goals as goal
 pub loop-cell-init : goal.loop-cell-init
 loop-cell-init c = settling_none _ _ _ _ _ _ _
 
-pub returns-in-At : goal.returns-in-At
-returns-in-At c = settled_here _ _ _ _ _ _ _ _ _ _ c.loop-cell.invariant c.loop-cell-test.true _ c.list_of-list.ensures _ _ (row_at_is _ _ _ _ c.row_at.ensures _ _ c.in-At.is)
+pub returns-in-Some : goal.returns-in-Some
+returns-in-Some c = settled_here _ _ _ _ _ _ _ _ _ _ c.loop-cell.invariant c.loop-cell-test.true _ c.list_of-list.ensures _ _ (row_at_is _ _ _ _ c.row_at.ensures _ _ c.in-Some.is)
 
 pub loop-cell-smaller : goal.loop-cell-smaller
 loop-cell-smaller c = omega (arith, c.next_cell-cell.ensures.onward)

@@ -42,8 +42,8 @@ module _ {x y ns s₀ s : List ℕ} {at from k : ℕ} (t : Turned x y ns s₀ s 
         rw to at (fill_more t.filled (bytes_next ns k from (points_of x y) n h e) p length_next);
   }
 
-pub loop-k-init : goal.loop-k-init
-loop-k-init c =
+pub loop-length-init : goal.loop-length-init
+loop-length-init c =
     let a = c.args in
     let p = c.requires in
     let h = held_says (length a.x.now) (length a.y.now) a.lengths.now p.0 in
@@ -56,40 +56,40 @@ loop-k-init c =
 
 pub put_member-requires : goal.put_member-requires
 put_member-requires c =
-    let fitting_at : Fitting (length c.args.x.now) c.loop-k.from c.wide-n.result = fitting c.loop-k.invariant c.loop-k-test.true c.wide-n.result c.wide-n.ensures in
-    let room_at : c.loop-k.at + 9 + 16 * c.wide-n.result ≤ length c.loop-k.s = room_next c.loop-k.invariant c.loop-k-test.true c.wide-n.result c.wide-n.ensures in
+    let fitting_at : Fitting (length c.args.x.now) c.loop-length.from c.wide-n.result = fitting c.loop-length.invariant c.loop-length-test.true c.wide-n.result c.wide-n.ensures in
+    let room_at : c.loop-length.at + 9 + 16 * c.wide-n.result ≤ length c.loop-length.s = room_next c.loop-length.invariant c.loop-length-test.true c.wide-n.result c.wide-n.ensures in
     let f = fitting_at in
     let r = room_at in
-    (c.loop-k.invariant.alike, f.within, omega arith)
+    (c.loop-length.invariant.alike, f.within, omega arith)
 
 pub overflow_add-at : goal.overflow_add-at
 overflow_add-at c =
-    let room_at : c.loop-k.at + 9 + 16 * c.wide-n.result ≤ length c.loop-k.s = room_next c.loop-k.invariant c.loop-k-test.true c.wide-n.result c.wide-n.ensures in
-    let r = room_at in omega (arith, fill_length c.loop-k.invariant.filled)
+    let room_at : c.loop-length.at + 9 + 16 * c.wide-n.result ≤ length c.loop-length.s = room_next c.loop-length.invariant c.loop-length-test.true c.wide-n.result c.wide-n.ensures in
+    let r = room_at in omega (arith, fill_length c.loop-length.invariant.filled)
 
 pub overflow_mul-at : goal.overflow_mul-at
 overflow_mul-at c =
-    let room_at : c.loop-k.at + 9 + 16 * c.wide-n.result ≤ length c.loop-k.s = room_next c.loop-k.invariant c.loop-k-test.true c.wide-n.result c.wide-n.ensures in
-    let r = room_at in omega (arith, fill_length c.loop-k.invariant.filled)
+    let room_at : c.loop-length.at + 9 + 16 * c.wide-n.result ≤ length c.loop-length.s = room_next c.loop-length.invariant c.loop-length-test.true c.wide-n.result c.wide-n.ensures in
+    let r = room_at in omega (arith, fill_length c.loop-length.invariant.filled)
 
-pub overflow_add-at-in-loop-k : goal.overflow_add-at-in-loop-k
-overflow_add-at-in-loop-k c =
-    let room_at : c.loop-k.at + 9 + 16 * c.wide-n.result ≤ length c.loop-k.s = room_next c.loop-k.invariant c.loop-k-test.true c.wide-n.result c.wide-n.ensures in
-    let r = room_at in omega (arith, fill_length c.loop-k.invariant.filled)
+pub overflow_add-at-in-loop-length : goal.overflow_add-at-in-loop-length
+overflow_add-at-in-loop-length c =
+    let room_at : c.loop-length.at + 9 + 16 * c.wide-n.result ≤ length c.loop-length.s = room_next c.loop-length.invariant c.loop-length-test.true c.wide-n.result c.wide-n.ensures in
+    let r = room_at in omega (arith, fill_length c.loop-length.invariant.filled)
 
 pub overflow_add-from : goal.overflow_add-from
 overflow_add-from c =
-    let fitting_at : Fitting (length c.args.x.now) c.loop-k.from c.wide-n.result = fitting c.loop-k.invariant c.loop-k-test.true c.wide-n.result c.wide-n.ensures in
+    let fitting_at : Fitting (length c.args.x.now) c.loop-length.from c.wide-n.result = fitting c.loop-length.invariant c.loop-length-test.true c.wide-n.result c.wide-n.ensures in
     let f = fitting_at in omega arith
 
-pub loop-k-preserved : goal.loop-k-preserved
-loop-k-preserved c = turned_more c.loop-k.invariant c.loop-k-test.true c.wide-n.result c.wide-n.ensures c.put_member.ensures
+pub loop-length-preserved : goal.loop-length-preserved
+loop-length-preserved c = turned_more c.loop-length.invariant c.loop-length-test.true c.wide-n.result c.wide-n.ensures c.put_member.ensures
 
 pub shape_of-s : goal.shape_of-s
-shape_of-s c = fill_length c.loop-k.invariant.filled
+shape_of-s c = fill_length c.loop-length.invariant.filled
 
 pub returns : goal.returns
 returns c =
     let a = c.args in
-    let l = c.loop-k in
-    fill_all l.invariant.filled (bytes_over a.lengths.now l.k (drop l.from (points_of a.x.now a.y.now)) c.loop-k-test.false)
+    let l = c.loop-length in
+    fill_all l.invariant.filled (bytes_over a.lengths.now l.length-index (drop l.from (points_of a.x.now a.y.now)) c.loop-length-test.false)

@@ -2,7 +2,7 @@
 -- Assumes nothing.
 use mathlib.Core.Path.{◌≡◌}
 use mathlib.Core.List.{List, flat_map}
-use Prim.Native.Nat.{ℕ, ◌+◌, ◌-◌, ◌≤◌}
+use Prim.Native.Nat.{ℕ, ◌+◌, ◌≤◌}
 use lib.ListN.{length, drop}
 use Rattle.wkb.specs.declared.Order.TheVariants.{Little}
 use Rattle.wkb.specs.Bytes.{line_bytes}
@@ -21,8 +21,5 @@ pub record Turned (x y ns s₀ s : List ℕ) (at from k : ℕ) : Type 0 where
   pub room : 9 + length (left x y ns 0 0) ≤ length s₀
   pub filled : Filling 9 (left x y ns 0 0) (left x y ns k from) at s₀ s
 
-abbrev pub invariant-loop-k : goal.invariant-loop-k
-invariant-loop-k l = Turned l.x l.y l.lengths l.initial.s l.s l.at l.from l.k
-
-abbrev pub decreases-loop-k : goal.decreases-loop-k
-decreases-loop-k l = length l.lengths - l.k
+abbrev pub invariant-loop-length : goal.invariant-loop-length
+invariant-loop-length l = Turned l.x l.y l.lengths l.initial.s l.s l.at l.from l.length-index

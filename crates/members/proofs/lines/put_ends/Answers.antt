@@ -35,8 +35,8 @@ module _ {cs ns : List ℕ} {skip : ℕ} {s₀ s : List Float} {at to k : ℕ} (
     filled = fill_more t.filled (floats_next (of_bits binary64) skip ns k at cs n h e) p (sym length_next);
   }
 
-pub loop-k-init : goal.loop-k-init
-loop-k-init c =
+pub loop-length-init : goal.loop-length-init
+loop-length-init c =
     let a = c.args in
     let p = c.requires in
     record {
@@ -48,45 +48,45 @@ loop-k-init c =
 
 pub overflow_add-at : goal.overflow_add-at
 overflow_add-at c =
-    let fitting_at : Fitting (length c.args.from.now) c.loop-k.at c.wide-n.result = fitting c.loop-k.invariant c.loop-k-test.true c.wide-n.result c.wide-n.ensures in
-    let f = fitting_at in omega (arith, c.loop-k.invariant.one)
+    let fitting_at : Fitting (length c.args.from.now) c.loop-length.at c.wide-n.result = fitting c.loop-length.invariant c.loop-length-test.true c.wide-n.result c.wide-n.ensures in
+    let f = fitting_at in omega (arith, c.loop-length.invariant.one)
 
 pub overflow_sub-n : goal.overflow_sub-n
 overflow_sub-n c =
-    let fitting_at : Fitting (length c.args.from.now) c.loop-k.at c.wide-n.result = fitting c.loop-k.invariant c.loop-k-test.true c.wide-n.result c.wide-n.ensures in
+    let fitting_at : Fitting (length c.args.from.now) c.loop-length.at c.wide-n.result = fitting c.loop-length.invariant c.loop-length-test.true c.wide-n.result c.wide-n.ensures in
     let f = fitting_at in omega arith
 
 pub put_floats-requires : goal.put_floats-requires
 put_floats-requires c =
-    let fitting_at : Fitting (length c.args.from.now) c.loop-k.at c.wide-n.result = fitting c.loop-k.invariant c.loop-k-test.true c.wide-n.result c.wide-n.ensures in
-    let room_at : c.loop-k.to + (c.wide-n.result - 1) ≤ length c.loop-k.s = room_next c.loop-k.invariant c.loop-k-test.true c.wide-n.result c.wide-n.ensures in
+    let fitting_at : Fitting (length c.args.from.now) c.loop-length.at c.wide-n.result = fitting c.loop-length.invariant c.loop-length-test.true c.wide-n.result c.wide-n.ensures in
+    let room_at : c.loop-length.to + (c.wide-n.result - 1) ≤ length c.loop-length.s = room_next c.loop-length.invariant c.loop-length-test.true c.wide-n.result c.wide-n.ensures in
     let f = fitting_at in
     let r = room_at in
-    (omega (arith, c.loop-k.invariant.one), omega arith)
+    (omega (arith, c.loop-length.invariant.one), omega arith)
 
-pub overflow_add-at-in-loop-k : goal.overflow_add-at-in-loop-k
-overflow_add-at-in-loop-k c =
-    let fitting_at : Fitting (length c.args.from.now) c.loop-k.at c.wide-n.result = fitting c.loop-k.invariant c.loop-k-test.true c.wide-n.result c.wide-n.ensures in
+pub overflow_add-at-in-loop-length : goal.overflow_add-at-in-loop-length
+overflow_add-at-in-loop-length c =
+    let fitting_at : Fitting (length c.args.from.now) c.loop-length.at c.wide-n.result = fitting c.loop-length.invariant c.loop-length-test.true c.wide-n.result c.wide-n.ensures in
     let f = fitting_at in omega arith
 
 pub overflow_sub-to : goal.overflow_sub-to
 overflow_sub-to c =
-    let fitting_at : Fitting (length c.args.from.now) c.loop-k.at c.wide-n.result = fitting c.loop-k.invariant c.loop-k-test.true c.wide-n.result c.wide-n.ensures in
+    let fitting_at : Fitting (length c.args.from.now) c.loop-length.at c.wide-n.result = fitting c.loop-length.invariant c.loop-length-test.true c.wide-n.result c.wide-n.ensures in
     let f = fitting_at in omega arith
 
 pub overflow_add-to : goal.overflow_add-to
 overflow_add-to c =
-    let room_at : c.loop-k.to + (c.wide-n.result - 1) ≤ length c.loop-k.s = room_next c.loop-k.invariant c.loop-k-test.true c.wide-n.result c.wide-n.ensures in
-    let r = room_at in omega (arith, fill_length c.loop-k.invariant.filled)
+    let room_at : c.loop-length.to + (c.wide-n.result - 1) ≤ length c.loop-length.s = room_next c.loop-length.invariant c.loop-length-test.true c.wide-n.result c.wide-n.ensures in
+    let r = room_at in omega (arith, fill_length c.loop-length.invariant.filled)
 
-pub loop-k-preserved : goal.loop-k-preserved
-loop-k-preserved c = turned_more c.loop-k.invariant c.loop-k-test.true c.wide-n.result c.wide-n.ensures c.put_floats.ensures
+pub loop-length-preserved : goal.loop-length-preserved
+loop-length-preserved c = turned_more c.loop-length.invariant c.loop-length-test.true c.wide-n.result c.wide-n.ensures c.put_floats.ensures
 
 pub shape_of-s : goal.shape_of-s
-shape_of-s c = c.zero_from.auto.s ∙ fill_length c.loop-k.invariant.filled
+shape_of-s c = c.zero_from.auto.s ∙ fill_length c.loop-length.invariant.filled
 
 pub returns : goal.returns
 unfolding floats_at
 returns c =
     let a = c.args in
-    fill_cleared nought c.loop-k.invariant.filled (floats_over (of_bits binary64) a.skip a.lengths.now c.loop-k.k c.loop-k.at a.from.now c.loop-k-test.false) c.zero_from.ensures
+    fill_cleared nought c.loop-length.invariant.filled (floats_over (of_bits binary64) a.skip a.lengths.now c.loop-length.length-index c.loop-length.at a.from.now c.loop-length-test.false) c.zero_from.ensures

@@ -1,7 +1,7 @@
 -- `members::lines::put_ends` meets its contract. The invariant: the ends of the lines of the first k members, with `at` points, stand at the start.
 -- Assumes nothing.
 use mathlib.Core.List.{List, map}
-use Prim.Native.Nat.{ℕ, ◌+◌, ◌-◌, ◌≤◌}
+use Prim.Native.Nat.{ℕ, ◌+◌, ◌≤◌}
 use lib.Ieee.{Float, binary64, of_bits}
 use lib.ListN.{length, drop}
 use Rattle.wkb.proofs.Stores.{Filling}
@@ -19,8 +19,5 @@ pub record Turned (cs ns : List ℕ) (skip : ℕ) (s₀ s : List Float) (at to k
   pub room : 0 + length (left cs ns skip 0 0) ≤ length s₀
   pub filled : Filling 0 (left cs ns skip 0 0) (left cs ns skip k at) to s₀ s
 
-abbrev pub invariant-loop-k : goal.invariant-loop-k
-invariant-loop-k l = Turned l.from l.lengths l.skip l.initial.s l.s l.at l.to l.k
-
-abbrev pub decreases-loop-k : goal.decreases-loop-k
-decreases-loop-k l = length l.lengths - l.k
+abbrev pub invariant-loop-length : goal.invariant-loop-length
+invariant-loop-length l = Turned l.from l.lengths l.skip l.initial.s l.s l.at l.to l.length-index

@@ -15,13 +15,13 @@ loop-i-init c =
 pub loop-i-preserved : goal.loop-i-preserved
 loop-i-preserved c =
     let at = c.loop-i in
-    digit c.args.a at.i at.r at.rest c.if-t-rest.r c.if-t-rest.rest (omega arith) (omega arith) at.invariant
+    digit c.args.a at._i at.r at.rest c.if-t-rest.r c.if-t-rest.rest (omega arith) (omega arith) at.invariant
     (elim c.if-t-rest.branch [ then-t-rest w ↦ inl (omega arith, omega arith, omega arith) | else-t-rest w ↦ inr (omega arith, omega arith, omega arith) ])
 
 pub returns : goal.returns
 returns c =
     let at = c.loop-i in
-    let e : at.i ≡ 27 = omega arith in
+    let e : at._i ≡ 27 = omega arith in
     let d : at.r * at.r + at.rest ≡ c.args.a * 4 ^ 27 = at.invariant.1 ∙ ap (λ (k : ℕ). c.args.a * 4 ^ k) e in
     let n = sq1 at.r in
     omega arith

@@ -12,6 +12,3 @@ abbrev pub invariant-loop-cell : goal.invariant-loop-cell
 invariant-loop-cell l =
     let ls = lines l.start_x l.start_y l.end_x l.end_y in
     Beside 4096 l.marks (WithRoom 256 l.room (LinesChecked ls (Cells (overlap ls) (count ls) l.cells l.offsets l.items l.starts l.listing l.initial.counts l.initial.first l.initial.second l.counts l.first l.second l.hits l.cell)))
-
-abbrev pub decreases-loop-cell : goal.decreases-loop-cell
-decreases-loop-cell l = l.cells - l.cell

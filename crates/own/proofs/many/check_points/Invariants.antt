@@ -1,10 +1,6 @@
 -- `own::many::check_points` meets its contract: no point before the one that it looks at was bad. Assumes nothing.
-use Rattle.std.proofs.Common.{◌-◌, length}
 use Rattle.own.proofs.ManyLaws.{Sought}
 use Rattle.own.proofs.many.check_points.Given as goal
 
 abbrev pub invariant-loop-i : goal.invariant-loop-i
 invariant-loop-i l = Sought l.x l.y l.i
-
-abbrev pub decreases-loop-i : goal.decreases-loop-i
-decreases-loop-i l = length l.x - l.i

@@ -1,22 +1,23 @@
 -- `own::many::owners_of` meets its contract: the first check that refuses gives the answer, else every answer is written. Assumes nothing.
-use Rattle.std.proofs.Common.{sym, ◌∙◌}
+use Rattle.std.proofs.lemmas.Result.{err_from_is_err_and}
+use Rattle.std.proofs.Common.{sym}
 use Rattle.own.proofs.ManyEnds.{lengths, unlike, bad_point, unfit, checked, all_told}
 use Rattle.own.proofs.many.owners_of.Goals as goal
 
-pub returns-in-Refused : goal.returns-in-Refused
-returns-in-Refused c = unlike _ _ _ _ _ (sym c.check_alike-alike.ensures ∙ c.in-Refused.is)
+pub returns-in_err-check_alike : goal.returns-in_err-check_alike
+returns-in_err-check_alike c = let exit = err_from_is_err_and c.from_residual.result c.from_residual.ensures.1 in rw (exit.1, exit.2) (unlike _ _ _ _ _ (sym c.in_err-check_alike.ensures))
 
-pub check_points-points-requires : goal.check_points-points-requires
-check_points-points-requires c = (lengths _ _ _ (sym c.check_alike-alike.ensures ∙ c.in_default.is)).0
+pub check_points-requires : goal.check_points-requires
+check_points-requires c = (lengths _ _ _ (sym c.in_ok-check_alike.ensures)).0
 
-pub returns-in-Refused-points : goal.returns-in-Refused-points
-returns-in-Refused-points c = bad_point _ _ _ _ (sym c.check_alike-alike.ensures ∙ c.in_default.is) _ (sym c.check_points-points.ensures ∙ c.in-Refused-points.is)
+pub returns-in_err-check_points : goal.returns-in_err-check_points
+returns-in_err-check_points c = let exit = err_from_is_err_and c.from_residual-in_err-check_points.result c.from_residual-in_err-check_points.ensures.1 in rw (exit.1, exit.2) (bad_point _ _ _ _ (sym c.in_ok-check_alike.ensures) _ (sym c.in_err-check_points.ensures))
 
-pub returns-in-Refused-fits : goal.returns-in-Refused-fits
-returns-in-Refused-fits c = unfit _ _ _ _ (sym c.check_alike-alike.ensures ∙ c.in_default.is) (sym c.check_points-points.ensures ∙ c.in_default-points.is) _ (sym c.check_grid-fits.ensures ∙ c.in-Refused-fits.is)
+pub returns-in_err-check_grid : goal.returns-in_err-check_grid
+returns-in_err-check_grid c = let exit = err_from_is_err_and c.from_residual-in_err-check_grid.result c.from_residual-in_err-check_grid.ensures.1 in rw (exit.1, exit.2) (unfit _ _ _ _ (sym c.in_ok-check_alike.ensures) (sym c.in_ok-check_points.ensures) _ (sym c.in_err-check_grid.ensures))
 
 pub write_owners-requires : goal.write_owners-requires
-write_owners-requires c = checked _ _ _ _ (sym c.check_alike-alike.ensures ∙ c.in_default.is) (sym c.check_points-points.ensures ∙ c.in_default-points.is) (sym c.check_grid-fits.ensures ∙ c.in_default-fits.is)
+write_owners-requires c = checked _ _ _ _ (sym c.in_ok-check_alike.ensures) (sym c.in_ok-check_points.ensures) (sym c.in_ok-check_grid.ensures)
 
 pub returns : goal.returns
-returns c = all_told _ _ _ _ (sym c.check_alike-alike.ensures ∙ c.in_default.is) (sym c.check_points-points.ensures ∙ c.in_default-points.is) (sym c.check_grid-fits.ensures ∙ c.in_default-fits.is) c.write_owners.ensures
+returns c = all_told _ _ _ _ (sym c.in_ok-check_alike.ensures) (sym c.in_ok-check_points.ensures) (sym c.in_ok-check_grid.ensures) c.write_owners.ensures

@@ -18,14 +18,6 @@ pub bounds-out-i : goal.bounds-out-i
 unfolding float_at
 bounds-out-i c = omega arith
 
-pub overflow_add-i : goal.overflow_add-i
-unfolding float_at
-overflow_add-i c = omega arith
-
-pub loop-i-smaller : goal.loop-i-smaller
-unfolding float_at
-loop-i-smaller c = omega arith
-
 pub loop-i-preserved : goal.loop-i-preserved
 unfolding float_at
 loop-i-preserved c = filled_more float_by c.loop-i.invariant (omega arith) c.float.ensures

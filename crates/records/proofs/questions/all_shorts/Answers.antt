@@ -18,14 +18,6 @@ pub bounds-out-i : goal.bounds-out-i
 unfolding short_at
 bounds-out-i c = omega arith
 
-pub overflow_add-i : goal.overflow_add-i
-unfolding short_at
-overflow_add-i c = omega arith
-
-pub loop-i-smaller : goal.loop-i-smaller
-unfolding short_at
-loop-i-smaller c = omega arith
-
 pub loop-i-preserved : goal.loop-i-preserved
 unfolding short_at
 loop-i-preserved c = filled_more short_by c.loop-i.invariant (omega arith) c.short.ensures

@@ -12,4 +12,4 @@ pub loop-i-preserved : goal.loop-i-preserved
 loop-i-preserved c = (place_next _ _ _ _ _ c.loop-i.invariant.0 c.end-at.ensures.0, omega arith)
 
 pub returns : goal.returns
-returns c = let e : c.loop-i.i ≡ c.args.k = omega arith in c.loop-i.invariant.0 ∙ ap (slice_place _ _) e
+returns c = let e : c.loop-i._i ≡ c.args.k = omega arith in c.loop-i.invariant.0 ∙ ap (slice_place _ _) e

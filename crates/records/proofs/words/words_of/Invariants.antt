@@ -1,7 +1,7 @@
 -- `records::words::words_of` meets its contract. The invariant: the first i entries are the words of the bytes, and the others as they were. Assumes nothing.
 use mathlib.Core.Path.{◌≡◌}
 use mathlib.Core.List.{List, ◌++◌}
-use Prim.Native.Nat.{ℕ, ◌/◌, ◌-◌, ◌≤◌, min}
+use Prim.Native.Nat.{ℕ, ◌/◌, ◌≤◌, min}
 use lib.ListN.{length, drop}
 use Rattle.records.specs.Words.{words_of}
 use Rattle.records.proofs.words.words_of.Given as goal
@@ -14,6 +14,3 @@ pub record Filled (bs out₀ : List ℕ) (n i : ℕ) (out : List ℕ) : Type 0 w
 
 abbrev pub invariant-loop-i : goal.invariant-loop-i
 invariant-loop-i l = Filled l.bytes l.initial.out l.n l.i l.out
-
-abbrev pub decreases-loop-i : goal.decreases-loop-i
-decreases-loop-i l = l.n - l.i

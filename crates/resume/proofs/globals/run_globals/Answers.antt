@@ -13,41 +13,41 @@ loop-hits-init c = globals_run _ _ _ _ _ _ _ _ _ c.requires refl
 pub global_at-requires : goal.global_at-requires
 global_at-requires c = globals_place _ _ _ _ _ _ _ _ _ _ _ _ _ _ _ _ c.loop-hits.invariant
 
-pub overflow_sub-stop : goal.overflow_sub-stop
-overflow_sub-stop c = omega (arith, (global_is _ _ _ _ _ _ c.global_at.ensures _ _ _ _ c.in-At.is).one)
+pub overflow_sub-next : goal.overflow_sub-next
+overflow_sub-next c = omega (arith, (global_is _ _ _ _ _ _ c.global_at.ensures c.in-Some.next c.in-Some.is).one)
 
-pub overflow_cast-stop : goal.overflow_cast-stop
-overflow_cast-stop c = omega (arith, globals_stop _ _ _ _ _ _ _ _ _ _ _ _ _ _ _ _ c.loop-hits.invariant _ _ _ _ (global_is _ _ _ _ _ _ c.global_at.ensures _ _ _ _ c.in-At.is))
+pub overflow_cast-next : goal.overflow_cast-next
+overflow_cast-next c = omega (arith, globals_stop _ _ _ _ _ _ _ _ _ _ _ _ _ _ _ _ c.loop-hits.invariant _ _ _ _ (global_is _ _ _ _ _ _ c.global_at.ensures c.in-Some.next c.in-Some.is))
 
 pub overflow_sub-first : goal.overflow_sub-first
 overflow_sub-first c = omega (arith, c.loop-hits-test.true)
 
 pub overflow_cast-count : goal.overflow_cast-count
-overflow_cast-count c = omega (arith, globals_few _ _ _ _ _ _ _ _ _ _ _ _ _ _ _ _ c.loop-hits.invariant _ _ _ _ (global_is _ _ _ _ _ _ c.global_at.ensures _ _ _ _ c.in-At.is) c.loop-hits-test.true _ c.least-count.ensures)
+overflow_cast-count c = omega (arith, globals_few _ _ _ _ _ _ _ _ _ _ _ _ _ _ _ _ c.loop-hits.invariant _ _ _ _ (global_is _ _ _ _ _ _ c.global_at.ensures c.in-Some.next c.in-Some.is) c.loop-hits-test.true _ c.least-count.ensures)
 
-pub offset_bounds-globals-a : goal.offset_bounds-globals-a
-offset_bounds-globals-a c = omega (arith, (global_is _ _ _ _ _ _ c.global_at.ensures _ _ _ _ c.in-At.is).inside)
+pub offset_bounds-globals-next : goal.offset_bounds-globals-next
+offset_bounds-globals-next c = omega (arith, (global_is _ _ _ _ _ _ c.global_at.ensures c.in-Some.next c.in-Some.is).inside)
 
-pub bounds-globals-a : goal.bounds-globals-a
-bounds-globals-a c = (global_is _ _ _ _ _ _ c.global_at.ensures _ _ _ _ c.in-At.is).inside
+pub bounds-globals-next : goal.bounds-globals-next
+bounds-globals-next c = (global_is _ _ _ _ _ _ c.global_at.ensures c.in-Some.next c.in-Some.is).inside
 
 pub scan_lines-hits-requires : goal.scan_lines-hits-requires
-scan_lines-hits-requires c = globals_asks _ _ _ _ _ _ _ _ _ _ _ _ _ _ _ _ c.loop-hits.invariant _ _ _ _ (global_is _ _ _ _ _ _ c.global_at.ensures _ _ _ _ c.in-At.is) c.loop-hits-test.true _ c.least-count.ensures
+scan_lines-hits-requires c = globals_asks _ _ _ _ _ _ _ _ _ _ _ _ _ _ _ _ c.loop-hits.invariant _ _ _ _ (global_is _ _ _ _ _ _ c.global_at.ensures c.in-Some.next c.in-Some.is) c.loop-hits-test.true _ c.least-count.ensures
 
 pub overflow_cast-tests : goal.overflow_cast-tests
-overflow_cast-tests c = omega (arith, globals_few _ _ _ _ _ _ _ _ _ _ _ _ _ _ _ _ c.loop-hits.invariant _ _ _ _ (global_is _ _ _ _ _ _ c.global_at.ensures _ _ _ _ c.in-At.is) c.loop-hits-test.true _ c.least-count.ensures)
+overflow_cast-tests c = omega (arith, globals_few _ _ _ _ _ _ _ _ _ _ _ _ _ _ _ _ c.loop-hits.invariant _ _ _ _ (global_is _ _ _ _ _ _ c.global_at.ensures c.in-Some.next c.in-Some.is) c.loop-hits-test.true _ c.least-count.ensures)
 
 pub overflow_add-tests : goal.overflow_add-tests
-overflow_add-tests c = record { fits = globals_small _ _ _ _ _ _ _ _ _ _ _ _ _ _ _ _ c.loop-hits.invariant _ _ _ _ (global_is _ _ _ _ _ _ c.global_at.ensures _ _ _ _ c.in-At.is) c.loop-hits-test.true _ c.least-count.ensures _ _ _ c.scan_lines-hits.ensures }
+overflow_add-tests c = record { fits = globals_small _ _ _ _ _ _ _ _ _ _ _ _ _ _ _ _ c.loop-hits.invariant _ _ _ _ (global_is _ _ _ _ _ _ c.global_at.ensures c.in-Some.next c.in-Some.is) c.loop-hits-test.true _ c.least-count.ensures _ _ _ c.scan_lines-hits.ensures }
 
 pub overflow_add-k : goal.overflow_add-k
-overflow_add-k c = record { fits = globals_k _ _ _ _ _ _ _ _ _ _ _ _ _ _ _ _ c.loop-hits.invariant _ _ _ _ (global_is _ _ _ _ _ _ c.global_at.ensures _ _ _ _ c.in-At.is) c.loop-hits-test.true _ c.least-count.ensures _ _ _ c.scan_lines-hits.ensures }
+overflow_add-k c = record { fits = globals_k _ _ _ _ _ _ _ _ _ _ _ _ _ _ _ _ c.loop-hits.invariant _ _ _ _ (global_is _ _ _ _ _ _ c.global_at.ensures c.in-Some.next c.in-Some.is) c.loop-hits-test.true _ c.least-count.ensures _ _ _ c.scan_lines-hits.ensures }
 
 pub loop-hits-smaller : goal.loop-hits-smaller
-loop-hits-smaller c = globals_less _ _ _ _ _ _ _ _ _ _ _ _ _ _ _ _ c.loop-hits.invariant _ _ _ _ (global_is _ _ _ _ _ _ c.global_at.ensures _ _ _ _ c.in-At.is) c.loop-hits-test.true _ c.least-count.ensures _ _ _ c.scan_lines-hits.ensures
+loop-hits-smaller c = globals_less _ _ _ _ _ _ _ _ _ _ _ _ _ _ _ _ c.loop-hits.invariant _ _ _ _ (global_is _ _ _ _ _ _ c.global_at.ensures c.in-Some.next c.in-Some.is) c.loop-hits-test.true _ c.least-count.ensures _ _ _ c.scan_lines-hits.ensures
 
 pub loop-hits-preserved : goal.loop-hits-preserved
-loop-hits-preserved c = globals_turn _ _ _ _ _ _ _ _ _ _ _ _ _ _ _ _ c.loop-hits.invariant _ _ _ _ (global_is _ _ _ _ _ _ c.global_at.ensures _ _ _ _ c.in-At.is) c.loop-hits-test.true _ c.least-count.ensures _ _ _ c.scan_lines-hits.ensures
+loop-hits-preserved c = globals_turn _ _ _ _ _ _ _ _ _ _ _ _ _ _ _ _ c.loop-hits.invariant _ _ _ _ (global_is _ _ _ _ _ _ c.global_at.ensures c.in-Some.next c.in-Some.is) c.loop-hits-test.true _ c.least-count.ensures _ _ _ c.scan_lines-hits.ensures
 
 pub shape_of-first-after-loop-hits : goal.shape_of-first-after-loop-hits
 shape_of-first-after-loop-hits c = globals_first_long _ _ _ _ _ _ _ _ _ _ _ _ _ _ _ _ c.loop-hits.invariant

@@ -5,11 +5,11 @@ use Rattle.resume.proofs.starts.index_in.Goals as goal
 pub loop-u-init : goal.loop-u-init
 loop-u-init c = seeking_none _ _
 
-pub returns-then-list-u : goal.returns-then-list-u
-returns-then-list-u c = seeking_here _ _ _ c.loop-u.invariant c.loop-u-test.true c.if-list-u.true
+pub returns-then-entry-v : goal.returns-then-entry-v
+returns-then-entry-v c = seeking_here _ _ _ c.loop-u.invariant c.loop-u-test.true c.if-entry-v.true
 
 pub loop-u-preserved : goal.loop-u-preserved
-loop-u-preserved c = seeking_more _ _ _ c.loop-u.invariant c.loop-u-test.true c.if-list-u.false
+loop-u-preserved c = seeking_more _ _ _ c.loop-u.invariant c.loop-u-test.true c.if-entry-v.false
 
 pub returns : goal.returns
 returns c = seeking_over _ _ _ c.loop-u.invariant c.loop-u-test.false

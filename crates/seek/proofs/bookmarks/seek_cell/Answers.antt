@@ -1,4 +1,6 @@
 -- `seek::bookmarks::seek_cell` meets its contract. The invariant: what is left is dropped from the cells from `cell` on. Assumes nothing.
+use mathlib.Core.Path.{◌≡◌}
+use native.Mathlib.Omega.{arith}
 use Rattle.seek.proofs.SeekTurns.{cell_seek, cell_end, cell_up, cell_found, cell_passed}
 use Rattle.seek.proofs.bookmarks.seek_cell.Goals as goal
 
@@ -29,4 +31,5 @@ pub returns : goal.returns
 returns c =
     let a = c.args in
     let l = c.loop-cell in
-    cell_end a.cells a.offsets.now a.items.now a.left l.left l.cell l.invariant c.loop-cell-test.false
+    let e : l.cell ≡ a.cells = omega (arith, l.auto.cell-end, c.loop-cell-test.false) in
+    rw e at (cell_end a.cells a.offsets.now a.items.now a.left l.left l.cell l.invariant c.loop-cell-test.false)

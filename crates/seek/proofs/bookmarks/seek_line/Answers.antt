@@ -1,7 +1,10 @@
 -- `seek::bookmarks::seek_line` meets its contract. The invariant: what is left is dropped from the lines from k on. Assumes nothing.
+use mathlib.Core.Path.{◌≡◌}
+use Prim.Native.Nat.{◌+◌}
 use native.Mathlib.Omega.{arith}
 use Rattle.seek.proofs.SeekTurns.{line_seek, line_last, global_in, line_ahead, line_below, line_before, line_passed}
 use Rattle.seek.proofs.bookmarks.seek_line.Goals as goal
+use Rattle.seek.proofs.bookmarks.seek_line.Goals.{else-loop-q-test, then-loop-q-test+else-left-g+else-q-p}
 
 pub loop-q-init : goal.loop-q-init
 loop-q-init c = let a = c.args in line_seek a.lines a.count a.globals.now a.p a.left c.requires
@@ -67,4 +70,10 @@ pub returns : goal.returns
 returns c =
     let a = c.args in
     let l = c.loop-q in
-    line_last a.lines a.count a.globals.now a.p a.left l.left l.q l.k l.invariant c.loop-q-test.false
+    elim c.loop-q-test.branch [
+      | else-loop-q-test w ↦ absurd (omega (arith, l.auto.q-end, w.loop-q-test))
+      | then-loop-q-test+else-left-g+else-q-p w ↦
+          let e : l.q ≡ a.p = omega arith in
+          let s = line_passed a.lines a.count a.globals.now a.p a.left l.left l.q l.k l.invariant w.loop-q-test.true w.if-left-g.false in
+          rw (w.left-is, w.k-is, e) (line_last a.lines a.count a.globals.now a.p a.left _ (a.p + 1) _ (rw e at s) (omega arith))
+    ]

@@ -10,13 +10,13 @@ pub returns-then-left-row : goal.returns-then-left-row
 returns-then-left-row c =
     let a = c.args in
     let l = c.loop-i in
-    rw c.wide.ensures (row_found a.len a.left l.left l.i l.invariant c.loop-i-test.true (omega (arith, c.wide64-row.ensures)))
+    rw c.wide.ensures (row_found a.len a.left l.left l.i l.invariant c.loop-i-test.true (omega (arith, c.from-row.ensures)))
 
 pub loop-i-preserved : goal.loop-i-preserved
 loop-i-preserved c =
     let a = c.args in
     let l = c.loop-i in
-    rw c.wide64-row.ensures (row_passed a.len a.left l.left l.i l.invariant c.loop-i-test.true (omega (arith, c.wide64-row.ensures)))
+    rw c.from-row.ensures (row_passed a.len a.left l.left l.i l.invariant c.loop-i-test.true (omega (arith, c.from-row.ensures)))
 
 pub returns : goal.returns
 returns c =

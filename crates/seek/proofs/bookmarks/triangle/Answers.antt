@@ -8,10 +8,10 @@ use Rattle.seek.proofs.Lengths.{tri_twice, tri_is}
 use Rattle.seek.proofs.bookmarks.triangle.Goals as goal
 
 pub overflow_mul-result : goal.overflow_mul-result
-overflow_mul-result c = let w = c.wide64-w.result in let h : w ≤ 4294967296 = omega arith in omega (arith, mul-le-mul_left w h)
+overflow_mul-result c = let w = c.from-w.result in let h : w ≤ 4294967296 = omega arith in omega (arith, mul-le-mul_left w h)
 
 pub overflow_sub-result : goal.overflow_sub-result
-overflow_sub-result c = omega (arith, tri_twice c.wide64-w.result)
+overflow_sub-result c = omega (arith, tri_twice c.from-w.result)
 
 pub returns : goal.returns
-returns c = tri_is c.wide64-w.result ∙ ap tri c.wide64-w.ensures
+returns c = tri_is c.from-w.result ∙ ap tri c.from-w.ensures

@@ -6,11 +6,11 @@ use Rattle.tables.specs.Tables.{tables}
 use Rattle.seek.proofs.PlaceLaws.{part_refused, number_few, part_cell, global_from, global_to, part_global}
 use Rattle.seek.proofs.lists.list_at.Goals as goal
 
-pub returns-in-Refused : goal.returns-in-Refused
-returns-in-Refused c =
+pub returns-in-Err : goal.returns-in-Err
+returns-in-Err c =
     let a = c.args in
     let t = tables a.grid a.lines a.offsets.now a.items.now a.globals.now a.global_count in
-    part_refused _ _ _ _ (sym c.list_check-check.ensures ∙ c.in-Refused.is)
+    part_refused _ _ _ _ (sym c.list_check-check.ensures ∙ c.in-Err.is)
 
 pub overflow_mul-cell : goal.overflow_mul-cell
 overflow_mul-cell c = record { fits = wide_product c.wide.result c.wide-in-Cell.result (omega arith) (omega arith) }

@@ -5,6 +5,3 @@ use Rattle.tables.proofs.rising.count_begins.Given as goal
 
 abbrev pub invariant-loop-c : goal.invariant-loop-c
 invariant-loop-c l = BeginsMore l.most l.cells l.offsets l.items l.many l.c l.to
-
-abbrev pub decreases-loop-c : goal.decreases-loop-c
-decreases-loop-c l = l.to - l.c

@@ -5,6 +5,3 @@ use Rattle.tables.proofs.rising.count_breaks.Given as goal
 
 abbrev pub invariant-loop-k : goal.invariant-loop-k
 invariant-loop-k l = BreaksMore l.most l.items l.many l.k l.to
-
-abbrev pub decreases-loop-k : goal.decreases-loop-k
-decreases-loop-k l = l.to - l.k

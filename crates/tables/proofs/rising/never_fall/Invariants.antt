@@ -5,6 +5,3 @@ use Rattle.tables.proofs.rising.never_fall.Given as goal
 
 abbrev pub invariant-loop-c : goal.invariant-loop-c
 invariant-loop-c l = OffsetsSeen l.cells l.offsets l.all l.c
-
-abbrev pub decreases-loop-c : goal.decreases-loop-c
-decreases-loop-c l = l.cells - l.c

@@ -11,11 +11,11 @@ returns-then-most-cell c =
     let ls = lines a.start_x.now a.start_y.now a.end_x.now a.end_y.now in
     none_beyond ls a.cols a.reach a.offsets.now a.items.now a.cell a.i a.j a.first.now a.second.now _ c.least-most.ensures c.if-most-cell.true
 
-pub returns-in-Refused : goal.returns-in-Refused
-returns-in-Refused c =
+pub returns-in-Err : goal.returns-in-Err
+returns-in-Err c =
     let a = c.args in
     let ls = lines a.start_x.now a.start_y.now a.end_x.now a.end_y.now in
-    none_refused ls a.cols a.reach a.offsets.now a.items.now a.cell a.i a.j a.first.now a.second.now _ (sym c.check_lent-check.ensures ∙ c.in-Refused.is)
+    none_refused ls a.cols a.reach a.offsets.now a.items.now a.cell a.i a.j a.first.now a.second.now _ (sym c.check_lent-check.ensures ∙ c.in-Err.is)
 
 pub go-requires : goal.go-requires
 go-requires c =

@@ -15,19 +15,19 @@ pub loop-hits-init : goal.loop-hits-init
 loop-hits-init c = list_run _ _ _ _ _ _ _ _ _ c.requires
 
 pub scan_part-part-requires : goal.scan_part-part-requires
-scan_part-part-requires c = list_part _ _ _ _ _ _ _ _ _ _ _ _ _ _ _ _ _ _ _ c.loop-hits.invariant _ _ (row_at_is _ _ _ _ c.row_at.ensures _ _ c.in-At.is) c.loop-hits-test.true
+scan_part-part-requires c = list_part _ _ _ _ _ _ _ _ _ _ _ _ _ _ _ _ _ _ _ c.loop-hits.invariant _ _ (row_at_is _ _ _ _ c.row_at.ensures _ _ c.in-Some.is) c.loop-hits-test.true
 
 pub overflow_add-tests : goal.overflow_add-tests
-overflow_add-tests c = record { fits = list_small _ _ _ _ _ _ _ _ _ _ _ _ _ _ _ _ _ _ _ c.loop-hits.invariant _ _ (row_at_is _ _ _ _ c.row_at.ensures _ _ c.in-At.is) _ _ _ _ _ c.scan_part-part.ensures.part c.scan_part-part.ensures.same_scratch }
+overflow_add-tests c = record { fits = list_small _ _ _ _ _ _ _ _ _ _ _ _ _ _ _ _ _ _ _ c.loop-hits.invariant _ _ (row_at_is _ _ _ _ c.row_at.ensures _ _ c.in-Some.is) _ _ _ _ _ c.scan_part-part.ensures.part c.scan_part-part.ensures.same_scratch }
 
 pub overflow_add-j : goal.overflow_add-j
 overflow_add-j c = omega (arith, c.scan_part-part.ensures.part.inside, c)
 
 pub loop-hits-smaller : goal.loop-hits-smaller
-loop-hits-smaller c = list_less _ _ _ _ _ _ _ _ _ _ _ _ _ _ _ _ _ _ _ c.loop-hits.invariant _ _ (row_at_is _ _ _ _ c.row_at.ensures _ _ c.in-At.is) _ _ _ _ _ c.scan_part-part.ensures.part c.scan_part-part.ensures.same_scratch
+loop-hits-smaller c = list_less _ _ _ _ _ _ _ _ _ _ _ _ _ _ _ _ _ _ _ c.loop-hits.invariant _ _ (row_at_is _ _ _ _ c.row_at.ensures _ _ c.in-Some.is) _ _ _ _ _ c.scan_part-part.ensures.part c.scan_part-part.ensures.same_scratch
 
 pub loop-hits-preserved : goal.loop-hits-preserved
-loop-hits-preserved c = list_turn _ _ _ _ _ _ _ _ _ _ _ _ _ _ _ _ _ _ _ c.loop-hits.invariant _ _ (row_at_is _ _ _ _ c.row_at.ensures _ _ c.in-At.is) _ _ _ _ _ c.scan_part-part.ensures.part c.scan_part-part.ensures.same_scratch
+loop-hits-preserved c = list_turn _ _ _ _ _ _ _ _ _ _ _ _ _ _ _ _ _ _ _ c.loop-hits.invariant _ _ (row_at_is _ _ _ _ c.row_at.ensures _ _ c.in-Some.is) _ _ _ _ _ c.scan_part-part.ensures.part c.scan_part-part.ensures.same_scratch
 
 pub shape_of-room-after-loop-hits : goal.shape_of-room-after-loop-hits
 shape_of-room-after-loop-hits c = c.loop-hits.invariant.same.boxes

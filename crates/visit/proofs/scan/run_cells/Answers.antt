@@ -10,19 +10,19 @@ pub settle_cell-requires : goal.settle_cell-requires
 settle_cell-requires c = record { table = c.requires.table; place = c.loop-hits.invariant.place }
 
 pub scan_cell_row-end-requires : goal.scan_cell_row-end-requires
-scan_cell_row-end-requires c = cell_row_asks c.requires c.loop-hits.invariant (cell_at c.in-At.is c.settle_cell.ensures) c.loop-hits-test.true
+scan_cell_row-end-requires c = cell_row_asks c.requires c.loop-hits.invariant (cell_at c.in-Some.is c.settle_cell.ensures) c.loop-hits-test.true
 
 pub overflow_sub-tests : goal.overflow_sub-tests
 overflow_sub-tests c = c.scan_cell_row-end.ensures.in_list.from
 
 pub overflow_add-tests : goal.overflow_add-tests
-overflow_add-tests c = record { fits = cells_small c.requires c.loop-hits.invariant (cell_at c.in-At.is c.settle_cell.ensures) c.scan_cell_row-end.ensures }
+overflow_add-tests c = record { fits = cells_small c.requires c.loop-hits.invariant (cell_at c.in-Some.is c.settle_cell.ensures) c.scan_cell_row-end.ensures }
 
 pub loop-hits-smaller : goal.loop-hits-smaller
-loop-hits-smaller c = cells_less c.requires c.loop-hits.invariant (cell_at c.in-At.is c.settle_cell.ensures) c.scan_cell_row-end.ensures c.loop-hits-test.true
+loop-hits-smaller c = cells_less c.requires c.loop-hits.invariant (cell_at c.in-Some.is c.settle_cell.ensures) c.scan_cell_row-end.ensures c.loop-hits-test.true
 
 pub loop-hits-preserved : goal.loop-hits-preserved
-loop-hits-preserved c = cells_turn c.requires c.loop-hits.invariant (cell_at c.in-At.is c.settle_cell.ensures) c.scan_cell_row-end.ensures
+loop-hits-preserved c = cells_turn c.requires c.loop-hits.invariant (cell_at c.in-Some.is c.settle_cell.ensures) c.scan_cell_row-end.ensures
 
 pub shape_of-first-after-loop-hits : goal.shape_of-first-after-loop-hits
 shape_of-first-after-loop-hits c = (c.loop-hits.invariant.moved []).first_long

@@ -17,7 +17,7 @@ pub settle_global-requires : goal.settle_global-requires
 settle_global-requires c = record { table = c.requires.place.table; place = c.loop-hits.invariant.place }
 
 pub scan_global_row-end-requires : goal.scan_global_row-end-requires
-scan_global_row-end-requires c = global_row_asks c.requires c.loop-hits.invariant (global_at c.in-At.is c.settle_global.ensures) c.loop-hits-test.true
+scan_global_row-end-requires c = global_row_asks c.requires c.loop-hits.invariant (global_at c.in-Some.is c.settle_global.ensures) c.loop-hits-test.true
 
 pub overflow_sub-tests : goal.overflow_sub-tests
 overflow_sub-tests c = c.scan_global_row-end.ensures.in_lines.from
@@ -26,13 +26,13 @@ pub overflow_cast-tests : goal.overflow_cast-tests
 overflow_cast-tests c = omega (arith, c.scan_global_row-end.ensures.in_lines.to)
 
 pub overflow_add-tests : goal.overflow_add-tests
-overflow_add-tests c = record { fits = globals_small c.requires c.loop-hits.invariant (global_at c.in-At.is c.settle_global.ensures) c.scan_global_row-end.ensures }
+overflow_add-tests c = record { fits = globals_small c.requires c.loop-hits.invariant (global_at c.in-Some.is c.settle_global.ensures) c.scan_global_row-end.ensures }
 
 pub loop-hits-smaller : goal.loop-hits-smaller
-loop-hits-smaller c = globals_less c.requires c.loop-hits.invariant (global_at c.in-At.is c.settle_global.ensures) c.scan_global_row-end.ensures c.loop-hits-test.true
+loop-hits-smaller c = globals_less c.requires c.loop-hits.invariant (global_at c.in-Some.is c.settle_global.ensures) c.scan_global_row-end.ensures c.loop-hits-test.true
 
 pub loop-hits-preserved : goal.loop-hits-preserved
-loop-hits-preserved c = globals_turn c.requires c.loop-hits.invariant (global_at c.in-At.is c.settle_global.ensures) c.scan_global_row-end.ensures
+loop-hits-preserved c = globals_turn c.requires c.loop-hits.invariant (global_at c.in-Some.is c.settle_global.ensures) c.scan_global_row-end.ensures
 
 pub shape_of-first-after-loop-hits : goal.shape_of-first-after-loop-hits
 shape_of-first-after-loop-hits c = c.loop-hits.invariant.moved.first_long

@@ -25,35 +25,35 @@ overflow_add-k c =
     let a = c.args in
     let l = c.loop-hits in
     let ls = lines a.start_x.now a.start_y.now a.end_x.now a.end_y.now in
-    omega (arith, lines_some ls a.row a.stop a.k l.k a.first.now a.second.now a.hits l.first l.second l.hits l.invariant c.in-Made.test (sym c.in-Made.is ∙ c.test_before.ensures), c.ranges)
+    omega (arith, lines_some ls a.row a.stop a.k l.k a.first.now a.second.now a.hits l.first l.second l.hits l.invariant c.in-Some.test (sym c.in-Some.is ∙ c.test_before.ensures), c.ranges)
 
 pub loop-hits-smaller-then-test : goal.loop-hits-smaller-then-test
 loop-hits-smaller-then-test c =
     let a = c.args in
     let l = c.loop-hits in
     let ls = lines a.start_x.now a.start_y.now a.end_x.now a.end_y.now in
-    omega (arith, lines_some ls a.row a.stop a.k l.k a.first.now a.second.now a.hits l.first l.second l.hits l.invariant c.in-Made.test (sym c.in-Made.is ∙ c.test_before.ensures))
+    omega (arith, lines_some ls a.row a.stop a.k l.k a.first.now a.second.now a.hits l.first l.second l.hits l.invariant c.in-Some.test (sym c.in-Some.is ∙ c.test_before.ensures))
 
 pub loop-hits-preserved-then-test : goal.loop-hits-preserved-then-test
 loop-hits-preserved-then-test c =
     let a = c.args in
     let l = c.loop-hits in
     let ls = lines a.start_x.now a.start_y.now a.end_x.now a.end_y.now in
-    lines_hit ls a.row a.stop a.k l.k a.first.now a.second.now a.hits l.first l.second l.hits l.invariant c.in-Made.test (sym c.in-Made.is ∙ c.test_before.ensures) (omega (arith, l.invariant.along.first_long, c.loop-hits-test.true)) c.if-test.true
+    lines_hit ls a.row a.stop a.k l.k a.first.now a.second.now a.hits l.first l.second l.hits l.invariant c.in-Some.test (sym c.in-Some.is ∙ c.test_before.ensures) (omega (arith, l.invariant.along.first_long, c.loop-hits-test.true)) c.if-test.true
 
 pub loop-hits-smaller : goal.loop-hits-smaller
 loop-hits-smaller c =
     let a = c.args in
     let l = c.loop-hits in
     let ls = lines a.start_x.now a.start_y.now a.end_x.now a.end_y.now in
-    omega (arith, lines_some ls a.row a.stop a.k l.k a.first.now a.second.now a.hits l.first l.second l.hits l.invariant c.in-Made.test (sym c.in-Made.is ∙ c.test_before.ensures))
+    omega (arith, lines_some ls a.row a.stop a.k l.k a.first.now a.second.now a.hits l.first l.second l.hits l.invariant c.in-Some.test (sym c.in-Some.is ∙ c.test_before.ensures))
 
 pub loop-hits-preserved : goal.loop-hits-preserved
 loop-hits-preserved c =
     let a = c.args in
     let l = c.loop-hits in
     let ls = lines a.start_x.now a.start_y.now a.end_x.now a.end_y.now in
-    lines_miss ls a.row a.stop a.k l.k a.first.now a.second.now a.hits l.first l.second l.hits l.invariant c.in-Made.test (sym c.in-Made.is ∙ c.test_before.ensures) (omega (arith, l.invariant.along.first_long, c.loop-hits-test.true)) c.if-test.false
+    lines_miss ls a.row a.stop a.k l.k a.first.now a.second.now a.hits l.first l.second l.hits l.invariant c.in-Some.test (sym c.in-Some.is ∙ c.test_before.ensures) (omega (arith, l.invariant.along.first_long, c.loop-hits-test.true)) c.if-test.false
 
 pub shape_of-first-after-loop-hits : goal.shape_of-first-after-loop-hits
 shape_of-first-after-loop-hits c = c.loop-hits.invariant.along.first_long

@@ -25,7 +25,7 @@ overflow_add-j c =
     let a = c.args in
     let l = c.loop-hits in
     let ls = lines a.start_x.now a.start_y.now a.end_x.now a.end_y.now in
-    omega (arith, list_some ls a.row a.list.now a.j l.j a.first.now a.second.now a.hits l.first l.second l.hits l.invariant c.in-Made.test (sym c.in-Made.is ∙ c.test_in.ensures))
+    omega (arith, list_some ls a.row a.list.now a.j l.j a.first.now a.second.now a.hits l.first l.second l.hits l.invariant c.in-Some.test (sym c.in-Some.is ∙ c.test_in.ensures))
 
 pub overflow_add-hits : goal.overflow_add-hits
 overflow_add-hits c = omega (arith, c.well_formed.1.1.1.1.1.1.1.0)
@@ -35,28 +35,28 @@ loop-hits-smaller-then-test c =
     let a = c.args in
     let l = c.loop-hits in
     let ls = lines a.start_x.now a.start_y.now a.end_x.now a.end_y.now in
-    omega (arith, list_some ls a.row a.list.now a.j l.j a.first.now a.second.now a.hits l.first l.second l.hits l.invariant c.in-Made.test (sym c.in-Made.is ∙ c.test_in.ensures))
+    omega (arith, list_some ls a.row a.list.now a.j l.j a.first.now a.second.now a.hits l.first l.second l.hits l.invariant c.in-Some.test (sym c.in-Some.is ∙ c.test_in.ensures))
 
 pub loop-hits-preserved-then-test : goal.loop-hits-preserved-then-test
 loop-hits-preserved-then-test c =
     let a = c.args in
     let l = c.loop-hits in
     let ls = lines a.start_x.now a.start_y.now a.end_x.now a.end_y.now in
-    list_hit ls a.row a.list.now a.j l.j a.first.now a.second.now a.hits l.first l.second l.hits l.invariant c.in-Made.test (sym c.in-Made.is ∙ c.test_in.ensures) (omega (arith, l.invariant.along.first_long, c.loop-hits-test.true)) c.if-test.true
+    list_hit ls a.row a.list.now a.j l.j a.first.now a.second.now a.hits l.first l.second l.hits l.invariant c.in-Some.test (sym c.in-Some.is ∙ c.test_in.ensures) (omega (arith, l.invariant.along.first_long, c.loop-hits-test.true)) c.if-test.true
 
 pub loop-hits-smaller : goal.loop-hits-smaller
 loop-hits-smaller c =
     let a = c.args in
     let l = c.loop-hits in
     let ls = lines a.start_x.now a.start_y.now a.end_x.now a.end_y.now in
-    omega (arith, list_some ls a.row a.list.now a.j l.j a.first.now a.second.now a.hits l.first l.second l.hits l.invariant c.in-Made.test (sym c.in-Made.is ∙ c.test_in.ensures))
+    omega (arith, list_some ls a.row a.list.now a.j l.j a.first.now a.second.now a.hits l.first l.second l.hits l.invariant c.in-Some.test (sym c.in-Some.is ∙ c.test_in.ensures))
 
 pub loop-hits-preserved : goal.loop-hits-preserved
 loop-hits-preserved c =
     let a = c.args in
     let l = c.loop-hits in
     let ls = lines a.start_x.now a.start_y.now a.end_x.now a.end_y.now in
-    list_miss ls a.row a.list.now a.j l.j a.first.now a.second.now a.hits l.first l.second l.hits l.invariant c.in-Made.test (sym c.in-Made.is ∙ c.test_in.ensures) (omega (arith, l.invariant.along.first_long, c.loop-hits-test.true)) c.if-test.false
+    list_miss ls a.row a.list.now a.j l.j a.first.now a.second.now a.hits l.first l.second l.hits l.invariant c.in-Some.test (sym c.in-Some.is ∙ c.test_in.ensures) (omega (arith, l.invariant.along.first_long, c.loop-hits-test.true)) c.if-test.false
 
 pub shape_of-first-after-loop-hits : goal.shape_of-first-after-loop-hits
 shape_of-first-after-loop-hits c = c.loop-hits.invariant.along.first_long

@@ -4,6 +4,3 @@ use Rattle.walk.proofs.beside.spread.Given as goal
 
 abbrev pub invariant-loop-i : goal.invariant-loop-i
 invariant-loop-i l = Spreading l.cols l.n l.initial.s l.i l.s
-
-abbrev pub decreases-loop-i : goal.decreases-loop-i
-decreases-loop-i l = l.i

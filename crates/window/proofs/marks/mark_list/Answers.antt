@@ -4,17 +4,17 @@ use Rattle.slices.proofs.Members.{below_at}
 use Rattle.window.proofs.Marking.{marking_none, marking_more, marking_over}
 use Rattle.window.proofs.marks.mark_list.Goals as goal
 
-pub loop-k-init : goal.loop-k-init
-loop-k-init c = marking_none _ _
+pub loop-line-init : goal.loop-line-init
+loop-line-init c = marking_none _ _
 
 pub bounds-marks-wide : goal.bounds-marks-wide
-bounds-marks-wide c = let l = below_at _ c.args.list.now c.loop-k.k c.requires (omega arith) in omega (arith, l, c.loop-k.invariant.long, c.wide.ensures)
+bounds-marks-wide c = let l = below_at _ c.args.list.now c.loop-line.line-index c.requires (omega arith) in omega (arith, l, c.loop-line.invariant.long, c.wide.ensures)
 
-pub loop-k-preserved : goal.loop-k-preserved
-loop-k-preserved c = marking_more _ _ _ c.loop-k.k _ c.loop-k.invariant (omega arith) c.wide.ensures
+pub loop-line-preserved : goal.loop-line-preserved
+loop-line-preserved c = marking_more _ _ _ c.loop-line.line-index _ c.loop-line.invariant (omega arith) c.wide.ensures
 
 pub shape_of-marks : goal.shape_of-marks
-shape_of-marks c = c.loop-k.invariant.long
+shape_of-marks c = c.loop-line.invariant.long
 
 pub returns : goal.returns
-returns c = marking_over _ _ _ _ c.loop-k.invariant (omega arith)
+returns c = marking_over _ _ _ _ c.loop-line.invariant (omega arith)

@@ -60,7 +60,7 @@ pub same_end : (a b : List ℕ) (i : ℕ) → i < length a → i < length b → 
 same_end a b i h k e = rw (drop-cons a i 0 h, drop-cons b i 0 k) (same_none (get_or a i 0) (get_or b i 0) (drop (suc i) a) (drop (suc i) b) e)
 
 -- past the end of one of them
-past_first : (a b : List ℕ) (i : ℕ) → length a ≤ i → same_to (drop i a) (drop i b) ≡ 0
+pub past_first : (a b : List ℕ) (i : ℕ) → length a ≤ i → same_to (drop i a) (drop i b) ≡ 0
 unfolding same_to
 past_first a b i h = rw (drop_of_length-le a h)
 
@@ -69,7 +69,7 @@ unfolding same_to
 none [] = refl
 none (x ∷ a) = refl
 
-past_second : (a b : List ℕ) (i : ℕ) → length b ≤ i → same_to (drop i a) (drop i b) ≡ 0
+pub past_second : (a b : List ℕ) (i : ℕ) → length b ≤ i → same_to (drop i a) (drop i b) ≡ 0
 past_second a b i h = rw (drop_of_length-le b h) (none (drop i a))
 
 pub past_one : (a b : List ℕ) (i : ℕ) → i ≡ min (length a) (length b) → same_to (drop i a) (drop i b) ≡ 0

@@ -27,6 +27,8 @@ pub fn list_of<'a>(lines: usize, offsets: &[u32], items: &'a [u32], cell: usize)
 }
 
 // The first cell from a cell on that has two lines, by its offsets alone. A list of fewer has no test, so it is not looked at.
+// Not inlined: its callers use more registers than there are, and in them each turn of the loop reads the offsets' address from the stack.
+#[inline(never)]
 pub fn next_cell(reach: usize, offsets: &[u32], cell: usize) -> usize
     ensures { NextCell reach offsets.now cell result }
 {
